@@ -1,0 +1,103 @@
+-- Node kinds: which are terms, rules and binders, and the sorts of their three operands (01, "Node kinds").
+use mathlib.Core.Bool.{Bool}
+use mathlib.Core.List.{List, [], _∷_}
+use Prim.Native.Nat.{ℕ, _+_, _*_}
+use lib.Dec.{leb}
+use lib.ListN.{getD}
+use Rattle.text.specs.Words.{within}
+
+abbrev pub is-term : ℕ → Bool
+is-term kind = within 1 kind 13
+
+abbrev pub is-rule : ℕ → Bool
+is-rule kind = within 20 kind 27
+
+abbrev pub is-binder : ℕ → Bool
+is-binder kind = within 24 kind 26
+
+-- a term that names a location
+abbrev pub names-location : ℕ → Bool
+names-location kind = within 4 kind 6
+
+abbrev pub variable-kind : ℕ
+variable-kind = 2
+
+abbrev pub forall-kind : ℕ
+forall-kind = 25
+
+-- how many variables there are
+abbrev pub variables : ℕ
+variables = 8
+
+-- ---- what an operand may be; 0 stands for no such kind
+
+abbrev pub unused : ℕ
+unused = 1
+
+abbrev pub permanent : ℕ
+permanent = 2
+
+abbrev pub variable : ℕ
+variable = 3
+
+abbrev pub function0 : ℕ
+function0 = 4
+
+abbrev pub function1 : ℕ
+function1 = 5
+
+abbrev pub function2 : ℕ
+function2 = 6
+
+abbrev pub universe : ℕ
+universe = 7
+
+abbrev pub dynamic-universe : ℕ
+dynamic-universe = 8
+
+-- from here on an operand is a node
+abbrev pub term : ℕ
+term = 9
+
+abbrev pub rule : ℕ
+rule = 10
+
+-- a term that names a dynamic location
+abbrev pub target : ℕ
+target = 11
+
+-- the three operand sorts of each node kind, from 0 to 27
+abbrev pub sort-table : List ℕ
+sort-table =
+    0 ∷ 0 ∷ 0
+    ∷ permanent ∷ unused ∷ unused
+    ∷ variable ∷ unused ∷ unused
+    ∷ unused ∷ unused ∷ unused
+    ∷ function0 ∷ unused ∷ unused
+    ∷ function1 ∷ term ∷ unused
+    ∷ function2 ∷ term ∷ term
+    ∷ term ∷ term ∷ unused
+    ∷ term ∷ unused ∷ unused
+    ∷ term ∷ term ∷ unused
+    ∷ term ∷ term ∷ unused
+    ∷ term ∷ term ∷ unused
+    ∷ term ∷ term ∷ unused
+    ∷ term ∷ term ∷ unused
+    ∷ 0 ∷ 0 ∷ 0 ∷ 0 ∷ 0 ∷ 0 ∷ 0 ∷ 0 ∷ 0 ∷ 0 ∷ 0 ∷ 0 ∷ 0 ∷ 0 ∷ 0 ∷ 0 ∷ 0 ∷ 0
+    ∷ unused ∷ unused ∷ unused
+    ∷ target ∷ term ∷ unused
+    ∷ rule ∷ rule ∷ unused
+    ∷ term ∷ rule ∷ rule
+    ∷ variable ∷ term ∷ rule
+    ∷ variable ∷ universe ∷ rule
+    ∷ variable ∷ dynamic-universe ∷ rule
+    ∷ term ∷ unused ∷ unused
+    ∷ []
+
+-- the sort of operand j, 0 to 2, of a node kind
+unfoldable pub sort : ℕ → ℕ → ℕ
+sort kind j = getD sort-table (kind * 3 + j) 0
+
+-- operand j of a node of that kind is a node
+abbrev pub is-node : ℕ → ℕ → Bool
+is-node kind j = leb term (sort kind j)

@@ -1,0 +1,65 @@
+-- What a book that passes its checks has, and what all contents of a run have, the roll rule with it (01, "Elements, functions, locations").
+use mathlib.Core.Path.{_≡_}
+use mathlib.Core.Logic.{_≢_}
+use mathlib.Core.Bool.{true, false}
+use mathlib.Core.List.{List, [], _∷_}
+use Prim.Native.Nat.{ℕ, _+_, _≤_, _<_}
+use lib.ListN.{length, getD}
+use Rattle.text.specs.Words.{has}
+use Rattle.book.specs.declared.Function.{Function}
+use Rattle.book.specs.Book.{Book, L, size, true-element, boolean, function-at, node-at, agent-at, relation-at, dynamic-at, default-at, arguments-at}
+use Rattle.book.specs.Kinds.{is-rule}
+use Rattle.book.specs.Lines.{bad-node}
+use Rattle.book.specs.Use.{bad-use}
+use Rattle.book.specs.Around.{bad-around}
+use Rattle.book.specs.Contents.{bad-entry}
+
+-- functions have their locations one after the other, from that number on
+abbrev pub Laid : ℕ → ℕ → List Function → Type 0
+Laid E n [] = Unit {0}
+Laid E n (f ∷ fs) = (f .first ≡ n) × Laid E (n + size E (f .arity)) fs
+
+-- ---- what checks 3 to 8 show of a book
+
+pub record Lawful (B : Book) : Type 0 where
+  pub low : 4 ≤ B .P
+  pub high : B .P ≤ B .E
+  pub elements : B .E ≤ 10000
+  pub some : 0 < length (B .functions)
+  pub locations : L B ≤ 65536
+  pub laid : Laid (B .E) 0 (B .functions)
+  pub arities : (f : ℕ) → function-at B f .arity ≤ 2
+  pub reserve : function-at B 0 ≡ record { first = 0; arity = 1; kind = 3 }
+  pub nodes : (n : ℕ) → n < length (B .nodes) → bad-node B n ≡ false
+  pub uses : (n : ℕ) → n < length (B .nodes) → bad-use B n ≡ false
+  pub around : (n : ℕ) → n < length (B .nodes) → bad-around B n ≡ false
+  pub roots : (k : ℕ) → k < length (B .agents) → (agent-at B k .root < length (B .nodes)) × (is-rule (node-at B (agent-at B k .root) .kind) ≡ true)
+  pub agents : (k : ℕ) → agent-at B k .element < B .P
+  pub entries : (i : ℕ) → i < length (B .entries) → bad-entry B i ≡ false
+
+-- ---- what contents have
+
+-- the value at a location
+abbrev pub at : List ℕ → ℕ → ℕ
+at c l = getD c l 0
+
+-- location l has x as argument
+abbrev pub Argument : Book → ℕ → ℕ → Type 0
+Argument B x l = has (arguments-at B l) x ≡ true
+
+-- x is on the roll, 01's word for Reserve
+abbrev pub OnRoll : Book → List ℕ → ℕ → Type 0
+OnRoll B c x = (x < B .E) × (at c x ≡ true-element)
+
+-- Every location has a value, a relation only true or false; static functions are non-default only at permanent arguments, with permanent values;
+-- and the roll rule: Reserve holds for labels only, a label in it has the default at every other location with it as argument, and no location
+-- holds it. (Such a location not at its default, or one that holds the label, is what 01 calls a trace.)
+pub record Sound (B : Book) (c : List ℕ) : Type 0 where
+  pub long : length c ≡ L B
+  pub small : (l : ℕ) → at c l < B .E
+  pub booleans : (l : ℕ) → l < L B → relation-at B l ≡ true → boolean (at c l) ≡ true
+  pub fixed-values : (l : ℕ) → l < L B → dynamic-at B l ≡ false → (at c l < B .P)
+  pub fixed-arguments : (l x : ℕ) → l < L B → dynamic-at B l ≡ false → B .P ≤ x → Argument B x l → at c l ≡ default-at B l
+  pub labels : (x : ℕ) → OnRoll B c x → B .P ≤ x
+  pub arguments : (x l : ℕ) → OnRoll B c x → l < L B → l ≢ x → Argument B x l → at c l ≡ default-at B l
+  pub values : (x l : ℕ) → OnRoll B c x → l < L B → at c l ≢ x

@@ -1,0 +1,40 @@
+// The rule book: what its lines say.
+
+// The header's numbers: E, P, F, N, A and C.
+pub struct Header {
+    pub elements: u32,
+    pub permanent: u32,
+    pub functions: u32,
+    pub nodes: u32,
+    pub agents: u32,
+    pub contents: u32,
+}
+
+// A function: its first location, its arity and its kind.
+pub struct Function {
+    pub first: u32,
+    pub arity: u32,
+    pub kind: u32,
+}
+
+// A node of a rule: its kind and its three fields.
+pub struct Node {
+    pub kind: u32,
+    pub a: u32,
+    pub b: u32,
+    pub c: u32,
+}
+
+// An agent: the node of its rule, and its element.
+pub struct Agent {
+    pub root: u32,
+    pub element: u32,
+}
+
+// A contents line.
+pub struct Entry {
+    pub function: u32,
+    pub arg1: u32,
+    pub arg2: u32,
+    pub value: u32,
+}

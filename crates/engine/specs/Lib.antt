@@ -1,0 +1,5 @@
+pub mod Look
+pub mod Term
+pub mod Rule
+pub mod Move
+pub mod Single

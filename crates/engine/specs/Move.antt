@@ -1,0 +1,172 @@
+-- A move: the updates that its instructions give, 15 and 16, the contents that it leaves, what it reads and what it writes
+-- (01, "What a move does"; idle after 003, 2.5).
+use mathlib.Core.Bool.{Bool, true, false, _&&_, _||_, not}
+use mathlib.Core.List.{List, [], _∷_, _++_}
+use Prim.Native.Nat.{ℕ}
+use lib.Dec.{eqb}
+use lib.ListN.{length, getD}
+use Rattle.text.specs.Words.{if_then_else_, has, table, some-below, least}
+use Rattle.text.specs.Refusals.{clash, idle-move}
+use Rattle.text.specs.declared.Found.{Found}
+use Rattle.text.specs.declared.Found.the-variants.{Nowhere, Here}
+use Rattle.book.specs.Book.{true-element, Book, L, dynamic-at, default-at, concerns, reserve}
+use Rattle.engine.specs.declared.Instruction.{Instruction}
+use Rattle.engine.specs.declared.Instruction.the-variants.{Update, Release}
+use Rattle.engine.specs.Look.{gives, seen}
+use Rattle.engine.specs.Rule.{Walked, going, met, agent-walk}
+
+-- ---- updates: the values that instructions give each location
+
+-- What one gives location l. A release stands for: Reserve at its label becomes true, and every other dynamic location with the label as argument,
+-- or holding it before the move, gets its default.
+unfoldable pub given : Book → List ℕ → ℕ → Instruction → List ℕ
+given B c l (Update k v) = if eqb k l then v ∷ [] else []
+given B c l (Release x) =
+    if eqb (reserve x) l then true-element ∷ []
+    else if dynamic-at B l && concerns B l (getD c l 0) x then default-at B l ∷ []
+    else []
+
+-- what all of them give it, in order
+unfoldable pub values : Book → List ℕ → ℕ → List Instruction → List ℕ
+values B c l [] = []
+values B c l (i ∷ is) = given B c l i ++ values B c l is
+
+-- the updates: for each location the values that it is given, none where it is not updated
+unfoldable pub updates : Book → List ℕ → List Instruction → List (List ℕ)
+updates B c is = table (λ l. values B c l is) (L B)
+
+abbrev pub values-at : List (List ℕ) → ℕ → List ℕ
+values-at us l = getD us l []
+
+-- the labels released
+abbrev pub label-of : Instruction → List ℕ → List ℕ
+label-of (Update l v) xs = xs
+label-of (Release x) xs = x ∷ xs
+
+unfoldable pub released : List Instruction → List ℕ
+released [] = []
+released (i ∷ is) = label-of i (released is)
+
+-- ---- 15: one location, two values; or an update whose value is released by the same move
+
+-- the list has a value other than v
+unfoldable pub other : ℕ → List ℕ → Bool
+other v [] = false
+other v (w ∷ ws) = not (eqb w v) || other v ws
+
+unfoldable pub two-values : List ℕ → Bool
+two-values [] = false
+two-values (v ∷ vs) = other v vs
+
+abbrev pub sets-label : List ℕ → ℕ → Instruction → Bool
+sets-label xs l (Update k v) = eqb k l && has xs v
+sets-label xs l (Release x) = false
+
+-- an update sets location l to one of the labels xs
+unfoldable pub set-to-label : List ℕ → ℕ → List Instruction → Bool
+set-to-label xs l [] = false
+set-to-label xs l (i ∷ is) = sets-label xs l i || set-to-label xs l is
+
+unfoldable pub clashes : List Instruction → List (List ℕ) → ℕ → Bool
+clashes is us l = two-values (values-at us l) || set-to-label (released is) l is
+
+-- ---- 16: no location would change
+
+unfoldable pub idle : List ℕ → List (List ℕ) → Bool
+idle c us = not (some-below (λ l. other (getD c l 0) (values-at us l)) (length us))
+
+-- ---- the contents after: the old ones with the updates. Where nothing clashes a location is given one value, however often
+
+abbrev pub new-value : ℕ → List ℕ → ℕ
+new-value v [] = v
+new-value v (w ∷ ws) = w
+
+unfoldable pub fire : List (List ℕ) → List ℕ → List ℕ
+fire us [] = []
+fire [] (v ∷ c) = v ∷ c
+fire (ws ∷ us) (v ∷ c) = new-value v ws ∷ fire us c
+
+-- ---- reads and writes
+
+-- what updates write, changed or not
+abbrev pub is-some : List ℕ → Bool
+is-some [] = false
+is-some (w ∷ ws) = true
+
+abbrev pub writes : List (List ℕ) → ℕ → Bool
+writes us l = is-some (values-at us l)
+
+unfoldable pub dynamic-among : Book → List ℕ → List ℕ
+dynamic-among B [] = []
+dynamic-among B (l ∷ ls) = let r = dynamic-among B ls in if dynamic-at B l then l ∷ r else r
+
+-- every dynamic location
+unfoldable pub all-dynamic : Book → List ℕ
+all-dynamic B = dynamic-among B (table (λ l. l) (L B))
+
+-- what a move reads beside what its walk looks at: with a release, every dynamic location
+abbrev pub if-releasing : Book → List ℕ → List ℕ
+if-releasing B [] = []
+if-releasing B (x ∷ xs) = all-dynamic B
+
+abbrev pub extra-reads : Book → List Instruction → List (List ℕ) → List ℕ
+extra-reads B is us = if-releasing B (released is)
+
+-- ---- the move
+
+-- a move's input: the agent
+pub record Input : Type 0 where
+  pub agent : ℕ
+
+-- what a move that fires has: its instructions, its updates, and what it reads
+pub record Fired : Type 0 where
+  pub instructions : List Instruction
+  pub updates : List (List ℕ)
+  pub reads : List ℕ
+
+-- a move fires, or is refused with its number and q
+pub data Moved : Type 0 where
+  fires : Fired → Moved
+  stopped : ℕ → ℕ → Moved
+
+abbrev pub unless-clash : Found → Moved → Moved
+unless-clash Nowhere m = m
+unless-clash (Here l) m = stopped clash l
+
+abbrev pub unless-idle : Bool → Moved → Moved
+unless-idle false m = m
+unless-idle true m = stopped idle-move 0
+
+-- the walk of a move in the contents c, and the dynamic locations that it looks at there: all terms are read in the contents before the move
+abbrev pub walked : Book → List ℕ → Input → Walked
+walked B c i = gives c (agent-walk B (i .agent))
+
+abbrev pub looked : Book → List ℕ → Input → List ℕ
+looked B c i = dynamic-among B (seen c (agent-walk B (i .agent)))
+
+-- a walk that came to its end, having looked at ls
+abbrev pub fired-of : Book → List ℕ → List ℕ → List Instruction → Fired
+fired-of B c ls is =
+    let us = updates B c is in
+    record { instructions = is; updates = us; reads = ls ++ extra-reads B is us }
+
+-- 15, then 16
+unfoldable pub judged : List ℕ → Fired → Moved
+judged c f =
+    unless-clash (least (clashes (f .instructions) (f .updates)) (length (f .updates))) (unless-idle (idle c (f .updates)) (fires f))
+
+-- 11 to 14 as met, then the rest
+unfoldable pub settle : Book → List ℕ → List ℕ → Walked → Moved
+settle B c ls (met n q) = stopped n q
+settle B c ls (going w) = judged c (fired-of B c ls (w .made))
+
+unfoldable pub move : Book → List ℕ → Input → Moved
+move B c i = settle B c (looked B c i) (walked B c i)
+
+-- what a move reads, whether it fires or not
+abbrev pub reads-after : Book → List ℕ → List ℕ → Walked → List ℕ
+reads-after B c ls (met n q) = ls
+reads-after B c ls (going w) = fired-of B c ls (w .made) .reads
+
+unfoldable pub reads : Book → List ℕ → Input → List ℕ
+reads B c i = reads-after B c (looked B c i) (walked B c i)

@@ -1,0 +1,58 @@
+-- The single-move entry: a book, a contents table and an agent (01, "Refused, and how").
+use mathlib.Core.List.{List, [], _∷_, _++_}
+use Prim.Native.Nat.{ℕ}
+use lib.Dec.{ltb, leb}
+use lib.ListN.{length, take, drop}
+use Rattle.text.specs.declared.Answer.{Answer}
+use Rattle.text.specs.Words.{least, Checked, good, refused, _>>=_, _>>_, none-at, must}
+use Rattle.text.specs.Refusals.{lent-short, contents-table, instructions-table, contents-rule, log-line}
+use Rattle.book.specs.Book.{Book, L}
+use Rattle.book.specs.Contents.{bad-value}
+use Rattle.book.specs.Check.{check-book}
+use Rattle.engine.specs.declared.Instruction.{Instruction}
+use Rattle.engine.specs.Rule.{most-instructions}
+use Rattle.engine.specs.Move.{Input, Fired, Moved, fires, stopped, move, fire}
+
+-- a table's first records, and those past them as they were
+abbrev pub over : List ℕ → List ℕ → List ℕ
+over new old = new ++ drop (length new) old
+
+-- 9 with place 0 if there is no such agent
+unfoldable pub check-agent : Book → ℕ → Checked (Unit {0})
+check-agent B k = must (ltb k (length (B .agents))) log-line 0 0
+
+-- 2: contents c and n instruction records are lent
+unfoldable pub check-lent-step : Book → List ℕ → ℕ → Checked (Unit {0})
+check-lent-step B c n = do
+  must (leb (L B) (length c)) lent-short (L B) contents-table
+  must (leb most-instructions n) lent-short most-instructions instructions-table
+
+-- 8 of a lent table: the least location at fault
+unfoldable pub check-contents : Book → List ℕ → Checked (Unit {0})
+check-contents B c = none-at contents-rule 0 0 (least (bad-value B c) (L B))
+
+unfoldable pub check-step : List ℕ → List ℕ → ℕ → ℕ → Checked Book
+check-step book c k n = do
+  B ← check-book book
+  check-agent B k
+  check-lent-step B c n
+  check-contents B (take (L B) c)
+  good B
+
+-- what it answers: number and place, the contents table, and the instructions of a move that fires
+pub record Stepped : Type 0 where
+  pub answer : Answer
+  pub contents : List ℕ
+  pub instructions : List Instruction
+
+abbrev pub stepped : List ℕ → List ℕ → Moved → Stepped
+stepped c d (fires f) = record { answer = record { number = 0; p = 0; q = 0 }; contents = over (fire (f .updates) d) c; instructions = f .instructions }
+stepped c d (stopped n q) = record { answer = record { number = n; p = 0; q = q }; contents = c; instructions = [] }
+
+-- a refused call leaves the table as it was
+abbrev pub step-answer : List ℕ → ℕ → Checked Book → Stepped
+step-answer c k (refused n p q) = record { answer = record { number = n; p = p; q = q }; contents = c; instructions = [] }
+step-answer c k (good B) = stepped c (take (L B) c) (move B (take (L B) c) (record { agent = k }))
+
+unfoldable pub step-call : List ℕ → List ℕ → ℕ → ℕ → Stepped
+step-call book c k n = step-answer c k (check-step book c k n)

@@ -1,0 +1,65 @@
+-- The log entry: a book, a log and the tables that the caller lends; what it answers and leaves, for all inputs (01, "Refused, and how").
+use mathlib.Core.List.{List}
+use Prim.Native.Nat.{ℕ}
+use lib.Dec.{leb}
+use lib.ListN.{length}
+use Rattle.text.specs.Words.{Checked, good, refused, _>>=_, _>>_, must}
+use Rattle.text.specs.Refusals.{lent-short, contents-table, readers-table, writers-table, instructions-table}
+use Rattle.book.specs.Book.{Book, L}
+use Rattle.book.specs.Check.{check-book}
+use Rattle.engine.specs.Rule.{most-instructions}
+use Rattle.engine.specs.Single.{over}
+use Rattle.order.specs.Log.{Log, check-log}
+use Rattle.order.specs.Run.{LogAnswer, run-log}
+
+-- how many records of each table are lent
+pub record Lengths : Type 0 where
+  pub contents : ℕ
+  pub readers : ℕ
+  pub writers : ℕ
+  pub instructions : ℕ
+
+-- 2, lowest table first
+unfoldable pub check-lent : Book → Lengths → Checked (Unit {0})
+check-lent B n = do
+  must (leb (L B) (n .contents)) lent-short (L B) contents-table
+  must (leb (L B) (n .readers)) lent-short (L B) readers-table
+  must (leb (L B) (n .writers)) lent-short (L B) writers-table
+  must (leb most-instructions (n .instructions)) lent-short most-instructions instructions-table
+
+-- all checks before the first move
+unfoldable pub check-all : List ℕ → List ℕ → Lengths → Checked (Book × Log)
+check-all book log n = do
+  B ← check-book book
+  g ← check-log B log
+  check-lent B n
+  good (B, g)
+
+-- the tables lent: contents, readers, writers
+pub record Tables : Type 0 where
+  pub contents : List ℕ
+  pub readers : List ℕ
+  pub writers : List ℕ
+
+abbrev pub lengths : Tables → ℕ → Lengths
+lengths t n = record { contents = length (t .contents); readers = length (t .readers); writers = length (t .writers); instructions = n }
+
+-- records past the length needed stay as they were
+abbrev pub left-in : Tables → LogAnswer → LogAnswer
+left-in t a =
+    record {
+      answer = a .answer;
+      contents = over (a .contents) (t .contents);
+      readers = over (a .readers) (t .readers);
+      writers = over (a .writers) (t .writers);
+    }
+
+-- 1 to 10 write nothing
+abbrev pub log-answer : Tables → Checked (Book × Log) → LogAnswer
+log-answer t (refused n p q) =
+    record { answer = record { number = n; p = p; q = q }; contents = t .contents; readers = t .readers; writers = t .writers }
+log-answer t (good x) = left-in t (run-log (x .0) (x .1))
+
+-- n is how many instruction records are lent
+unfoldable pub log-call : List ℕ → List ℕ → Tables → ℕ → LogAnswer
+log-call book log t n = log-answer t (check-all book log (lengths t n))

@@ -1,0 +1,88 @@
+-- Demand 3 as one claim about a book's text, a log's text, the tables lent, and whole orders.
+use mathlib.Core.Path.{_≡_}
+use mathlib.Core.Logic.{_↔_, _⊎_}
+use mathlib.Core.List.{List, [], _∷_}
+use mathlib.Core.Option.{Option, none, some}
+use Prim.Native.Nat.{ℕ, _<_}
+use lib.ListN.{length}
+use Rattle.text.specs.Words.{has, good}
+use Rattle.book.specs.Book.{Book, start}
+use Rattle.book.specs.Sound.{at, Sound}
+use Rattle.engine.specs.Move.{Fired, Moved, fires, stopped, move, fire, values-at}
+use Rattle.engine.specs.Single.{over}
+use Rattle.order.specs.Pairs.{Pair}
+use Rattle.order.specs.Log.{Log, move-at}
+use Rattle.order.specs.Run.{LogAnswer}
+use Rattle.order.specs.Call.{Tables, lengths, check-all, log-call}
+use Rattle.order.specs.Orders.{Moves, Touch, run, listed, Before, from, Keeps, Agrees, LeastPair}
+
+-- ---- the moves of a log over a book
+
+-- a pair is one of the log's
+abbrev pub PairOf : List Pair → ℕ → ℕ → Type 0
+PairOf [] a b = ⊥
+PairOf (p ∷ ps) a b = ((p .earlier ≡ a) × (p .later ≡ b)) ⊎ PairOf ps a b
+
+-- what a move does, none if it is refused
+abbrev pub act-of : Moved → Option Fired
+act-of (fires f) = some f
+act-of (stopped n q) = none
+
+abbrev pub value-of : List ℕ → Option ℕ
+value-of [] = none
+value-of (v ∷ vs) = some v
+
+abbrev pub moves-of : Book → Log → Moves
+moves-of B g = record {
+  Con = List ℕ;
+  Act = Fired;
+  at = at;
+  does = λ i c. act-of (move B c (move-at g i));
+  after = λ c f. fire (f .updates) c;
+  reads = λ f l. has (f .reads) l;
+  gives = λ f l. value-of (values-at (f .updates) l);
+  Good = Sound B;
+}
+
+-- how many moves a log has, and the order that follows from its pairs by chaining
+abbrev pub count : Log → ℕ
+count g = length (g .moves)
+
+abbrev pub Ordered : Log → ℕ → ℕ → Type 0
+Ordered g i j = Before (PairOf (g .pairs)) i j
+
+-- move i fires in the listed order and does this
+abbrev pub Does : Book → Log → ℕ → Fired → Type 0
+Does B g i f = moves-of B g .does i (listed (moves-of B g) (start B) i) ≡ some f
+
+-- the first n moves all fire in the listed order
+abbrev pub AllFire : Book → Log → ℕ → Type 0
+AllFire B g n = (i : ℕ) → i < n → (f : Fired) × Does B g i f
+
+-- moves i and j, the first before the second in the listing, are unordered and touch
+abbrev pub Clash : Book → Log → ℕ → ℕ → Type 0
+Clash B g i j =
+    (i < j) × (j < count g) × ¬ Ordered g i j × ¬ Ordered g j i
+    × ((e : Fired) × (f : Fired) × Does B g i e × Does B g j f × Touch (moves-of B g) e f)
+
+-- ---- the claim: for a book's text, a log's text, the tables t and n instruction records
+
+module _ (book log : List ℕ) (t : Tables) (n : ℕ) where
+  abbrev pub answered : LogAnswer
+  answered = log-call book log t n
+
+  -- none of 1 to 10 is named, and all moves fire in the listed order
+  abbrev pub Passes : Book → Log → Type 0
+  Passes B g = (check-all book log (lengths t n) ≡ good (B, g)) × AllFire B g (count g)
+
+  pub record Demand3 : Type 0 where
+    -- accepted exactly when the order of refusals names none
+    pub accepted : (answered .answer .number ≡ 0) ↔ ((B : Book) × (g : Log) × Passes B g × ((i j : ℕ) → ¬ Clash B g i j))
+    -- 17 exactly when nothing earlier is named, all moves fire as listed, and unordered ones touch; its place is the least such pair
+    pub refused : (i j : ℕ)
+        → ((answered .answer .number ≡ 17) × (answered .answer .p ≡ i) × (answered .answer .q ≡ j)) ↔ ((B : Book) × (g : Log) × Passes B g × LeastPair (Clash B g) i j)
+    -- In every order that keeps the pairs of an accepted log no move is refused, each does what it does in the listed order, the end is the answer's
+    -- contents, and the contents are sound, the roll rule with it, at the start and after each move.
+    pub orders : answered .answer .number ≡ 0 → (B : Book) (g : Log) → check-all book log (lengths t n) ≡ good (B, g)
+        → (is : List ℕ) → Keeps (from 0 (count g)) (PairOf (g .pairs)) is
+        → Agrees (moves-of B g) (start B) (count g) is × (answered .contents ≡ over (run (moves-of B g) (start B) is) (t .contents))

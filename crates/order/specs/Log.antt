@@ -1,0 +1,104 @@
+-- The log: its lines and their checks, 1, 9 and 10 (01, "Book and log text", "Refused, and how").
+use mathlib.Core.Bool.{Bool, _&&_, _||_, not}
+use mathlib.Core.List.{List}
+use Prim.Native.Nat.{ℕ, suc, _+_, _*_}
+use lib.Dec.{eqb, ltb, leb}
+use lib.ListN.{length, getD}
+use Rattle.text.specs.declared.Line.{Line}
+use Rattle.text.specs.Words.{table, least, Checked, good, _>>=_, _>>_, none-at, must}
+use Rattle.text.specs.Refusals.{ill-formed, log-text, log-line, agent-unordered}
+use Rattle.text.specs.Text.{line-length, bad-line, line}
+use Rattle.book.specs.Book.{Book}
+use Rattle.engine.specs.Move.{Input}
+use Rattle.order.specs.Pairs.{Pair, rows, ordered-by, least-two, none-two}
+
+-- the moves in the order listed, and the pairs
+pub record Log : Type 0 where
+  pub moves : List Input
+  pub pairs : List Pair
+
+abbrev pub no-input : Input
+no-input = record { agent = 0 }
+
+abbrev pub move-at : Log → ℕ → Input
+move-at g i = getD (g .moves) i no-input
+
+-- ---- the lines
+
+abbrev pub most-moves : ℕ
+most-moves = 64
+
+abbrev pub most-pairs : ℕ
+most-pairs = 2016
+
+-- the header `m k 0 0`
+abbrev pub log-header-ok : Line → Bool
+log-header-ok h = leb (h .a) most-moves && leb (h .b) most-pairs && eqb (h .c) 0 && eqb (h .d) 0
+
+-- how many lines the log has
+abbrev pub log-lines : Line → ℕ
+log-lines h = 1 + h .a + h .b
+
+-- a move line `agent 0 0 0`, A being how many agents there are
+abbrev pub bad-move : ℕ → Line → Bool
+bad-move A l = not (ltb (l .a) A && eqb (l .b) 0 && eqb (l .c) 0 && eqb (l .d) 0)
+
+-- the pair of line l comes after that of line k
+abbrev pub ascends : Line → Line → Bool
+ascends k l = ltb (k .a) (l .a) || eqb (k .a) (l .a) && ltb (k .b) (l .b)
+
+-- pair line i, `earlier later 0 0`, of m moves, is at fault; k is the pair line before
+abbrev pub bad-pair : ℕ → Line → Line → ℕ → Bool
+bad-pair m k l i = not (ltb (l .a) (l .b) && ltb (l .b) m && (eqb i 0 || ascends k l) && eqb (l .c) 0 && eqb (l .d) 0)
+
+abbrev pub input-of : Line → Input
+input-of l = record { agent = l .a }
+
+abbrev pub pair-of : Line → Pair
+pair-of l = record { earlier = l .a; later = l .b }
+
+unfoldable pub log-of : Line → List ℕ → Log
+log-of h text =
+    record {
+      moves = table (λ i. input-of (line text (1 + i))) (h .a);
+      pairs = table (λ i. pair-of (line text (1 + h .a + i))) (h .b);
+    }
+
+-- ---- 10: moves i < j of one agent that the order, given by its rows, leaves unordered
+
+abbrev pub loose : List ℕ → Log → ℕ → ℕ → Bool
+loose rs g i j = eqb (move-at g i .agent) (move-at g j .agent) && not (ordered-by rs i j)
+
+unfoldable pub check-agents : Log → Checked (Unit {0})
+check-agents g =
+    let m = length (g .moves) in
+    none-two agent-unordered (least-two (loose (rows (g .pairs) m) g) m)
+
+-- ---- the log's checks, in order
+
+-- 1 then 9 on the header
+unfoldable pub check-log-header : List ℕ → Checked Line
+check-log-header text = do
+  none-at ill-formed 0 log-text (least (bad-line text) 1)
+  must (log-header-ok (line text 0)) log-line 0 0
+  good (line text 0)
+
+-- 1 on the log
+unfoldable pub check-log-text : Line → List ℕ → Checked (Unit {0})
+check-log-text h text = do
+  none-at ill-formed 0 log-text (least (bad-line text) (log-lines h))
+  must (leb (length text) (line-length * log-lines h)) ill-formed (log-lines h) log-text
+
+-- 9
+unfoldable pub check-log-lines : Book → Line → List ℕ → Checked (Unit {0})
+check-log-lines B h text = do
+  none-at log-line 1 0 (least (λ i. bad-move (length (B .agents)) (line text (1 + i))) (h .a))
+  none-at log-line (1 + h .a) 0 (least (λ i. bad-pair (h .a) (line text (h .a + i)) (line text (1 + h .a + i)) i) (h .b))
+
+unfoldable pub check-log : Book → List ℕ → Checked Log
+check-log B text = do
+  h ← check-log-header text
+  check-log-text h text
+  check-log-lines B h text
+  check-agents (log-of h text)
+  good (log-of h text)

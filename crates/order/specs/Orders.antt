@@ -1,0 +1,118 @@
+-- Moves that act on contents, the orders that keep a log's pairs, and what it is that all of them do alike. Nothing here is about one engine
+-- (01, "Book and log text": an order; "What a move does": touch).
+use mathlib.Core.Path.{_≡_}
+use mathlib.Core.Logic.{_⊎_, _≢_}
+use mathlib.Core.List.{List, [], _∷_, _++_}
+use mathlib.Core.Option.{Option, none, some}
+use mathlib.Core.Bool.{Bool, true, false}
+use Prim.Native.Nat.{ℕ, zero, suc, _≤_, _<_}
+use lib.Dec.{eqb}
+use Rattle.text.specs.Words.{has}
+
+-- ---- moves
+
+-- What a move does at contents, its act: its instructions, its updates and its reads.
+pub record Moves : Type 1 where
+  pub Con : Type 0
+  pub Act : Type 0
+  -- the value at a location
+  pub at : Con → ℕ → ℕ
+  -- what move i does on these contents: none if it is refused there
+  pub does : ℕ → Con → Option Act
+  -- the contents that an act leaves
+  pub after : Con → Act → Con
+  -- the act reads the location
+  pub reads : Act → ℕ → Bool
+  -- the value that the act gives the location: none if it does not write it
+  pub gives : Act → ℕ → Option ℕ
+  -- what all contents of a run have, the roll rule with it
+  pub Good : Con → Type 0
+
+-- a location's value once it is given another, or none
+abbrev pub put : Option ℕ → ℕ → ℕ
+put none v = v
+put (some w) v = w
+
+module _ (S : Moves) where
+  abbrev pub Reads : S .Act → ℕ → Type 0
+  Reads a l = S .reads a l ≡ true
+
+  abbrev pub Writes : S .Act → ℕ → Type 0
+  Writes a l = (v : ℕ) × (S .gives a l ≡ some v)
+
+  abbrev pub Uses : S .Act → ℕ → Type 0
+  Uses a l = Reads a l ⊎ Writes a l
+
+  -- two acts touch: one writes a location that the other reads or writes
+  abbrev pub Touch : S .Act → S .Act → Type 0
+  Touch a b = (l : ℕ) × ((Writes a l × Uses b l) ⊎ (Writes b l × Uses a l))
+
+-- What the engine has to supply.
+pub record Laws (S : Moves) : Type 0 where
+  -- the updates are all that changes
+  pub frame : (i : ℕ) (c : S .Con) (a : S .Act) (l : ℕ) → S .Good c → S .does i c ≡ some a → S .at (S .after c a) l ≡ put (S .gives a l) (S .at c l)
+  -- a move that fires keeps what all contents have
+  pub keep : (i : ℕ) (c : S .Con) (a : S .Act) → S .Good c → S .does i c ≡ some a → S .Good (S .after c a)
+  -- two moves that fire one after the other and do not touch do the same the other way round
+  pub swap : (i j : ℕ) (c : S .Con) (a b : S .Act) → S .Good c → S .does i c ≡ some a → S .does j (S .after c a) ≡ some b → ¬ Touch S a b
+      → (S .does j c ≡ some b) × (S .does i (S .after c b) ≡ some a)
+  -- contents are their values
+  pub ext : (c d : S .Con) → S .Good c → S .Good d → ((l : ℕ) → S .at c l ≡ S .at d l) → c ≡ d
+
+-- ---- runs
+
+module _ (S : Moves) where
+  abbrev pub left : S .Con → Option (S .Act) → S .Con
+  left c none = c
+  left c (some a) = S .after c a
+
+  -- what a move leaves: the contents as they were, if it is refused
+  abbrev pub step : S .Con → ℕ → S .Con
+  step c i = left c (S .does i c)
+
+  -- the contents after these moves, in this order
+  abbrev pub run : S .Con → List ℕ → S .Con
+  run c [] = c
+  run c (i ∷ is) = run (step c i) is
+
+  -- the contents that move i gets in the listed order
+  abbrev pub listed : S .Con → ℕ → S .Con
+  listed c zero = c
+  listed c (suc i) = step (listed c i) i
+
+-- ---- orders
+
+-- what follows from the pairs by chaining
+pub data Before (pair : ℕ → ℕ → Type 0) : ℕ → ℕ → Type 0 where
+  one : {a b : ℕ} → pair a b → Before pair a b
+  more : {a b c : ℕ} → Before pair a b → pair b c → Before pair a c
+
+-- the moves as listed, n of them from k on
+abbrev pub from : ℕ → ℕ → List ℕ
+from k zero = []
+from k (suc n) = k ∷ from (suc k) n
+
+-- An order of a log's moves that keeps the pairs.
+pub record Keeps (log : List ℕ) (pair : ℕ → ℕ → Type 0) (is : List ℕ) : Type 0 where
+  -- it has the log's moves and no other
+  pub all : (i : ℕ) → has is i ≡ has log i
+  -- each once
+  pub once : (p : List ℕ) (i : ℕ) (q : List ℕ) → is ≡ p ++ i ∷ q → has p i ≡ false
+  -- a pair's earlier move stands before its later one
+  pub pairs : (a b : ℕ) → pair a b → (p q : List ℕ) → is ≡ p ++ b ∷ q → has p a ≡ true
+
+-- What holds of an order of the m moves of an accepted log.
+pub record Agrees (S : Moves) (start : S .Con) (m : ℕ) (is : List ℕ) : Type 0 where
+  -- no move is refused, and each does what it does in the listed order: the same instructions, updates and reads
+  pub fires : (p : List ℕ) (i : ℕ) (q : List ℕ) → is ≡ p ++ i ∷ q
+      → (a : S .Act) × (S .does i (run S start p) ≡ some a) × (S .does i (listed S start i) ≡ some a)
+  -- the end is the listed order's
+  pub ends : run S start is ≡ listed S start m
+  -- at the start and after each move the contents have what all contents have
+  pub good : (p q : List ℕ) → is ≡ p ++ q → S .Good (run S start p)
+
+-- ---- the least pair, first move and then second
+
+pub record LeastPair (C : ℕ → ℕ → Type 0) (i j : ℕ) : Type 0 where
+  pub holds : C i j
+  pub least : (a b : ℕ) → C a b → (i < a) ⊎ ((i ≡ a) × (j ≤ b))

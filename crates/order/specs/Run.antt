@@ -1,0 +1,115 @@
+-- A log's run: its moves in turn, the marks they leave, and 17 (01, "What a move does", "Refused, and how").
+use mathlib.Core.Bool.{Bool, _&&_, _||_, not}
+use mathlib.Core.List.{List, [], _∷_, _++_}
+use Prim.Native.Nat.{ℕ, zero, suc}
+use lib.ListN.{length, getD}
+use Rattle.text.specs.Words.{if_then_else_, has, table, some-below}
+use Rattle.text.specs.Refusals.{unordered-touch}
+use Rattle.text.specs.declared.Answer.{Answer}
+use Rattle.book.specs.Book.{Book, L, start}
+use Rattle.engine.specs.Move.{Input, Fired, Moved, fires, stopped, move, fire, writes}
+use Rattle.order.specs.Sets.{with-move}
+use Rattle.order.specs.Pairs.{rows, ordered-by, TwoFound, no-two, two, least-two}
+use Rattle.order.specs.Log.{Log, move-at}
+
+-- ---- the moves in turn
+
+-- the contents, and what the moves so far have done, in order
+pub record Run : Type 0 where
+  pub contents : List ℕ
+  pub fired : List Fired
+
+-- all moves so far have fired, or one was refused: its number and place, and what the moves before it left
+pub data Ran : Type 0 where
+  ran : Run → Ran
+  halted : ℕ → ℕ → ℕ → Run → Ran
+
+abbrev pub moved : ℕ → Run → Moved → Ran
+moved i s (fires f) = ran (record { contents = fire (f .updates) (s .contents); fired = s .fired ++ (f ∷ []) })
+moved i s (stopped n q) = halted n i q s
+
+abbrev pub next : Book → ℕ → Input → Ran → Ran
+next B i m (ran s) = moved i s (move B (s .contents) m)
+next B i m (halted n p q s) = halted n p q s
+
+-- the first n moves, from the contents c
+unfoldable pub run : Book → Log → List ℕ → ℕ → Ran
+run B g c zero = ran (record { contents = c; fired = [] })
+run B g c (suc n) = next B n (move-at g n) (run B g c n)
+
+-- ---- marks
+
+-- the set of the moves that pass the test; the first of the list is move i
+unfoldable pub moves-that : (Fired → Bool) → ℕ → List Fired → ℕ
+moves-that t i [] = 0
+moves-that t i (f ∷ fs) = let r = moves-that t (suc i) fs in if t f then with-move r i else r
+
+abbrev pub reads-at : ℕ → Fired → Bool
+reads-at l f = has (f .reads) l
+
+abbrev pub writes-at : ℕ → Fired → Bool
+writes-at l f = writes (f .updates) l
+
+-- for each of the first n locations the set of the moves that read it, and of those that write it
+unfoldable pub readers : ℕ → List Fired → List ℕ
+readers n fs = table (λ l. moves-that (reads-at l) 0 fs) n
+
+unfoldable pub writers : ℕ → List Fired → List ℕ
+writers n fs = table (λ l. moves-that (writes-at l) 0 fs) n
+
+-- ---- 17
+
+-- at location l one of the two writes what the other reads or writes
+abbrev pub touch-at : Fired → Fired → ℕ → Bool
+touch-at f g l = writes-at l f && (reads-at l g || writes-at l g) || writes-at l g && (reads-at l f || writes-at l f)
+
+-- at one of the first n locations
+abbrev pub touch : ℕ → Fired → Fired → Bool
+touch n f g = some-below (touch-at f g) n
+
+abbrev pub no-fired : Fired
+no-fired = record { instructions = []; updates = []; reads = [] }
+
+abbrev pub fired-at : List Fired → ℕ → Fired
+fired-at fs i = getD fs i no-fired
+
+-- moves i < j are unordered and touch
+abbrev pub unordered-touching : List ℕ → ℕ → List Fired → ℕ → ℕ → Bool
+unordered-touching rs n fs i j = not (ordered-by rs i j) && touch n (fired-at fs i) (fired-at fs j)
+
+abbrev pub touching : Book → Log → List Fired → TwoFound
+touching B g fs =
+    let m = length (g .moves) in
+    least-two (unordered-touching (rows (g .pairs) m) (L B) fs) m
+
+-- ---- what a log's run answers: number and place, 0 0 0 when accepted, with contents and marks
+
+pub record LogAnswer : Type 0 where
+  pub answer : Answer
+  pub contents : List ℕ
+  pub readers : List ℕ
+  pub writers : List ℕ
+
+abbrev pub left-by : Book → Run → ℕ → ℕ → ℕ → LogAnswer
+left-by B s n p q =
+    record {
+      answer = record { number = n; p = p; q = q };
+      contents = s .contents;
+      readers = readers (L B) (s .fired);
+      writers = writers (L B) (s .fired);
+    }
+
+abbrev pub order-checked : Book → Run → TwoFound → LogAnswer
+order-checked B s no-two = left-by B s 0 0 0
+order-checked B s (two i j) = left-by B s unordered-touch i j
+
+unfoldable pub finish : Book → Log → Ran → LogAnswer
+finish B g (halted n p q s) = left-by B s n p q
+finish B g (ran s) = order-checked B s (touching B g (s .fired))
+
+-- from the contents c
+unfoldable pub run-from : Book → Log → List ℕ → LogAnswer
+run-from B g c = finish B g (run B g c (length (g .moves)))
+
+unfoldable pub run-log : Book → Log → LogAnswer
+run-log B g = run-from B g (start B)

@@ -1,0 +1,87 @@
+-- Lines of books and logs: four fields of six columns, then byte 10; reading and writing one (01, "Book and log text").
+use mathlib.Core.Bool.{Bool, true, false, _&&_, _||_, not}
+use mathlib.Core.List.{List, [], _∷_, _++_}
+use Prim.Native.Nat.{ℕ, zero, suc, _+_, _*_, _-_, _/_, _%_, _^_}
+use lib.Dec.{eqb, ltb, leb}
+use lib.ListN.{length, getD, take, drop}
+use Rattle.text.specs.declared.Line.{Line}
+use Rattle.text.specs.Words.{if_then_else_}
+
+abbrev pub blank : ℕ
+blank = 32
+
+abbrev pub zero-digit : ℕ
+zero-digit = 48
+
+abbrev pub newline : ℕ
+newline = 10
+
+abbrev pub line-length : ℕ
+line-length = 25
+
+abbrev pub digit : ℕ → Bool
+digit c = leb zero-digit c && leb c 57
+
+-- only digits are left
+unfoldable pub digits : List ℕ → Bool
+digits [] = true
+digits (c ∷ cs) = digit c && digits cs
+
+-- blanks, then decimal digits, at least one, with no leading zero, but for a single 0
+unfoldable pub field-ok : List ℕ → Bool
+field-ok [] = false
+field-ok (c ∷ cs) =
+    let rest = field-ok cs in
+    if eqb c blank then rest else digit c && digits cs && (eqb (length cs) 0 || not (eqb c zero-digit))
+
+-- what the digits say, n being what stands before them
+unfoldable pub value-of : ℕ → List ℕ → ℕ
+value-of n [] = n
+value-of n (c ∷ cs) = value-of (if eqb c blank then n else 10 * n + (c - zero-digit)) cs
+
+-- ---- line i of a text
+
+abbrev pub line-bytes : List ℕ → ℕ → List ℕ
+line-bytes text i = take line-length (drop (line-length * i) text)
+
+-- field j of a line's bytes
+abbrev pub column : ℕ → List ℕ → List ℕ
+column j bytes = take 6 (drop (6 * j) bytes)
+
+-- 25 bytes: four fields in form, and byte 10. A line that is missing or cut short is in no form
+unfoldable pub well-formed : List ℕ → Bool
+well-formed bytes =
+    eqb (length bytes) line-length && field-ok (column 0 bytes) && field-ok (column 1 bytes) && field-ok (column 2 bytes) && field-ok (column 3 bytes)
+    && eqb (getD bytes 24 0) newline
+
+-- a line's four numbers
+unfoldable pub numbers-of : List ℕ → Line
+numbers-of bytes =
+    record {
+      a = value-of 0 (column 0 bytes);
+      b = value-of 0 (column 1 bytes);
+      c = value-of 0 (column 2 bytes);
+      d = value-of 0 (column 3 bytes);
+    }
+
+-- 1: line i is ill-formed or missing
+abbrev pub bad-line : List ℕ → ℕ → Bool
+bad-line text i = not (well-formed (line-bytes text i))
+
+abbrev pub line : List ℕ → ℕ → Line
+line text i = numbers-of (line-bytes text i)
+
+abbrev pub no-line : Line
+no-line = record { a = 0; b = 0; c = 0; d = 0 }
+
+-- ---- a line as bytes
+
+-- column k from the right: a digit, or a blank before the number
+abbrev pub column-byte : ℕ → ℕ → ℕ
+column-byte n k = if ltb n (10 ^ k) && not (eqb k 0) then blank else zero-digit + n / 10 ^ k % 10
+
+abbrev pub field-bytes : ℕ → List ℕ
+field-bytes n = column-byte n 5 ∷ column-byte n 4 ∷ column-byte n 3 ∷ column-byte n 2 ∷ column-byte n 1 ∷ column-byte n 0 ∷ []
+
+abbrev pub written : Line → List ℕ
+written l = field-bytes (l .a) ++ (field-bytes (l .b) ++ (field-bytes (l .c) ++ (field-bytes (l .d) ++ (newline ∷ []))))
