@@ -8,16 +8,13 @@ use lib.Dec.{eqb}
 use borrow.Author.Tests.{eqb-true, eq-eqb}
 use Rattle.text.specs.Words.{has}
 use Rattle.order.specs.Orders.{Before, one, more, Keeps}
+use Rattle.text.proofs.Words.{or-cases}
 
 -- ---- what a list has
 
 pub has-append : (p q : List ℕ) (i : ℕ) → has (p ++ q) i ≡ (has p i || has q i)
 has-append [] q i = refl
 has-append (j ∷ p) q i = rw (has-append p q i) (sym (or-assoc (eqb j i) (has p i) (has q i)))
-
-or-cases : (a b : Bool) → (a || b) ≡ true → (a ≡ true) ⊎ (b ≡ true)
-or-cases true b h = inl refl
-or-cases false b h = inr h
 
 pub not-true : (b : Bool) → ¬ (b ≡ true) → b ≡ false
 not-true true n = absurd (n refl)

@@ -76,7 +76,7 @@ some-below-from test (suc n) i h e =
 
 -- ---- the least place at fault
 
-least-from-none : (bad : ℕ → Bool) (n j : ℕ) → least-from bad n j ≡ Nowhere → (i : ℕ) → j ≤ i → i < j + n → bad i ≡ false
+pub least-from-none : (bad : ℕ → Bool) (n j : ℕ) → least-from bad n j ≡ Nowhere → (i : ℕ) → j ≤ i → i < j + n → bad i ≡ false
 unfolding least-from
 least-from-none bad zero j e i a b = absurd (omega arith)
 least-from-none bad (suc n) j e i a b = go (bad j) refl e (least-from-none bad n (suc j))
@@ -97,7 +97,7 @@ least-from-all bad (suc n) j h = rw (h j (omega arith) (omega arith)) (least-fro
 pub least-all : (bad : ℕ → Bool) (n : ℕ) → ((i : ℕ) → i < n → bad i ≡ false) → least bad n ≡ Nowhere
 least-all bad n h = least-from-all bad n 0 (λ i a b. h i (omega arith))
 
-least-from-here : (bad : ℕ → Bool) (n k i : ℕ) → least-from bad n k ≡ Here i → (k ≤ i) × (i < k + n) × (bad i ≡ true) × ((j : ℕ) → k ≤ j → j < i → bad j ≡ false)
+pub least-from-here : (bad : ℕ → Bool) (n k i : ℕ) → least-from bad n k ≡ Here i → (k ≤ i) × (i < k + n) × (bad i ≡ true) × ((j : ℕ) → k ≤ j → j < i → bad j ≡ false)
 unfolding least-from
 least-from-here bad zero k i e = let z : _≡_ {A = ℕ} 0 1 = cc in absurd (omega arith)
 least-from-here bad (suc n) k i e = go (bad k) refl e (least-from-here bad n (suc k) i)
