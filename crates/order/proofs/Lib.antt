@@ -5,3 +5,6 @@ pub mod Sets
 pub mod Rows
 pub mod Pairs
 pub mod Marks
+pub mod Log
+pub mod Numbers
+pub mod Swap

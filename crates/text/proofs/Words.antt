@@ -161,7 +161,7 @@ unfolding _>>_
 then-good (good a) d b e = (a, refl, e)
 then-good (refused n p q) d b e = let z : _≡_ {A = ℕ} 0 1 = cc in absurd (omega arith)
 
-none-good : (n first q : ℕ) (o : Found) (u : Unit {0}) → none-at n first q o ≡ good u → o ≡ Nowhere
+pub none-good : (n first q : ℕ) (o : Found) (u : Unit {0}) → none-at n first q o ≡ good u → o ≡ Nowhere
 unfolding none-at
 none-good n first q Nowhere u e = refl
 none-good n first q (Here p) u e = let z : _≡_ {A = ℕ} 0 1 = cc in absurd (omega arith)
