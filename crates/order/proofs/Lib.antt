@@ -8,3 +8,4 @@ pub mod Marks
 pub mod Log
 pub mod Numbers
 pub mod Swap
+pub mod Claim
