@@ -1,2 +1,4 @@
 pub mod Look
 pub mod EqualReads
+pub mod Decode
+pub mod Values
