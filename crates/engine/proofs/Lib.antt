@@ -2,3 +2,4 @@ pub mod Look
 pub mod EqualReads
 pub mod Decode
 pub mod Values
+pub mod Walks
