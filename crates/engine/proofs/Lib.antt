@@ -1,2 +1,5 @@
 pub mod Look
 pub mod EqualReads
+pub mod Decode
+pub mod Values
+pub mod Walks
