@@ -165,7 +165,7 @@ module _
       found s = least-two (test s) (m B g)
 
       halts : (a p q : ℕ) (s : Run) → run B g (start B) (m B g) ≡ halted a p q s → (11 ≤ a) × (a ≤ 16)
-      halts a p q s e = move-number B (s .contents) (move-at g p) a q (run-halted B g (start B) (m B g) a p q s e .2)
+      halts a p q s e = move-number B (listed (S B g) (start B) p) (move-at g p) a q (run-halted B g (start B) (m B g) a p q s e .2)
 
       accepted-to : run-log B g .answer .number ≡ 0
           → AllFire B g (m B g) × ((i j : ℕ) → ¬ Clash B g i j) × (run-log B g .contents ≡ listed (S B g) (start B) (m B g))

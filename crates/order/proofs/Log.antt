@@ -1,15 +1,15 @@
 -- What a log that passes its checks has.
-use mathlib.Core.Path.{_≡_, sym, ap, subst, _∙_}
-use mathlib.Core.Logic.{_⊎_, inl, inr}
-use mathlib.Core.Bool.{Bool, true, false, _&&_, _||_}
-use mathlib.Core.List.{List, [], _∷_}
+use mathlib.Core.Path.{_≡_, ap, subst, _∙_}
+use mathlib.Core.Logic.{inl, inr}
+use mathlib.Core.Bool.{Bool, false, _&&_, _||_}
+use mathlib.Core.List.{List}
 use Prim.Native.Nat.{ℕ, zero, suc, _+_, _≤_, _<_}
 use native.Mathlib.Omega.{arith}
 use borrow.Author.Tests.{ltb-true, leb-true, not-false}
 use lib.Dec.{eqb, ltb, leb}
 use lib.ListN.{length}
 use Rattle.text.specs.declared.Line.{Line}
-use Rattle.text.specs.Words.{table-from, table, least, good, none-at}
+use Rattle.text.specs.Words.{table-from, least, good, none-at}
 use Rattle.text.specs.Refusals.{ill-formed, log-text, log-line}
 use Rattle.text.specs.Text.{bad-line, line}
 use Rattle.text.proofs.Words.{and-cases, length-table-from, least-none, bind-good, then-good, none-good, found-good, test-good, good-same}

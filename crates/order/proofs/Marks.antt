@@ -1,5 +1,5 @@
 -- Marks are exactly the reads and writes of the moves fired; and what a log's run leaves, of moves that all fire and of a move that is refused.
-use mathlib.Core.Path.{_≡_, refl, sym, ap, _∙_}
+use mathlib.Core.Path.{_≡_, refl, sym, _∙_}
 use mathlib.Core.Logic.{_↔_, _⊎_, inl, inr, dite}
 use mathlib.Core.Bool.{Bool, true, false, _||_, or-true, true≢false}
 use mathlib.Core.List.{List, [], _∷_, _++_}
@@ -11,7 +11,7 @@ use lib.Dec.{eqb}
 use lib.ListN.{length, getD, length-append, List·getD-append}
 use lib.Seq.{getD-at}
 use borrow.Author.Tests.{eqb-true, eq-eqb}
-use Rattle.text.specs.Words.{if_then_else_, table}
+use Rattle.text.specs.Words.{if_then_else_}
 use Rattle.book.specs.Book.{Book}
 use Rattle.engine.specs.Move.{Fired, Moved, fires, stopped, move, fire}
 use Rattle.order.specs.Sets.{bit, with-move}
@@ -128,24 +128,23 @@ module _ (B : Book) (g : Log) (c : List ℕ) where
       go : ((t : Run) × (run B g c n ≡ ran t)) → (s : Run) × (next B n (move-at g n) (run B g c n) ≡ ran s)
       go (t, q) = let k = f n (omega arith) in rw q (one t (move B (t .contents) (move-at g n)) (k .0) (rw (run-left n t q .contents) (k .1)))
 
-  -- A run that is refused leaves what the moves before the refused one left.
-  pub run-halted : (n a p q : ℕ) (s : Run) → run B g c n ≡ halted a p q s
-      → (p < n) × (run B g c p ≡ ran s) × (move B (s .contents) (move-at g p) ≡ stopped a q)
+  -- A run that is refused has all moves before the refused one, which is refused there, and leaves what they left.
+  pub run-halted : (n a p q : ℕ) (s : Run) → run B g c n ≡ halted a p q s → (p < n) × Left p s × (move B (listed S c p) (move-at g p) ≡ stopped a q)
   unfolding run
   run-halted zero a p q s e = let z : _≡_ {A = ℕ} 0 1 = cc in absurd (omega arith)
   run-halted (suc n) a p q s e = go (run B g c n) refl e (run-halted n a p q s)
     where
-      one : (t : Run) → run B g c n ≡ ran t → (o : Moved) → move B (t .contents) (move-at g n) ≡ o → moved n t o ≡ halted a p q s
-          → (p < suc n) × (run B g c p ≡ ran s) × (move B (s .contents) (move-at g p) ≡ stopped a q)
+      one : (t : Run) → Left n t → (o : Moved) → move B (t .contents) (move-at g n) ≡ o → moved n t o ≡ halted a p q s
+          → (p < suc n) × Left p s × (move B (listed S c p) (move-at g p) ≡ stopped a q)
       one t k (fires f) m e = let z : _≡_ {A = ℕ} 0 1 = cc in absurd (omega arith)
       one t k (stopped b d) m e =
           let x : n ≡ p = cc in
           let y : t ≡ s = cc in
           let u : stopped b d ≡ stopped a q = cc in
-          rw (← x, ← y) (omega arith, k, m ∙ u)
+          rw (← x, ← y) (omega arith, k, rw (← (k .contents)) (m ∙ u))
 
       go : (o : Ran) → run B g c n ≡ o → next B n (move-at g n) o ≡ halted a p q s
-          → (run B g c n ≡ halted a p q s → (p < n) × (run B g c p ≡ ran s) × (move B (s .contents) (move-at g p) ≡ stopped a q))
-          → (p < suc n) × (run B g c p ≡ ran s) × (move B (s .contents) (move-at g p) ≡ stopped a q)
-      go (ran t) k e r = one t k (move B (t .contents) (move-at g n)) refl e
+          → (run B g c n ≡ halted a p q s → (p < n) × Left p s × (move B (listed S c p) (move-at g p) ≡ stopped a q))
+          → (p < suc n) × Left p s × (move B (listed S c p) (move-at g p) ≡ stopped a q)
+      go (ran t) k e r = one t (run-left n t k) (move B (t .contents) (move-at g n)) refl e
       go (halted b x d t) k e r = let h = r (k ∙ e) in (omega (arith, h .0), h .1, h .2)
