@@ -12,7 +12,7 @@ use borrow.Author.Tests.{eqb-true, eq-eqb, ltb-true, leb-true, lt-ltb, le-ltb, n
 use Rattle.text.specs.declared.Found.{Found}
 use Rattle.text.specs.declared.Found.the-variants.{Nowhere}
 use Rattle.text.specs.Words.{if_then_else_, has, least}
-use Rattle.text.proofs.Words.{and-cases, or-cases, or-no, least-none}
+use Rattle.text.proofs.Words.{and-cases, or-cases, or-no, or-other, least-none}
 use Rattle.book.specs.Book.{Book, L, true-element, boolean, place, relation-at, dynamic-at, default-at, arguments-at}
 use Rattle.book.specs.Contents.{on-roll, some-on-roll, roll-trace, all-permanent, bad-value}
 use Rattle.book.specs.Sound.{Lawful, at, Argument, OnRoll, Sound}
@@ -58,11 +58,6 @@ module _ (B : Book) (ok : Lawful B) (c : List ℕ) where
   pick-no true p q e h = absurd (true≢false e)
   pick-no false p q e h = h
 
-  -- of two tests one of which passes, the other if this one does not
-  unless : (a b : Bool) → (not a || b) ≡ true → a ≡ true → b ≡ true
-  unless true b e h = e
-  unless false b e h = absurd (false≢true h)
-
   either-fixed : (d w p q : Bool) (v e P : ℕ) → d ≡ false → (w ≡ true → v ≡ e) → (q ≡ true → v < P) → (d || w || p && q) ≡ true → (v ≡ e) ⊎ ((p ≡ true) × (v < P))
   either-fixed true w p q v e P f g h t = absurd (true≢false f)
   either-fixed false w p q v e P f g h t = go (or-cases w (p && q) t)
@@ -98,9 +93,9 @@ module _ (B : Book) (ok : Lawful B) (c : List ℕ) where
       λ b. or-no (on-roll B c v) (not (eqb v e) && some-on-roll B c (arguments-at B l)) (not-true trace (pick-no (ltb l (B .E)) own-ok (not trace) (le-ltb l (B .E) b) (h3 .1))) in
       record {
         small = ltb-true v (B .E) (h1 .0);
-        booleans = λ r. unless (relation-at B l) (boolean v) (h1 .1) r;
+        booleans = λ r. or-other (not (relation-at B l)) (boolean v) (h1 .1) (rw r);
         fixed = λ d. either-fixed (dynamic-at B l) (eqb v e) p (ltb v (B .P)) v e (B .P) d (eqb-true v e) (ltb-true v (B .P)) (h2 .1);
-        own = λ b r. leb-true (B .P) l (unless (eqb v true-element) (leb (B .P) l) (pick-yes (ltb l (B .E)) own-ok (not trace) (lt-ltb l (B .E) b) (h3 .1)) (eq-eqb v true-element r));
+        own = λ b r. leb-true (B .P) l (or-other (not (eqb v true-element)) (leb (B .P) l) (pick-yes (ltb l (B .E)) own-ok (not trace) (lt-ltb l (B .E) b) (h3 .1)) (rw (eq-eqb v true-element r)));
         holds = λ b. none b .0;
         traces = λ b. equal-or v e (some-on-roll B c (arguments-at B l)) (either-trace (eqb v e) (some-on-roll B c (arguments-at B l)) (none b .1));
       }
