@@ -11,7 +11,7 @@ use lib.ListN.{length, getD, set, length-set}
 use lib.Seq.{getD-set-same, getD-set-other}
 use borrow.Author.Tests.{eqb-true, eq-eqb, ne-eqb, ltb-true, leb-true, not-true, not-false}
 use Rattle.text.specs.Words.{if_then_else_, table}
-use Rattle.text.proofs.Words.{and-cases, or-cases, length-table-from, getD-table, getD-table-past}
+use Rattle.text.proofs.Words.{and-cases, and-three, or-cases, or-other, length-table-from, getD-table, getD-table-past}
 use Rattle.book.specs.declared.Function.{Function}
 use Rattle.book.specs.declared.Entry.{Entry}
 use Rattle.book.specs.Book.{Book, L, no-entry, true-element, boolean, default, relation, dynamic, defaults, enter, start, location, entry-location, function-at, entry-at, place, relation-at, dynamic-at, default-at}
@@ -33,11 +33,7 @@ record InForm (B : Book) (i : ℕ) (e : Entry) : Type 0 where
   pub above : least-location B i ≤ entry-location B e
   pub clear : e .function ≢ 0 → (rolled B (e .arg1) i ≡ false) × (rolled B (e .arg2) i ≡ false) × (rolled B (e .value) i ≡ false)
 
--- of two tests one of which passes, the other if this one does not
-other : (a b : Bool) → (a || b) ≡ true → a ≡ false → b ≡ true
-other true b e h = absurd (true≢false h)
-other false b e h = e
-
+-- in a relation the first, elsewhere the second
 two-true : (r a b : Bool) → (r && a || not r && b) ≡ true → r ≡ true → a ≡ true
 two-true true a b e h = go (or-cases a false e)
   where
@@ -45,12 +41,6 @@ two-true true a b e h = go (or-cases a false e)
     go (inl q) = q
     go (inr q) = absurd (false≢true q)
 two-true false a b e h = absurd (false≢true h)
-
-three : (a b c : Bool) → (a && b && c) ≡ true → (a ≡ true) × (b ≡ true) × (c ≡ true)
-three a b c e =
-    let p = and-cases (a && b) c e in
-    let q = and-cases a b (p .0) in
-    (q .0, q .1, p .1)
 
 in-form-is : (B : Book) (i : ℕ) → bad-entry B i ≡ false → InForm B i (entry-at B i)
 unfolding bad-entry in-bounds in-form untraced
@@ -70,10 +60,10 @@ in-form-is B i h =
     let c2 = eqb (e .function) 0 || not (rolled B (e .arg1) i) && not (rolled B (e .arg2) i) && not (rolled B (e .value) i) in
     let t = and-cases (b1 && b2 && b3 && b4) (a1 && a2 && a3 && a4 && a5 && c1 && c2) (not-false (b1 && b2 && b3 && b4 && (a1 && a2 && a3 && a4 && a5 && c1 && c2)) h) in
     let t3 = and-cases (b1 && b2 && b3) b4 (t .0) in
-    let t2 = three b1 b2 b3 (t3 .0) in
-    let u = three (a1 && a2 && a3 && a4 && a5) c1 c2 (t .1) in
-    let s = three (a1 && a2 && a3) a4 a5 (u .0) in
-    let r = three a1 a2 a3 (s .0) in
+    let t2 = and-three b1 b2 b3 (t3 .0) in
+    let u = and-three (a1 && a2 && a3 && a4 && a5) c1 c2 (t .1) in
+    let s = and-three (a1 && a2 && a3) a4 a5 (u .0) in
+    let r = and-three a1 a2 a3 (s .0) in
     record {
       known = ltb-true (e .function) (length (B .functions)) (t2 .0);
       first = ltb-true (e .arg1) (B .E) (t2 .1);
@@ -81,13 +71,13 @@ in-form-is B i h =
       small = ltb-true (e .value) (B .E) (t3 .1);
       true-only = λ q. eqb-true (e .value) true-element (two-true (relation f) (eqb (e .value) true-element) (not (eqb (e .value) (default f))) (r .2) q);
       permanent = λ d.
-          let p = three (ltb (e .arg1) (B .P)) (ltb (e .arg2) (B .P)) (ltb (e .value) (B .P)) (other (dynamic f) (ltb (e .arg1) (B .P) && ltb (e .arg2) (B .P) && ltb (e .value) (B .P)) (s .1) d) in
+          let p = and-three (ltb (e .arg1) (B .P)) (ltb (e .arg2) (B .P)) (ltb (e .value) (B .P)) (or-other (dynamic f) (ltb (e .arg1) (B .P) && ltb (e .arg2) (B .P) && ltb (e .value) (B .P)) (s .1) d) in
           (ltb-true (e .arg1) (B .P) (p .0), ltb-true (e .arg2) (B .P) (p .1), ltb-true (e .value) (B .P) (p .2));
-      label = λ q. leb-true (B .P) (e .arg1) (other (not (eqb (e .function) 0)) (leb (B .P) (e .arg1)) (s .2) (rw (eq-eqb (e .function) 0 q)));
+      label = λ q. leb-true (B .P) (e .arg1) (or-other (not (eqb (e .function) 0)) (leb (B .P) (e .arg1)) (s .2) (rw (eq-eqb (e .function) 0 q)));
       above = leb-true (least-location B i) (entry-location B e) (u .1);
       clear = λ n.
-          let p = three (not (rolled B (e .arg1) i)) (not (rolled B (e .arg2) i)) (not (rolled B (e .value) i))
-          (other (eqb (e .function) 0) (not (rolled B (e .arg1) i) && not (rolled B (e .arg2) i) && not (rolled B (e .value) i)) (u .2) (ne-eqb (e .function) 0 n)) in
+          let p = and-three (not (rolled B (e .arg1) i)) (not (rolled B (e .arg2) i)) (not (rolled B (e .value) i))
+          (or-other (eqb (e .function) 0) (not (rolled B (e .arg1) i) && not (rolled B (e .arg2) i) && not (rolled B (e .value) i)) (u .2) (ne-eqb (e .function) 0 n)) in
           (not-true (rolled B (e .arg1) i) (p .0), not-true (rolled B (e .arg2) i) (p .1), not-true (rolled B (e .value) i) (p .2));
     }
 

@@ -27,6 +27,17 @@ pub or-no : (a b : Bool) → (a || b) ≡ false → (a ≡ false) × (b ≡ fals
 or-no true b e = absurd (true≢false e)
 or-no false b e = (refl, e)
 
+-- of two tests one of which passes, the second where the first does not
+pub or-other : (a b : Bool) → (a || b) ≡ true → a ≡ false → b ≡ true
+or-other true b e h = absurd (true≢false h)
+or-other false b e h = e
+
+pub and-three : (a b c : Bool) → (a && b && c) ≡ true → (a ≡ true) × (b ≡ true) × (c ≡ true)
+and-three a b c e =
+    let p = and-cases (a && b) c e in
+    let q = and-cases a b (p .0) in
+    (q .0, q .1, p .1)
+
 -- ---- lists made by place
 
 module _ {A : Type 0} where
