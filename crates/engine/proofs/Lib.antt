@@ -3,3 +3,4 @@ pub mod EqualReads
 pub mod Decode
 pub mod Values
 pub mod Walks
+pub mod Moves
