@@ -4,3 +4,5 @@ pub mod Decode
 pub mod Values
 pub mod Walks
 pub mod Moves
+pub mod Numbers
+pub mod Import
