@@ -1,21 +1,20 @@
 -- What instructions give each location, where a value comes from, and what updates leave.
-use mathlib.Core.Path.{_≡_, refl, sym, ap, _∙_}
-use mathlib.Core.Logic.{_⊎_, inl, inr, dite, _≢_}
-use mathlib.Core.Bool.{Bool, true, false, not, _||_, _&&_, or-true, true≢false, false≢true}
-use mathlib.Core.List.{List, [], _∷_, _++_}
+use mathlib.Core.Path.{_≡_, refl, sym, _∙_}
+use mathlib.Core.Logic.{_⊎_, inl, inr, _≢_}
+use mathlib.Core.Bool.{Bool, true, false, not, _||_, _&&_, or-true, false≢true}
+use mathlib.Core.List.{List, [], _∷_}
 use Prim.Native.Nat.{ℕ, zero, suc, _≤_, _<_}
 use native.Mathlib.Omega.{arith}
-use native.Mathlib.Decide.{decLt}
 use lib.Dec.{eqb}
-use lib.ListN.{length, getD}
+use lib.ListN.{length}
 use borrow.Author.Tests.{eqb-true, eqb-false, eq-eqb, not-false}
-use Rattle.text.specs.Words.{if_then_else_, has, table}
+use Rattle.text.specs.Words.{if_then_else_, has}
 use Rattle.text.proofs.Words.{and-cases, or-cases, or-no, length-table-from, getD-table, getD-table-past}
-use Rattle.book.specs.Book.{Book, L, true-element, dynamic-at, default-at, concerns, reserve}
+use Rattle.book.specs.Book.{Book, L, true-element, dynamic-at, default-at, concerns}
 use Rattle.book.specs.Sound.{at}
 use Rattle.engine.specs.declared.Instruction.{Instruction}
 use Rattle.engine.specs.declared.Instruction.the-variants.{Update, Release}
-use Rattle.engine.specs.Move.{given, values, updates, values-at, released, label-of, other, two-values, sets-label, set-to-label, new-value, fire}
+use Rattle.engine.specs.Move.{given, values, updates, values-at, released, other, two-values, set-to-label, new-value, fire}
 use Rattle.engine.proofs.EqualReads.{has-append}
 
 -- ---- what instructions say
