@@ -1,28 +1,27 @@
 -- Demand 3 holds.
 use mathlib.Core.Path.{_≡_, refl, sym, ap, ap₂, subst, _∙_}
-use mathlib.Core.Logic.{_↔_, _⊎_, inl, inr, dite}
-use mathlib.Core.Bool.{Bool, true, false, not, _||_, _&&_, or-true, true≢false}
-use mathlib.Core.List.{List, []}
+use mathlib.Core.Logic.{_↔_, _⊎_, inl, inr}
+use mathlib.Core.Bool.{Bool, true, false, not, true≢false}
+use mathlib.Core.List.{List}
 use Prim.Native.Nat.{ℕ, _≤_, _<_}
 use native.Mathlib.Omega.{arith}
-use native.Mathlib.Decide.{decLt}
-use lib.ListN.{length, List·getD-eq-default}
+use lib.ListN.{length}
 use Rattle.text.specs.Words.{Checked, good, refused}
-use Rattle.text.proofs.Words.{and-cases, or-cases, some-below-true, some-below-from, bind-good, then-good, good-same}
+use Rattle.text.proofs.Words.{and-cases, bind-good, then-good, good-same}
 use Rattle.book.specs.Book.{Book, L, start}
 use Rattle.book.specs.Check.{check-book}
 use Rattle.book.specs.Sound.{Lawful, at}
 use Rattle.book.proofs.Accepted.{accepted}
 use Rattle.book.proofs.Start.{start-sound}
-use Rattle.engine.specs.Move.{Fired, fires, move, is-some, writes}
+use Rattle.engine.specs.Move.{Fired, fires, move}
 use Rattle.engine.specs.Single.{over}
 use Rattle.engine.proofs.Moves.{fired-length}
 use Rattle.engine.proofs.Numbers.{move-number}
 use Rattle.order.specs.Pairs.{rows, ordered-by, TwoFound, no-two, two, least-two}
 use Rattle.order.specs.Log.{Log, move-at, check-log}
-use Rattle.order.specs.Run.{Run, Ran, ran, halted, run, reads-at, writes-at, touch-at, touch, fired-at, unordered-touching, LogAnswer, order-checked, finish, run-from, run-log}
+use Rattle.order.specs.Run.{Run, Ran, ran, halted, run, touch, fired-at, unordered-touching, LogAnswer, order-checked, finish, run-from, run-log}
 use Rattle.order.specs.Call.{Tables, Lengths, lengths, check-lent, check-all, left-in, log-answer, log-call}
-use Rattle.order.specs.Orders.{Moves, Touch, Writes, Uses, listed, one, more, from, Keeps, Agrees, LeastPair}
+use Rattle.order.specs.Orders.{Moves, listed, one, more, from, Keeps, Agrees, LeastPair}
 use Rattle.order.specs.Demand.{PairOf, moves-of, count, Ordered, Does, AllFire, Clash, Passes, Demand3}
 use Rattle.order.proofs.Listed.{agrees}
 use Rattle.order.proofs.Rows.{rows-set}
@@ -30,22 +29,8 @@ use Rattle.order.proofs.Pairs.{Passing, two-none, two-least}
 use Rattle.order.proofs.Marks.{Left, run-left, run-through, run-halted}
 use Rattle.order.proofs.Log.{Passed, passed}
 use Rattle.order.proofs.Numbers.{Within, Early, off, all-early}
-use Rattle.order.proofs.Swap.{act-fires, writes-value, laws}
-
--- ---- touching
-
--- one of two, and one of two others
-both-to : (a b d : Bool) → (a && (b || d)) ≡ true → (a ≡ true) × ((b ≡ true) ⊎ (d ≡ true))
-both-to a b d e = let p = and-cases a (b || d) e in (p .0, or-cases b d (p .1))
-
-both-from : (a b d : Bool) → a ≡ true → (b ≡ true) ⊎ (d ≡ true) → (a && (b || d)) ≡ true
-both-from a b d e (inl f) = rw (e, f)
-both-from a b d e (inr f) = rw (e, f) (or-true b)
-
--- updates write only their own locations
-inside : (us : List (List ℕ)) (l : ℕ) → writes us l ≡ true → l < length us
-inside us l e = dite (decLt l (length us)) (λ h. h)
-    (λ (h : ¬ (l < length us)). absurd (true≢false (sym e ∙ ap is-some (List·getD-eq-default us [] {n = l} (omega arith)))))
+use Rattle.order.proofs.Swap.{act-fires, laws}
+use Rattle.order.proofs.Touching.{touch-iff}
 
 module _ (B : Book) (g : Log) where
   abbrev S : Moves
@@ -53,42 +38,6 @@ module _ (B : Book) (g : Log) where
 
   abbrev m : ℕ
   m = count g
-
-  uses-to : (f : Fired) (l : ℕ) → (reads-at l f ≡ true) ⊎ (writes-at l f ≡ true) → Uses S f l
-  uses-to f l (inl e) = inl e
-  uses-to f l (inr e) = inr (writes-value (f .updates) l .0 e)
-
-  uses-from : (f : Fired) (l : ℕ) → Uses S f l → (reads-at l f ≡ true) ⊎ (writes-at l f ≡ true)
-  uses-from f l (inl e) = inl e
-  uses-from f l (inr e) = inr (writes-value (f .updates) l .1 e)
-
-  -- two moves whose updates are of n locations touch exactly at one of these
-  touch-iff : (n : ℕ) (e f : Fired) → length (e .updates) ≡ n → length (f .updates) ≡ n → (touch n e f ≡ true) ↔ Touch S e f
-  touch-iff n e f le lf = (λ q. to (some-below-true (touch-at e f) n q), from)
-    where
-      one-way : Fired → Fired → ℕ → Bool
-      one-way a b l = writes-at l a && (reads-at l b || writes-at l b)
-
-      way-to : (a b : Fired) (l : ℕ) → one-way a b l ≡ true → Writes S a l × Uses S b l
-      way-to a b l q = let p = both-to (writes-at l a) (reads-at l b) (writes-at l b) q in (writes-value (a .updates) l .0 (p .0), uses-to b l (p .1))
-
-      way-from : (a b : Fired) (l : ℕ) → Writes S a l × Uses S b l → one-way a b l ≡ true
-      way-from a b l (w, u) = both-from (writes-at l a) (reads-at l b) (writes-at l b) (writes-value (a .updates) l .1 w) (uses-from b l u)
-
-      to : ((l : ℕ) × (l < n) × (touch-at e f l ≡ true)) → Touch S e f
-      to (l, h, q) = (l, by (or-cases (one-way e f l) (one-way f e l) q))
-        where
-          by : (one-way e f l ≡ true) ⊎ (one-way f e l ≡ true) → (Writes S e l × Uses S f l) ⊎ (Writes S f l × Uses S e l)
-          by (inl t) = inl (way-to e f l t)
-          by (inr t) = inr (way-to f e l t)
-
-      from : Touch S e f → touch n e f ≡ true
-      from (l, inl t) =
-          let h = inside (e .updates) l (writes-value (e .updates) l .1 (t .0)) in
-          some-below-from (touch-at e f) n l (omega arith) (rw (way-from e f l t))
-      from (l, inr t) =
-          let h = inside (f .updates) l (writes-value (f .updates) l .1 (t .0)) in
-          some-below-from (touch-at e f) n l (omega arith) (rw (way-from f e l t) (or-true (one-way e f l)))
 
   -- ---- an accepted log
 
@@ -137,14 +86,14 @@ module _ (B : Book) (g : Log) where
               let x = fired-at (s .fired) i in
               let y = fired-at (s .fired) j in
               let p = and-cases (not (ordered-by (rows (g .pairs) m) i j)) (touch (L B) x y) e in
-              (a, b, unordered-iff i j b .0 (p .0), (λ f. omega (arith, before-up f)), (x, y, k .fired i h, k .fired j b, touch-iff (L B) x y (long i h) (long j b) .0 (p .1)))
+              (a, b, unordered-iff i j b .0 (p .0), (λ f. omega (arith, before-up f)), (x, y, k .fired i h, k .fired j b, touch-iff B g (L B) x y (long i h) (long j b) .0 (p .1)))
 
           from : Clash B g i j → Passing (test s) m i j
           from (a, b, n, o, (x, y, dx, dy, t)) =
               let h : i < m = omega arith in
               let p = is-act i x h dx in
               let q = is-act j y b dy in
-              let u = touch-iff (L B) (fired-at (s .fired) i) (fired-at (s .fired) j) (long i h) (long j b) .1 (rw (p, q) t) in
+              let u = touch-iff B g (L B) (fired-at (s .fired) i) (fired-at (s .fired) j) (long i h) (long j b) .1 (rw (p, q) t) in
               (a, b, rw (unordered-iff i j b .1 n, u))
 
       least-iff : (i j : ℕ) → LeastPair (Passing (test s) m) i j ↔ LeastPair (Clash B g) i j

@@ -8,4 +8,5 @@ pub mod Marks
 pub mod Log
 pub mod Numbers
 pub mod Swap
+pub mod Touching
 pub mod Claim

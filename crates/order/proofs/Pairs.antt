@@ -23,7 +23,7 @@ module _ (f : ℕ → ℕ → Bool) where
   two-is i (suc n) = go (least-from (f i) n (suc i)) (least-two-from f (suc i) n) refl (two-is (suc i) n)
     where
       go : (o : Found) (r : TwoFound) → least-from (f i) n (suc i) ≡ o → Two (suc i) n r → Two i (suc n) (or-else i o r)
-      go (Here b) r q h = (omega arith, omega (arith, found .0), omega (arith, found .1), found .2, least)
+      go (Here b) r q h = the-first
         where
           found : (suc i ≤ b) × (b < suc i + n) × (f i b ≡ true) × ((y : ℕ) → suc i ≤ y → y < b → f i y ≡ false)
           found = least-from-here (f i) n (suc i) b q
@@ -33,6 +33,9 @@ module _ (f : ℕ → ℕ → Bool) where
             where
               not-below : i ≡ x → b ≤ y
               not-below k = dite (decLt y b) (λ (g : y < b). absurd (true≢false (sym z ∙ ap (λ (v : ℕ). f v y) (sym k) ∙ found .3 y (omega arith) g))) (λ (g : ¬ (y < b)). omega arith)
+
+          the-first : Two i (suc n) (two i b)
+          the-first = (omega arith, omega (arith, found .0), omega (arith, found .1), found .2, least)
       go Nowhere no-two p h = λ x y a d e. dite (ℕ-discrete x i) (λ k. ap (λ (v : ℕ). f v y) k ∙ least-from-none (f i) n (suc i) p y (omega arith) (omega arith)) (λ k. h x y (omega arith) d (omega arith))
       go Nowhere (two u v) p (b0, b1, b2, b3, low) = (
         omega arith,

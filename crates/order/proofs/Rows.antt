@@ -7,17 +7,15 @@ use Prim.Native.Nat.{ℕ, zero, suc, _<_}
 use native.Mathlib.Omega.{arith}
 use native.Mathlib.Decide.{decLt}
 use lib.Dec.{eqb}
-use lib.Bits.{bitOr}
 use lib.ListN.{length, getD, length-append, List·getD-append}
 use lib.Seq.{getD-at}
 use borrow.Author.Tests.{eqb-true, eqb-false, eq-eqb}
-use Rattle.text.specs.Words.{if_then_else_}
-use Rattle.order.specs.Sets.{bit, with-move}
+use Rattle.order.specs.Sets.{bit}
 use Rattle.order.specs.Pairs.{Pair, before, rows}
 use Rattle.order.specs.Orders.{Before, one, more}
 use Rattle.order.specs.Demand.{PairOf}
 use Rattle.text.proofs.Words.{or-cases}
-use Rattle.order.proofs.Sets.{bit-or, bit-with, bit-empty}
+use Rattle.order.proofs.Sets.{bit-or, bit-one, bit-empty}
 
 pub length-rows : (ps : List Pair) (n : ℕ) → length (rows ps n) ≡ n
 unfolding rows
@@ -29,16 +27,24 @@ module _ (rs : List ℕ) (j i : ℕ) where
   abbrev Through : List Pair → Type 0
   Through ps = (a : ℕ) × PairOf ps a j × ((bit (getD rs a 0) i ≡ true) ⊎ (a ≡ i))
 
+  -- what one pair adds
+  module _ (p : Pair) (ps : List Pair) where
+    added : eqb (p .later) j ≡ true → bit (before rs j (p ∷ ps)) i ≡ ((bit (getD rs (p .earlier) 0) i || eqb (p .earlier) i) || bit (before rs j ps) i)
+    unfolding before
+    added q = simp (q, bit-or, bit-one)
+
+    not-added : eqb (p .later) j ≡ false → bit (before rs j (p ∷ ps)) i ≡ bit (before rs j ps) i
+    unfolding before
+    not-added q = simp q
+
   row-bit : (ps : List Pair) → (bit (before rs j ps) i ≡ true) ↔ Through ps
   unfolding before
-  row-bit [] = (λ e. absurd (true≢false (sym e ∙ bit-empty i)), λ t. absurd (t .1))
+  row-bit [] = (λ e. absurd (true≢false (sym e ∙ none)), λ t. absurd (t .1))
+    where
+      none : bit (before rs j []) i ≡ false
+      none = bit-empty i
   row-bit (p ∷ ps) = go (eqb (p .later) j) refl (row-bit ps)
     where
-      split : bit (bitOr (with-move (getD rs (p .earlier) 0) (p .earlier)) (before rs j ps)) i
-          ≡ ((bit (getD rs (p .earlier) 0) i || eqb (p .earlier) i) || bit (before rs j ps) i)
-      split = bit-or (with-move (getD rs (p .earlier) 0) (p .earlier)) (before rs j ps) i
-          ∙ rw (bit-with (getD rs (p .earlier) 0) (p .earlier) i)
-
       to : p .later ≡ j → ((bit (before rs j ps) i ≡ true) ↔ Through ps) → ((bit (getD rs (p .earlier) 0) i || eqb (p .earlier) i) ≡ true) ⊎ (bit (before rs j ps) i ≡ true)
           → Through (p ∷ ps)
       to q k (inr e) = let r = k .0 e in (r .0, inr (r .1), r .2)
@@ -57,10 +63,9 @@ module _ (rs : List ℕ) (j i : ℕ) where
       only q (x, inl (e, f), h) = absurd (eqb-false (p .later) j q f)
       only q (x, inr m, h) = (x, m, h)
 
-      go : (b : Bool) → eqb (p .later) j ≡ b → ((bit (before rs j ps) i ≡ true) ↔ Through ps)
-          → (bit (if b then bitOr (with-move (getD rs (p .earlier) 0) (p .earlier)) (before rs j ps) else before rs j ps) i ≡ true) ↔ Through (p ∷ ps)
-      go true q k = (λ e. to (eqb-true (p .later) j q) k (or-cases _ _ (sym split ∙ e)), λ t. split ∙ from k t)
-      go false q k = (λ e. let r = k .0 e in (r .0, inr (r .1), r .2), λ t. k .1 (only q t))
+      go : (b : Bool) → eqb (p .later) j ≡ b → ((bit (before rs j ps) i ≡ true) ↔ Through ps) → (bit (before rs j (p ∷ ps)) i ≡ true) ↔ Through (p ∷ ps)
+      go true q k = (λ e. to (eqb-true (p .later) j q) k (or-cases _ _ (sym (added p ps q) ∙ e)), λ t. added p ps q ∙ from k t)
+      go false q k = (λ e. let r = k .0 (sym (not-added p ps q) ∙ e) in (r .0, inr (r .1), r .2), λ t. not-added p ps q ∙ k .1 (only q t))
 
 module _ (ps : List Pair) (up : (a b : ℕ) → PairOf ps a b → a < b) where
   -- the rows of the first n moves say what comes before each
