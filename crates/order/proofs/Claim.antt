@@ -3,7 +3,7 @@ use mathlib.Core.Path.{_≡_, refl, sym, ap, ap₂, subst, _∙_}
 use mathlib.Core.Logic.{_↔_, _⊎_, inl, inr}
 use mathlib.Core.Bool.{Bool, true, false, not, true≢false}
 use mathlib.Core.List.{List}
-use Prim.Native.Nat.{ℕ, _≤_, _<_}
+use Prim.Native.Nat.{ℕ, _<_}
 use native.Mathlib.Omega.{arith}
 use lib.ListN.{length}
 use Rattle.text.specs.Words.{Checked, good, refused}
@@ -16,7 +16,6 @@ use Rattle.book.proofs.Start.{start-sound}
 use Rattle.engine.specs.Move.{Fired, fires, move}
 use Rattle.engine.specs.Single.{over}
 use Rattle.engine.proofs.Moves.{fired-length}
-use Rattle.engine.proofs.Numbers.{move-number}
 use Rattle.order.specs.Pairs.{rows, ordered-by, TwoFound, no-two, two, least-two}
 use Rattle.order.specs.Log.{Log, move-at, check-log}
 use Rattle.order.specs.Run.{Run, Ran, ran, halted, run, touch, fired-at, unordered-touching, LogAnswer, order-checked, finish, run-from, run-log}
@@ -26,7 +25,7 @@ use Rattle.order.specs.Demand.{PairOf, moves-of, count, Ordered, Does, A
 use Rattle.order.proofs.Listed.{agrees}
 use Rattle.order.proofs.Rows.{rows-set}
 use Rattle.order.proofs.Pairs.{Passing, two-none, two-least}
-use Rattle.order.proofs.Marks.{Left, run-left, run-through, run-halted}
+use Rattle.order.proofs.Marks.{Left, run-left, run-through, halted-number}
 use Rattle.order.proofs.Log.{Passed, passed}
 use Rattle.order.proofs.Numbers.{Within, Early, off, all-early}
 use Rattle.order.proofs.Swap.{act-fires, laws}
@@ -107,9 +106,6 @@ module _ (B : Book) (g : Log) where
     abbrev found : Run → TwoFound
     found s = least-two (test s) m
 
-    halts : (a p q : ℕ) (s : Run) → run B g (start B) m ≡ halted a p q s → (11 ≤ a) × (a ≤ 16)
-    halts a p q s e = move-number B (listed S (start B) p) (move-at g p) a q (run-halted B g (start B) m a p q s e .2)
-
     accepted-to : run-log B g .answer .number ≡ 0
         → AllFire B g m × ((i j : ℕ) → ¬ Clash B g i j) × (run-log B g .contents ≡ listed S (start B) m)
     unfolding run-log run-from finish
@@ -124,7 +120,7 @@ module _ (B : Book) (g : Log) where
 
         go : (o : Ran) → run B g (start B) m ≡ o → finish B g o .answer .number ≡ 0
             → AllFire B g m × ((i j : ℕ) → ¬ Clash B g i j) × (finish B g o .contents ≡ listed S (start B) m)
-        go (halted a b d s) q f = absurd (omega (arith, halts a b d s q .0))
+        go (halted a b d s) q f = absurd (omega (arith, halted-number B g (start B) m a b d s q .0))
         go (ran s) q f = on-two s q (found s) refl f
 
     accepted-from : AllFire B g m → ((i j : ℕ) → ¬ Clash B g i j) → run-log B g .answer .number ≡ 0
@@ -149,7 +145,7 @@ module _ (B : Book) (g : Log) where
             (all-fire s k, least-iff s k i j .0 (two-least (test s) m i j .0 (p ∙ ap₂ two (f .1) (f .2))))
 
         go : (o : Ran) → run B g (start B) m ≡ o → Is17 (finish B g o) i j → AllFire B g m × LeastPair (Clash B g) i j
-        go (halted a b d s) q f = absurd (omega (arith, f .0, halts a b d s q .1))
+        go (halted a b d s) q f = absurd (omega (arith, f .0, halted-number B g (start B) m a b d s q .1))
         go (ran s) q f = on-two s q (found s) refl f
 
     refused-from : (i j : ℕ) → AllFire B g m → LeastPair (Clash B g) i j → Is17 (run-log B g) i j

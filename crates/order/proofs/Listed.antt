@@ -55,7 +55,8 @@ from-split (j ∷ p) i q k (suc n) e =
 has-upto : (m i : ℕ) → (has (from 0 m) i ≡ true) ↔ (i < m)
 has-upto m i = (λ h. omega (arith, has-from 0 m i .0 h), λ h. has-from 0 m i .1 (omega arith))
 
-keeps-upto : (m : ℕ) (pair : ℕ → ℕ → Type 0) → ((i j : ℕ) → pair i j → i < j) → Keeps (from 0 m) pair (from 0 m)
+-- the listing is one order that keeps the pairs
+pub keeps-upto : (m : ℕ) (pair : ℕ → ℕ → Type 0) → ((i j : ℕ) → pair i j → i < j) → Keeps (from 0 m) pair (from 0 m)
 keeps-upto m pair up = record {
   all = λ i. refl;
   once = λ p i q e. let s = from-split p i q 0 m e in

@@ -14,6 +14,7 @@ use borrow.Author.Tests.{eqb-true, eq-eqb}
 use Rattle.text.specs.Words.{if_then_else_}
 use Rattle.book.specs.Book.{Book}
 use Rattle.engine.specs.Move.{Fired, Moved, fires, stopped, move, fire}
+use Rattle.engine.proofs.Numbers.{move-number}
 use Rattle.order.specs.Sets.{bit, with-move}
 use Rattle.order.specs.Log.{Log, move-at}
 use Rattle.order.specs.Run.{Run, Ran, ran, halted, moved, next, run, moves-that, reads-at, writes-at, readers, writers, no-fired, fired-at}
@@ -148,3 +149,7 @@ module _ (B : Book) (g : Log) (c : List ℕ) where
           → (p < suc n) × Left p s × (move B (listed S c p) (move-at g p) ≡ stopped a q)
       go (ran t) k e r = one t (run-left n t k) (move B (t .contents) (move-at g n)) refl e
       go (halted b x d t) k e r = let h = r (k ∙ e) in (omega (arith, h .0), h .1, h .2)
+
+  -- The number of a move's refusal is one of 11 to 16.
+  pub halted-number : (n a p q : ℕ) (s : Run) → run B g c n ≡ halted a p q s → (11 ≤ a) × (a ≤ 16)
+  halted-number n a p q s e = move-number B (listed S c p) (move-at g p) a q (run-halted n a p q s e .2)
