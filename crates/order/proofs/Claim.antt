@@ -10,7 +10,7 @@ use Rattle.text.specs.Words.{Checked, good, refused}
 use Rattle.text.proofs.Words.{and-cases, bind-good, then-good, good-same}
 use Rattle.book.specs.Book.{Book, L, start}
 use Rattle.book.specs.Check.{check-book}
-use Rattle.book.specs.Sound.{Lawful, at}
+use Rattle.book.specs.Sound.{Lawful}
 use Rattle.book.proofs.Accepted.{accepted}
 use Rattle.book.proofs.Start.{start-sound}
 use Rattle.engine.specs.Move.{Fired, fires, move}

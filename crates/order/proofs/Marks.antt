@@ -48,7 +48,9 @@ module _ (t : Fired → Bool) where
 
       go : (b : Bool) → t f ≡ b → ((bit (moves-that t (suc k) fs) i ≡ true) ↔ Passes (suc k) fs i)
           → (bit (if b then with-move (moves-that t (suc k) fs) k else moves-that t (suc k) fs) i ≡ true) ↔ Passes k (f ∷ fs) i
-      go true q r = (λ e. to (or-cases (bit (moves-that t (suc k) fs) i) (eqb k i) (sym (bit-with (moves-that t (suc k) fs) k i) ∙ e)), λ p. bit-with (moves-that t (suc k) fs) k i ∙ back (split p))
+      go true q r =
+          let w = bit-with (moves-that t (suc k) fs) k i in
+          (λ e. to (or-cases (bit (moves-that t (suc k) fs) i) (eqb k i) (sym w ∙ e)), λ p. w ∙ back (split p))
         where
           to : (bit (moves-that t (suc k) fs) i ≡ true) ⊎ (eqb k i ≡ true) → Passes k (f ∷ fs) i
           to (inl e) = later (r .0 e)

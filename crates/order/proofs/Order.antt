@@ -12,7 +12,7 @@ use Rattle.text.proofs.Words.{or-cases}
 
 -- ---- what a list has
 
-pub has-append : (p q : List ℕ) (i : ℕ) → has (p ++ q) i ≡ (has p i || has q i)
+has-append : (p q : List ℕ) (i : ℕ) → has (p ++ q) i ≡ (has p i || has q i)
 has-append [] q i = refl
 has-append (j ∷ p) q i = rw (has-append p q i) (sym (or-assoc (eqb j i) (has p i) (has q i)))
 
@@ -32,7 +32,7 @@ has-here i q = rw (eq-eqb i i refl)
 pub has-at : (p : List ℕ) (i : ℕ) (q : List ℕ) → has (p ++ i ∷ q) i ≡ true
 has-at p i q = has-right p (i ∷ q) i (has-here i q)
 
-pub has-cases : (p q : List ℕ) (i : ℕ) → has (p ++ q) i ≡ true → (has p i ≡ true) ⊎ (has q i ≡ true)
+has-cases : (p q : List ℕ) (i : ℕ) → has (p ++ q) i ≡ true → (has p i ≡ true) ⊎ (has q i ≡ true)
 has-cases p q i h = or-cases (has p i) (has q i) (sym (has-append p q i) ∙ h)
 
 pub has-head : (i : ℕ) (q : List ℕ) (j : ℕ) → has (i ∷ q) j ≡ true → (i ≡ j) ⊎ (has q j ≡ true)
@@ -77,7 +77,7 @@ module _ (R : ℕ → ℕ → Type 0) where
       go (inl e) r = rw e at (u .0 i (has-at p i q))
       go (inr h) r = r h
 
-  pub upward-after : (p : List ℕ) (i : ℕ) (q : List ℕ) → Upward (p ++ i ∷ q) → (j : ℕ) → has q j ≡ true → R i j
+  upward-after : (p : List ℕ) (i : ℕ) (q : List ℕ) → Upward (p ++ i ∷ q) → (j : ℕ) → has q j ≡ true → R i j
   upward-after [] i q u j h = u .0 j h
   upward-after (k ∷ p) i q u j h = upward-after p i q (u .1) j h
 
@@ -111,7 +111,13 @@ module _ {log : List ℕ} {pair : ℕ → ℕ → Type 0} {is : List ℕ} (k : K
 
   upward-from : (p q : List ℕ) → is ≡ p ++ q → Upward (Up pair) q
   upward-from p [] e = tt
-  upward-from p (i ∷ q) e = (λ j h. (λ s. apart-parts (p ++ i ∷ []) q f j (ap (λ (k : ℕ). has (p ++ i ∷ []) k) (sym s) ∙ has-at p i []) h, λ b. apart-parts p (i ∷ q) e j (ready p i q e b) (has-right (i ∷ []) q j h)), upward-from (p ++ i ∷ []) q f)
+  upward-from p (i ∷ q) e = (
+    λ j h. (
+      λ s. apart-parts (p ++ i ∷ []) q f j (ap (λ (k : ℕ). has (p ++ i ∷ []) k) (sym s) ∙ has-at p i []) h,
+      λ b. apart-parts p (i ∷ q) e j (ready p i q e b) (has-right (i ∷ []) q j h),
+    ),
+    upward-from (p ++ i ∷ []) q f,
+  )
     where
       f : is ≡ (p ++ i ∷ []) ++ q
       f = e ∙ sym (append-assoc p (i ∷ []) q)

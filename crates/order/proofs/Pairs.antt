@@ -13,6 +13,7 @@ use Rattle.order.specs.Pairs.{TwoFound, no-two, two, or-else, least-two-
 use Rattle.order.specs.Orders.{LeastPair}
 
 module _ (f : ℕ → ℕ → Bool) where
+  -- what is found when the first moves are the n from i on
   abbrev Two : ℕ → ℕ → TwoFound → Type 0
   Two i n no-two = (x y : ℕ) → i ≤ x → x < y → y < i + n → f x y ≡ false
   Two i n (two a b) = (i ≤ a) × (a < b) × (b < i + n) × (f a b ≡ true) × ((x y : ℕ) → i ≤ x → x < y → y < i + n → f x y ≡ true → (a < x) ⊎ ((a ≡ x) × (b ≤ y)))
@@ -32,11 +33,15 @@ module _ (f : ℕ → ℕ → Bool) where
           least x y a d e z = dite (decLt i x) inl (λ (w : ¬ (i < x)). let k : i ≡ x = omega arith in inr (k, not-below k))
             where
               not-below : i ≡ x → b ≤ y
-              not-below k = dite (decLt y b) (λ (g : y < b). absurd (true≢false (sym z ∙ ap (λ (v : ℕ). f v y) (sym k) ∙ found .3 y (omega arith) g))) (λ (g : ¬ (y < b)). omega arith)
+              not-below k = dite (decLt y b)
+                  (λ (g : y < b). absurd (true≢false (sym z ∙ ap (λ (v : ℕ). f v y) (sym k) ∙ found .3 y (omega arith) g)))
+                  (λ (g : ¬ (y < b)). omega arith)
 
           the-first : Two i (suc n) (two i b)
           the-first = (omega arith, omega (arith, found .0), omega (arith, found .1), found .2, least)
-      go Nowhere no-two p h = λ x y a d e. dite (ℕ-discrete x i) (λ k. ap (λ (v : ℕ). f v y) k ∙ least-from-none (f i) n (suc i) p y (omega arith) (omega arith)) (λ k. h x y (omega arith) d (omega arith))
+      go Nowhere no-two p h = λ x y a d e. dite (ℕ-discrete x i)
+          (λ k. ap (λ (v : ℕ). f v y) k ∙ least-from-none (f i) n (suc i) p y (omega arith) (omega arith))
+          (λ k. h x y (omega arith) d (omega arith))
       go Nowhere (two u v) p (b0, b1, b2, b3, low) = (
         omega arith,
         b1,
