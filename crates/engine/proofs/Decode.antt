@@ -13,7 +13,6 @@ use Rattle.book.specs.declared.Node.{Node}
 use Rattle.book.specs.Book.{relation, dynamic, Book, no-node, node-at, function-at}
 use Rattle.book.specs.Kinds.{sort, names-location}
 use Rattle.book.specs.Lines.{fits, bad-node, named}
-use Rattle.book.specs.Around.{most-depth}
 use Rattle.book.specs.Sound.{Lawful}
 use Rattle.engine.specs.Term.{Term, element, variable, self, at0, at1, at2, negated, joined, tree, term-at, Shape, an-element, a-variable, the-agent, of-none, of-one, of-two, a-not, no-term, a-join, shape, shapes}
 use Rattle.engine.specs.Rule.{Rule, skip, assign, pair, test, bind, for-all, import, free, rule-tree, rule-at, RuleShape, a-skip, an-assign, a-pair, a-test, a-bind, a-for-all, an-import, a-free, no-rule, rule-shape, rule-shapes}
@@ -220,4 +219,4 @@ module _ (B : Book) (ok : Lawful B) where
   proper-rule-tree (suc (suc d)) a-free n x f = proper-term (suc d) (x .a)
 
   pub proper-rule : (n : ℕ) → ProperRule B (rule-at ns n)
-  proper-rule n = proper-rule-tree most-depth (rule-shape (ns n)) n (ns n) (fits-rule n)
+  proper-rule n = proper-rule-tree _ (rule-shape (ns n)) n (ns n) (fits-rule n)

@@ -13,7 +13,7 @@ use Rattle.book.specs.Kinds.{sort, is-node}
 use Rattle.book.specs.Sound.{Lawful}
 use Rattle.book.proofs.Depth.{depth-at, operand, root-depth, operand-depth, depth-most}
 use Rattle.engine.specs.Term.{at1, negated, tree, term-at, Shape, an-element, a-variable, the-agent, of-none, of-one, of-two, a-not, no-term, a-join, shape, shapes}
-use Rattle.engine.specs.Rule.{Rule, for-all, import, free, rule-tree, RuleShape, a-skip, an-assign, a-pair, a-test, a-bind, a-for-all, an-import, a-free, no-rule, rule-shape, rule-shapes}
+use Rattle.engine.specs.Rule.{Rule, for-all, import, free, rule-tree, rule-at, RuleShape, a-skip, an-assign, a-pair, a-test, a-bind, a-for-all, an-import, a-free, no-rule, rule-shape, rule-shapes}
 
 module _ (B : Book) (ok : Lawful B) where
   abbrev ns : ℕ → Node
@@ -157,8 +157,8 @@ module _ (B : Book) (ok : Lawful B) where
       go a-skip b t r = refl
       go no-rule b t r = refl
 
-  -- so 32 is never what ends an agent's walk
+  -- so 32, which is what `rule-at` looks down, is never what ends an agent's walk
   pub same-root : (k d : ℕ) → k < length (B .agents)
       → rule-tree (node-at B) (32 + d) (rule-shape (node-at B (agent-at B k .root))) (agent-at B k .root) (node-at B (agent-at B k .root))
-      ≡ rule-tree (node-at B) 32 (rule-shape (node-at B (agent-at B k .root))) (agent-at B k .root) (node-at B (agent-at B k .root))
-  same-root k d h = same-rule 32 (32 + d) (agent-at B k .root) (ok .roots k h .0) (omega (arith, root-depth B ok k h)) (omega arith)
+      ≡ rule-at (node-at B) (agent-at B k .root)
+  same-root k d h = same-rule _ (32 + d) (agent-at B k .root) (ok .roots k h .0) (omega (arith, root-depth B ok k h)) (omega arith)

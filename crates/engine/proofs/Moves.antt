@@ -87,7 +87,7 @@ module _ (B : Book) (c : List ℕ) (i : Input) (f : Fired) (moves : move B c i �
       inside k =
           let s = firing B c i f moves in
           let e = least-none (clashes (f .instructions) (f .updates)) (length (f .updates)) (s .no-clash) l (omega (arith, fired-length)) in
-          only-value (at c l) (values-at (f .updates) l) v (or-no (two-values (values-at (f .updates) l)) (set-to-label (released (f .instructions)) l (f .instructions)) e .0) h
+          only-value (at c l) (values-at (f .updates) l) v (or-no (two-values (values-at (f .updates) l)) _ e .0) h
 
 -- ---- the walk of an agent of a lawful book on sound contents
 
@@ -250,7 +250,7 @@ module _ (B : Book) (B-ok : Lawful B) (c : List ℕ) (c-ok : Sound B c) (i : Inp
         unset : has (released (f .instructions)) x ≡ true → Sets l x is → ⊥
         unset r t =
             let e = least-none (clashes (f .instructions) (f .updates)) (length (f .updates)) (s .no-clash) l (omega (arith, fired-length B c i f moves)) in
-            true≢false (sym r ∙ set-to-none (released (f .instructions)) (f .instructions) l x (or-no (two-values (values-at us l)) (set-to-label (released (f .instructions)) l (f .instructions)) e .1) (rw gave-is at t))
+            true≢false (sym r ∙ set-to-none (released (f .instructions)) (f .instructions) l x (or-no (two-values (values-at us l)) _ e .1) (rw gave-is at t))
 
         freed : Frees x is → (v : ℕ) → Origin B c is l v → v ≢ x
         freed r v (inl t) e = unset (rw gave-is at (frees-has is x r)) (rw e at t)

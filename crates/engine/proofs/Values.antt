@@ -7,7 +7,7 @@ use Prim.Native.Nat.{ℕ, zero, suc, _≤_, _<_}
 use native.Mathlib.Omega.{arith}
 use lib.Dec.{eqb}
 use lib.ListN.{length}
-use borrow.Author.Tests.{eqb-true, eqb-false, eq-eqb, not-false}
+use borrow.Author.Tests.{eqb-true, eqb-false, eq-eqb, ne-eqb, not-false}
 use Rattle.text.specs.Words.{if_then_else_, has}
 use Rattle.text.proofs.Words.{and-cases, or-cases, or-no, length-table-from, getD-table, getD-table-past}
 use Rattle.book.specs.Book.{Book, L, true-element, dynamic-at, default-at, concerns}
@@ -53,6 +53,34 @@ module _ (B : Book) (c : List ℕ) where
   abbrev pub Origin : List Instruction → ℕ → ℕ → Type 0
   Origin is l v = Sets l v is ⊎ ((x : ℕ) × Frees x is × Cleared x l v)
 
+  -- ---- each is given
+
+  cleared-given : (x l v : ℕ) → Cleared x l v → has (given B c l (Release x)) v ≡ true
+  unfolding given
+  cleared-given x l v (inl (e, f)) = rw (eq-eqb x l e, f)
+  cleared-given x l v (inr (n, d, e, f)) = rw (ne-eqb x l n, d, e, f, eq-eqb (default-at B l) (default-at B l) refl)
+
+  has-later : (i : Instruction) (is : List Instruction) (l v : ℕ) → has (values B c l is) v ≡ true → has (values B c l (i ∷ is)) v ≡ true
+  unfolding values
+  has-later i is l v h = rw (has-append (given B c l i) (values B c l is) v, h) (or-true (has (given B c l i) v))
+
+  has-now : (i : Instruction) (is : List Instruction) (l v : ℕ) → has (given B c l i) v ≡ true → has (values B c l (i ∷ is)) v ≡ true
+  unfolding values
+  has-now i is l v h = rw (has-append (given B c l i) (values B c l is) v, h)
+
+  pub sets-values : (is : List Instruction) (l v : ℕ) → Sets l v is → has (values B c l is) v ≡ true
+  unfolding given
+  sets-values (Update k w ∷ is) l v (inl (a, b)) = has-now (Update k w) is l v (rw (eq-eqb k l a, eq-eqb w v b))
+  sets-values (Update k w ∷ is) l v (inr s) = has-later (Update k w) is l v (sets-values is l v s)
+  sets-values (Release x ∷ is) l v s = has-later (Release x) is l v (sets-values is l v s)
+
+  pub frees-values : (is : List Instruction) (x l v : ℕ) → Frees x is → Cleared x l v → has (values B c l is) v ≡ true
+  frees-values (Update k w ∷ is) x l v f h = has-later (Update k w) is l v (frees-values is x l v f h)
+  frees-values (Release y ∷ is) x l v (inl q) h = has-now (Release y) is l v (cleared-given y l v (rw q h))
+  frees-values (Release y ∷ is) x l v (inr f) h = has-later (Release y) is l v (frees-values is x l v f h)
+
+  -- ---- and no other
+
   given-cleared : (x l v : ℕ) → has (given B c l (Release x)) v ≡ true → Cleared x l v
   unfolding given
   given-cleared x l v h = go (eqb x l) (dynamic-at B l && concerns B l (at c l) x) refl refl h
@@ -69,15 +97,6 @@ module _ (B : Book) (c : List ℕ) where
       go true b p q h = inl (eqb-true x l p, one true-element h)
       go false true p q h = let r = and-cases (dynamic-at B l) (concerns B l (at c l) x) q in inr (eqb-false x l p, r .0, r .1, one (default-at B l) h)
       go false false p q h = absurd (false≢true h)
-
-  cleared-given : (x l v : ℕ) → Cleared x l v → has (given B c l (Release x)) v ≡ true
-  unfolding given
-  cleared-given x l v (inl (e, f)) = rw (eq-eqb x l e, f)
-  cleared-given x l v (inr (n, d, e, f)) = go (eqb x l) refl
-    where
-      go : (a : Bool) → eqb x l ≡ a → has (if a then true-element ∷ [] else if dynamic-at B l && concerns B l (at c l) x then default-at B l ∷ [] else []) v ≡ true
-      go true q = absurd (n (eqb-true x l q))
-      go false q = rw (d, e, f, eq-eqb (default-at B l) (default-at B l) refl)
 
   pub origin : (is : List Instruction) (l v : ℕ) → has (values B c l is) v ≡ true → Origin is l v
   unfolding values given
@@ -105,25 +124,6 @@ module _ (B : Book) (c : List ℕ) where
           on : Origin is l v → Origin (Release x ∷ is) l v
           on (inl s) = inl s
           on (inr (y, f, e)) = inr (y, inr f, e)
-
-  has-later : (i : Instruction) (is : List Instruction) (l v : ℕ) → has (values B c l is) v ≡ true → has (values B c l (i ∷ is)) v ≡ true
-  unfolding values
-  has-later i is l v h = rw (has-append (given B c l i) (values B c l is) v, h) (or-true (has (given B c l i) v))
-
-  has-now : (i : Instruction) (is : List Instruction) (l v : ℕ) → has (given B c l i) v ≡ true → has (values B c l (i ∷ is)) v ≡ true
-  unfolding values
-  has-now i is l v h = rw (has-append (given B c l i) (values B c l is) v, h)
-
-  pub sets-values : (is : List Instruction) (l v : ℕ) → Sets l v is → has (values B c l is) v ≡ true
-  unfolding given
-  sets-values (Update k w ∷ is) l v (inl (a, b)) = has-now (Update k w) is l v (rw (eq-eqb k l a, eq-eqb w v b))
-  sets-values (Update k w ∷ is) l v (inr s) = has-later (Update k w) is l v (sets-values is l v s)
-  sets-values (Release x ∷ is) l v s = has-later (Release x) is l v (sets-values is l v s)
-
-  pub frees-values : (is : List Instruction) (x l v : ℕ) → Frees x is → Cleared x l v → has (values B c l is) v ≡ true
-  frees-values (Update k w ∷ is) x l v f h = has-later (Update k w) is l v (frees-values is x l v f h)
-  frees-values (Release y ∷ is) x l v (inl q) h = has-now (Release y) is l v (cleared-given y l v (rw q h))
-  frees-values (Release y ∷ is) x l v (inr f) h = has-later (Release y) is l v (frees-values is x l v f h)
 
   -- ---- the table of updates
 

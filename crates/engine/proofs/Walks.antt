@@ -14,7 +14,7 @@ use Rattle.text.specs.Words.{if_then_else_}
 use Rattle.text.specs.Refusals.{non-boolean, not-releasable, list-full}
 use Rattle.text.specs.declared.Found.{Found}
 use Rattle.text.specs.declared.Found.the-variants.{Nowhere, Here}
-use Rattle.text.proofs.Words.{and-cases}
+use Rattle.text.proofs.Words.{and-cases, or-no}
 use Rattle.book.specs.Book.{undef, true-element, false-element, boolean, truth, relation, dynamic, Book, L, location, reserve, function-at, place, relation-at, dynamic-at}
 use Rattle.book.specs.Sound.{Lawful, at, Argument, OnRoll, Sound}
 use Rattle.book.proofs.Places.{spot, spot-argument, spot-first, roll-place, roll-inside, roll-argument, past-roll, default-low}
@@ -351,7 +351,7 @@ module _ (B : Book) (c : List ℕ) where
           taken x o h = dite (decLt x (w .next)) (λ b. sets-snoc x false-element (w .made) (Update y false-element) (m .taken x o b))
               (λ (b : ¬ (x < w .next)). dite (ℕ-discrete x y) (λ e. rw e (sets-last y false-element (w .made))) (λ d. absurd (low x (omega arith) (omega arith) (o .1))))
 
-          go : (b : Bool) → Comes (suc y) (if b then going (record { made = w .made ++ (Update (reserve y) false-element ∷ []); next = suc y }) else met list-full n)
+          go : (b : Bool) → Comes (suc y) (if b then going (record { made = w .made ++ (Update (reserve y) false-element ∷ []); next = take-label y w .next }) else met list-full n)
           go false = tt
           go true = (
             omega arith,
@@ -398,12 +398,13 @@ module _ (B : Book) (c : List ℕ) where
           )
 
       free-comes : (n x : ℕ) (w : Walk) → Made w → x < B .E → Comes (w .next) (refuse-if (not-free B x (at c x)) not-releasable n w then give n (Release x))
-      free-comes n x w m h = go (ltb x (B .P)) (eqb (at c x) true-element) refl refl
+      free-comes n x w m h = go (not-free B x (at c x)) refl
         where
-          go : (a b : Bool) → ltb x (B .P) ≡ a → eqb (at c x) true-element ≡ b → Comes (w .next) (refuse-if (a || b) not-releasable n w then give n (Release x))
-          go true b e f = tt
-          go false true e f = tt
-          go false false e f = give-made n (Release x) w m (ltb-false x (B .P) e, h, eqb-false (at c x) true-element f)
+          go : (b : Bool) → not-free B x (at c x) ≡ b → Comes (w .next) (refuse-if b not-releasable n w then give n (Release x))
+          go true e = tt
+          go false e =
+              let p = or-no (ltb x (B .P)) (eqb (at c x) true-element) e in
+              give-made n (Release x) w m (ltb-false x (B .P) (p .0), h, eqb-false (at c x) true-element (p .1))
 
       if-comes : (b : Bool) (n : ℕ) (p q : Look Walked) → Comes n (gives c p) → Comes n (gives c q) → Comes n (gives c (if b then p else q))
       if-comes true n p q f g = f
