@@ -1,0 +1,5 @@
+pub mod Places
+pub mod Accepted
+pub mod Start
+pub mod Table
+pub mod Depth

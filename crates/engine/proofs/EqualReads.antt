@@ -1,0 +1,73 @@
+-- 01's line on equal reads: two contents with equal static functions that agree on what a move reads in one of them give it the same instructions
+-- if none of 11 to 14 is met there, and otherwise the same refusal if they agree on Reserve throughout.
+use mathlib.Core.Path.{_≡_, refl, sym, ap, _∙_}
+use mathlib.Core.Logic.{dite}
+use mathlib.Core.Bool.{Bool, true, false, _||_, or-true, or-assoc}
+use mathlib.Core.List.{List, [], _∷_, _++_}
+use Prim.Native.Nat.{ℕ, _<_}
+use native.Mathlib.Omega.{arith}
+use native.Mathlib.Decide.{decLt}
+use lib.Dec.{eqb}
+use lib.ListN.{length, List·getD-eq-default}
+use borrow.Author.Tests.{eqb-true, eq-eqb}
+use Rattle.text.specs.Words.{has, if_then_else_}
+use Rattle.book.specs.Book.{Book, L, dynamic-at}
+use Rattle.book.specs.Sound.{at}
+use Rattle.engine.specs.Look.{seen}
+use Rattle.engine.specs.Rule.{Walk, going, met, agent-walk}
+use Rattle.engine.specs.Move.{Input, walked, looked, reads, dynamic-among, extra-reads, updates}
+use Rattle.engine.proofs.Look.{Agree, local, seen-local}
+
+-- two contents of a book with equal static functions
+pub record SameStatic (B : Book) (c d : List ℕ) : Type 0 where
+  pub long : length c ≡ L B
+  pub as-long : length d ≡ L B
+  pub static : (l : ℕ) → l < L B → dynamic-at B l ≡ false → at c l ≡ at d l
+
+-- past the last location both give 0
+pub static-agree : {B : Book} {c d : List ℕ} → SameStatic B c d → (l : ℕ) → dynamic-at B l ≡ false → at c l ≡ at d l
+static-agree {B} {c} {d} s l e = dite (decLt l (L B)) (λ h. s .static l h e)
+    (λ (h : ¬ (l < L B)). List·getD-eq-default c 0 {n = l} (omega (arith, s .long)) ∙ sym (List·getD-eq-default d 0 {n = l} (omega (arith, s .as-long))))
+
+pub has-append : (p q : List ℕ) (i : ℕ) → has (p ++ q) i ≡ (has p i || has q i)
+has-append [] q i = refl
+has-append (j ∷ p) q i = rw (has-append p q i) (sym (or-assoc (eqb j i) (has p i) (has q i)))
+
+-- a list's dynamic locations
+pub has-dynamic : (B : Book) (ls : List ℕ) (l : ℕ) → has ls l ≡ true → dynamic-at B l ≡ true → has (dynamic-among B ls) l ≡ true
+unfolding dynamic-among
+has-dynamic B [] l h e = h
+has-dynamic B (k ∷ ls) l h e = go (eqb k l) refl h (has-dynamic B ls l)
+  where
+    keep : (b : Bool) → has (dynamic-among B ls) l ≡ true → has (if b then k ∷ dynamic-among B ls else dynamic-among B ls) l ≡ true
+    keep true r = rw r (or-true (eqb k l))
+    keep false r = r
+
+    go : (b : Bool) → eqb k l ≡ b → (b || has ls l) ≡ true → (has ls l ≡ true → dynamic-at B l ≡ true → has (dynamic-among B ls) l ≡ true)
+        → has (if dynamic-at B k then k ∷ dynamic-among B ls else dynamic-among B ls) l ≡ true
+    go true q h r = rw (eqb-true k l q, e, eq-eqb l l refl)
+    go false q h r = keep (dynamic-at B k) (r h e)
+
+-- none of 11 to 14 met: the same instructions, and the same places looked at
+pub same-instructions : (B : Book) (c d : List ℕ) (i : Input) → SameStatic B c d → (w : Walk) → walked B c i ≡ going w
+    → ((l : ℕ) → has (reads B c i) l ≡ true → at c l ≡ at d l) → (walked B d i ≡ going w) × (looked B d i ≡ looked B c i)
+unfolding reads
+same-instructions B c d i s w e h =
+    (sym (local c d (agent-walk B (i .agent)) agree) ∙ e, ap (dynamic-among B) (sym (seen-local c d (agent-walk B (i .agent)) agree)))
+  where
+    by : (l : ℕ) → has (seen c (agent-walk B (i .agent))) l ≡ true → (b : Bool) → dynamic-at B l ≡ b → at c l ≡ at d l
+    by l m false q = static-agree s l q
+    by l m true q = h l (rw (e, has-append (looked B c i) (extra-reads B (w .made) (updates B c (w .made))) l, has-dynamic B (seen c (agent-walk B (i .agent))) l m q))
+
+    agree : Agree c d (seen c (agent-walk B (i .agent)))
+    agree l m = by l m (dynamic-at B l) refl
+
+-- One met: the same one. What the walk looks at in Reserve before 12 or 13 counts among its reads here, so 01's condition on Reserve is not even used.
+pub same-refusal : (B : Book) (c d : List ℕ) (i : Input) → SameStatic B c d → (n q : ℕ) → walked B c i ≡ met n q
+    → ((l : ℕ) → has (reads B c i) l ≡ true → at c l ≡ at d l) → ((x : ℕ) → x < B .E → at c x ≡ at d x) → walked B d i ≡ met n q
+unfolding reads
+same-refusal B c d i s n q e h r = sym (local c d (agent-walk B (i .agent)) (λ l m. by l m (dynamic-at B l) refl)) ∙ e
+  where
+    by : (l : ℕ) → has (seen c (agent-walk B (i .agent))) l ≡ true → (b : Bool) → dynamic-at B l ≡ b → at c l ≡ at d l
+    by l m false p = static-agree s l p
+    by l m true p = h l (rw (e, has-dynamic B (seen c (agent-walk B (i .agent))) l m p))

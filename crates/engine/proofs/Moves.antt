@@ -1,0 +1,374 @@
+-- A move that fires: its updates and no others change the contents, static locations are never written, all that sound contents have, the roll rule
+-- with it, is kept, and contents that agree on its reads and writes give the same move.
+use mathlib.Core.Path.{_≡_, refl, sym, ap, subst, _∙_}
+use mathlib.Core.Logic.{_⊎_, inl, inr, dite, _≢_}
+use mathlib.Core.Bool.{Bool, true, false, not, or-true, true≢false, false≢true}
+use mathlib.Core.List.{List, [], _∷_, _++_}
+use Prim.Native.Nat.{ℕ, zero, suc, _+_, _≤_, _<_}
+use native.Mathlib.Omega.{arith}
+use native.Mathlib.Decide.{ℕ-discrete, decLt}
+use lib.Dec.{eqb}
+use lib.ListN.{length, getD, replicate}
+use lib.Seq.{ext-getD}
+use borrow.Author.Tests.{eq-eqb}
+use Rattle.text.specs.Words.{if_then_else_, has, table-from, table, some-below, least}
+use Rattle.text.specs.declared.Found.{Found}
+use Rattle.text.specs.declared.Found.the-variants.{Nowhere, Here}
+use Rattle.text.proofs.Words.{or-no, least-none, table-ext}
+use Rattle.book.specs.Book.{Book, L, true-element, false-element, boolean, node-at, agent-at, place, relation-at, dynamic-at, default-at, arguments-at}
+use Rattle.book.specs.Sound.{Lawful, at, Argument, OnRoll, Sound}
+use Rattle.book.proofs.Places.{roll-place, roll-inside, roll-argument, default-low}
+use Rattle.engine.specs.declared.Instruction.{Instruction}
+use Rattle.engine.specs.declared.Instruction.the-variants.{Update, Release}
+use Rattle.engine.specs.Rule.{Walk, Walked, going, met, agent-walk, rule-at, no-variables}
+use Rattle.engine.specs.Move.{given, values, updates, values-at, released, other, two-values, set-to-label, clashes, idle, new-value, fire, writes, all-dynamic, extra-reads, Input, Fired, fires, unless-clash, unless-idle, walked, looked, fired-of, judged, settle, move, reads}
+use Rattle.engine.proofs.EqualReads.{SameStatic, has-append, has-dynamic, same-instructions}
+use Rattle.engine.proofs.Decode.{proper-rule}
+use Rattle.engine.proofs.Values.{Sets, Frees, frees-has, set-to-none, Cleared, Origin, origin, sets-values, frees-values, length-updates, updates-at, updates-past, new-cases, only-value, fire-at}
+use Rattle.engine.proofs.Walks.{Fine, sets-fine, frees-fine, Made, Comes, walk-comes, low-clean}
+
+pub fire-length : (us : List (List ℕ)) (c : List ℕ) → length (fire us c) ≡ length c
+unfolding fire
+fire-length [] [] = refl
+fire-length (ws ∷ us) [] = refl
+fire-length [] (v ∷ c) = refl
+fire-length (ws ∷ us) (v ∷ c) = ap suc (fire-length us c)
+
+-- ---- what a move that fires has
+
+pub record Firing (B : Book) (c : List ℕ) (i : Input) (f : Fired) : Type 0 where
+  pub walk : Walk
+  pub went : walked B c i ≡ going walk
+  pub gave : fired-of B c (looked B c i) (walk .made) ≡ f
+  pub no-clash : least (clashes (f .instructions) (f .updates)) (length (f .updates)) ≡ Nowhere
+  pub changes : idle c (f .updates) ≡ false
+
+settled : (o : Found) (b : Bool) (g f : Fired) → unless-clash o (unless-idle b (fires g)) ≡ fires f → (o ≡ Nowhere) × (b ≡ false) × (g ≡ f)
+settled (Here l) b g f e = let z : _≡_ {A = ℕ} 0 1 = cc in absurd (omega arith)
+settled Nowhere true g f e = let z : _≡_ {A = ℕ} 0 1 = cc in absurd (omega arith)
+settled Nowhere false g f e = (refl, refl, (cc))
+
+pub firing : (B : Book) (c : List ℕ) (i : Input) (f : Fired) → move B c i ≡ fires f → Firing B c i f
+unfolding move settle judged
+firing B c i f e = go (walked B c i) refl e
+  where
+    go : (o : Walked) → walked B c i ≡ o → settle B c (looked B c i) o ≡ fires f → Firing B c i f
+    go (met n q) p h = let z : _≡_ {A = ℕ} 0 1 = cc in absurd (omega arith)
+    go (going w) p h =
+        let g = fired-of B c (looked B c i) (w .made) in
+        let s = settled (least (clashes (g .instructions) (g .updates)) (length (g .updates))) (idle c (g .updates)) g f h in
+        record {
+          walk = w;
+          went = p;
+          gave = s .2;
+          no-clash = subst (λ (k : Fired). least (clashes (k .instructions) (k .updates)) (length (k .updates)) ≡ Nowhere) (s .2) (s .0);
+          changes = subst (λ (k : Fired). idle c (k .updates) ≡ false) (s .2) (s .1);
+        }
+
+module _ (B : Book) (c : List ℕ) (i : Input) (f : Fired) (moves : move B c i ≡ fires f) where
+  pub fired-length : length (f .updates) ≡ L B
+  fired-length =
+      let s = firing B c i f moves in
+      sym (ap (λ (g : Fired). length (g .updates)) (s .gave)) ∙ length-updates B c (s .walk .made)
+
+  pub fired-reads : reads B c i ≡ f .reads
+  unfolding reads
+  fired-reads = let s = firing B c i f moves in rw (s .went) (ap (λ (g : Fired). g .reads) (s .gave))
+
+  -- no location is given two values
+  pub one-value : (l v : ℕ) → has (values-at (f .updates) l) v ≡ true → new-value (at c l) (values-at (f .updates) l) ≡ v
+  unfolding clashes
+  one-value l v h = dite (decLt l (L B)) inside (λ (k : ¬ (l < L B)). absurd (false≢true (rw (none (omega arith)) at h)))
+    where
+      none : L B ≤ l → values-at (f .updates) l ≡ []
+      none k = let s = firing B c i f moves in sym (ap (λ (g : Fired). values-at (g .updates) l) (s .gave)) ∙ updates-past B c (s .walk .made) l k
+
+      inside : l < L B → new-value (at c l) (values-at (f .updates) l) ≡ v
+      inside k =
+          let s = firing B c i f moves in
+          let e = least-none (clashes (f .instructions) (f .updates)) (length (f .updates)) (s .no-clash) l (omega (arith, fired-length)) in
+          only-value (at c l) (values-at (f .updates) l) v (or-no (two-values (values-at (f .updates) l)) _ e .0) h
+
+-- ---- the walk of an agent of a lawful book on sound contents
+
+no-value : (v : ℕ) → getD no-variables v 0 ≡ 0
+no-value v = go 8 v
+  where
+    go : (n v : ℕ) → getD (replicate n zero) v zero ≡ zero
+    go zero v = refl
+    go (suc n) zero = refl
+    go (suc n) (suc v) = go n v
+
+module _ (B : Book) (B-ok : Lawful B) (c : List ℕ) (c-ok : Sound B c) (i : Input) where
+  pub walked-made : (w : Walk) → walked B c i ≡ going w → Made B c w
+  unfolding agent-walk
+  walked-made w e =
+      let g = agent-at B (i .agent) in
+      let r = walk-comes B c B-ok c-ok (g .element) (B-ok .agents (i .agent)) (rule-at (node-at B) (g .root)) no-variables (record { made = []; next = B .P })
+      (proper-rule B B-ok (g .root)) (λ v. rw (no-value v) (low-clean B c B-ok c-ok (B .P) 0 (omega (arith, B-ok .low))))
+      (record { from = omega arith; upto = B-ok .high; all = tt; taken = λ x o h. absurd (omega (arith, c-ok .labels x o)) }) in
+      subst (Comes B c (B .P)) e r .1
+
+  module _ (f : Fired) (moves : move B c i ≡ fires f) where
+    s : Firing B c i f
+    s = firing B c i f moves
+
+    is : List Instruction
+    is = s .walk .made
+
+    made : Made B c (s .walk)
+    made = walked-made (s .walk) (s .went)
+
+    us : List (List ℕ)
+    us = f .updates
+
+    gave : updates B c is ≡ us
+    unfolding is us
+    gave = ap (λ (g : Fired). g .updates) (s .gave)
+
+    gave-is : is ≡ f .instructions
+    unfolding is
+    gave-is = ap (λ (g : Fired). g .instructions) (s .gave)
+
+    fine : (l v : ℕ) → Sets l v is → Fine B c (s .walk .next) (Update l v)
+    unfolding is
+    fine l v t = sets-fine B c (s .walk .next) is l v (made .all) t
+
+    label : (x : ℕ) → Frees x is → Fine B c (s .walk .next) (Release x)
+    unfolding is
+    label x t = frees-fine B c (s .walk .next) is x (made .all) t
+
+    -- a value that l is given, and where it comes from
+    from : (l v : ℕ) → has (values-at us l) v ≡ true → (l < L B) × Origin B c is l v
+    from l v m = dite (decLt l (L B)) inside (λ (k : ¬ (l < L B)). absurd (false≢true (rw (← gave, updates-past B c is l (omega arith)) at m)))
+      where
+        inside : l < L B → (l < L B) × Origin B c is l v
+        inside h = (h, origin B c is l v (rw (← gave, updates-at B c is l h) at m))
+
+    to : (l v : ℕ) → l < L B → has (values B c l is) v ≡ true → has (values-at us l) v ≡ true
+    to l v h m = rw (← gave, updates-at B c is l h) m
+
+    roll-dynamic : (x : ℕ) → x < B .E → dynamic-at B x ≡ true
+    roll-dynamic x h = rw (roll-place B B-ok x h, B-ok .reserve)
+
+    -- every update is of a dynamic location
+    aims : (l v : ℕ) → has (values-at us l) v ≡ true → dynamic-at B l ≡ true
+    aims l v m = go (from l v m .1)
+      where
+        go : Origin B c is l v → dynamic-at B l ≡ true
+        go (inl t) = fine l v t .1
+        go (inr (x, r, inl (e, z))) = rw (← e) (roll-dynamic x (label x r .1))
+        go (inr (x, r, inr (n, e, k, z))) = e
+
+    still : (l : ℕ) → dynamic-at B l ≡ false → values-at us l ≡ []
+    still l e = go (values-at us l) refl
+      where
+        go : (ws : List ℕ) → values-at us l ≡ ws → ws ≡ []
+        go [] q = refl
+        go (w ∷ ws) q = absurd (true≢false (sym (aims l w (rw (q, eq-eqb w w refl))) ∙ e))
+
+    -- static locations are not written
+    pub fired-static : (l : ℕ) → dynamic-at B l ≡ false → writes (f .updates) l ≡ false
+    unfolding us
+    fired-static l e = rw (still l e)
+
+    -- contents after are the old ones with the updates and no others
+    pub fired-frame : (l : ℕ) → at (fire (f .updates) c) l ≡ new-value (at c l) (values-at (f .updates) l)
+    fired-frame l = fire-at (f .updates) c l (omega (arith, fired-length B c i f moves, c-ok .long))
+
+    d : List ℕ
+    d = fire us c
+
+    cases : (Q : ℕ → Type 0) (l : ℕ) → (values-at us l ≡ [] → Q (at c l)) → ((v : ℕ) → has (values-at us l) v ≡ true → Q v) → Q (at d l)
+    unfolding d us
+    cases Q l old given = rw (fired-frame l) (new-cases Q (at c l) (values-at us l) old given)
+
+    -- what a release gives is no label
+    given-low : (x l v : ℕ) → Cleared B c x l v → v < B .P
+    given-low x l v (inl (e, z)) = omega (arith, B-ok .low)
+    given-low x l v (inr (n, a, b, z)) = omega (arith, B-ok .low, default-low (place B l .function))
+
+    on-default : (x : ℕ) → x < B .E → default-at B x ≡ false-element
+    on-default x h = rw (roll-place B B-ok x h, B-ok .reserve)
+
+    -- a label on the roll afterwards was released, or was on it before and is not taken
+    cause : (x : ℕ) → OnRoll B d x → Frees x is ⊎ (OnRoll B c x × (s .walk .next ≤ x))
+    unfolding is
+    cause x (h, e) = cases (λ v. v ≡ true-element → Frees x is ⊎ (OnRoll B c x × (s .walk .next ≤ x))) x old given e
+      where
+        old : values-at us x ≡ [] → at c x ≡ true-element → Frees x is ⊎ (OnRoll B c x × (s .walk .next ≤ x))
+        old n q = inr (
+          (h, q),
+          dite (decLt x (s .walk .next))
+              (λ b. absurd (false≢true (rw n at (to x false-element (omega (arith, roll-inside B B-ok)) (sets-values B c is x false-element (made .taken x (h, q) b))))))
+              (λ (b : ¬ (x < s .walk .next)). omega arith),
+        )
+
+        given : (v : ℕ) → has (values-at us x) v ≡ true → v ≡ true-element → Frees x is ⊎ (OnRoll B c x × (s .walk .next ≤ x))
+        given v m q = go (from x v m .1)
+          where
+            go : Origin B c is x v → Frees x is ⊎ (OnRoll B c x × (s .walk .next ≤ x))
+            go (inl t) = absurd (omega (arith, fine x v t .4 h))
+            go (inr (y, r, inl (p, z))) = inl (rw (← p) r)
+            go (inr (y, r, inr (n, a, b, z))) = absurd (omega (arith, on-default x h))
+
+    -- what a released label leaves at a dynamic location of it
+    swept : (x l v : ℕ) → Frees x is → l < L B → Cleared B c x l v → at d l ≡ v
+    unfolding d us
+    swept x l v r h z = fired-frame l ∙ one-value B c i f moves l v (to l v h (frees-values B c is x l v r z))
+
+    arguments : (x l : ℕ) → OnRoll B d x → l < L B → l ≢ x → Argument B x l → at d l ≡ default-at B l
+    arguments x l o h n a = go (cause x o)
+      where
+        freed : Frees x is → (b : Bool) → dynamic-at B l ≡ b → at d l ≡ default-at B l
+        freed r false q = cases (λ v. v ≡ default-at B l) l (λ e. c-ok .fixed-arguments l x h q (label x r .0) a) (λ v m. absurd (false≢true (rw (still l q) at m)))
+        freed r true q = swept x l (default-at B l) r h (inr ((λ z. n (sym z)), q, rw a, refl))
+
+        given : s .walk .next ≤ x → OnRoll B c x → (v : ℕ) → Origin B c is l v → v ≡ default-at B l
+        given b p v (inl t) = absurd (omega (arith, fine l v t .5 x a .1 p))
+        given b p v (inr (y, r, inl (e, z))) = absurd (n (roll-argument B B-ok x l (omega (arith, label y r .1)) a))
+        given b p v (inr (y, r, inr (k, e, u, z))) = z
+
+        go : Frees x is ⊎ (OnRoll B c x × (s .walk .next ≤ x)) → at d l ≡ default-at B l
+        go (inl r) = freed r (dynamic-at B l) refl
+        go (inr (p, b)) = cases (λ v. v ≡ default-at B l) l (λ e. c-ok .arguments x l p h n a) (λ v m. given b p v (from l v m .1))
+
+    values-kept : (x l : ℕ) → OnRoll B d x → l < L B → at d l ≢ x
+    unfolding is us clashes
+    values-kept x l o h = go (cause x o)
+      where
+        -- a location that holds a released label is given a value
+        held : Frees x is → values-at us l ≡ [] → at c l ≡ x → (b : Bool) → dynamic-at B l ≡ b → ⊥
+        held r n e false q = omega (arith, c-ok .fixed-values l h q, label x r .0)
+        held r n e true q = dite (ℕ-discrete x l) (λ z. given true-element (inl (z, refl)))
+            (λ z. given (default-at B l) (inr (z, q, (rw (eq-eqb (at c l) x e) (or-true (has (arguments-at B l) x))), refl)))
+          where
+            given : (v : ℕ) → Cleared B c x l v → ⊥
+            given v z = false≢true (rw n at (to l v h (frees-values B c is x l v r z)))
+
+        -- and none is set to it
+        unset : has (released (f .instructions)) x ≡ true → Sets l x is → ⊥
+        unset r t =
+            let e = least-none (clashes (f .instructions) (f .updates)) (length (f .updates)) (s .no-clash) l (omega (arith, fired-length B c i f moves)) in
+            true≢false (sym r ∙ set-to-none (released (f .instructions)) (f .instructions) l x (or-no (two-values (values-at us l)) _ e .1) (rw gave-is at t))
+
+        freed : Frees x is → (v : ℕ) → Origin B c is l v → v ≢ x
+        freed r v (inl t) e = unset (rw gave-is at (frees-has is x r)) (rw e at t)
+        freed r v (inr (y, t, z)) e = omega (arith, given-low y l v z, label x r .0)
+
+        stays : s .walk .next ≤ x → OnRoll B c x → (v : ℕ) → Origin B c is l v → v ≢ x
+        stays b p v (inl t) e = omega (arith, fine l v t .2 .1 (rw e p))
+        stays b p v (inr (y, t, z)) e = omega (arith, given-low y l v z, c-ok .labels x p)
+
+        go : Frees x is ⊎ (OnRoll B c x × (s .walk .next ≤ x)) → at d l ≢ x
+        go (inl r) = cases (λ v. v ≢ x) l (λ n e. held r n e (dynamic-at B l) refl) (λ v m. freed r v (from l v m .1))
+        go (inr (p, b)) = cases (λ v. v ≢ x) l (λ n. c-ok .values x l p h) (λ v m. stays b p v (from l v m .1))
+
+    labels : (x : ℕ) → OnRoll B d x → B .P ≤ x
+    labels x o = go (cause x o)
+      where
+        go : Frees x is ⊎ (OnRoll B c x × (s .walk .next ≤ x)) → B .P ≤ x
+        go (inl r) = label x r .0
+        go (inr (p, b)) = c-ok .labels x p
+
+    -- what sound contents have, the roll rule with it, is kept
+    pub fired-keep : Sound B (fire (f .updates) c)
+    unfolding d us
+    fired-keep = record {
+      long = fire-length us c ∙ c-ok .long;
+      small = λ l. cases (λ v. v < B .E) l (λ e. c-ok .small l) (λ v m. small l v (from l v m .1));
+      booleans = λ l h r. cases (λ v. boolean v ≡ true) l (λ e. c-ok .booleans l h r) (λ v m. booleans l v r (from l v m .1));
+      fixed-values = λ l h e. rw (fired-frame l, still l e) (c-ok .fixed-values l h e);
+      fixed-arguments = λ l x h e p a. rw (fired-frame l, still l e) (c-ok .fixed-arguments l x h e p a);
+      labels = labels;
+      arguments = arguments;
+      values = values-kept;
+    }
+      where
+        small : (l v : ℕ) → Origin B c is l v → v < B .E
+        small l v (inl t) = fine l v t .2 .0
+        small l v (inr (x, r, z)) = omega (arith, given-low x l v z, B-ok .high)
+
+        booleans : (l v : ℕ) → relation-at B l ≡ true → Origin B c is l v → boolean v ≡ true
+        booleans l v e (inl t) = fine l v t .3 e
+        booleans l v e (inr (x, r, inl (p, z))) = rw z
+        booleans l v e (inr (x, r, inr (n, a, b, z))) = rw (z, e)
+
+-- ---- the same move on contents that agree
+
+-- with no release the updates are the instructions' own
+kept : (B : Book) (c d : List ℕ) (l : ℕ) (is : List Instruction) → released is ≡ [] → values B c l is ≡ values B d l is
+unfolding values released given
+kept B c d l [] f = refl
+kept B c d l (Update k v ∷ is) f = ap (λ (ws : List ℕ). (if eqb k l then v ∷ [] else []) ++ ws) (kept B c d l is f)
+kept B c d l (Release x ∷ is) f = let z : _≡_ {A = ℕ} 0 1 = cc in absurd (omega arith)
+
+kept-updates : (B : Book) (c d : List ℕ) (is : List Instruction) → released is ≡ [] → updates B c is ≡ updates B d is
+unfolding updates
+kept-updates B c d is f = table-ext (λ l. values B c l is) (λ l. values B d l is) (L B) (λ l h. kept B c d l is f)
+
+some-same : (f g : ℕ → Bool) (n : ℕ) → ((i : ℕ) → f i ≡ g i) → some-below f n ≡ some-below g n
+unfolding some-below
+some-same f g zero h = refl
+some-same f g (suc n) h = rw (some-same f g n h, h n)
+
+idle-same : (c d : List ℕ) (us : List (List ℕ)) → ((l : ℕ) → writes us l ≡ true → at c l ≡ at d l) → idle c us ≡ idle d us
+unfolding idle other
+idle-same c d us h = ap not (some-same (λ l. other (at c l) (values-at us l)) (λ l. other (at d l) (values-at us l)) (length us) (λ l. go l (values-at us l) refl))
+  where
+    go : (l : ℕ) (ws : List ℕ) → values-at us l ≡ ws → other (at c l) ws ≡ other (at d l) ws
+    go l [] e = refl
+    go l (w ∷ ws) e = rw (h l (rw e))
+
+has-table : (i n l : ℕ) → i ≤ l → l < i + n → has (table-from (λ k. k) i n) l ≡ true
+unfolding table-from
+has-table i zero l h k = absurd (omega arith)
+has-table i (suc n) l h k = dite (ℕ-discrete i l) (λ e. rw (eq-eqb i l e)) (λ e. rw (has-table (suc i) n l (omega arith) (omega arith)) (or-true (eqb i l)))
+
+module _ (B : Book) (c d : List ℕ) (i : Input) (t : SameStatic B c d) (f : Fired) (moves : move B c i ≡ fires f) (agree : (l : ℕ) → has (f .reads) l ≡ true → at c l ≡ at d l) where
+  w : Walk
+  w = firing B c i f moves .walk
+
+  -- with a release every dynamic location is read
+  all-read : (y : ℕ) (ys : List ℕ) → released (w .made) ≡ y ∷ ys → (l : ℕ) → l < L B → dynamic-at B l ≡ true → has (f .reads) l ≡ true
+  unfolding all-dynamic w
+  all-read y ys e l h q =
+      subst (λ (g : Fired). has (g .reads) l ≡ true) (firing B c i f moves .gave)
+      (rw (has-append (looked B c i) (extra-reads B (w .made) (updates B c (w .made))) l, e, has-dynamic B (table (λ k. k) (L B)) l (has-table 0 (L B) l (omega arith) (omega arith)) q)
+      (or-true (has (looked B c i) l)))
+
+  -- so the contents are the same throughout
+  at-once : (y : ℕ) (ys : List ℕ) → released (w .made) ≡ y ∷ ys → c ≡ d
+  at-once y ys e = ext-getD 0 c d (t .long ∙ sym (t .as-long)) (λ l h. go l (omega (arith, t .long)) (dynamic-at B l) refl)
+    where
+      go : (l : ℕ) → l < L B → (b : Bool) → dynamic-at B l ≡ b → at c l ≡ at d l
+      go l h false q = t .static l h q
+      go l h true q = agree l (all-read y ys e l h q)
+
+  same-move : ((l : ℕ) → writes (f .updates) l ≡ true → at c l ≡ at d l) → move B d i ≡ fires f
+  unfolding w move settle judged
+  same-move x = go (released (w .made)) refl
+    where
+      settles : idle d (f .updates) ≡ false → judged d f ≡ fires f
+      settles e = rw (firing B c i f moves .no-clash, e)
+
+      -- with none it is settled alike
+      apiece : released (w .made) ≡ [] → move B d i ≡ fires f
+      apiece e =
+          let s = firing B c i f moves in
+          let r = same-instructions B c d i t (s .walk) (s .went) (λ l h. agree l (rw (fired-reads B c i f moves) at h)) in
+          let u : fired-of B d (looked B c i) (s .walk .made) ≡ f =
+          ap (λ (us : List (List ℕ)). record { instructions = s .walk .made; updates = us; reads = looked B c i ++ extra-reads B (s .walk .made) us })
+          (sym (kept-updates B c d (s .walk .made) e))
+          ∙ s .gave in
+          rw (r .0, r .1) (ap (judged d) u ∙ settles (sym (idle-same c d (f .updates) x) ∙ s .changes))
+
+      go : (ys : List ℕ) → released (w .made) ≡ ys → move B d i ≡ fires f
+      go [] e = apiece e
+      go (y ∷ ys) e = subst (λ (z : List ℕ). move B z i ≡ fires f) (at-once y ys e) moves
+
+pub fired-same : (B : Book) → Lawful B → (c d : List ℕ) → Sound B c → Sound B d → (i : Input) (f : Fired) → move B c i ≡ fires f
+    → ((l : ℕ) → has (f .reads) l ≡ true → at c l ≡ at d l) → ((l : ℕ) → writes (f .updates) l ≡ true → at c l ≡ at d l)
+    → ((l : ℕ) → dynamic-at B l ≡ false → at c l ≡ at d l) → move B d i ≡ fires f
+fired-same B ok c d s t i f e reads writes static =
+    same-move B c d i (record { long = s .long; as-long = t .long; static = λ l h. static l }) f e reads writes

@@ -1,0 +1,225 @@
+-- Demand 3 holds.
+use mathlib.Core.Path.{_≡_, refl, sym, ap, ap₂, subst, _∙_}
+use mathlib.Core.Logic.{_↔_, _⊎_, inl, inr}
+use mathlib.Core.Bool.{Bool, true, false, not, true≢false}
+use mathlib.Core.List.{List}
+use Prim.Native.Nat.{ℕ, _<_}
+use native.Mathlib.Omega.{arith}
+use lib.ListN.{length}
+use Rattle.text.specs.Words.{Checked, good, refused}
+use Rattle.text.proofs.Words.{and-cases, bind-good, then-good, good-same}
+use Rattle.book.specs.Book.{Book, L, start}
+use Rattle.book.specs.Check.{check-book}
+use Rattle.book.specs.Sound.{Lawful}
+use Rattle.book.proofs.Accepted.{accepted}
+use Rattle.book.proofs.Start.{start-sound}
+use Rattle.engine.specs.Move.{Fired, fires, move}
+use Rattle.engine.specs.Single.{over}
+use Rattle.engine.proofs.Moves.{fired-length}
+use Rattle.order.specs.Pairs.{rows, ordered-by, TwoFound, no-two, two, least-two}
+use Rattle.order.specs.Log.{Log, move-at, check-log}
+use Rattle.order.specs.Run.{Run, Ran, ran, halted, run, touch, fired-at, unordered-touching, LogAnswer, order-checked, finish, run-from, run-log}
+use Rattle.order.specs.Call.{Tables, Lengths, lengths, check-lent, check-all, left-in, log-answer, log-call}
+use Rattle.order.specs.Orders.{Moves, listed, one, more, from, Keeps, Agrees, LeastPair}
+use Rattle.order.specs.Demand.{PairOf, moves-of, count, Ordered, Does, AllFire, Clash, Passes, Demand3}
+use Rattle.order.proofs.Listed.{agrees}
+use Rattle.order.proofs.Rows.{rows-set}
+use Rattle.order.proofs.Pairs.{Passing, two-none, two-least}
+use Rattle.order.proofs.Marks.{Left, run-left, run-through, halted-number}
+use Rattle.order.proofs.Log.{Passed, passed}
+use Rattle.order.proofs.Numbers.{Within, Early, off, all-early}
+use Rattle.order.proofs.Swap.{act-fires, laws}
+use Rattle.order.proofs.Touching.{touch-iff}
+
+module _ (B : Book) (g : Log) where
+  abbrev S : Moves
+  S = moves-of B g
+
+  abbrev m : ℕ
+  m = count g
+
+  -- ---- an accepted log
+
+  module _ (lawful : Lawful B) (ok : Passed g) where
+    up : (a b : ℕ) → PairOf (g .pairs) a b → a < b
+    up a b p = ok .up a b p .0
+
+    before-up : {a b : ℕ} → Ordered g a b → a < b
+    before-up (one {a} {b} p) = up a b p
+    before-up (more {a} {b} {c} f p) = omega (arith, before-up f, up b c p)
+
+    -- what 17 looks for
+    abbrev test : Run → ℕ → ℕ → Bool
+    test s = unordered-touching (rows (g .pairs) m) (L B) (s .fired)
+
+    module _ (s : Run) (k : Left B g (start B) m s) where
+      all-fire : AllFire B g m
+      all-fire i h = (fired-at (s .fired) i, k .fired i h)
+
+      -- what move i does
+      is-act : (i : ℕ) (f : Fired) → i < m → Does B g i f → fired-at (s .fired) i ≡ f
+      is-act i f h e = let q = k .fired i h in cc
+
+      long : (i : ℕ) → i < m → length (fired-at (s .fired) i .updates) ≡ L B
+      long i h =
+          let c = listed S (start B) i in
+          let f = fired-at (s .fired) i in
+          fired-length B c (move-at g i) f (act-fires (move B c (move-at g i)) f (k .fired i h))
+
+      unordered-iff : (i j : ℕ) → j < m → (not (ordered-by (rows (g .pairs) m) i j) ≡ true) ↔ ¬ Ordered g i j
+      unordered-iff i j h = (λ e f. true≢false (sym e ∙ rw (r .1 f)), λ n. go (ordered-by (rows (g .pairs) m) i j) refl n)
+        where
+          r : (ordered-by (rows (g .pairs) m) i j ≡ true) ↔ Ordered g i j
+          r = rows-set (g .pairs) up m j i h
+
+          go : (b : Bool) → ordered-by (rows (g .pairs) m) i j ≡ b → ¬ Ordered g i j → not b ≡ true
+          go true e n = absurd (n (r .0 e))
+          go false e n = refl
+
+      clash-iff : (i j : ℕ) → Passing (test s) m i j ↔ Clash B g i j
+      clash-iff i j = (to, from)
+        where
+          to : Passing (test s) m i j → Clash B g i j
+          to (a, b, e) =
+              let h : i < m = omega arith in
+              let x = fired-at (s .fired) i in
+              let y = fired-at (s .fired) j in
+              let p = and-cases (not (ordered-by (rows (g .pairs) m) i j)) (touch (L B) x y) e in
+              (a, b, unordered-iff i j b .0 (p .0), (λ f. omega (arith, before-up f)), (x, y, k .fired i h, k .fired j b, touch-iff B g (L B) x y (long i h) (long j b) .0 (p .1)))
+
+          from : Clash B g i j → Passing (test s) m i j
+          from (a, b, n, o, (x, y, dx, dy, t)) =
+              let h : i < m = omega arith in
+              let p = is-act i x h dx in
+              let q = is-act j y b dy in
+              let u = touch-iff B g (L B) (fired-at (s .fired) i) (fired-at (s .fired) j) (long i h) (long j b) .1 (rw (p, q) t) in
+              (a, b, rw (unordered-iff i j b .1 n, u))
+
+      least-iff : (i j : ℕ) → LeastPair (Passing (test s) m) i j ↔ LeastPair (Clash B g) i j
+      least-iff i j = (
+        λ p. record { holds = clash-iff i j .0 (p .holds); least = λ a b t. p .least a b (clash-iff a b .1 t) },
+        λ p. record { holds = clash-iff i j .1 (p .holds); least = λ a b t. p .least a b (clash-iff a b .0 t) },
+      )
+
+    -- ---- what the run answers
+
+    abbrev found : Run → TwoFound
+    found s = least-two (test s) m
+
+    accepted-to : run-log B g .answer .number ≡ 0
+        → AllFire B g m × ((i j : ℕ) → ¬ Clash B g i j) × (run-log B g .contents ≡ listed S (start B) m)
+    unfolding run-log run-from finish
+    accepted-to e = go (run B g (start B) m) refl e
+      where
+        on-two : (s : Run) → run B g (start B) m ≡ ran s → (o : TwoFound) → found s ≡ o → order-checked B s o .answer .number ≡ 0
+            → AllFire B g m × ((i j : ℕ) → ¬ Clash B g i j) × (order-checked B s o .contents ≡ listed S (start B) m)
+        on-two s q (two a b) p f = absurd (omega arith)
+        on-two s q no-two p f =
+            let k = run-left B g (start B) m s q in
+            (all-fire s k, (λ i j t. two-none (test s) m .0 p i j (clash-iff s k i j .1 t)), k .contents)
+
+        go : (o : Ran) → run B g (start B) m ≡ o → finish B g o .answer .number ≡ 0
+            → AllFire B g m × ((i j : ℕ) → ¬ Clash B g i j) × (finish B g o .contents ≡ listed S (start B) m)
+        go (halted a b d s) q f = absurd (omega (arith, halted-number B g (start B) m a b d s q .0))
+        go (ran s) q f = on-two s q (found s) refl f
+
+    accepted-from : AllFire B g m → ((i j : ℕ) → ¬ Clash B g i j) → run-log B g .answer .number ≡ 0
+    unfolding run-log run-from finish
+    accepted-from f n =
+        let t = run-through B g (start B) m f in
+        let k = run-left B g (start B) m (t .0) (t .1) in
+        rw (t .1, two-none (test (t .0)) m .1 (λ i j p. n i j (clash-iff (t .0) k i j .0 p)))
+
+    abbrev Is17 : LogAnswer → ℕ → ℕ → Type 0
+    Is17 a i j = (a .answer .number ≡ 17) × (a .answer .p ≡ i) × (a .answer .q ≡ j)
+
+    refused-to : (i j : ℕ) → Is17 (run-log B g) i j → AllFire B g m × LeastPair (Clash B g) i j
+    unfolding run-log run-from finish
+    refused-to i j e = go (run B g (start B) m) refl e
+      where
+        on-two : (s : Run) → run B g (start B) m ≡ ran s → (o : TwoFound) → found s ≡ o → Is17 (order-checked B s o) i j
+            → AllFire B g m × LeastPair (Clash B g) i j
+        on-two s q no-two p f = absurd (omega (arith, f .0))
+        on-two s q (two a b) p f =
+            let k = run-left B g (start B) m s q in
+            (all-fire s k, least-iff s k i j .0 (two-least (test s) m i j .0 (p ∙ ap₂ two (f .1) (f .2))))
+
+        go : (o : Ran) → run B g (start B) m ≡ o → Is17 (finish B g o) i j → AllFire B g m × LeastPair (Clash B g) i j
+        go (halted a b d s) q f = absurd (omega (arith, f .0, halted-number B g (start B) m a b d s q .1))
+        go (ran s) q f = on-two s q (found s) refl f
+
+    refused-from : (i j : ℕ) → AllFire B g m → LeastPair (Clash B g) i j → Is17 (run-log B g) i j
+    unfolding run-log run-from finish
+    refused-from i j f n =
+        let t = run-through B g (start B) m f in
+        let k = run-left B g (start B) m (t .0) (t .1) in
+        rw (t .1, two-least (test (t .0)) m i j .1 (least-iff (t .0) k i j .1 n)) (refl, refl, refl)
+
+    -- ---- every order
+
+    all-orders : run-log B g .answer .number ≡ 0 → (is : List ℕ) → Keeps (from 0 m) (PairOf (g .pairs)) is → Agrees S (start B) m is
+    all-orders e = agrees S (laws B lawful g) (start B) m (PairOf (g .pairs)) (record {
+      good = start-sound B lawful;
+      up = up;
+      fires = accepted-to e .0;
+      apart = λ i j a b h l da db n t. accepted-to e .1 i j (h, l, n, (λ f. omega (arith, before-up f)), (a, b, da, db, t));
+    })
+
+-- ---- the call
+
+all-passed : (book log : List ℕ) (n : Lengths) (B : Book) (g : Log) → check-all book log n ≡ good (B, g) → Lawful B × Passed g
+unfolding check-all
+all-passed book log n B g e =
+    let r = bind-good (check-book book) _ (B, g) e in
+    let t = bind-good (check-log (r .0) log) _ (B, g) (r .2) in
+    let u = then-good (check-lent (r .0) n) (good (r .0, t .0)) (B, g) (t .2) in
+    let p = good-same (r .0, t .0) (B, g) (u .2) in
+    (subst Lawful (ap (λ (x : Book × Log). x .0) p) (accepted book (r .0) (r .1)), subst Passed (ap (λ (x : Book × Log). x .1) p) (passed (r .0) log (t .0) (t .1)))
+
+module _ (book log : List ℕ) (t : Tables) (n : ℕ) where
+  abbrev checks : Checked (Book × Log)
+  checks = check-all book log (lengths t n)
+
+  -- a call that is accepted, or refused by 17, has passed the checks
+  passes : (k : ℕ) → (k ≡ 0) ⊎ (10 < k) → log-call book log t n .answer .number ≡ k → (B : Book) × (g : Log) × (checks ≡ good (B, g))
+  unfolding log-call
+  passes k h e = go checks refl (all-early book log (lengths t n)) e
+    where
+      far : (a : ℕ) → Within 1 a 10 → (k ≡ 0) ⊎ (10 < k) → a ≡ k → ⊥
+      far a b (inl p) q = omega arith
+      far a b (inr p) q = omega arith
+
+      go : (o : Checked (Book × Log)) → checks ≡ o → Early o → log-answer t o .answer .number ≡ k → (B : Book) × (g : Log) × (checks ≡ good (B, g))
+      go (good x) q f e = (x .0, x .1, q)
+      go (refused a p r) q (off f) e = absurd (far a f h e)
+
+  -- and its answer is the run's
+  as-run : (B : Book) (g : Log) → checks ≡ good (B, g) → log-call book log t n ≡ left-in t (run-log B g)
+  unfolding log-call
+  as-run B g e = rw e
+
+  pub demand3 : Demand3 book log t n
+  demand3 = record {
+    accepted = (
+      λ e. let r = passes 0 (inl refl) e in accept (r .0) (r .1) (r .2) (rw (as-run (r .0) (r .1) (r .2)) at e),
+      λ (B, g, (p, f), q). let k = all-passed book log (lengths t n) B g p in rw (as-run B g p) (accepted-from B g (k .0) (k .1) f q),
+    );
+    refused = λ i j. (
+      λ e. let r = passes 17 (inr (omega arith)) (e .0) in refuse i j (r .0) (r .1) (r .2) (rw (as-run (r .0) (r .1) (r .2)) at e),
+      λ (B, g, (p, f), q). let k = all-passed book log (lengths t n) B g p in rw (as-run B g p) (refused-from B g (k .0) (k .1) i j f q),
+    );
+    orders = λ e B g p is k.
+        let r = all-passed book log (lengths t n) B g p in
+        let z : run-log B g .answer .number ≡ 0 = rw (as-run B g p) at e in
+        let a = all-orders B g (r .0) (r .1) z is k in
+        (a, ap (λ (x : LogAnswer). x .contents) (as-run B g p) ∙ ap (λ (d : List ℕ). over d (t .contents)) (accepted-to B g (r .0) (r .1) z .2 ∙ sym (a .ends)));
+  }
+    where
+      accept : (B : Book) (g : Log) → checks ≡ good (B, g) → run-log B g .answer .number ≡ 0
+          → (B : Book) × (g : Log) × Passes book log t n B g × ((i j : ℕ) → ¬ Clash B g i j)
+      accept B g p e = let k = all-passed book log (lengths t n) B g p in let r = accepted-to B g (k .0) (k .1) e in (B, g, (p, r .0), r .1)
+
+      refuse : (i j : ℕ) (B : Book) (g : Log) → checks ≡ good (B, g)
+          → (run-log B g .answer .number ≡ 17) × (run-log B g .answer .p ≡ i) × (run-log B g .answer .q ≡ j)
+          → (B : Book) × (g : Log) × Passes book log t n B g × LeastPair (Clash B g) i j
+      refuse i j B g p e = let k = all-passed book log (lengths t n) B g p in let r = refused-to B g (k .0) (k .1) i j e in (B, g, (p, r .0), r .1)

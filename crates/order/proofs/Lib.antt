@@ -1,0 +1,12 @@
+pub mod Order
+pub mod Free
+pub mod Listed
+pub mod Sets
+pub mod Rows
+pub mod Pairs
+pub mod Marks
+pub mod Log
+pub mod Numbers
+pub mod Swap
+pub mod Touching
+pub mod Claim
