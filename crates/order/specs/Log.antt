@@ -1,7 +1,7 @@
 -- The log: its lines and their checks, 1, 9 and 10 (01, "Book and log text", "Refused, and how").
 use mathlib.Core.Bool.{Bool, _&&_, _||_, not}
 use mathlib.Core.List.{List}
-use Prim.Native.Nat.{ℕ, suc, _+_, _*_}
+use Prim.Native.Nat.{ℕ, _+_, _*_}
 use lib.Dec.{eqb, ltb, leb}
 use lib.ListN.{length, getD}
 use Rattle.text.specs.declared.Line.{Line}

@@ -1,12 +1,11 @@
 -- Moves that act on contents, the orders that keep a log's pairs, and what it is that all of them do alike. Nothing here is about one engine
 -- (01, "Book and log text": an order; "What a move does": touch).
 use mathlib.Core.Path.{_≡_}
-use mathlib.Core.Logic.{_⊎_, _≢_}
+use mathlib.Core.Logic.{_⊎_}
 use mathlib.Core.List.{List, [], _∷_, _++_}
 use mathlib.Core.Option.{Option, none, some}
 use mathlib.Core.Bool.{Bool, true, false}
 use Prim.Native.Nat.{ℕ, zero, suc, _≤_, _<_}
-use lib.Dec.{eqb}
 use Rattle.text.specs.Words.{has}
 
 -- ---- moves
