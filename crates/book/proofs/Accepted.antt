@@ -150,23 +150,31 @@ passed h text B e =
       good-same A B (e8 .1),
     )
 
+-- the book has as many of each as the header says
+pub book-lengths : (h : Header) (text : List ℕ) → (length (book-of h text .functions) ≡ h .functions) × (length (book-of h text .nodes) ≡ h .nodes)
+    × (length (book-of h text .agents) ≡ h .agents) × (length (book-of h text .entries) ≡ h .contents)
+unfolding book-of
+book-lengths h text = (
+  length-lay-out (h .elements) 0 (table (λ i. line text (first-function + i)) (h .functions)) ∙ length-table-from _ 0 (h .functions),
+  length-table-from _ 0 (h .nodes),
+  length-table-from _ 0 (h .agents),
+  length-table-from _ 0 (h .contents),
+)
+
 book-lawful : (h : Header) (text : List ℕ) → Bounded h → Passed h text → Lawful (book-of h text)
 unfolding book-of
 book-lawful h text b p =
     let A = book-of h text in
     let at : ℕ → Line = λ i. line text (first-function + i) in
     let ls = table at (h .functions) in
-    let long : length (A .functions) ≡ h .functions = length-lay-out (h .elements) 0 ls ∙ length-table-from at 0 (h .functions) in
+    let long = book-lengths h text in
     let agent : (k : ℕ) → k < h .agents → agent-at A k ≡ agent-of (line text (first-agent h + k)) =
     λ k. getD-table (λ i. agent-of (line text (first-agent h + i))) (h .agents) k no-agent in
-    let some-nodes : length (A .nodes) ≡ h .nodes = length-table-from _ 0 (h .nodes) in
-    let some-agents : length (A .agents) ≡ h .agents = length-table-from _ 0 (h .agents) in
-    let some-entries : length (A .entries) ≡ h .contents = length-table-from _ 0 (h .contents) in
     record {
       low = b .permanent .0;
       high = b .permanent .1;
       elements = b .elements .1;
-      some = omega (arith, long, b .functions .0);
+      some = omega (arith, long .0, b .functions .0);
       locations = p .locations;
       laid = laid-out (h .elements) 0 ls;
       arities = λ f. rw (laid-arity (h .elements) 0 ls f)
@@ -174,17 +182,17 @@ book-lawful h text b p =
           (λ q. rw (getD-table at (h .functions) f no-line q) (function-good (at f) f (p .functions f q)))
           (λ (q : ¬ (f < h .functions)). rw (getD-table-past at (h .functions) f no-line (omega arith)) (omega arith)));
       reserve = first-good (h .elements) at (h .functions) (b .functions .0) (p .functions 0 (b .functions .0));
-      nodes = λ n q. p .nodes n (omega (arith, some-nodes));
-      uses = λ n q. p .uses n (omega (arith, some-nodes));
-      around = λ n q. p .around n (omega (arith, some-nodes));
+      nodes = λ n q. p .nodes n (omega (arith, long .1));
+      uses = λ n q. p .uses n (omega (arith, long .1));
+      around = λ n q. p .around n (omega (arith, long .1));
       roots = λ k q.
-          let r : k < h .agents = omega (arith, some-agents) in
+          let r : k < h .agents = omega (arith, long .2) in
           let g = agent-good A (line text (first-agent h + k)) k (p .agents k r) in
           rw (agent k r) (g .0, g .1);
       agents = λ k. dite (decLt k (h .agents))
           (λ r. rw (agent k r) (agent-good A (line text (first-agent h + k)) k (p .agents k r) .2))
           (λ (r : ¬ (k < h .agents)). rw (getD-table-past (λ i. agent-of (line text (first-agent h + i))) (h .agents) k no-agent (omega arith)) (omega (arith, b .permanent .0)));
-      entries = λ i q. p .entries i (omega (arith, some-entries));
+      entries = λ i q. p .entries i (omega (arith, long .3));
     }
 
 -- the book is the one that the lines say
