@@ -14,7 +14,7 @@ use Rattle.text.specs.Words.{if_then_else_, table}
 use Rattle.text.proofs.Words.{so-true, so-false, length-table-from, getD-table, getD-table-past}
 use Rattle.book.specs.declared.Function.{Function}
 use Rattle.book.specs.declared.Entry.{Entry}
-use Rattle.book.specs.Book.{Book, L, no-entry, true-element, boolean, default, relation, dynamic, defaults, enter, start, location, entry-location, function-at, entry-at, place, relation-at, dynamic-at, default-at}
+use Rattle.book.specs.Book.{Book, L, no-entry, true-element, boolean, relation, dynamic, defaults, enter, start, location, entry-location, function-at, entry-at, place, relation-at, dynamic-at, default-at}
 use Rattle.book.specs.Contents.{in-bounds, in-form, least-location, rolled, untraced, bad-entry}
 use Rattle.book.specs.Sound.{Lawful, at, Argument, OnRoll, Sound}
 use Rattle.book.proofs.Places.{Spot, spot, spot-argument, roll-place, roll-location, past-roll, roll-argument, boolean-low, default-low}
