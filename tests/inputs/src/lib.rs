@@ -1,0 +1,19 @@
+// Seeded inputs for the entries of paper 01: the same seed gives the same inputs on every machine.
+#![forbid(unsafe_code)]
+
+pub mod books;
+mod cases;
+pub mod damage;
+pub mod documents;
+mod draft;
+mod faults;
+mod flavours;
+pub mod logs;
+mod rng;
+mod rules;
+pub mod tables;
+
+pub use cases::{book_input, report_input, run_input, step_input, RunInput, StepInput};
+pub use draft::{text_of, Draft};
+pub use logs::{random_order, DraftLog};
+pub use rng::Rng;

@@ -1,0 +1,230 @@
+// Logs: guided ones whose moves fire and whose pairs fit, loose ones, damaged ones; random orders.
+
+use crate::damage::spoil_text;
+use crate::draft::{one_more, text_of};
+use crate::rng::Rng;
+use paper::{fire_move, start_table, Book, Line, Marks};
+
+const MOST_MOVES: usize = 64;
+
+/// The agents of the moves, and the pairs in any order.
+#[derive(Debug, Clone, PartialEq, Eq)]
+pub struct DraftLog {
+    pub agents: Vec<u32>,
+    pub pairs: Vec<(u32, u32)>,
+}
+
+impl DraftLog {
+    fn lines(&self) -> Vec<Line> {
+        let mut pairs = self.pairs.clone();
+        pairs.sort_unstable();
+        pairs.dedup();
+        let mut lines = vec![[self.agents.len() as u32, pairs.len() as u32, 0, 0]];
+        lines.extend(self.agents.iter().map(|&agent| [agent, 0, 0, 0]));
+        lines.extend(pairs.into_iter().map(|(earlier, later)| [earlier, later, 0, 0]));
+        lines
+    }
+
+    pub fn text(&self) -> Vec<u8> {
+        text_of(&self.lines())
+    }
+}
+
+/// An order at random, among all those that keep the pairs of a log of m moves.
+pub fn random_order(pairs: &[(usize, usize)], m: usize, rng: &mut Rng) -> Vec<usize> {
+    let mut waiting = vec![0; m];
+    pairs.iter().for_each(|&(_, later)| waiting[later] += 1);
+    let mut ready: Vec<usize> = (0..m).filter(|&number| waiting[number] == 0).collect();
+    let mut order = Vec::with_capacity(m);
+    while !ready.is_empty() {
+        let place = rng.index(ready.len());
+        let next = ready.swap_remove(place);
+        order.push(next);
+        for &(_, later) in pairs.iter().filter(|&&(earlier, _)| earlier == next) {
+            waiting[later] -= 1;
+            if waiting[later] == 0 {
+                ready.push(later);
+            }
+        }
+    }
+    order
+}
+
+/// How many moves a log has: mostly a few.
+fn some_moves(rng: &mut Rng) -> usize {
+    let (least, most) =
+        [(0, 0), (1, 1), (2, 6), (7, 20), (21, 63), (64, 64)][rng.weighted(&[2, 8, 52, 30, 6, 2])];
+    rng.range(least, most) as usize
+}
+
+/// A log that keeps its lines and counts, with moves that fire or not.
+pub fn sound(rng: &mut Rng, book: &Book) -> DraftLog {
+    match rng.weighted(&[75, 25]) {
+        0 => guided(rng, book),
+        _ => loose(rng, book),
+    }
+}
+
+/// Moves of any agents and pairs of any density; often each agent's own moves are ordered.
+fn loose(rng: &mut Rng, book: &Book) -> DraftLog {
+    let moves = some_moves(rng);
+    let agents: Vec<u32> = (0..moves).map(|_| rng.below(book.agents.len() as u32)).collect();
+    let share = rng.pick(&[0, 5, 20, 50, 100]);
+    let mut pairs = any_pairs(rng, moves, share);
+    match rng.below(5) {
+        0 | 1 => pairs.extend((1..moves as u32).map(|later| (later - 1, later))),
+        2 | 3 => {
+            let own = any_pairs(rng, moves, 100);
+            pairs.extend(own.iter().filter(|pair| agents[pair.0 as usize] == agents[pair.1 as usize]));
+        }
+        _ => {}
+    }
+    DraftLog { agents, pairs }
+}
+
+fn any_pairs(rng: &mut Rng, moves: usize, share: u32) -> Vec<(u32, u32)> {
+    let all = (1..moves as u32).flat_map(|later| (0..later).map(move |earlier| (earlier, later)));
+    all.filter(|_| rng.percent(share)).collect()
+}
+
+/// Moves that were tried and fire, the last one perhaps not, and pairs chosen by what they touch.
+pub fn guided(rng: &mut Rng, book: &Book) -> DraftLog {
+    let wanted = some_moves(rng);
+    let mut contents = start_table(book);
+    let (mut readers, mut writers) = (vec![0; book.locations], vec![0; book.locations]);
+    let mut list = Vec::new();
+    let mut agents: Vec<u32> = Vec::new();
+    let refused_at_last = rng.percent(25);
+    for attempt in 1..=3 * wanted {
+        let agent = rng.below(book.agents.len() as u32);
+        let marks = Marks { readers: &mut readers, writers: &mut writers, bit: 1 << agents.len() };
+        let fired = fire_move(book, &mut contents, agent as usize, marks, &mut list).is_ok();
+        let none_fires = attempt == 3 * wanted && agents.is_empty();
+        if fired || refused_at_last || none_fires {
+            agents.push(agent);
+        }
+        if agents.len() == wanted || (!fired && refused_at_last) {
+            break;
+        }
+    }
+    let needed = needed_pairs(&agents, &readers, &writers);
+    let pairs = choose_pairs(rng, needed, &agents);
+    DraftLog { agents, pairs }
+}
+
+/// The pairs of moves that touch or have one agent.
+fn needed_pairs(agents: &[u32], readers: &[u64], writers: &[u64]) -> Vec<(u32, u32)> {
+    let mut touched = [0u64; MOST_MOVES];
+    for (&read, &written) in readers.iter().zip(writers).filter(|(_, &written)| written != 0) {
+        for (number, touched) in touched.iter_mut().enumerate().take(agents.len()) {
+            if written >> number & 1 == 1 {
+                *touched |= read | written;
+            } else if read >> number & 1 == 1 {
+                *touched |= written;
+            }
+        }
+    }
+    let later = |first: usize| (first + 1..agents.len()).map(move |second| (first, second));
+    (0..agents.len())
+        .flat_map(later)
+        .filter(|&(first, second)| touched[first] >> second & 1 == 1 || agents[first] == agents[second])
+        .map(|(first, second)| (first as u32, second as u32))
+        .collect()
+}
+
+/// The needed pairs, without those that follow, with more, or with some left out.
+fn choose_pairs(rng: &mut Rng, needed: Vec<(u32, u32)>, agents: &[u32]) -> Vec<(u32, u32)> {
+    match rng.weighted(&[14, 32, 12, 12, 14, 10, 3, 3]) {
+        0 => needed,
+        1 => reduced(&needed),
+        2 => {
+            let more = any_pairs(rng, agents.len(), 10);
+            [needed, more].concat()
+        }
+        3 => (1..agents.len() as u32).map(|later| (later - 1, later)).collect(),
+        4 => without_one(rng, reduced(&needed)),
+        5 => {
+            // Moves of one agent stay ordered, so that the pair left out is missed for touching.
+            let one_agent = |&(a, b): &(u32, u32)| agents[a as usize] == agents[b as usize];
+            let (own, others): (Vec<_>, Vec<_>) = reduced(&needed).into_iter().partition(one_agent);
+            [own, without_one(rng, others), needed.into_iter().filter(one_agent).collect()].concat()
+        }
+        6 => any_pairs(rng, agents.len(), 100),
+        _ => Vec::new(),
+    }
+}
+
+fn without_one(rng: &mut Rng, mut pairs: Vec<(u32, u32)>) -> Vec<(u32, u32)> {
+    if !pairs.is_empty() {
+        let place = rng.index(pairs.len());
+        pairs.remove(place);
+    }
+    pairs
+}
+
+/// The pairs that do not follow from the others by chaining.
+fn reduced(pairs: &[(u32, u32)]) -> Vec<(u32, u32)> {
+    let mut before = [0u64; MOST_MOVES];
+    let mut kept = Vec::new();
+    let mut by_later = pairs.to_vec();
+    // The latest earlier moves first: what they chain to is known when the others are looked at.
+    by_later.sort_unstable_by_key(|&(earlier, later)| (later, std::cmp::Reverse(earlier)));
+    for (earlier, later) in by_later {
+        let (first, second) = (earlier as usize, later as usize);
+        if before[second] >> first & 1 == 0 {
+            kept.push((earlier, later));
+            before[second] |= before[first] | 1 << first;
+        }
+    }
+    kept
+}
+
+/// A log of a book with faults in its lines, in its text or in both.
+pub fn damaged(rng: &mut Rng, book: &Book) -> Vec<u8> {
+    let log = sound(rng, book);
+    let mut lines = log.lines();
+    let (in_lines, in_text) = [(1, false), (2, false), (1, true), (0, true)][rng.weighted(&[60, 10, 5, 25])];
+    for _ in 0..in_lines {
+        spoil_line(rng, &mut lines, log.agents.len(), book.agents.len() as u32);
+    }
+    let mut text = text_of(&lines);
+    if in_text {
+        spoil_text(rng, &mut text);
+    }
+    text
+}
+
+/// One field past its bound, one out of order, or a count that does not fit.
+fn spoil_line(rng: &mut Rng, lines: &mut Vec<Line>, moves: usize, agents: u32) {
+    let moves = moves.min(lines.len() - 1);
+    let pairs = lines.len() - 1 - moves;
+    let any_move = 1 + rng.index(moves.max(1));
+    let any_pair = 1 + moves + rng.index(pairs.max(1));
+    match rng.below(10) {
+        0 => lines[0][0] = rng.pick(&[65, 66, 999_999]),
+        1 => lines[0][1] = rng.pick(&[2_017, 2_018, 999_999]),
+        2 => lines[0][rng.range(2, 3) as usize] = rng.pick(&[1, 999_999]),
+        3 => {
+            let field = rng.index(2);
+            lines[0][field] = rng.pick(&[one_more(lines[0][field]), lines[0][field].saturating_sub(1)]);
+        }
+        4 if moves > 0 => lines[any_move][0] = rng.pick(&[agents, agents + 1, 999_999]),
+        5 if moves > 0 => lines[any_move][rng.range(1, 3) as usize] = rng.pick(&[1, 999_999]),
+        6 if pairs > 0 => lines[any_pair][rng.range(2, 3) as usize] = rng.pick(&[1, 999_999]),
+        7 if pairs > 0 => {
+            let [earlier, later, ..] = lines[any_pair];
+            let pair =
+                rng.pick(&[[later, earlier], [later, later], [earlier, moves as u32], [moves as u32, 0]]);
+            lines[any_pair][..2].copy_from_slice(&pair);
+        }
+        8 if pairs > 1 => {
+            let last = lines.len() - 1;
+            lines.swap(any_pair, last);
+        }
+        _ if pairs > 0 => {
+            lines.insert(any_pair, lines[any_pair]);
+            lines[0][1] = one_more(lines[0][1]);
+        }
+        _ => lines.push([0, 1, 0, 0]),
+    }
+}

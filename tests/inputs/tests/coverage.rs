@@ -1,0 +1,232 @@
+// Each answer of each entry, and each reason of the book's refusals, occurs often enough.
+
+use inputs::{book_input, report_input, run_input, step_input, Rng};
+use paper::{check_book, report, run, step, Answer, Line, LINE_BYTES};
+use std::collections::BTreeMap;
+
+const SEED: u64 = 22;
+const INPUTS: u64 = 20_000;
+
+/// How often each key comes up, over the inputs of a seed.
+fn tally<K: Ord>(key: impl Fn(&mut Rng) -> Option<K>) -> BTreeMap<K, u64> {
+    let mut counts = BTreeMap::new();
+    for input in 0..INPUTS {
+        if let Some(key) = key(&mut Rng::for_input(SEED, input)) {
+            *counts.entry(key).or_insert(0) += 1;
+        }
+    }
+    counts
+}
+
+fn assert_all<K: Ord + std::fmt::Debug>(
+    counts: &BTreeMap<K, u64>,
+    keys: impl IntoIterator<Item = K>,
+    least: u64,
+) {
+    for key in keys {
+        let count = counts.get(&key).copied().unwrap_or(0);
+        assert!(count >= least, "{key:?} only {count} times, in {counts:?}");
+    }
+}
+
+fn book_answer(book: &[u8]) -> Answer {
+    check_book(book).err().unwrap_or(Answer::ACCEPTED)
+}
+
+#[test]
+fn answers_of_the_book_check() {
+    let counts = tally(|rng| {
+        let answer = book_answer(&book_input(rng));
+        assert_eq!(answer.q, 0);
+        Some(answer.number)
+    });
+    assert_all(&counts, [0, 1, 3, 4, 5, 6, 7, 8], INPUTS * 75 / 10_000);
+}
+
+#[test]
+fn answers_of_a_single_move() {
+    let counts = tally(|rng| {
+        let mut input = step_input(rng);
+        Some(step(&input.book, &mut input.contents, input.agent, input.lent).number)
+    });
+    assert_all(&counts, (0..=9).chain(11..=16), INPUTS * 80 / 10_000);
+}
+
+#[test]
+fn answers_of_a_run() {
+    let counts = tally(|rng| {
+        let mut input = run_input(rng);
+        let (contents, readers, writers) = (&mut input.contents, &mut input.readers, &mut input.writers);
+        Some(run(&input.book, &input.log, contents, readers, writers, input.lent).number)
+    });
+    assert_all(&counts, 0..=17, INPUTS * 40 / 10_000);
+}
+
+#[test]
+fn answers_of_the_printer() {
+    let number =
+        |text: Vec<u8>| String::from_utf8(text[..6].to_vec()).unwrap().trim().parse::<u32>().unwrap();
+    let counts = tally(|rng| Some(number(report(&report_input(rng)))));
+    assert_all(&counts, 0..=17, INPUTS * 40 / 10_000);
+    let sizes = tally(|rng| {
+        let length = report_input(rng).len();
+        [60_000, 60_001].contains(&length).then_some(length)
+    });
+    assert_all(&sizes, [60_000, 60_001], 10);
+}
+
+#[test]
+fn fields_of_the_header() {
+    let counts = tally(|rng| {
+        let answer = book_answer(&book_input(rng));
+        (answer.number == 3).then_some(answer.p)
+    });
+    assert_all(&counts, 0..=8, 40);
+}
+
+/// The lines of a book whose text is sound.
+fn lines(book: &[u8]) -> Vec<Line> {
+    let field = |columns: &[u8]| std::str::from_utf8(columns).unwrap().trim().parse().unwrap();
+    let line = |line: &[u8]| [0, 6, 12, 18].map(|at| field(&line[at..at + 6]));
+    book.chunks(LINE_BYTES).map(line).collect()
+}
+
+/// Why a node is at fault by 6: "use", or the kind of fault at its place in the tree.
+fn reason_of_6(book: &[u8], node: u32) -> &'static str {
+    let lines = lines(book);
+    let [_, _, f, n] = lines[0].map(|field| field as usize);
+    let nodes = &lines[2 + f..2 + f + n];
+    let operands = |line: &Line| match line[0] {
+        5 => vec![line[2]],
+        6 => vec![line[2], line[3]],
+        8 | 27 => vec![line[1]],
+        7 | 9..=13 | 21 | 22 => vec![line[1], line[2]],
+        23 => line[1..].to_vec(),
+        24 => vec![line[2], line[3]],
+        25 | 26 => vec![line[3]],
+        _ => vec![],
+    };
+    let users = |node: u32| nodes.iter().filter(move |line| operands(line).contains(&node));
+    let is_root = |node: u32| lines[2 + f + n..][..lines[1][0] as usize].iter().any(|line| line[0] == node);
+    let uses = |node: u32| nodes.iter().flat_map(operands).filter(|&operand| operand == node).count();
+    if uses(node) != usize::from(!is_root(node)) {
+        return "use";
+    }
+    let (mut depth, mut foralls, mut here) = (1, 0, node);
+    while let Some(user) = users(here).next() {
+        depth += 1;
+        foralls += u32::from(user[0] == 25);
+        here = nodes.iter().position(|line| line == user && operands(line).contains(&here)).unwrap() as u32;
+    }
+    match nodes[node as usize][0] {
+        _ if depth > 32 => "depth",
+        2 => "unbound",
+        25 if foralls >= 2 => "nesting",
+        _ => "bound again",
+    }
+}
+
+#[test]
+fn reasons_of_use_binding_depth_and_nesting() {
+    let counts = tally(|rng| {
+        let book = book_input(rng);
+        let answer = book_answer(&book);
+        (answer.number == 6).then(|| reason_of_6(&book, answer.p))
+    });
+    assert_all(&counts, ["use", "unbound", "bound again", "depth", "nesting"], 100);
+}
+
+/// Why a contents line is at fault by 8.
+fn reason_of_8(book: &[u8], place: u32) -> &'static str {
+    let lines = lines(book);
+    let [e, p, f, _] = lines[0];
+    let [function, first, second, value] = lines[place as usize];
+    if function >= f {
+        return "function";
+    }
+    let [arity, kind, ..] = lines[2 + function as usize];
+    let used = &[first, second][..arity as usize];
+    let unused = &[first, second][arity as usize..];
+    let start = lines.len() - lines[1][1] as usize;
+    let on_roll =
+        |element: &u32| lines[start..place as usize].iter().any(|line| line[0] == 0 && line[1] == *element);
+    let relation = kind % 2 == 1;
+    match () {
+        _ if used.iter().any(|&argument| argument >= e) => "argument",
+        _ if value >= e => "value",
+        _ if unused.iter().any(|&argument| argument != 0) => "unused argument",
+        _ if value == u32::from(relation) => "default",
+        _ if relation && value != 2 => "no Boolean",
+        _ if function == 0 && first < p => "Reserve at a permanent element",
+        _ if kind < 2 && used.iter().any(|&argument| argument >= p) => "static at a label",
+        _ if kind < 2 && value >= p => "static label",
+        _ if used.iter().any(on_roll) && function != 0 => "trace as argument",
+        _ if on_roll(&value) => "trace as value",
+        _ => "order",
+    }
+}
+
+#[test]
+fn reasons_of_contents_lines() {
+    let counts = tally(|rng| {
+        let book = book_input(rng);
+        let answer = book_answer(&book);
+        (answer.number == 8).then(|| reason_of_8(&book, answer.p))
+    });
+    let reasons = [
+        "function",
+        "argument",
+        "value",
+        "unused argument",
+        "default",
+        "no Boolean",
+        "Reserve at a permanent element",
+        "static at a label",
+        "static label",
+        "trace as argument",
+        "trace as value",
+        "order",
+    ];
+    assert_all(&counts, reasons, 30);
+}
+
+/// Why a location of a lent table is at fault by 8.
+fn reason_in_table(book: &[u8], contents: &[u16], location: usize) -> &'static str {
+    let book = check_book(book).unwrap();
+    let number = book.functions.iter().rposition(|function| function.first <= location).unwrap();
+    let function = book.functions[number];
+    let offset = location - function.first;
+    let arguments = [offset / book.elements.pow(function.arity.saturating_sub(1)), offset % book.elements];
+    let used = &arguments[..function.arity as usize];
+    let value = contents[location] as usize;
+    let label = |element: &usize| *element >= book.permanent;
+    match () {
+        _ if value >= book.elements => "value",
+        _ if function.relation && value != 1 && value != 2 => "no Boolean",
+        _ if number == 0 => "Reserve at a permanent element",
+        _ if !function.dynamic && used.iter().any(label) => "static at a label",
+        _ if !function.dynamic => "static label",
+        _ if used.iter().any(|&argument| contents[argument] == 2) => "trace as argument",
+        _ => "trace as value",
+    }
+}
+
+#[test]
+fn reasons_in_lent_tables() {
+    let counts = tally(|rng| {
+        let mut input = step_input(rng);
+        let answer = step(&input.book, &mut input.contents, input.agent, input.lent);
+        let of_table = answer.number == 8 && check_book(&input.book).is_ok();
+        of_table.then(|| reason_in_table(&input.book, &input.contents, answer.p as usize))
+    });
+    let reasons = [
+        "value",
+        "no Boolean",
+        "Reserve at a permanent element",
+        "static at a label",
+        "static label",
+        "trace as argument",
+        "trace as value",
+    ];
+    assert_all(&counts, reasons, 30);
+}

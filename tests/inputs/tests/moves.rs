@@ -1,0 +1,109 @@
+// What holds of every move: sound contents stay sound, and only what is read decides.
+
+use inputs::{books, step_input, tables, Rng, StepInput};
+use paper::*;
+
+const SEED: u64 = 21;
+
+/// A sound book, two sound tables with equal static locations, and an agent.
+fn two_tables(input: u64) -> (Book, Vec<u16>, Vec<u16>, usize) {
+    let mut rng = Rng::for_input(SEED, input);
+    let draft = books::sound(&mut rng);
+    let book = check_book(&draft.text()).expect("a sound book");
+    let first = tables::sound(&mut rng, &draft, &book);
+    let mut second = tables::sound(&mut rng, &draft, &book);
+    for function in book.functions.iter().filter(|function| !function.dynamic) {
+        second[function.run()].copy_from_slice(&first[function.run()]);
+    }
+    let agent = rng.index(book.agents.len());
+    (book, first, second, agent)
+}
+
+/// A walk's outcome with its list, and the locations that it read.
+fn walked(book: &Book, contents: &[u16], agent: usize) -> (Result<Vec<Instruction>, Refusal>, Vec<bool>) {
+    let mut readers = vec![0; book.locations];
+    let mut marks = Marks { readers: &mut readers, writers: &mut [], bit: 1 };
+    let mut list = Vec::new();
+    let outcome = walk_move(book, contents, agent, &mut marks, &mut list);
+    (outcome.map(|()| list), readers.into_iter().map(|mark| mark != 0).collect())
+}
+
+/// The claim on reads, with tables that agree on the reads, and on Reserve when the walk is refused.
+#[test]
+fn only_what_is_read_decides() {
+    let (mut fired, mut refused) = (0, 0);
+    for input in 0..6_000 {
+        let (book, first, mut second, agent) = two_tables(input);
+        let (outcome, read) = walked(&book, &first, agent);
+        let differ = |a: &[u16], b: &[u16]| a.iter().zip(b).any(|(a, b)| a != b);
+        let same = |location: usize| read[location] || (outcome.is_err() && location < book.elements);
+        for location in (0..book.locations).filter(|&location| same(location)) {
+            second[location] = first[location];
+        }
+        if differ(&first, &second) {
+            *(if outcome.is_ok() { &mut fired } else { &mut refused }) += 1;
+        }
+        assert_eq!(walked(&book, &second, agent).0, outcome, "input {input}");
+    }
+    assert!(fired >= 1_000 && refused >= 300, "{fired} walks to the end, {refused} refused ones");
+}
+
+#[test]
+fn moves_keep_contents_sound() {
+    let (mut fired, mut refused) = (0, 0);
+    for input in 0..20_000 {
+        let StepInput { book: text, contents: mut after, agent, lent } =
+            step_input(&mut Rng::for_input(SEED, input));
+        let Ok(book) = check_book(&text) else { continue };
+        let before = after.clone();
+        if step(&text, &mut after, agent, lent).number == 0 {
+            fired += 1;
+            assert_ne!(after, before, "input {input}");
+            assert_eq!(fault_in_table(&book, &after), None, "input {input}");
+            assert_eq!(after[book.locations..], before[book.locations..]);
+        } else {
+            refused += 1;
+            assert_eq!(after, before, "input {input}");
+        }
+    }
+    assert!(fired >= 3_000 && refused >= 3_000, "{fired} fired, {refused} refused");
+}
+
+/// The contents after these instructions, one location at a time, in the paper's words.
+fn by_the_words(book: &Book, before: &[u16], list: &[Instruction]) -> Vec<u16> {
+    let released = |label: usize| list.contains(&Instruction::Release { label: label as u16 });
+    let mut after = before.to_vec();
+    for function in book.functions.iter().filter(|function| function.dynamic) {
+        for (offset, location) in function.run().enumerate() {
+            let row = offset / book.elements.pow(function.arity.saturating_sub(1));
+            let arguments = [row, offset % book.elements];
+            let mut used = arguments[..function.arity as usize].iter();
+            if used.any(|&argument| released(argument)) || released(before[location] as usize) {
+                after[location] = function.default_value();
+            }
+        }
+    }
+    for instruction in list {
+        match *instruction {
+            Instruction::Release { label } => after[label as usize] = TRUE,
+            Instruction::Update { location, value } => after[location] = value,
+        }
+    }
+    after
+}
+
+#[test]
+fn a_move_leaves_what_its_instructions_say() {
+    let mut with_release = 0;
+    for input in 0..6_000 {
+        let (book, before, _, agent) = two_tables(input);
+        let mut after = before.clone();
+        let mut list = Vec::new();
+        if fire_move(&book, &mut after, agent, Marks::none(), &mut list).is_ok() {
+            let release = |instruction: &Instruction| matches!(instruction, Instruction::Release { .. });
+            with_release += usize::from(list.iter().any(release));
+            assert_eq!(after, by_the_words(&book, &before, &list), "input {input}");
+        }
+    }
+    assert!(with_release >= 100, "only {with_release} moves with a release");
+}

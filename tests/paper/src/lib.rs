@@ -1,0 +1,25 @@
+// Paper 01 in plain Rust: the book check, a single move, the run of a log and the log printer.
+#![forbid(unsafe_code)]
+
+mod answer;
+mod book;
+mod log;
+mod node;
+mod print;
+mod run;
+mod step;
+mod table;
+mod text;
+mod tree;
+mod walk;
+
+pub use answer::{Answer, Refusal};
+pub use book::{check_book, Agent, Book, Function, FALSE, TRUE, UNDEF};
+pub use log::{check_log, Log};
+pub use node::Node;
+pub use print::report;
+pub use run::{run, run_checked};
+pub use step::{fire_move, reads_and_writes, step, step_checked, step_listed, updates};
+pub use table::{fault_in_table, start_table};
+pub use text::{padded, write_line, Line, LINE_BYTES};
+pub use walk::{walk_move, Instruction, Marks, INSTRUCTIONS};
