@@ -7,3 +7,5 @@ pub mod Moves
 pub mod Numbers
 pub mod Import
 pub mod Fuel
+pub mod Steps
+pub mod Clash
