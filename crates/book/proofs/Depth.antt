@@ -1,23 +1,23 @@
 -- What is handed down to a node: each node is used once, so a root has what it began with, and an operand what its one user gave it; depths above all.
 use mathlib.Core.Path.{_≡_, refl, sym, _∙_}
-use mathlib.Core.Logic.{_⊎_, inl, inr, dite, _≢_}
-use mathlib.Core.Bool.{Bool, true, false, not, _&&_, _||_}
+use mathlib.Core.Logic.{dite, _≢_}
+use mathlib.Core.Bool.{Bool, true, false, _&&_, and-false, or-true}
 use mathlib.Core.List.{List}
 use Prim.Native.Nat.{ℕ, zero, suc, _+_, _-_, _≤_, _<_}
 use native.Mathlib.Omega.{arith}
 use native.Mathlib.Decide.{ℕ-discrete}
-use lib.Dec.{eqb, ltb, leb}
+use lib.Dec.{eqb, ltb}
 use lib.ListN.{length, getD, set, replicate, length-set, length-replicate, getD-replicate}
 use lib.Seq.{getD-set-same, getD-set-other}
-use borrow.Author.Tests.{eqb-true, eqb-false, eq-eqb, ne-eqb, ltb-true, ltb-false, leb-true, not-false}
+use borrow.Author.Tests.{eqb-true, eqb-false, eq-eqb, ne-eqb, ltb-true, ltb-false, leb-true}
 use Rattle.text.specs.Words.{if_then_else_, one-if}
-use Rattle.text.proofs.Words.{and-cases, or-cases, or-no, some-below-from}
+use Rattle.text.proofs.Words.{so-true, so-false, some-below-from}
 use Rattle.book.specs.declared.Node.{Node}
-use Rattle.book.specs.Book.{Book, function-at, node-at, agent-at, dynamic}
-use Rattle.book.specs.Kinds.{is-term, is-rule, is-binder, is-node, names-location, variable-kind, forall-kind, sort}
+use Rattle.book.specs.Book.{Book, node-at, agent-at}
+use Rattle.book.specs.Kinds.{is-node, sort}
 use Rattle.book.specs.Lines.{fits, bad-node}
 use Rattle.book.specs.Use.{is-root, places, uses, bad-use}
-use Rattle.book.specs.Around.{most-depth, most-foralls, binds, put-if, hand, handed, deeper, depths, foralls, bounds, misplaced}
+use Rattle.book.specs.Around.{most-depth, put-if, hand, handed, deeper, depths, misplaced, bad-around}
 use Rattle.book.specs.Sound.{Lawful}
 
 -- the depth of node n
@@ -35,11 +35,10 @@ operand y (suc (suc j)) = y .c
 fits-low : (B : Book) (n s x : ℕ) → 9 ≤ s → fits B n s x ≡ true → x < n
 unfolding fits
 fits-low B n s x k h =
-    let y = node-at B x in
-    let a = eqb s 9 && ltb x n && is-term (y .kind) in
-    let b = eqb s 10 && ltb x n && is-rule (y .kind) in
-    let c = eqb s 11 && ltb x n && names-location (y .kind) && dynamic (function-at B (y .a)) in
-    let t : (a || b || c) ≡ true = rw (
+    ltb-true x n
+    (so-true (ltb x n) (fits B n s x) h
+    (λ q. simp (
+      q,
       ne-eqb s 1 (λ q. omega arith),
       ne-eqb s 2 (λ q. omega arith),
       ne-eqb s 3 (λ q. omega arith),
@@ -48,22 +47,8 @@ fits-low B n s x k h =
       ne-eqb s 6 (λ q. omega arith),
       ne-eqb s 7 (λ q. omega arith),
       ne-eqb s 8 (λ q. omega arith),
-    ) at h in
-    last (or-cases (a || b) c t)
-  where
-    one : (p r : Bool) → (p && ltb x n && r) ≡ true → x < n
-    one p r e = ltb-true x n (and-cases p (ltb x n) (and-cases (p && ltb x n) r e .0) .1)
-
-    first : ((eqb s 9 && ltb x n && is-term (node-at B x .kind)) ≡ true) ⊎ ((eqb s 10 && ltb x n && is-rule (node-at B x .kind)) ≡ true) → x < n
-    first (inl e) = one (eqb s 9) (is-term (node-at B x .kind)) e
-    first (inr e) = one (eqb s 10) (is-rule (node-at B x .kind)) e
-
-    last : ((eqb s 9 && ltb x n && is-term (node-at B x .kind) || eqb s 10 && ltb x n && is-rule (node-at B x .kind)) ≡ true)
-        ⊎ ((eqb s 11 && ltb x n && names-location (node-at B x .kind) && dynamic (function-at B (node-at B x .a))) ≡ true) → x < n
-    last (inl e) = first (or-cases (eqb s 9 && ltb x n && is-term (node-at B x .kind)) (eqb s 10 && ltb x n && is-rule (node-at B x .kind)) e)
-    last (inr e) =
-        one (eqb s 11) (names-location (node-at B x .kind))
-        (and-cases (eqb s 11 && ltb x n && names-location (node-at B x .kind)) (dynamic (function-at B (node-at B x .a))) e .0)
+      and-false,
+    )))
 
 -- ---- counts of uses
 
@@ -171,21 +156,16 @@ hand-here y v w (suc (suc (suc j))) s k e h o = absurd (omega arith)
 module _ (B : Book) (ok : Lawful B) where
   pub operand-low : (n j : ℕ) → n < length (B .nodes) → j < 3 → is-node (node-at B n .kind) j ≡ true → operand (node-at B n) j < n
   unfolding bad-node
-  operand-low n j h k e =
-      let y = node-at B n in
-      let f0 = fits B n (sort (y .kind) 0) (y .a) in
-      let f1 = fits B n (sort (y .kind) 1) (y .b) in
-      let f2 = fits B n (sort (y .kind) 2) (y .c) in
-      let t = and-cases (f0 && f1) f2 (not-false (f0 && f1 && f2) (ok .nodes n h)) in
-      let u = and-cases f0 f1 (t .0) in
-      go j k e (u .0) (u .1) (t .1)
+  operand-low n j h k e = go j k e
     where
-      go : (j : ℕ) → j < 3 → is-node (node-at B n .kind) j ≡ true → fits B n (sort (node-at B n .kind) 0) (node-at B n .a) ≡ true
-          → fits B n (sort (node-at B n .kind) 1) (node-at B n .b) ≡ true → fits B n (sort (node-at B n .kind) 2) (node-at B n .c) ≡ true → operand (node-at B n) j < n
-      go zero k e p q r = fits-low B n (sort (node-at B n .kind) 0) (node-at B n .a) (leb-true 9 (sort (node-at B n .kind) 0) e) p
-      go (suc zero) k e p q r = fits-low B n (sort (node-at B n .kind) 1) (node-at B n .b) (leb-true 9 (sort (node-at B n .kind) 1) e) q
-      go (suc (suc zero)) k e p q r = fits-low B n (sort (node-at B n .kind) 2) (node-at B n .c) (leb-true 9 (sort (node-at B n .kind) 2) e) r
-      go (suc (suc (suc j))) k e p q r = absurd (omega arith)
+      y : Node
+      y = node-at B n
+
+      go : (j : ℕ) → j < 3 → is-node (y .kind) j ≡ true → operand y j < n
+      go zero k e = fits-low B n (sort (y .kind) 0) (y .a) (leb-true 9 (sort (y .kind) 0) e) (so-true (fits B n (sort (y .kind) 0) (y .a)) (bad-node B n) (ok .nodes n h) (λ q. simp q))
+      go (suc zero) k e = fits-low B n (sort (y .kind) 1) (y .b) (leb-true 9 (sort (y .kind) 1) e) (so-true (fits B n (sort (y .kind) 1) (y .b)) (bad-node B n) (ok .nodes n h) (λ q. simp (q, and-false)))
+      go (suc (suc zero)) k e = fits-low B n (sort (y .kind) 2) (y .c) (leb-true 9 (sort (y .kind) 2) e) (so-true (fits B n (sort (y .kind) 2) (y .c)) (bad-node B n) (ok .nodes n h) (λ q. simp (q, and-false)))
+      go (suc (suc (suc j))) k e = absurd (omega arith)
 
   -- a node has no operand from its own number on
   places-low : (m n : ℕ) → m ≤ n → m < length (B .nodes) → places (node-at B m) n ≡ 0
@@ -199,8 +179,8 @@ module _ (B : Book) (ok : Lawful B) where
   used-once : (n : ℕ) → n < length (B .nodes) → one-if (is-root B n) + uses B n (length (B .nodes)) ≡ 1
   unfolding bad-use
   used-once n h =
-      eqb-true (one-if (is-root B n) + uses B n (length (B .nodes))) 1
-      (not-false (eqb (one-if (is-root B n) + uses B n (length (B .nodes))) 1) (ok .uses n h))
+      let uses = one-if (is-root B n) + uses B n (length (B .nodes)) in
+      eqb-true uses 1 (so-true (eqb uses 1) (bad-use B n) (ok .uses n h) (λ q. simp q))
 
   pub root-used : (k : ℕ) → k < length (B .agents) → is-root B (agent-at B k .root) ≡ true
   root-used k h =
@@ -291,10 +271,5 @@ module _ (B : Book) (ok : Lawful B) where
   pub depth-most : (n : ℕ) → n < length (B .nodes) → depth-at B n ≤ 32
   unfolding misplaced
   depth-most n h =
-      let y = node-at B n in
-      let bound = getD (bounds B) n 0 in
-      let a = eqb (y .kind) variable-kind && not (binds bound (y .a)) in
-      let b = is-binder (y .kind) && binds bound (y .a) in
-      let c = ltb most-depth (depth-at B n) in
-      let d = eqb (y .kind) forall-kind && leb most-foralls (getD (foralls B) n 0) in
-      ltb-false most-depth (depth-at B n) (or-no (a || b) c (or-no (a || b || c) d (ok .around n h) .0) .1)
+      ltb-false most-depth (depth-at B n)
+      (so-false (ltb most-depth (depth-at B n)) (bad-around B n) (ok .around n h) (λ q. simp (q, or-true)))

@@ -1,7 +1,7 @@
 -- The contents that a run of a lawful book starts from are sound: check 8 on its lines.
 use mathlib.Core.Path.{_≡_, refl, sym, ap, subst, _∙_}
 use mathlib.Core.Logic.{_⊎_, inl, inr, dite, _≢_}
-use mathlib.Core.Bool.{Bool, true, false, not, _&&_, _||_, or-true, true≢false, false≢true}
+use mathlib.Core.Bool.{Bool, true, false, _&&_, _||_, or-true, and-false, true≢false, false≢true}
 use mathlib.Core.List.{List, [], _∷_}
 use Prim.Native.Nat.{ℕ, zero, suc, _+_, _≤_, _<_}
 use native.Mathlib.Omega.{arith}
@@ -9,12 +9,12 @@ use native.Mathlib.Decide.{ℕ-discrete, decLt}
 use lib.Dec.{eqb, ltb, leb}
 use lib.ListN.{length, getD, set, length-set}
 use lib.Seq.{getD-set-same, getD-set-other}
-use borrow.Author.Tests.{eqb-true, eq-eqb, ne-eqb, ltb-true, leb-true, not-true, not-false}
+use borrow.Author.Tests.{eqb-true, eq-eqb, ne-eqb, ltb-true, leb-true}
 use Rattle.text.specs.Words.{if_then_else_, table}
-use Rattle.text.proofs.Words.{and-cases, and-three, or-cases, or-other, length-table-from, getD-table, getD-table-past}
+use Rattle.text.proofs.Words.{so-true, so-false, length-table-from, getD-table, getD-table-past}
 use Rattle.book.specs.declared.Function.{Function}
 use Rattle.book.specs.declared.Entry.{Entry}
-use Rattle.book.specs.Book.{Book, L, no-entry, true-element, boolean, default, relation, dynamic, defaults, enter, start, location, entry-location, function-at, entry-at, place, relation-at, dynamic-at, default-at}
+use Rattle.book.specs.Book.{Book, L, no-entry, true-element, boolean, relation, dynamic, defaults, enter, start, location, entry-location, function-at, entry-at, place, relation-at, dynamic-at, default-at}
 use Rattle.book.specs.Contents.{in-bounds, in-form, least-location, rolled, untraced, bad-entry}
 use Rattle.book.specs.Sound.{Lawful, at, Argument, OnRoll, Sound}
 use Rattle.book.proofs.Places.{Spot, spot, spot-argument, roll-place, roll-location, past-roll, roll-argument, boolean-low, default-low}
@@ -33,75 +33,60 @@ record InForm (B : Book) (i : ℕ) (e : Entry) : Type 0 where
   pub above : least-location B i ≤ entry-location B e
   pub clear : e .function ≢ 0 → (rolled B (e .arg1) i ≡ false) × (rolled B (e .arg2) i ≡ false) × (rolled B (e .value) i ≡ false)
 
--- in a relation the first, elsewhere the second
-two-true : (r a b : Bool) → (r && a || not r && b) ≡ true → r ≡ true → a ≡ true
-two-true true a b e h = go (or-cases a false e)
-  where
-    go : (a ≡ true) ⊎ (false ≡ true) → a ≡ true
-    go (inl q) = q
-    go (inr q) = absurd (false≢true q)
-two-true false a b e h = absurd (false≢true h)
-
 in-bounds-is : (B : Book) (e : Entry) → in-bounds B e ≡ true → (e .function < length (B .functions)) × (e .arg1 < B .E) × (e .arg2 < B .E) × (e .value < B .E)
 unfolding in-bounds
-in-bounds-is B e h =
-    let a = ltb (e .function) (length (B .functions)) in
-    let b = ltb (e .arg1) (B .E) in
-    let c = ltb (e .arg2) (B .E) in
-    let d = ltb (e .value) (B .E) in
-    let t = and-cases (a && b && c) d h in
-    let u = and-three a b c (t .0) in
-    (ltb-true (e .function) (length (B .functions)) (u .0), ltb-true (e .arg1) (B .E) (u .1), ltb-true (e .arg2) (B .E) (u .2), ltb-true (e .value) (B .E) (t .1))
+in-bounds-is B e h = (
+  ltb-true (e .function) (length (B .functions)) (so-true (ltb (e .function) (length (B .functions))) (in-bounds B e) h (λ q. simp q)),
+  ltb-true (e .arg1) (B .E) (so-true (ltb (e .arg1) (B .E)) (in-bounds B e) h (λ q. simp (q, and-false))),
+  ltb-true (e .arg2) (B .E) (so-true (ltb (e .arg2) (B .E)) (in-bounds B e) h (λ q. simp (q, and-false))),
+  ltb-true (e .value) (B .E) (so-true (ltb (e .value) (B .E)) (in-bounds B e) h (λ q. simp (q, and-false))),
+)
 
--- in a relation the value is true; a static function has no label; Reserve holds for labels only
-in-form-is : (P : ℕ) (e : Entry) (f : Function) → in-form P e f ≡ true
-    → (relation f ≡ true → e .value ≡ true-element) × (dynamic f ≡ false → (e .arg1 < P) × (e .arg2 < P) × (e .value < P)) × (e .function ≡ 0 → P ≤ e .arg1)
-unfolding in-form
-in-form-is P e f h =
-    let a = (leb 1 (f .arity) || eqb (e .arg1) 0) && (eqb (f .arity) 2 || eqb (e .arg2) 0) in
-    let true-only = relation f && eqb (e .value) true-element || not (relation f) && not (eqb (e .value) (default f)) in
-    let permanent = ltb (e .arg1) P && ltb (e .arg2) P && ltb (e .value) P in
-    let label = not (eqb (e .function) 0) || leb P (e .arg1) in
-    let t = and-three (a && true-only) (dynamic f || permanent) label h in (
-      λ r. eqb-true (e .value) true-element (two-true (relation f) (eqb (e .value) true-element) (not (eqb (e .value) (default f))) (and-cases a true-only (t .0) .1) r),
-      λ d.
-          let p = and-three (ltb (e .arg1) P) (ltb (e .arg2) P) (ltb (e .value) P) (or-other (dynamic f) permanent (t .1) d) in
-          (ltb-true (e .arg1) P (p .0), ltb-true (e .arg2) P (p .1), ltb-true (e .value) P (p .2)),
-      λ q. leb-true P (e .arg1) (or-other (not (eqb (e .function) 0)) (leb P (e .arg1)) (t .2) (rw (eq-eqb (e .function) 0 q))),
-    )
+module _ (P : ℕ) (e : Entry) (f : Function) (h : in-form P e f ≡ true) where
+  true-in-relation : relation f ≡ true → e .value ≡ true-element
+  unfolding in-form
+  true-in-relation r = eqb-true (e .value) true-element (so-true (eqb (e .value) true-element) (in-form P e f) h (λ q. simp (r, q, and-false)))
+
+  permanent-in-static : dynamic f ≡ false → (e .arg1 < P) × (e .arg2 < P) × (e .value < P)
+  unfolding in-form
+  permanent-in-static d = (
+    ltb-true (e .arg1) P (so-true (ltb (e .arg1) P) (in-form P e f) h (λ q. simp (d, q, and-false))),
+    ltb-true (e .arg2) P (so-true (ltb (e .arg2) P) (in-form P e f) h (λ q. simp (d, q, and-false))),
+    ltb-true (e .value) P (so-true (ltb (e .value) P) (in-form P e f) h (λ q. simp (d, q, and-false))),
+  )
+
+  label-in-reserve : e .function ≡ 0 → P ≤ e .arg1
+  unfolding in-form
+  label-in-reserve z = leb-true P (e .arg1) (so-true (leb P (e .arg1)) (in-form P e f) h (λ q. simp (eq-eqb (e .function) 0 z, q, and-false)))
 
 untraced-is : (B : Book) (i : ℕ) → untraced B i ≡ true → entry-at B i .function ≢ 0
     → (rolled B (entry-at B i .arg1) i ≡ false) × (rolled B (entry-at B i .arg2) i ≡ false) × (rolled B (entry-at B i .value) i ≡ false)
 unfolding untraced
 untraced-is B i h n =
     let e = entry-at B i in
-    let a = rolled B (e .arg1) i in
-    let b = rolled B (e .arg2) i in
-    let c = rolled B (e .value) i in
-    let p = and-three (not a) (not b) (not c) (or-other (eqb (e .function) 0) (not a && not b && not c) h (ne-eqb (e .function) 0 n)) in
-    (not-true a (p .0), not-true b (p .1), not-true c (p .2))
+    let z = ne-eqb (e .function) 0 n in (
+      so-false (rolled B (e .arg1) i) (untraced B i) h (λ q. simp (z, q)),
+      so-false (rolled B (e .arg2) i) (untraced B i) h (λ q. simp (z, q, and-false)),
+      so-false (rolled B (e .value) i) (untraced B i) h (λ q. simp (z, q, and-false)),
+    )
 
 passed : (B : Book) (i : ℕ) → bad-entry B i ≡ false → InForm B i (entry-at B i)
 unfolding bad-entry
 passed B i h =
     let e = entry-at B i in
     let f = function-at B (e .function) in
-    let form = in-form (B .P) e f in
-    let above = leb (least-location B i) (entry-location B e) in
-    let t = and-cases (in-bounds B e) (form && above && untraced B i) (not-false (in-bounds B e && (form && above && untraced B i)) h) in
-    let u = and-three form above (untraced B i) (t .1) in
-    let b = in-bounds-is B e (t .0) in
-    let g = in-form-is (B .P) e f (u .0) in
+    let bounds = in-bounds-is B e (so-true (in-bounds B e) (bad-entry B i) h (λ q. simp q)) in
+    let form = so-true (in-form (B .P) e f) (bad-entry B i) h (λ q. simp (q, and-false)) in
     record {
-      known = b .0;
-      first = b .1;
-      second = b .2;
-      small = b .3;
-      true-only = g .0;
-      permanent = g .1;
-      label = g .2;
-      above = leb-true (least-location B i) (entry-location B e) (u .1);
-      clear = untraced-is B i (u .2);
+      known = bounds .0;
+      first = bounds .1;
+      second = bounds .2;
+      small = bounds .3;
+      true-only = true-in-relation (B .P) e f form;
+      permanent = permanent-in-static (B .P) e f form;
+      label = label-in-reserve (B .P) e f form;
+      above = leb-true (least-location B i) (entry-location B e) (so-true (leb (least-location B i) (entry-location B e)) (bad-entry B i) h (λ q. simp (q, and-false)));
+      clear = untraced-is B i (so-true (untraced B i) (bad-entry B i) h (λ q. simp (q, and-false)));
     }
 
 module _ (B : Book) (ok : Lawful B) where

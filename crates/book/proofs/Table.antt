@@ -1,19 +1,19 @@
 -- A lent contents table that passes check 8 is sound.
 use mathlib.Core.Path.{_≡_, refl, sym, _∙_}
 use mathlib.Core.Logic.{_⊎_, inl, inr, dite}
-use mathlib.Core.Bool.{Bool, true, false, not, _||_, _&&_, true≢false, false≢true}
+use mathlib.Core.Bool.{Bool, true, false, or-true, and-false, true≢false, false≢true}
 use mathlib.Core.List.{List, [], _∷_}
 use Prim.Native.Nat.{ℕ, _≤_, _<_}
 use native.Mathlib.Omega.{arith}
 use native.Mathlib.Decide.{decLt}
 use lib.Dec.{eqb, ltb, leb}
 use lib.ListN.{length, List·getD-eq-default}
-use borrow.Author.Tests.{eqb-true, eq-eqb, ltb-true, leb-true, lt-ltb, le-ltb, not-true, not-false}
+use borrow.Author.Tests.{eqb-true, eq-eqb, ltb-true, leb-true, lt-ltb, le-ltb}
 use Rattle.text.specs.declared.Found.the-variants.{Nowhere}
-use Rattle.text.specs.Words.{if_then_else_, has, least}
-use Rattle.text.proofs.Words.{and-cases, and-three, or-cases, or-no, or-other, least-none}
+use Rattle.text.specs.Words.{has, least}
+use Rattle.text.proofs.Words.{and-cases, or-cases, or-no, so-true, so-false, least-none}
 use Rattle.book.specs.Book.{Book, L, true-element, boolean, place, relation-at, dynamic-at, default-at, arguments-at}
-use Rattle.book.specs.Contents.{on-roll, some-on-roll, roll-trace, all-permanent, bad-value}
+use Rattle.book.specs.Contents.{on-roll, some-on-roll, all-permanent, bad-value}
 use Rattle.book.specs.Sound.{Lawful, at, Argument, OnRoll, Sound}
 use Rattle.book.proofs.Places.{roll-place, roll-inside, roll-argument, boolean-low, default-low}
 
@@ -49,62 +49,37 @@ module _ (B : Book) (ok : Lawful B) (c : List ℕ) where
     pub holds : B .E ≤ l → on-roll B c (at c l) ≡ false
     pub traces : B .E ≤ l → (at c l ≡ default-at B l) ⊎ (some-on-roll B c (arguments-at B l) ≡ false)
 
-  pick-yes : (b p q : Bool) → b ≡ true → (if b then p else q) ≡ true → p ≡ true
-  pick-yes true p q e h = h
-  pick-yes false p q e h = absurd (false≢true e)
-
-  pick-no : (b p q : Bool) → b ≡ false → (if b then p else q) ≡ true → q ≡ true
-  pick-no true p q e h = absurd (true≢false e)
-  pick-no false p q e h = h
-
-  either-fixed : (d w p q : Bool) (v e P : ℕ) → d ≡ false → (w ≡ true → v ≡ e) → (q ≡ true → v < P) → (d || w || p && q) ≡ true → (v ≡ e) ⊎ ((p ≡ true) × (v < P))
-  either-fixed true w p q v e P f g h t = absurd (true≢false f)
-  either-fixed false w p q v e P f g h t = go (or-cases w (p && q) t)
-    where
-      go : (w ≡ true) ⊎ ((p && q) ≡ true) → (v ≡ e) ⊎ ((p ≡ true) × (v < P))
-      go (inl r) = inl (g r)
-      go (inr r) = let s = and-cases p q r in inr (s .0, h (s .1))
-
-  either-trace : (w a : Bool) → (not w && a) ≡ false → (w ≡ true) ⊎ (a ≡ false)
-  either-trace true a e = inl refl
-  either-trace false a e = inr e
-
-  equal-or : (v e : ℕ) (a : Bool) → (eqb v e ≡ true) ⊎ (a ≡ false) → (v ≡ e) ⊎ (a ≡ false)
-  equal-or v e a (inl q) = inl (eqb-true v e q)
-  equal-or v e a (inr q) = inr q
-
-  -- a location that is no trace holds no label on the roll, and is at its default or has none as argument
-  no-trace : (l : ℕ) → roll-trace B c l ≡ false → (on-roll B c (at c l) ≡ false) × ((at c l ≡ default-at B l) ⊎ (some-on-roll B c (arguments-at B l) ≡ false))
-  no-trace l h =
-      let v = at c l in
-      let e = eqb v (default-at B l) in
-      let some = some-on-roll B c (arguments-at B l) in
-      let t = or-no (on-roll B c v) (not e && some) h in
-      (t .0, equal-or v (default-at B l) some (either-trace e some (t .1)))
-
   cell : (l : ℕ) → bad-value B c l ≡ false → Cell l
   unfolding bad-value
-  cell l h =
-      let v = at c l in
-      let e = default-at B l in
-      let small = ltb v (B .E) in
-      let booleans = not (relation-at B l) || boolean v in
-      let permanent = all-permanent (B .P) (arguments-at B l) in
-      let fixed = dynamic-at B l || eqb v e || permanent && ltb v (B .P) in
-      let own = not (eqb v true-element) || leb (B .P) l in
-      let trace = roll-trace B c l in
-      let roll = if ltb l (B .E) then own else not trace in
-      let t = and-cases (small && booleans && fixed) roll (not-false (small && booleans && fixed && roll) h) in
-      let u = and-three small booleans fixed (t .0) in
-      let past : B .E ≤ l → trace ≡ false = λ b. not-true trace (pick-no (ltb l (B .E)) own (not trace) (le-ltb l (B .E) b) (t .1)) in
-      record {
-        small = ltb-true v (B .E) (u .0);
-        booleans = λ r. or-other (not (relation-at B l)) (boolean v) (u .1) (rw r);
-        fixed = λ d. either-fixed (dynamic-at B l) (eqb v e) permanent (ltb v (B .P)) v e (B .P) d (eqb-true v e) (ltb-true v (B .P)) (u .2);
-        own = λ b r. leb-true (B .P) l (or-other (not (eqb v true-element)) (leb (B .P) l) (pick-yes (ltb l (B .E)) own (not trace) (lt-ltb l (B .E) b) (t .1)) (rw (eq-eqb v true-element r)));
-        holds = λ b. no-trace l (past b) .0;
-        traces = λ b. no-trace l (past b) .1;
-      }
+  cell l h = record {
+    small = ltb-true v (B .E) (so-true (ltb v (B .E)) bad h (λ q. simp q));
+    booleans = λ r. so-true (boolean v) bad h (λ q. simp (r, q, and-false));
+    fixed = λ d. fixed d (eqb v e) refl;
+    own = λ b r. leb-true (B .P) l (so-true (leb (B .P) l) bad h (λ q. simp (lt-ltb l (B .E) b, eq-eqb v true-element r, q, and-false)));
+    holds = λ b. so-false (on-roll B c v) bad h (λ q. simp (le-ltb l (B .E) b, q, and-false));
+    traces = λ b. traces b (eqb v e) refl;
+  }
+    where
+      v : ℕ
+      v = at c l
+
+      e : ℕ
+      e = default-at B l
+
+      bad : Bool
+      bad = bad-value B c l
+
+      fixed : dynamic-at B l ≡ false → (w : Bool) → eqb v e ≡ w → (v ≡ e) ⊎ ((all-permanent (B .P) (arguments-at B l) ≡ true) × (v < B .P))
+      fixed d true w = inl (eqb-true v e w)
+      fixed d false w =
+          inr (
+            so-true (all-permanent (B .P) (arguments-at B l)) bad h (λ q. simp (d, w, q, and-false)),
+            ltb-true v (B .P) (so-true (ltb v (B .P)) bad h (λ q. simp (d, w, q, and-false))),
+          )
+
+      traces : B .E ≤ l → (w : Bool) → eqb v e ≡ w → (v ≡ e) ⊎ (some-on-roll B c (arguments-at B l) ≡ false)
+      traces b true w = inl (eqb-true v e w)
+      traces b false w = inr (so-false (some-on-roll B c (arguments-at B l)) bad h (λ q. simp (le-ltb l (B .E) b, w, q, or-true, and-false)))
 
   default-small : (l : ℕ) → at c l ≡ default-at B l → at c l < B .P
   default-small l e = omega (arith, ok .low, default-low (place B l .function))

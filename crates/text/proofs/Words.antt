@@ -1,7 +1,7 @@
 -- Laws of the words that every layer uses: choices, lists made by place, the least place at fault, and checks that pass.
-use mathlib.Core.Path.{_≡_, refl, ap, _∙_}
+use mathlib.Core.Path.{_≡_, refl, sym, ap, _∙_}
 use mathlib.Core.Logic.{_⊎_, inl, inr, dite}
-use mathlib.Core.Bool.{Bool, true, false, _||_, _&&_, or-true, true≢false, false≢true}
+use mathlib.Core.Bool.{Bool, true, false, not, _||_, _&&_, or-true, true≢false, false≢true}
 use Prim.Native.Nat.{ℕ, zero, suc, _+_, _-_, _≤_, _<_}
 use native.Mathlib.Nat.{zero-add}
 use native.Mathlib.Numerals.{add-one}
@@ -26,16 +26,19 @@ pub or-no : (a b : Bool) → (a || b) ≡ false → (a ≡ false) × (b ≡ fals
 or-no true b e = absurd (true≢false e)
 or-no false b e = (refl, e)
 
--- of two tests one of which passes, the second where the first does not
-pub or-other : (a b : Bool) → (a || b) ≡ true → a ≡ false → b ≡ true
-or-other true b e h = absurd (true≢false h)
-or-other false b e h = e
+not-same : (x : Bool) → x ≡ not x → ⊥
+not-same true e = true≢false e
+not-same false e = false≢true e
 
-pub and-three : (a b c : Bool) → (a && b && c) ≡ true → (a ≡ true) × (b ≡ true) × (c ≡ true)
-and-three a b c e =
-    let p = and-cases (a && b) c e in
-    let q = and-cases a b (p .0) in
-    (q .0, q .1, p .1)
+-- t holds, since b would be otherwise if it did not
+pub so-true : (t b : Bool) {x : Bool} → b ≡ x → (t ≡ false → b ≡ not x) → t ≡ true
+so-true true b e k = refl
+so-true false b {x} e k = absurd (not-same x (sym e ∙ k refl))
+
+-- t does not, since b would be otherwise if it did
+pub so-false : (t b : Bool) {x : Bool} → b ≡ x → (t ≡ true → b ≡ not x) → t ≡ false
+so-false true b {x} e k = absurd (not-same x (sym e ∙ k refl))
+so-false false b e k = refl
 
 -- ---- lists made by place
 
