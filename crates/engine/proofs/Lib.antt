@@ -9,3 +9,4 @@ pub mod Import
 pub mod Fuel
 pub mod Steps
 pub mod Clash
+pub mod Marking
