@@ -50,7 +50,8 @@ other-is v (x ∷ ws) e = go (or-cases (not (eqb x v)) (other v ws) e) (other-is
     unequal true q f = absurd (false≢true f)
     unequal false q f = eqb-false x v q
 
-    go : (not (eqb x v) ≡ true) ⊎ (other v ws ≡ true) → (other v ws ≡ true → (w : ℕ) × (has ws w ≡ true) × (w ≢ v)) → (w : ℕ) × (has (x ∷ ws) w ≡ true) × (w ≢ v)
+    go : (not (eqb x v) ≡ true) ⊎ (other v ws ≡ true) → (other v ws ≡ true → (w : ℕ) × (has ws w ≡ true) × (w ≢ v))
+        → (w : ℕ) × (has (x ∷ ws) w ≡ true) × (w ≢ v)
     go (inl q) r = (x, (rw (eq-eqb x x refl)), unequal (eqb x v) refl q)
     go (inr q) r = let t = r q in (t .0, (rw (t .1) (or-true (eqb x (t .0)))), t .2)
 
@@ -64,7 +65,8 @@ unfolding set-to-label
 set-is xs l [] e = absurd (false≢true e)
 set-is xs l (i ∷ is) e = go i (or-cases (sets-label xs l i) (set-to-label xs l is) e) (set-is xs l is)
   where
-    go : (i : Instruction) → (sets-label xs l i ≡ true) ⊎ (set-to-label xs l is ≡ true) → (set-to-label xs l is ≡ true → (v : ℕ) × Sets l v is) → (v : ℕ) × Sets l v (i ∷ is)
+    go : (i : Instruction) → (sets-label xs l i ≡ true) ⊎ (set-to-label xs l is ≡ true) → (set-to-label xs l is ≡ true → (v : ℕ) × Sets l v is)
+        → (v : ℕ) × Sets l v (i ∷ is)
     go (Update k v) (inl q) r = (v, inl (eqb-true k l (and-cases (eqb k l) (has xs v) q .0), refl))
     go (Update k v) (inr q) r = let t = r q in (t .0, inr (t .1))
     go (Release x) (inl q) r = absurd (false≢true q)

@@ -16,7 +16,8 @@ dynamic-append B [] ks = refl
 dynamic-append B (l ∷ ls) ks = go (dynamic-at B l) (dynamic-append B ls ks)
   where
     go : (b : Bool) → dynamic-among B (ls ++ ks) ≡ dynamic-among B ls ++ dynamic-among B ks
-        → (if b then l ∷ dynamic-among B (ls ++ ks) else dynamic-among B (ls ++ ks)) ≡ (if b then l ∷ dynamic-among B ls else dynamic-among B ls) ++ dynamic-among B ks
+        → (if b then l ∷ dynamic-among B (ls ++ ks) else dynamic-among B (ls ++ ks))
+        ≡ (if b then l ∷ dynamic-among B ls else dynamic-among B ls) ++ dynamic-among B ks
     go true e = ap (λ (s : List ℕ). l ∷ s) e
     go false e = e
 

@@ -112,7 +112,8 @@ module _ (B : Book) (ns : ℕ → Node) (c : List ℕ) (me : ℕ) where
 
     pub walks-assign : (w : Walk) → rule-shape x ≡ an-assign
         → walks (suc (suc d)) n vs w
-        ≡ (refuse-if (not-boolean B (term-at ns (suc d) (x .a)) (value (suc d) (x .b) vs)) non-boolean n w then give n (Update (aim (suc d) (x .a) vs) (value (suc d) (x .b) vs)))
+        ≡ (refuse-if (not-boolean B (term-at ns (suc d) (x .a)) (value (suc d) (x .b) vs)) non-boolean n w
+        then give n (Update (aim (suc d) (x .a) vs) (value (suc d) (x .b) vs)))
     unfolding rule-tree walk gives
     walks-assign w e =
         let t = term-at ns (suc d) (x .a) in
@@ -144,7 +145,8 @@ module _ (B : Book) (ns : ℕ → Node) (c : List ℕ) (me : ℕ) where
 
     pub walks-free : (w : Walk) → rule-shape x ≡ a-free
         → walks (suc (suc d)) n vs w
-        ≡ (refuse-if (not-free B (value (suc d) (x .a) vs) (at c (reserve (value (suc d) (x .a) vs)))) not-releasable n w then give n (Release (value (suc d) (x .a) vs)))
+        ≡ (refuse-if (not-free B (value (suc d) (x .a) vs) (at c (reserve (value (suc d) (x .a) vs)))) not-releasable n w
+        then give n (Release (value (suc d) (x .a) vs)))
     unfolding rule-tree walk gives
     walks-free w e =
         rw e (gives-bind c (eval B me vs (term-at ns (suc d) (x .a)))
@@ -161,7 +163,8 @@ module _ (B : Book) (ns : ℕ → Node) (c : List ℕ) (me : ℕ) where
   unfolding each members sweep gives
   each-sweep f u y zero w = refl
   each-sweep f u y (suc k) w =
-      ap (λ (ys : List ℕ). gives c (each f ys w)) (gives-bind c (members B u (suc y) k) (λ ys. done (if eqb (at c (location B u y 0)) true-element then y ∷ ys else ys)))
+      ap (λ (ys : List ℕ). gives c (each f ys w)) (gives-bind c (members B u (suc y) k)
+      (λ ys. done (if eqb (at c (location B u y 0)) true-element then y ∷ ys else ys)))
       ∙ go (eqb (at c (location B u y 0)) true-element) (each-sweep f u (suc y) k)
     where
       rest : List ℕ
@@ -183,7 +186,8 @@ module _ (B : Book) (ns : ℕ → Node) (c : List ℕ) (me : ℕ) where
   walks-for-all d n vs w e =
       let x = ns n in
       let r = rule-tree ns (suc d) (rule-shape (ns (x .c))) (x .c) (ns (x .c)) in
-      rw e (gives-bind c (members B (x .b) 0 (B .E)) (λ ys. each (λ y. walk B me r (set vs (x .a) y)) ys w) ∙ each-sweep (λ y. walk B me r (set vs (x .a) y)) (x .b) 0 (B .E) w)
+      rw e (gives-bind c (members B (x .b) 0 (B .E)) (λ ys. each (λ y. walk B me r (set vs (x .a) y)) ys w)
+      ∙ each-sweep (λ y. walk B me r (set vs (x .a) y)) (x .b) 0 (B .E) w)
 
   -- ---- the label that an import takes
 
@@ -200,7 +204,8 @@ module _ (B : Book) (ns : ℕ → Node) (c : List ℕ) (me : ℕ) where
   imported n u w body (Here y) =
       give n (Update (reserve y) false-element) (take-label y w) then give n (Update (location B u y 0) true-element) then body y
 
-  import-gives : (n u : ℕ) (w : Walk) (body : ℕ → Walk → Look Walked) (o : Found) → gives c (import-of B n u w body o) ≡ imported n u w (λ y v. gives c (body y v)) o
+  import-gives : (n u : ℕ) (w : Walk) (body : ℕ → Walk → Look Walked) (o : Found)
+      → gives c (import-of B n u w body o) ≡ imported n u w (λ y v. gives c (body y v)) o
   unfolding gives
   import-gives n u w body Nowhere = refl
   import-gives n u w body (Here y) =
