@@ -120,21 +120,21 @@ module _ (B : Book) (ok : Lawful B) where
       go (suc (suc (suc (suc (suc (suc (suc (suc (suc (suc (suc (suc (suc zero))))))))))))) e = tt
       go (suc (suc (suc (suc (suc (suc (suc (suc (suc (suc (suc (suc (suc (suc k)))))))))))))) e = tt
 
-  proper-tree : (d : ℕ) (s : Shape) (x : Node) → Fits s x → Proper B (tree ns d s x)
-  unfolding tree
-  proper-tree zero s x f = omega (arith, ok .low)
-  proper-tree (suc d) no-term x f = omega (arith, ok .low)
-  proper-tree (suc d) an-element x f = f
-  proper-tree (suc d) a-variable x f = tt
-  proper-tree (suc d) the-agent x f = tt
-  proper-tree (suc d) of-none x f = tt
-  proper-tree (suc d) of-one x f = proper-tree d (shape (ns (x .b))) (ns (x .b)) (fit-node (x .b))
-  proper-tree (suc d) of-two x f = (proper-tree d (shape (ns (x .b))) (ns (x .b)) (fit-node (x .b)), proper-tree d (shape (ns (x .c))) (ns (x .c)) (fit-node (x .c)))
-  proper-tree (suc d) a-not x f = proper-tree d (shape (ns (x .a))) (ns (x .a)) (fit-node (x .a))
-  proper-tree (suc d) (a-join o) x f = (proper-tree d (shape (ns (x .a))) (ns (x .a)) (fit-node (x .a)), proper-tree d (shape (ns (x .b))) (ns (x .b)) (fit-node (x .b)))
-
   proper-term : (d n : ℕ) → Proper B (term-at ns d n)
-  proper-term d n = proper-tree d (shape (ns n)) (ns n) (fit-node n)
+  unfolding tree
+  proper-term zero n = omega (arith, ok .low)
+  proper-term (suc d) n = go (shape (ns n)) (fit-node n) (proper-term d)
+    where
+      go : (s : Shape) → Fits s (ns n) → ((m : ℕ) → Proper B (term-at ns d m)) → Proper B (tree ns (suc d) s (ns n))
+      go no-term f r = omega (arith, ok .low)
+      go an-element f r = f
+      go a-variable f r = tt
+      go the-agent f r = tt
+      go of-none f r = tt
+      go of-one f r = r (ns n .b)
+      go of-two f r = (r (ns n .b), r (ns n .c))
+      go a-not f r = r (ns n .a)
+      go (a-join o) f r = (r (ns n .a), r (ns n .b))
 
   -- ---- the location of a set
 
@@ -202,21 +202,25 @@ module _ (B : Book) (ok : Lawful B) where
       go (suc (suc (suc (suc (suc (suc (suc zero))))))) e = tt
       go (suc (suc (suc (suc (suc (suc (suc (suc j)))))))) e = tt
 
-  proper-rule-tree : (d : ℕ) (s : RuleShape) (n : ℕ) (x : Node) → FitsRule s x → ProperRule B (rule-tree ns d s n x)
+  abbrev tree-at : ℕ → ℕ → Rule
+  tree-at d n = rule-tree ns d (rule-shape (ns n)) n (ns n)
+
+  proper-tree : (d n : ℕ) → ProperRule B (tree-at d n)
   unfolding rule-tree
-  proper-rule-tree zero s n x f = tt
-  proper-rule-tree (suc zero) s n x f = tt
-  proper-rule-tree (suc (suc d)) no-rule n x f = tt
-  proper-rule-tree (suc (suc d)) a-skip n x f = tt
-  proper-rule-tree (suc (suc d)) an-assign n x f = (proper-target d (x .a) (f .0) (f .1) (f .2), proper-term (suc d) (x .b))
-  proper-rule-tree (suc (suc d)) a-pair n x f =
-      (proper-rule-tree (suc d) (rule-shape (ns (x .a))) (x .a) (ns (x .a)) (fits-rule (x .a)), proper-rule-tree (suc d) (rule-shape (ns (x .b))) (x .b) (ns (x .b)) (fits-rule (x .b)))
-  proper-rule-tree (suc (suc d)) a-test n x f =
-      (proper-term (suc d) (x .a), proper-rule-tree (suc d) (rule-shape (ns (x .b))) (x .b) (ns (x .b)) (fits-rule (x .b)), proper-rule-tree (suc d) (rule-shape (ns (x .c))) (x .c) (ns (x .c)) (fits-rule (x .c)))
-  proper-rule-tree (suc (suc d)) a-bind n x f = (proper-term (suc d) (x .b), proper-rule-tree (suc d) (rule-shape (ns (x .c))) (x .c) (ns (x .c)) (fits-rule (x .c)))
-  proper-rule-tree (suc (suc d)) a-for-all n x f = (f .0, f .1, proper-rule-tree (suc d) (rule-shape (ns (x .c))) (x .c) (ns (x .c)) (fits-rule (x .c)))
-  proper-rule-tree (suc (suc d)) an-import n x f = (f .0, f .1, proper-rule-tree (suc d) (rule-shape (ns (x .c))) (x .c) (ns (x .c)) (fits-rule (x .c)))
-  proper-rule-tree (suc (suc d)) a-free n x f = proper-term (suc d) (x .a)
+  proper-tree zero n = tt
+  proper-tree (suc zero) n = tt
+  proper-tree (suc (suc d)) n = go (rule-shape (ns n)) (fits-rule n) (proper-tree (suc d))
+    where
+      go : (s : RuleShape) → FitsRule s (ns n) → ((m : ℕ) → ProperRule B (tree-at (suc d) m)) → ProperRule B (rule-tree ns (suc (suc d)) s n (ns n))
+      go no-rule f r = tt
+      go a-skip f r = tt
+      go an-assign f r = (proper-target d (ns n .a) (f .0) (f .1) (f .2), proper-term (suc d) (ns n .b))
+      go a-pair f r = (r (ns n .a), r (ns n .b))
+      go a-test f r = (proper-term (suc d) (ns n .a), r (ns n .b), r (ns n .c))
+      go a-bind f r = (proper-term (suc d) (ns n .b), r (ns n .c))
+      go a-for-all f r = (f .0, f .1, r (ns n .c))
+      go an-import f r = (f .0, f .1, r (ns n .c))
+      go a-free f r = proper-term (suc d) (ns n .a)
 
   pub proper-rule : (n : ℕ) → ProperRule B (rule-at ns n)
-  proper-rule n = proper-rule-tree _ (rule-shape (ns n)) n (ns n) (fits-rule n)
+  proper-rule n = proper-tree _ n

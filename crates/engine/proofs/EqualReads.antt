@@ -25,7 +25,7 @@ pub record SameStatic (B : Book) (c d : List ℕ) : Type 0 where
   pub static : (l : ℕ) → l < L B → dynamic-at B l ≡ false → at c l ≡ at d l
 
 -- past the last location both give 0
-pub static-agree : {B : Book} {c d : List ℕ} → SameStatic B c d → (l : ℕ) → dynamic-at B l ≡ false → at c l ≡ at d l
+static-agree : {B : Book} {c d : List ℕ} → SameStatic B c d → (l : ℕ) → dynamic-at B l ≡ false → at c l ≡ at d l
 static-agree {B} {c} {d} s l e = dite (decLt l (L B)) (λ h. s .static l h e)
     (λ (h : ¬ (l < L B)). List·getD-eq-default c 0 {n = l} (omega (arith, s .long)) ∙ sym (List·getD-eq-default d 0 {n = l} (omega (arith, s .as-long))))
 
@@ -57,7 +57,11 @@ same-instructions B c d i s w e h =
   where
     by : (l : ℕ) → has (seen c (agent-walk B (i .agent))) l ≡ true → (b : Bool) → dynamic-at B l ≡ b → at c l ≡ at d l
     by l m false q = static-agree s l q
-    by l m true q = h l (rw (e, has-append (looked B c i) (extra-reads B (w .made) (updates B c (w .made))) l, has-dynamic B (seen c (agent-walk B (i .agent))) l m q))
+    by l m true q = h l (rw (
+      e,
+      has-append (looked B c i) (extra-reads B (w .made) (updates B c (w .made))) l,
+      has-dynamic B (seen c (agent-walk B (i .agent))) l m q,
+    ))
 
     agree : Agree c d (seen c (agent-walk B (i .agent)))
     agree l m = by l m (dynamic-at B l) refl

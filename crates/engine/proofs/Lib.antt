@@ -4,6 +4,9 @@ pub mod Decode
 pub mod Values
 pub mod Walks
 pub mod Moves
+pub mod Clash
 pub mod Numbers
 pub mod Import
 pub mod Fuel
+pub mod Steps
+pub mod Marking

@@ -21,7 +21,7 @@ use Rattle.book.proofs.Places.{roll-place, roll-inside, roll-argument, default-
 use Rattle.engine.specs.declared.Instruction.{Instruction}
 use Rattle.engine.specs.declared.Instruction.the-variants.{Update, Release}
 use Rattle.engine.specs.Rule.{Walk, Walked, going, met, agent-walk, rule-at, no-variables}
-use Rattle.engine.specs.Move.{given, values, updates, values-at, released, other, two-values, set-to-label, clashes, idle, new-value, fire, writes, all-dynamic, extra-reads, Input, Fired, fires, unless-clash, unless-idle, walked, looked, fired-of, judged, settle, move, reads}
+use Rattle.engine.specs.Move.{given, values, updates, values-at, released, other, two-values, clashes, idle, new-value, fire, writes, all-dynamic, extra-reads, Input, Fired, fires, unless-clash, unless-idle, walked, looked, fired-of, judged, settle, move, reads}
 use Rattle.engine.proofs.EqualReads.{SameStatic, has-append, has-dynamic, same-instructions}
 use Rattle.engine.proofs.Decode.{proper-rule}
 use Rattle.engine.proofs.Values.{Sets, Frees, frees-has, set-to-none, Cleared, Origin, origin, sets-values, frees-values, length-updates, updates-at, updates-past, new-cases, only-value, fire-at}
@@ -200,7 +200,9 @@ module _ (B : Book) (B-ok : Lawful B) (c : List ℕ) (c-ok : Sound B c) (i : Inp
         old n q = inr (
           (h, q),
           dite (decLt x (s .walk .next))
-              (λ b. absurd (false≢true (rw n at (to x false-element (omega (arith, roll-inside B B-ok)) (sets-values B c is x false-element (made .taken x (h, q) b))))))
+              (λ b.
+              let t = sets-values B c is x false-element (made .taken x (h, q) b) in
+              absurd (false≢true (rw n at (to x false-element (omega (arith, roll-inside B B-ok)) t))))
               (λ (b : ¬ (x < s .walk .next)). omega arith),
         )
 
@@ -221,7 +223,8 @@ module _ (B : Book) (B-ok : Lawful B) (c : List ℕ) (c-ok : Sound B c) (i : Inp
     arguments x l o h n a = go (cause x o)
       where
         freed : Frees x is → (b : Bool) → dynamic-at B l ≡ b → at d l ≡ default-at B l
-        freed r false q = cases (λ v. v ≡ default-at B l) l (λ e. c-ok .fixed-arguments l x h q (label x r .0) a) (λ v m. absurd (false≢true (rw (still l q) at m)))
+        freed r false q = cases (λ v. v ≡ default-at B l) l (λ e. c-ok .fixed-arguments l x h q (label x r .0) a)
+            (λ v m. absurd (false≢true (rw (still l q) at m)))
         freed r true q = swept x l (default-at B l) r h (inr ((λ z. n (sym z)), q, rw a, refl))
 
         given : s .walk .next ≤ x → OnRoll B c x → (v : ℕ) → Origin B c is l v → v ≡ default-at B l
@@ -314,7 +317,8 @@ some-same f g (suc n) h = rw (some-same f g n h, h n)
 
 idle-same : (c d : List ℕ) (us : List (List ℕ)) → ((l : ℕ) → writes us l ≡ true → at c l ≡ at d l) → idle c us ≡ idle d us
 unfolding idle other
-idle-same c d us h = ap not (some-same (λ l. other (at c l) (values-at us l)) (λ l. other (at d l) (values-at us l)) (length us) (λ l. go l (values-at us l) refl))
+idle-same c d us h = ap not (some-same (λ l. other (at c l) (values-at us l)) (λ l. other (at d l) (values-at us l)) (length us)
+    (λ l. go l (values-at us l) refl))
   where
     go : (l : ℕ) (ws : List ℕ) → values-at us l ≡ ws → other (at c l) ws ≡ other (at d l) ws
     go l [] e = refl
@@ -325,7 +329,8 @@ unfolding table-from
 has-table i zero l h k = absurd (omega arith)
 has-table i (suc n) l h k = dite (ℕ-discrete i l) (λ e. rw (eq-eqb i l e)) (λ e. rw (has-table (suc i) n l (omega arith) (omega arith)) (or-true (eqb i l)))
 
-module _ (B : Book) (c d : List ℕ) (i : Input) (t : SameStatic B c d) (f : Fired) (moves : move B c i ≡ fires f) (agree : (l : ℕ) → has (f .reads) l ≡ true → at c l ≡ at d l) where
+module _ (B : Book) (c d : List ℕ) (i : Input) (t : SameStatic B c d) (f : Fired) (moves : move B c i ≡ fires f)
+    (agree : (l : ℕ) → has (f .reads) l ≡ true → at c l ≡ at d l) where
   w : Walk
   w = firing B c i f moves .walk
 
@@ -334,7 +339,11 @@ module _ (B : Book) (c d : List ℕ) (i : Input) (t : SameStatic B c d) (f : Fir
   unfolding all-dynamic w
   all-read y ys e l h q =
       subst (λ (g : Fired). has (g .reads) l ≡ true) (firing B c i f moves .gave)
-      (rw (has-append (looked B c i) (extra-reads B (w .made) (updates B c (w .made))) l, e, has-dynamic B (table (λ k. k) (L B)) l (has-table 0 (L B) l (omega arith) (omega arith)) q)
+      (rw (
+        has-append (looked B c i) (extra-reads B (w .made) (updates B c (w .made))) l,
+        e,
+        has-dynamic B (table (λ k. k) (L B)) l (has-table 0 (L B) l (omega arith) (omega arith)) q,
+      )
       (or-true (has (looked B c i) l)))
 
   -- so the contents are the same throughout

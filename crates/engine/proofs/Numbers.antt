@@ -54,11 +54,13 @@ module _ (B : Book) (c : List ℕ) (me : ℕ) where
   each-says f [] w k = tt
   each-says f (y ∷ ys) w k = rw (gives-bind c (f y w) (λ o. after o (each f ys))) (after-says (gives c (f y w)) (each f ys) (k y w) (λ v. each-says f ys v k))
 
-  import-says : (n u : ℕ) (w : Walk) (body : ℕ → Walk → Look Walked) (o : Found) → ((y : ℕ) (v : Walk) → Says (gives c (body y v))) → Says (gives c (import-of B n u w body o))
+  import-says : (n u : ℕ) (w : Walk) (body : ℕ → Walk → Look Walked) (o : Found) → ((y : ℕ) (v : Walk) → Says (gives c (body y v)))
+      → Says (gives c (import-of B n u w body o))
   unfolding gives
   import-says n u w body Nowhere k = omega arith
   import-says n u w body (Here x) k =
-      after-says (give n (Update (reserve x) false-element) (take-label x w) then give n (Update (location B u x 0) true-element)) (body x) (then-says (give n (Update (reserve x) false-element) (take-label x w)) (give n (Update (location B u x 0) true-element))
+      after-says (give n (Update (reserve x) false-element) (take-label x w) then give n (Update (location B u x 0) true-element)) (body x)
+      (then-says (give n (Update (reserve x) false-element) (take-label x w)) (give n (Update (location B u x 0) true-element))
       (give-says n (Update (reserve x) false-element) (take-label x w)) (give-says n (Update (location B u x 0) true-element))) (k x)
 
   if-says : (b : Bool) (p q : Look Walked) → Says (gives c p) → Says (gives c q) → Says (gives c (if b then p else q))
@@ -70,9 +72,12 @@ module _ (B : Book) (c : List ℕ) (me : ℕ) where
   walk-says skip vs w = tt
   walk-says (assign n t u) vs w =
       rw (gives-bind c (target B me vs t) _, gives-bind c (eval B me vs u) _)
-      (then-says (refuse-if (not-boolean B t (gives c (eval B me vs u))) non-boolean n w) (give n (Update (gives c (target B me vs t)) (gives c (eval B me vs u))))
-      (refuse-says (not-boolean B t (gives c (eval B me vs u))) non-boolean n w (omega arith)) (give-says n (Update (gives c (target B me vs t)) (gives c (eval B me vs u)))))
-  walk-says (pair r s) vs w = rw (gives-bind c (walk B me r vs w) (λ o. after o (walk B me s vs))) (after-says (gives c (walk B me r vs w)) (walk B me s vs) (walk-says r vs w) (walk-says s vs))
+      (then-says (refuse-if (not-boolean B t (gives c (eval B me vs u))) non-boolean n w)
+      (give n (Update (gives c (target B me vs t)) (gives c (eval B me vs u))))
+      (refuse-says (not-boolean B t (gives c (eval B me vs u))) non-boolean n w (omega arith))
+      (give-says n (Update (gives c (target B me vs t)) (gives c (eval B me vs u)))))
+  walk-says (pair r s) vs w = rw (gives-bind c (walk B me r vs w) (λ o. after o (walk B me s vs)))
+      (after-says (gives c (walk B me r vs w)) (walk B me s vs) (walk-says r vs w) (walk-says s vs))
   walk-says (test t r s) vs w =
       rw (gives-bind c (eval B me vs t) (λ x. if eqb x true-element then walk B me r vs w else walk B me s vs w))
       (if-says (eqb (gives c (eval B me vs t)) true-element) (walk B me r vs w) (walk B me s vs w) (walk-says r vs w) (walk-says s vs w))
@@ -85,8 +90,10 @@ module _ (B : Book) (c : List ℕ) (me : ℕ) where
       (import-says n u w (λ y. walk B me r (set vs x y)) (gives c (lowest (w .next) (B .E - w .next))) (λ y v. walk-says r (set vs x y) v))
   walk-says (free n t) vs w =
       rw (gives-bind c (eval B me vs t) _)
-      (then-says (refuse-if (not-free B (gives c (eval B me vs t)) (getD c (gives c (eval B me vs t)) 0)) not-releasable n w) (give n (Release (gives c (eval B me vs t))))
-      (refuse-says (not-free B (gives c (eval B me vs t)) (getD c (gives c (eval B me vs t)) 0)) not-releasable n w (omega arith)) (give-says n (Release (gives c (eval B me vs t)))))
+      (then-says (refuse-if (not-free B (gives c (eval B me vs t)) (getD c (gives c (eval B me vs t)) 0)) not-releasable n w)
+      (give n (Release (gives c (eval B me vs t))))
+      (refuse-says (not-free B (gives c (eval B me vs t)) (getD c (gives c (eval B me vs t)) 0)) not-releasable n w (omega arith))
+      (give-says n (Release (gives c (eval B me vs t)))))
 
 -- ---- 11 to 16
 

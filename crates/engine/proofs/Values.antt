@@ -101,7 +101,8 @@ module _ (B : Book) (c : List ℕ) where
   pub origin : (is : List Instruction) (l v : ℕ) → has (values B c l is) v ≡ true → Origin is l v
   unfolding values given
   origin [] l v h = absurd (false≢true h)
-  origin (i ∷ is) l v h = go i (or-cases (has (given B c l i) v) (has (values B c l is) v) (sym (has-append (given B c l i) (values B c l is) v) ∙ h)) (origin is l v)
+  origin (i ∷ is) l v h = go i (or-cases (has (given B c l i) v) (has (values B c l is) v) (sym (has-append (given B c l i) (values B c l is) v) ∙ h))
+      (origin is l v)
     where
       own : (k w : ℕ) (b : Bool) → eqb k l ≡ b → has (if b then w ∷ [] else []) v ≡ true → (k ≡ l) × (w ≡ v)
       own k w true q h = (eqb-true k l q, by (or-cases (eqb w v) false h))
@@ -111,7 +112,8 @@ module _ (B : Book) (c : List ℕ) where
           by (inr e) = absurd (false≢true e)
       own k w false q h = absurd (false≢true h)
 
-      go : (i : Instruction) → (has (given B c l i) v ≡ true) ⊎ (has (values B c l is) v ≡ true) → (has (values B c l is) v ≡ true → Origin is l v) → Origin (i ∷ is) l v
+      go : (i : Instruction) → (has (given B c l i) v ≡ true) ⊎ (has (values B c l is) v ≡ true) → (has (values B c l is) v ≡ true → Origin is l v)
+          → Origin (i ∷ is) l v
       go (Update k w) (inl h) r = inl (inl (own k w (eqb k l) refl h))
       go (Update k w) (inr h) r = on (r h)
         where

@@ -28,7 +28,7 @@ use Rattle.engine.proofs.Decode.{Proper, Named, ProperTarget, ProperRul
 use Rattle.engine.proofs.Values.{Sets, Frees}
 
 -- a value of a list with one put in is that one, or as it was
-pub set-cases : (vs : List ℕ) (x y v : ℕ) → (getD (set vs x y) v 0 ≡ y) ⊎ (getD (set vs x y) v 0 ≡ getD vs v 0)
+set-cases : (vs : List ℕ) (x y v : ℕ) → (getD (set vs x y) v 0 ≡ y) ⊎ (getD (set vs x y) v 0 ≡ getD vs v 0)
 set-cases [] x y v = inr refl
 set-cases (z ∷ vs) zero y zero = inl refl
 set-cases (z ∷ vs) zero y (suc v) = inr refl
@@ -155,7 +155,9 @@ module _ (B : Book) (c : List ℕ) where
       where
         go : OnRoll B c (at c l) → ⊥
         go r = dite (decLt l (L B)) (λ h. c-ok .values (at c l) l r h refl)
-            (λ (h : ¬ (l < L B)). let e : at c l ≡ 0 = List·getD-eq-default c 0 {n = l} (omega (arith, c-ok .long)) in omega (arith, c-ok .labels (at c l) r, B-ok .low))
+            (λ (h : ¬ (l < L B)).
+            let e : at c l ≡ 0 = List·getD-eq-default c 0 {n = l} (omega (arith, c-ok .long)) in
+            omega (arith, c-ok .labels (at c l) r, B-ok .low))
 
     truth-low : (b : Bool) → truth b < B .P
     truth-low true = omega (arith, B-ok .low)
@@ -181,7 +183,7 @@ module _ (B : Book) (c : List ℕ) where
     apply-low less x y = if-low (number (B .P) x && number (B .P) y) (truth (ltb x y)) (λ e. truth-low (ltb x y))
 
     module _ (me : ℕ) (me-low : me < B .P) where
-      pub eval-clean : (n : ℕ) (vs : List ℕ) (t : Term) → Proper B t → Vars n vs → Clean n (gives c (eval B me vs t))
+      eval-clean : (n : ℕ) (vs : List ℕ) (t : Term) → Proper B t → Vars n vs → Clean n (gives c (eval B me vs t))
       unfolding eval gives
       eval-clean n vs (element x) p f = low-clean n x p
       eval-clean n vs (variable v) p f = f v
@@ -198,23 +200,31 @@ module _ (B : Book) (c : List ℕ) where
       eval-clean n vs (negated a) p f =
           rw (gives-bind c (eval B me vs a) (λ x. done (negate x)))
           (low-clean n (negate (gives c (eval B me vs a)))
-          (if-low (boolean (gives c (eval B me vs a))) (truth (not (eqb (gives c (eval B me vs a)) 2))) (λ e. truth-low (not (eqb (gives c (eval B me vs a)) 2)))))
+          (if-low (boolean (gives c (eval B me vs a))) (truth (not (eqb (gives c (eval B me vs a)) 2)))
+          (λ e. truth-low (not (eqb (gives c (eval B me vs a)) 2)))))
       eval-clean n vs (joined o a b) p f =
           rw (
             gives-bind c (eval B me vs a) (λ x. eval B me vs b >>= λ y. done (apply (B .P) o x y)),
             gives-bind c (eval B me vs b) (λ y. done (apply (B .P) o (gives c (eval B me vs a)) y)),
           )
-          (low-clean n (apply (B .P) o (gives c (eval B me vs a)) (gives c (eval B me vs b))) (apply-low o (gives c (eval B me vs a)) (gives c (eval B me vs b))))
+          (low-clean n (apply (B .P) o (gives c (eval B me vs a)) (gives c (eval B me vs b)))
+          (apply-low o (gives c (eval B me vs a)) (gives c (eval B me vs b))))
 
       -- the location that a set names
-      abbrev pub Aimed : ℕ → Term → ℕ → Type 0
+      abbrev Aimed : ℕ → Term → ℕ → Type 0
       Aimed n t l = (l < L B) × (B .E ≤ l) × (dynamic-at B l ≡ true) × (relation-at B l ≡ relation (function-at B (function-of t)))
           × ((x : ℕ) → Argument B x l → Clean n x)
 
-      aimed : (n f x y : ℕ) (t : Term) → (0 < f) × (f < length (B .functions)) → function-of t ≡ f → dynamic (function-at B f) ≡ true → Clean n x → Clean n y → Aimed n t (location B f x y)
+      aimed : (n f x y : ℕ) (t : Term) → (0 < f) × (f < length (B .functions)) → function-of t ≡ f → dynamic (function-at B f) ≡ true → Clean n x
+          → Clean n y → Aimed n t (location B f x y)
       aimed n f x y t h e d p q =
-          let s = spot B B-ok f x y (h .1) (p .0) (q .0) in
-          (s .inside, past-roll B B-ok f x y (h .0) (h .1), rw (s .where-at) d, rw (s .where-at, e), λ z a. go z (spot-argument B B-ok f x y z (h .1) (p .0) (q .0) a))
+          let s = spot B B-ok f x y (h .1) (p .0) (q .0) in (
+            s .inside,
+            past-roll B B-ok f x y (h .0) (h .1),
+            rw (s .where-at) d,
+            rw (s .where-at, e),
+            λ z a. go z (spot-argument B B-ok f x y z (h .1) (p .0) (q .0) a),
+          )
         where
           go : (z : ℕ) → (z ≡ x) ⊎ (z ≡ y) → Clean n z
           go z (inl e) = rw e p
@@ -223,7 +233,7 @@ module _ (B : Book) (c : List ℕ) where
       zero-clean : (n : ℕ) → Clean n 0
       zero-clean n = low-clean n 0 (omega (arith, B-ok .low))
 
-      pub target-aimed : (n : ℕ) (vs : List ℕ) (t : Term) → ProperTarget B t → Vars n vs → Aimed n t (gives c (target B me vs t))
+      target-aimed : (n : ℕ) (vs : List ℕ) (t : Term) → ProperTarget B t → Vars n vs → Aimed n t (gives c (target B me vs t))
       unfolding target gives function-of
       target-aimed n vs (element x) p f = absurd p
       target-aimed n vs (variable v) p f = absurd p
@@ -237,7 +247,8 @@ module _ (B : Book) (c : List ℕ) where
             gives-bind c (eval B me vs a) (λ x. eval B me vs b >>= λ y. done (location B g x y)),
             gives-bind c (eval B me vs b) (λ y. done (location B g (gives c (eval B me vs a)) y)),
           )
-          (aimed n g (gives c (eval B me vs a)) (gives c (eval B me vs b)) (at2 g a b) (p .0 .0, p .0 .1) refl (p .1) (eval-clean n vs a (p .2) f) (eval-clean n vs b (p .3) f))
+          (aimed n g (gives c (eval B me vs a)) (gives c (eval B me vs b)) (at2 g a b) (p .0 .0, p .0 .1) refl (p .1) (eval-clean n vs a (p .2) f)
+          (eval-clean n vs b (p .3) f))
       target-aimed n vs (negated a) p f = absurd p
       target-aimed n vs (joined o a b) p f = absurd p
 
@@ -269,7 +280,8 @@ module _ (B : Book) (c : List ℕ) where
           go : OnRoll B c y → ⊥
           go r =
               let s = spot B B-ok u y 0 (p .1) h (omega (arith, B-ok .low, B-ok .high)) in
-              let d = c-ok .arguments y (location B u y 0) r (s .inside) (omega (arith, past-roll B B-ok u y 0 (p .0) (p .1))) (spot-first B B-ok u y (p .1) h (p .2)) in
+              let d = c-ok .arguments y (location B u y 0) r (s .inside) (omega (arith, past-roll B B-ok u y 0 (p .0) (p .1)))
+              (spot-first B B-ok u y (p .1) h (p .2)) in
               omega (arith, default-low (place B (location B u y 0) .function))
 
       each-comes : (f : ℕ → Walk → Look Walked) (ys : List ℕ) (u : ℕ) → Members u ys → (w : Walk) → Made w
@@ -297,13 +309,18 @@ module _ (B : Book) (c : List ℕ) where
           later d Nowhere r = tt
           later d (Here y) (a, b, e) = (omega arith, b, λ z p q. dite (ℕ-discrete z x) (λ i. rw i d) (λ i. e z (omega arith) q))
 
-          go : (b : Bool) → eqb (at c x) true-element ≡ b → Lowest (suc x) (gives c (lowest (suc x) n)) → Lowest x (gives c (if b then done (Here x) else lowest (suc x) n))
+          go : (b : Bool) → eqb (at c x) true-element ≡ b → Lowest (suc x) (gives c (lowest (suc x) n))
+              → Lowest x (gives c (if b then done (Here x) else lowest (suc x) n))
           go true e r = (omega arith, (omega arith, eqb-true (at c x) true-element e), λ z p q. absurd (omega arith))
           go false e r = later (eqb-false (at c x) true-element e) (gives c (lowest (suc x) n)) r
 
       -- An import takes the lowest Reserve label not yet taken: `next` says which are taken.
       pub taken-iff : (w : Walk) → Made w → (x : ℕ) → OnRoll B c x → (x < w .next) ↔ Sets x false-element (w .made)
-      taken-iff w m x o = (m .taken x o, λ s. sets-fine (w .next) (w .made) x false-element (m .all) s .5 x (rw (roll-place B B-ok x (o .0), B-ok .reserve, eq-eqb x x refl)) .1 o)
+      taken-iff w m x o = (
+        m .taken x o,
+        λ s. sets-fine (w .next) (w .made) x false-element (m .all) s .5 x
+            (rw (roll-place B B-ok x (o .0), B-ok .reserve, eq-eqb x x refl)) .1 o,
+      )
 
       pub import-takes : (w : Walk) → Made w → (y : ℕ) → gives c (lowest (w .next) (B .E - w .next)) ≡ Here y
           → OnRoll B c y × ¬ Sets y false-element (w .made) × ((x : ℕ) → OnRoll B c x → ¬ Sets x false-element (w .made) → y ≤ x)
@@ -311,7 +328,8 @@ module _ (B : Book) (c : List ℕ) where
           let l = subst (Lowest (w .next)) e (lowest-is (w .next) (B .E - w .next) (omega (arith, m .upto))) in (
             l .1,
             (λ s. omega (arith, l .0, taken-iff w m y (l .1) .1 s)),
-            λ x o n. dite (decLt x y) (λ b. absurd (dite (decLt x (w .next)) (λ d. n (m .taken x o d)) (λ (d : ¬ (x < w .next)). l .2 x (omega arith) b (o .1)))) (λ (b : ¬ (x < y)). omega arith),
+            λ x o n. dite (decLt x y) (λ b. absurd (dite (decLt x (w .next)) (λ d. n (m .taken x o d))
+                (λ (d : ¬ (x < w .next)). l .2 x (omega arith) b (o .1)))) (λ (b : ¬ (x < y)). omega arith),
           )
 
       roll-fine : (y n : ℕ) → y < B .E → y < n → Fine n (Update (reserve y) false-element)
@@ -349,7 +367,8 @@ module _ (B : Book) (c : List ℕ) where
         where
           taken : (x : ℕ) → OnRoll B c x → x < suc y → Sets x false-element (w .made ++ (Update y false-element ∷ []))
           taken x o h = dite (decLt x (w .next)) (λ b. sets-snoc x false-element (w .made) (Update y false-element) (m .taken x o b))
-              (λ (b : ¬ (x < w .next)). dite (ℕ-discrete x y) (λ e. rw e (sets-last y false-element (w .made))) (λ d. absurd (low x (omega arith) (omega arith) (o .1))))
+              (λ (b : ¬ (x < w .next)). dite (ℕ-discrete x y) (λ e. rw e (sets-last y false-element (w .made)))
+              (λ d. absurd (low x (omega arith) (omega arith) (o .1))))
 
           go : (b : Bool) → Comes (suc y) (if b then going (record { made = w .made ++ (Update (reserve y) false-element ∷ []); next = take-label y w .next }) else met list-full n)
           go false = tt
@@ -358,7 +377,8 @@ module _ (B : Book) (c : List ℕ) where
             record {
               from = omega (arith, m .from);
               upto = r .0;
-              all = all-snoc (suc y) (w .made) (Update y false-element) (all-more (w .next) (suc y) (w .made) (omega arith) (m .all)) (roll-fine y (suc y) (r .0) (omega arith));
+              all = all-snoc (suc y) (w .made) (Update y false-element) (all-more (w .next) (suc y) (w .made) (omega arith) (m .all))
+                  (roll-fine y (suc y) (r .0) (omega arith));
               taken = taken;
             },
           )
@@ -418,24 +438,29 @@ module _ (B : Book) (c : List ℕ) where
             gives-bind c (target B me vs t) (λ l. eval B me vs u >>= λ v. done (refuse-if (not-boolean B t v) non-boolean n w then give n (Update l v))),
             gives-bind c (eval B me vs u) (λ v. done (refuse-if (not-boolean B t v) non-boolean n w then give n (Update (gives c (target B me vs t)) v))),
           )
-          (assign-comes n t (gives c (target B me vs t)) (gives c (eval B me vs u)) w m (target-aimed (w .next) vs t (p .0) f) (eval-clean (w .next) vs u (p .1) f))
+          (assign-comes n t (gives c (target B me vs t)) (gives c (eval B me vs u)) w m (target-aimed (w .next) vs t (p .0) f)
+          (eval-clean (w .next) vs u (p .1) f))
       walk-comes (pair r s) vs w p f m =
           rw (gives-bind c (walk B me r vs w) (λ o. after o (walk B me s vs)))
           (after-comes (w .next) (gives c (walk B me r vs w)) (walk B me s vs) (walk-comes r vs w (p .0) f m)
           (λ v a q. walk-comes s vs v (p .1) (vars-more (w .next) (v .next) vs a f) q))
       walk-comes (test t r s) vs w p f m =
           rw (gives-bind c (eval B me vs t) (λ x. if eqb x true-element then walk B me r vs w else walk B me s vs w))
-          (if-comes (eqb (gives c (eval B me vs t)) true-element) (w .next) (walk B me r vs w) (walk B me s vs w) (walk-comes r vs w (p .1) f m) (walk-comes s vs w (p .2) f m))
+          (if-comes (eqb (gives c (eval B me vs t)) true-element) (w .next) (walk B me r vs w) (walk B me s vs w) (walk-comes r vs w (p .1) f m)
+          (walk-comes s vs w (p .2) f m))
       walk-comes (bind x t r) vs w p f m =
           rw (gives-bind c (eval B me vs t) (λ y. walk B me r (set vs x y) w))
-          (walk-comes r (set vs x (gives c (eval B me vs t))) w (p .1) (vars-set (w .next) vs x (gives c (eval B me vs t)) f (eval-clean (w .next) vs t (p .0) f)) m)
+          (walk-comes r (set vs x (gives c (eval B me vs t))) w (p .1)
+          (vars-set (w .next) vs x (gives c (eval B me vs t)) f (eval-clean (w .next) vs t (p .0) f)) m)
       walk-comes (for-all x u r) vs w p f m =
           rw (gives-bind c (members B u 0 (B .E)) (λ ys. each (λ y. walk B me r (set vs x y)) ys w))
           (each-comes (λ y. walk B me r (set vs x y)) (gives c (members B u 0 (B .E))) u (members-are u 0 (B .E) (omega arith)) w m
-          (λ y h v a q. walk-comes r (set vs x y) v (p .2) (vars-set (v .next) vs x y (vars-more (w .next) (v .next) vs a f) (member-clean (v .next) u y (p .0) h)) q))
+          (λ y h v a q. walk-comes r (set vs x y) v (p .2) (vars-set (v .next) vs x y (vars-more (w .next) (v .next) vs a f)
+          (member-clean (v .next) u y (p .0) h)) q))
       walk-comes (import n x u r) vs w p f m =
           rw (gives-bind c (lowest (w .next) (B .E - w .next)) (λ o. import-of B n u w (λ y. walk B me r (set vs x y)) o))
-          (import-comes n u (λ y. walk B me r (set vs x y)) w (gives c (lowest (w .next) (B .E - w .next))) (p .0) (p .1) m (lowest-is (w .next) (B .E - w .next) (omega (arith, m .upto)))
+          (import-comes n u (λ y. walk B me r (set vs x y)) w (gives c (lowest (w .next) (B .E - w .next))) (p .0) (p .1) m
+          (lowest-is (w .next) (B .E - w .next) (omega (arith, m .upto)))
           (λ y h v a b q. walk-comes r (set vs x y) v (p .2) (vars-set (v .next) vs x y (vars-more (w .next) (v .next) vs a f) (h, λ o. b)) q))
       walk-comes (free n t) vs w p f m =
           rw (gives-bind c (eval B me vs t) (λ x. read (reserve x) >>= λ r. done (refuse-if (not-free B x r) not-releasable n w then give n (Release x))))
