@@ -3,3 +3,4 @@ pub mod Accepted
 pub mod Start
 pub mod Table
 pub mod Depth
+pub mod Claims

@@ -4,7 +4,7 @@ use mathlib.Core.Path.{_≡_, refl, sym, ap, _∙_}
 use mathlib.Core.Logic.{dite}
 use mathlib.Core.Bool.{Bool, true, false, _||_, or-true, or-assoc}
 use mathlib.Core.List.{List, [], _∷_, _++_}
-use Prim.Native.Nat.{ℕ, _<_}
+use Prim.Native.Nat.{ℕ, _≤_, _<_}
 use native.Mathlib.Omega.{arith}
 use native.Mathlib.Decide.{decLt}
 use lib.Dec.{eqb}
@@ -15,14 +15,9 @@ use Rattle.book.specs.Book.{Book, L, dynamic-at}
 use Rattle.book.specs.Sound.{at}
 use Rattle.engine.specs.Look.{seen}
 use Rattle.engine.specs.Rule.{Walk, going, met, agent-walk}
+use Rattle.engine.specs.Claims.{SameStatic}
 use Rattle.engine.specs.Move.{Input, walked, looked, reads, dynamic-among, extra-reads, updates}
 use Rattle.engine.proofs.Look.{Agree, local, seen-local}
-
--- two contents of a book with equal static functions
-pub record SameStatic (B : Book) (c d : List ℕ) : Type 0 where
-  pub long : length c ≡ L B
-  pub as-long : length d ≡ L B
-  pub static : (l : ℕ) → l < L B → dynamic-at B l ≡ false → at c l ≡ at d l
 
 -- past the last location both give 0
 static-agree : {B : Book} {c d : List ℕ} → SameStatic B c d → (l : ℕ) → dynamic-at B l ≡ false → at c l ≡ at d l
@@ -66,12 +61,14 @@ same-instructions B c d i s w e h =
     agree : Agree c d (seen c (agent-walk B (i .agent)))
     agree l m = by l m (dynamic-at B l) refl
 
--- One met: the same one. What the walk looks at in Reserve before 12 or 13 counts among its reads here, so 01's condition on Reserve is not even used.
+-- One met: the same one, if Reserve, which is function 0, is the same throughout. The walk looks at Reserve for 12 and 13 too, so of what it reads
+-- the contents need only agree past Reserve.
 pub same-refusal : (B : Book) (c d : List ℕ) (i : Input) → SameStatic B c d → (n q : ℕ) → walked B c i ≡ met n q
-    → ((l : ℕ) → has (reads B c i) l ≡ true → at c l ≡ at d l) → ((x : ℕ) → x < B .E → at c x ≡ at d x) → walked B d i ≡ met n q
+    → ((l : ℕ) → B .E ≤ l → has (reads B c i) l ≡ true → at c l ≡ at d l) → ((x : ℕ) → x < B .E → at c x ≡ at d x) → walked B d i ≡ met n q
 unfolding reads
 same-refusal B c d i s n q e h r = sym (local c d (agent-walk B (i .agent)) (λ l m. by l m (dynamic-at B l) refl)) ∙ e
   where
     by : (l : ℕ) → has (seen c (agent-walk B (i .agent))) l ≡ true → (b : Bool) → dynamic-at B l ≡ b → at c l ≡ at d l
     by l m false p = static-agree s l p
-    by l m true p = h l (rw (e, has-dynamic B (seen c (agent-walk B (i .agent))) l m p))
+    by l m true p = dite (decLt l (B .E)) (r l)
+        (λ (z : ¬ (l < B .E)). h l (omega arith) (rw (e, has-dynamic B (seen c (agent-walk B (i .agent))) l m p)))

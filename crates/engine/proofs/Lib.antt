@@ -10,3 +10,4 @@ pub mod Import
 pub mod Fuel
 pub mod Steps
 pub mod Marking
+pub mod Claims

@@ -22,7 +22,8 @@ use Rattle.engine.specs.declared.Instruction.{Instruction}
 use Rattle.engine.specs.declared.Instruction.the-variants.{Update, Release}
 use Rattle.engine.specs.Rule.{Walk, Walked, going, met, agent-walk, rule-at, no-variables}
 use Rattle.engine.specs.Move.{given, values, updates, values-at, released, other, two-values, clashes, idle, new-value, fire, writes, all-dynamic, extra-reads, Input, Fired, fires, unless-clash, unless-idle, walked, looked, fired-of, judged, settle, move, reads}
-use Rattle.engine.proofs.EqualReads.{SameStatic, has-append, has-dynamic, same-instructions}
+use Rattle.engine.proofs.EqualReads.{has-append, has-dynamic, same-instructions}
+use Rattle.engine.specs.Claims.{SameStatic}
 use Rattle.engine.proofs.Decode.{proper-rule}
 use Rattle.engine.proofs.Values.{Sets, Frees, frees-has, set-to-none, Cleared, Origin, origin, sets-values, frees-values, length-updates, updates-at, updates-past, new-cases, only-value, fire-at}
 use Rattle.engine.proofs.Walks.{Fine, sets-fine, frees-fine, Made, Comes, walk-comes, low-clean}

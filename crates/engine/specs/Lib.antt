@@ -5,3 +5,4 @@ pub mod Move
 pub mod Single
 pub mod Open
 pub mod Examples
+pub mod Claims

@@ -10,3 +10,4 @@ pub mod Numbers
 pub mod Swap
 pub mod Touching
 pub mod Claim
+pub mod Claims

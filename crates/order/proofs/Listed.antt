@@ -11,6 +11,7 @@ use lib.Dec.{eqb}
 use lib.ListN.{length}
 use borrow.Author.Tests.{eqb-true, eqb-false}
 use Rattle.text.specs.Words.{has}
+use Rattle.order.specs.Claims.{Listing}
 use Rattle.order.specs.Orders.{Moves, Laws, Touch, run, listed, Before, from, Keeps, Agrees}
 use Rattle.order.proofs.Order.{not-true, has-head}
 use Rattle.order.proofs.Free.{choose, act, act-none, Accepted, free, in-turn}
@@ -18,14 +19,6 @@ use Rattle.order.proofs.Free.{choose, act, act-none, Accepted, free, in
 touch-sym : (S : Moves) (a b : S .Act) → Touch S a b → Touch S b a
 touch-sym S a b (l, inl x) = (l, inr x)
 touch-sym S a b (l, inr x) = (l, inl x)
-
--- What the run in the listed order has to show.
-pub record Listing (S : Moves) (start : S .Con) (m : ℕ) (pair : ℕ → ℕ → Type 0) : Type 0 where
-  pub good : S .Good start
-  pub up : (i j : ℕ) → pair i j → i < j
-  pub fires : (i : ℕ) → i < m → (a : S .Act) × (S .does i (listed S start i) ≡ some a)
-  pub apart : (i j : ℕ) (a b : S .Act) → i < j → j < m → S .does i (listed S start i) ≡ some a → S .does j (listed S start j) ≡ some b
-      → ¬ Before pair i j → ¬ Touch S a b
 
 -- ---- the numbers from k on
 

@@ -6,3 +6,4 @@ pub mod Call
 pub mod Orders
 pub mod Demand
 pub mod Open
+pub mod Claims

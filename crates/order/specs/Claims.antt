@@ -1,0 +1,62 @@
+-- What is claimed of orders, marks and runs beside demand 3, and proved in proofs/Claims (01, "What a move does", "Book and log text").
+use mathlib.Core.Path.{_≡_}
+use mathlib.Core.Logic.{_↔_}
+use mathlib.Core.Bool.{true}
+use mathlib.Core.List.{List}
+use mathlib.Core.Option.{some}
+use Prim.Native.Nat.{ℕ, _≤_, _<_}
+use lib.ListN.{getD}
+use Rattle.book.specs.Book.{Book, L}
+use Rattle.book.specs.Sound.{Lawful}
+use Rattle.engine.specs.Move.{Fired, stopped, move}
+use Rattle.order.specs.Sets.{bit}
+use Rattle.order.specs.Pairs.{Pair, rows}
+use Rattle.order.specs.Log.{Log, move-at}
+use Rattle.order.specs.Run.{Run, Ran, ran, halted, run, readers, writers}
+use Rattle.order.specs.Orders.{Moves, Laws, Touch, Reads, Writes, listed, Before, from, Keeps, Agrees}
+use Rattle.order.specs.Demand.{PairOf, moves-of}
+
+-- ---- freedom of order, over any moves, start, list of moves and pair relation, from the law of two moves
+
+-- what the run in the listed order has to show
+pub record Listing (S : Moves) (start : S .Con) (m : ℕ) (pair : ℕ → ℕ → Type 0) : Type 0 where
+  pub good : S .Good start
+  pub up : (i j : ℕ) → pair i j → i < j
+  pub fires : (i : ℕ) → i < m → (a : S .Act) × (S .does i (listed S start i) ≡ some a)
+  pub apart : (i j : ℕ) (a b : S .Act) → i < j → j < m → S .does i (listed S start i) ≡ some a → S .does j (listed S start j) ≡ some b
+      → ¬ Before pair i j → ¬ Touch S a b
+
+abbrev pub OrdersAgree : Type 1
+OrdersAgree = (S : Moves) → Laws S → (start : S .Con) (m : ℕ) (pair : ℕ → ℕ → Type 0) → Listing S start m pair
+    → (is : List ℕ) → Keeps (from 0 m) pair is → Agrees S start m is
+
+-- the moves of a log over a lawful book have that law: frame, keep and swap
+abbrev pub MovesSwap : Type 0
+MovesSwap = (B : Book) → Lawful B → (g : Log) → Laws (moves-of B g)
+
+-- ---- rows are exactly the order that follows from the pairs by chaining
+
+abbrev pub RowsAreOrder : Type 0
+RowsAreOrder = (ps : List Pair) → ((a b : ℕ) → PairOf ps a b → a < b) → (m j i : ℕ) → j < m
+    → (bit (getD (rows ps m) j 0) i ≡ true) ↔ Before (PairOf ps) i j
+
+-- ---- marks are exactly the reads and writes of the moves that fired, in the contents that each got
+
+module _ (B : Book) (g : Log) (c : List ℕ) where
+  -- move i is one of the first n, and in the listed order it does something of which this holds
+  abbrev pub Did : ℕ → ℕ → (Fired → Type 0) → Type 0
+  Did n i Q = (i < n) × ((f : Fired) × (moves-of B g .does i (listed (moves-of B g) c i) ≡ some f) × Q f)
+
+  -- what the run of the first n moves leaves
+  pub record Marked (n : ℕ) (s : Run) : Type 0 where
+    pub contents : s .contents ≡ listed (moves-of B g) c n
+    pub readers : (l i : ℕ) → l < L B → (bit (getD (readers (L B) (s .fired)) l 0) i ≡ true) ↔ Did n i (λ f. Reads (moves-of B g) f l)
+    pub writers : (l i : ℕ) → l < L B → (bit (getD (writers (L B) (s .fired)) l 0) i ≡ true) ↔ Did n i (λ f. Writes (moves-of B g) f l)
+
+  -- a run that was not refused, and one that was: at move p, with 11 to 16, with the contents and the marks of the moves before it
+  abbrev pub Left : ℕ → Ran → Type 0
+  Left n (ran s) = Marked n s
+  Left n (halted a p q s) = (p < n) × Marked p s × (move B (listed (moves-of B g) c p) (move-at g p) ≡ stopped a q) × (11 ≤ a) × (a ≤ 16)
+
+abbrev pub RunsLeave : Type 0
+RunsLeave = (B : Book) (g : Log) (c : List ℕ) (n : ℕ) → Left B g c n (run B g c n)
