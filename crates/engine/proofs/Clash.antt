@@ -15,7 +15,7 @@ use Rattle.book.proofs.Places.{roll-place, roll-inside, roll-argument, boolean-
 use Rattle.engine.specs.declared.Instruction.{Instruction}
 use Rattle.engine.specs.declared.Instruction.the-variants.{Update, Release}
 use Rattle.engine.specs.Rule.{Walk}
-use Rattle.engine.specs.Move.{values, updates, values-at, released, other, two-values, sets-label, set-to-label, clashes}
+use Rattle.engine.specs.Move.{values, updates, values-at, other, two-values, sets-label, set-to-label, clashes}
 use Rattle.engine.proofs.Values.{Sets, Cleared, Origin, origin, updates-at}
 use Rattle.engine.proofs.Walks.{Made, frees-fine}
 
@@ -75,7 +75,7 @@ set-is xs l (i ∷ is) e = go i (or-cases (sets-label xs l i) (set-to-label xs l
 pub clash-own : (B : Book) → Lawful B → (c : List ℕ) → Sound B c → (w : Walk) → Made B c w → (l : ℕ) → l < L B
     → clashes (w .made) (updates B c (w .made)) l ≡ true → (v : ℕ) × Sets l v (w .made)
 unfolding clashes
-clash-own B ok c s w m l h e = go (or-cases (two-values (values-at (updates B c (w .made)) l)) (set-to-label (released (w .made)) l (w .made)) e)
+clash-own B ok c s w m l h e = go _ (or-cases (two-values (values-at (updates B c (w .made)) l)) _ e)
   where
     from : (v u : ℕ) → u ≢ v → Origin B c (w .made) l v → Origin B c (w .made) l u → (x : ℕ) × Sets l x (w .made)
     from v u n (inl t) o = (v, t)
@@ -85,8 +85,8 @@ clash-own B ok c s w m l h e = go (or-cases (two-values (values-at (updates B c 
         let q = frees-fine B c (w .next) (w .made) y (m .all) g in
         absurd (n (sym (releases-agree B ok c s x y l v u (p .0, p .1) (q .0, q .1) a b)))
 
-    go : (two-values (values-at (updates B c (w .made)) l) ≡ true) ⊎ (set-to-label (released (w .made)) l (w .made) ≡ true) → (v : ℕ) × Sets l v (w .made)
-    go (inl q) =
+    go : (xs : List ℕ) → (two-values (values-at (updates B c (w .made)) l) ≡ true) ⊎ (set-to-label xs l (w .made) ≡ true) → (v : ℕ) × Sets l v (w .made)
+    go xs (inl q) =
         let t = two-are (values B c l (w .made)) (rw (updates-at B c (w .made) l h) at q) in
         from (t .0) (t .1) (t .4) (origin B c (w .made) l (t .0) (t .2)) (origin B c (w .made) l (t .1) (t .3))
-    go (inr q) = set-is (released (w .made)) l (w .made) q
+    go xs (inr q) = set-is xs l (w .made) q

@@ -1,4 +1,6 @@
 pub mod Look
+pub mod Seen
+pub mod Import
 pub mod EqualReads
 pub mod Decode
 pub mod Values
@@ -6,7 +8,6 @@ pub mod Walks
 pub mod Moves
 pub mod Clash
 pub mod Numbers
-pub mod Import
 pub mod Fuel
 pub mod Steps
 pub mod Marking

@@ -19,6 +19,7 @@ use Rattle.engine.specs.Look.{Look, done, read, gives, _>>=_}
 use Rattle.engine.specs.Term.{Op, an-element, a-variable, the-agent, of-none, of-one, of-two, a-not, a-join, shape, tree, term-at, apply, negate, eval, target, function-of}
 use Rattle.engine.specs.Rule.{a-skip, an-assign, a-pair, a-test, a-bind, a-for-all, an-import, a-free, rule-shape, rule-tree, Walk, Walked, going, met, _then_, after, give, take-label, refuse-if, members, each, lowest, import-of, not-boolean, not-free, walk}
 use Rattle.engine.proofs.Look.{gives-bind}
+use Rattle.engine.proofs.Seen.{names-one, names-two}
 
 module _ (B : Book) (ns : ℕ → Node) (c : List ℕ) (me : ℕ) where
   -- the value of the term at node n, at most d nodes down
@@ -89,14 +90,12 @@ module _ (B : Book) (ns : ℕ → Node) (c : List ℕ) (me : ℕ) where
     aim-none e = rw e
 
     pub aim-one : shape x ≡ of-one → aim (suc d) n vs ≡ location B (x .a) (value d (x .b) vs) 0
-    unfolding tree target gives
-    aim-one e = rw e (gives-bind c (eval B me vs (term-at ns d (x .b))) (λ y. done (location B (x .a) y 0)))
+    unfolding tree
+    aim-one e = rw e (names-one B c me vs (x .a) (term-at ns d (x .b)))
 
     pub aim-two : shape x ≡ of-two → aim (suc d) n vs ≡ location B (x .a) (value d (x .b) vs) (value d (x .c) vs)
-    unfolding tree target gives
-    aim-two e =
-        rw e (gives-bind c (eval B me vs (term-at ns d (x .b))) (λ y. eval B me vs (term-at ns d (x .c)) >>= λ z. done (location B (x .a) y z))
-        ∙ gives-bind c (eval B me vs (term-at ns d (x .c))) (λ z. done (location B (x .a) (value d (x .b) vs) z)))
+    unfolding tree
+    aim-two e = rw e (names-two B c me vs (x .a) (term-at ns d (x .b)) (term-at ns d (x .c)))
 
     pub function-named : (shape x ≡ of-none) ⊎ (shape x ≡ of-one) ⊎ (shape x ≡ of-two) → function-of (term-at ns (suc d) n) ≡ x .a
     unfolding tree function-of

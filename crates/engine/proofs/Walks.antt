@@ -24,6 +24,7 @@ use Rattle.engine.specs.Look.{Look, done, read, gives, _>>=_}
 use Rattle.engine.specs.Term.{Op, equal, both, either, plus, minus, less, Term, element, variable, self, at0, at1, at2, negated, joined, number, apply, negate, eval, target, function-of}
 use Rattle.engine.specs.Rule.{Rule, skip, assign, pair, test, bind, for-all, import, free, Walk, Walked, going, met, _then_, after, most-instructions, give, take-label, refuse-if, members, each, lowest, import-of, not-boolean, not-free, walk}
 use Rattle.engine.proofs.Look.{gives-bind}
+use Rattle.engine.proofs.Seen.{names-one, names-two}
 use Rattle.engine.proofs.Decode.{Proper, Named, ProperTarget, ProperRule}
 use Rattle.engine.proofs.Values.{Sets, Frees}
 
@@ -240,13 +241,10 @@ module _ (B : Book) (c : List ℕ) where
       target-aimed n vs self p f = absurd p
       target-aimed n vs (at0 g) p f = aimed n g 0 0 (at0 g) (p .0 .0, p .0 .1) refl (p .1) (zero-clean n) (zero-clean n)
       target-aimed n vs (at1 g a) p f =
-          rw (gives-bind c (eval B me vs a) (λ x. done (location B g x 0)))
+          rw (names-one B c me vs g a)
           (aimed n g (gives c (eval B me vs a)) 0 (at1 g a) (p .0 .0, p .0 .1) refl (p .1) (eval-clean n vs a (p .2) f) (zero-clean n))
       target-aimed n vs (at2 g a b) p f =
-          rw (
-            gives-bind c (eval B me vs a) (λ x. eval B me vs b >>= λ y. done (location B g x y)),
-            gives-bind c (eval B me vs b) (λ y. done (location B g (gives c (eval B me vs a)) y)),
-          )
+          rw (names-two B c me vs g a b)
           (aimed n g (gives c (eval B me vs a)) (gives c (eval B me vs b)) (at2 g a b) (p .0 .0, p .0 .1) refl (p .1) (eval-clean n vs a (p .2) f)
           (eval-clean n vs b (p .3) f))
       target-aimed n vs (negated a) p f = absurd p
@@ -293,6 +291,12 @@ module _ (B : Book) (c : List ℕ) where
           (after-comes (w .next) (gives c (f y w)) (each f ys) (k y (h .0) w (omega arith) m)
           (λ v a b. each-comes f ys u (h .1) v b (λ z hz t q r. k z hz t (omega arith) r)))
 
+      for-comes : (f : ℕ → Walk → Look Walked) (u x n : ℕ) → x + n ≤ B .E → (w : Walk) → Made w
+          → ((y : ℕ) → Member u y → (v : Walk) → w .next ≤ v .next → Made v → Comes (v .next) (gives c (f y v)))
+          → Comes (w .next) (gives c (members B u x n >>= λ ys. each f ys w))
+      for-comes f u x n h w m k =
+          rw (gives-bind c (members B u x n) (λ ys. each f ys w)) (each-comes f (gives c (members B u x n)) u (members-are u x n h) w m k)
+
       -- ---- labels
 
       -- the label that is found, and that none of the roll stands before it
@@ -331,6 +335,23 @@ module _ (B : Book) (c : List ℕ) where
             λ x o n. dite (decLt x y) (λ b. absurd (dite (decLt x (w .next)) (λ d. n (m .taken x o d))
                 (λ (d : ¬ (x < w .next)). l .2 x (omega arith) b (o .1)))) (λ (b : ¬ (x < y)). omega arith),
           )
+
+      lowest-none : (x n : ℕ) → gives c (lowest x n) ≡ Nowhere → (z : ℕ) → x ≤ z → z < x + n → at c z ≢ true-element
+      unfolding lowest gives _>>=_
+      lowest-none x zero e z a b = absurd (omega arith)
+      lowest-none x (suc n) e z a b = go (eqb (at c x) true-element) refl e (lowest-none (suc x) n)
+        where
+          go : (t : Bool) → eqb (at c x) true-element ≡ t → gives c (if t then done (Here x) else lowest (suc x) n) ≡ Nowhere
+              → (gives c (lowest (suc x) n) ≡ Nowhere → (z : ℕ) → suc x ≤ z → z < suc x + n → at c z ≢ true-element) → at c z ≢ true-element
+          go true q f r = let k : _≡_ {A = ℕ} 0 1 = cc in absurd (omega arith)
+          go false q f r = dite (ℕ-discrete z x) (λ i. rw i (eqb-false (at c x) true-element q)) (λ i. r f z (omega arith) (omega arith))
+
+      -- One that finds none, 13, has no Reserve label left untaken.
+      pub import-none : (w : Walk) → Made w → gives c (lowest (w .next) (B .E - w .next)) ≡ Nowhere → (x : ℕ) → OnRoll B c x
+          → Sets x false-element (w .made)
+      import-none w m e x o =
+          dite (decLt x (w .next)) (m .taken x o)
+          (λ (b : ¬ (x < w .next)). absurd (lowest-none (w .next) (B .E - w .next) e x (omega arith) (omega (arith, o .0, m .upto)) (o .1)))
 
       roll-fine : (y n : ℕ) → y < B .E → y < n → Fine n (Update (reserve y) false-element)
       roll-fine y n h a =
@@ -453,10 +474,9 @@ module _ (B : Book) (c : List ℕ) where
           (walk-comes r (set vs x (gives c (eval B me vs t))) w (p .1)
           (vars-set (w .next) vs x (gives c (eval B me vs t)) f (eval-clean (w .next) vs t (p .0) f)) m)
       walk-comes (for-all x u r) vs w p f m =
-          rw (gives-bind c (members B u 0 (B .E)) (λ ys. each (λ y. walk B me r (set vs x y)) ys w))
-          (each-comes (λ y. walk B me r (set vs x y)) (gives c (members B u 0 (B .E))) u (members-are u 0 (B .E) (omega arith)) w m
+          for-comes (λ y. walk B me r (set vs x y)) u _ _ (omega (arith, B-ok .high)) w m
           (λ y h v a q. walk-comes r (set vs x y) v (p .2) (vars-set (v .next) vs x y (vars-more (w .next) (v .next) vs a f)
-          (member-clean (v .next) u y (p .0) h)) q))
+          (member-clean (v .next) u y (p .0) h)) q)
       walk-comes (import n x u r) vs w p f m =
           rw (gives-bind c (lowest (w .next) (B .E - w .next)) (λ o. import-of B n u w (λ y. walk B me r (set vs x y)) o))
           (import-comes n u (λ y. walk B me r (set vs x y)) w (gives c (lowest (w .next) (B .E - w .next))) (p .0) (p .1) m
