@@ -22,3 +22,19 @@ fn decisions() {
 fn refusals() {
     check("REFUSALS.md", 17);
 }
+
+#[test]
+fn examples() {
+    let folder = format!("{}/../../examples", env!("CARGO_MANIFEST_DIR"));
+    let mut shown = 0;
+    for entry in fs::read_dir(folder).expect("the examples") {
+        let path = entry.expect("an entry").path();
+        if path.is_dir() {
+            let file = |name: &str| fs::read(path.join(name)).expect("a file of the example");
+            let input = [file("book.txt"), file("log.txt")].concat();
+            assert_eq!(paper::report(&input), file("output.txt"), "{path:?}");
+            shown += 1;
+        }
+    }
+    assert!(shown >= 4, "{shown} examples");
+}
