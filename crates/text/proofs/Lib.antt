@@ -1,2 +1,2 @@
-pub mod Least
+pub mod Words
 pub mod Fields

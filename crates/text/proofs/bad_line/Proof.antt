@@ -1,4 +1,4 @@
-use Rattle.text.proofs.Least.{least-start, least-pass, least-stop, least-end}
+use Rattle.text.proofs.Words.{least-start, least-pass, least-stop, least-end}
 use Rattle.text.specs.Words.{least-from, least}
 use mathlib.Core.Path.{_≡_}
 use Prim.Native.Nat.{_≤_, _-_}

@@ -1,0 +1,4 @@
+pub mod Places
+pub mod Accepted
+pub mod Start
+pub mod Table
