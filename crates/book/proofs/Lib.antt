@@ -2,3 +2,4 @@ pub mod Places
 pub mod Accepted
 pub mod Start
 pub mod Table
+pub mod Image

@@ -6,3 +6,4 @@ pub mod Around
 pub mod Contents
 pub mod Check
 pub mod Sound
+pub mod Image
