@@ -31,6 +31,13 @@ uncapped n most h = go (decLt n most)
     go (yes l) = rw (lt-ltb n most l)
     go (no l) = let e : n ≡ most = omega arith in rw (le-ltb n most (omega arith)) (sym e)
 
+capped-most : (n most : ℕ) → capped n most ≤ most
+capped-most n most = go (decLt n most)
+  where
+    go : Dec (n < most) → capped n most ≤ most
+    go (yes l) = rw (lt-ltb n most l) (omega arith)
+    go (no l) = rw (le-ltb n most (omega arith)) (omega arith)
+
 -- ---- what an image's book has
 
 module _ (m : List ℕ) (es : List Entry) where
@@ -45,6 +52,19 @@ module _ (m : List ℕ) (es : List Entry) where
   pub agents-long : length (book-in m es .agents) ≡ capped (word m 4) 16
   unfolding book-in
   agents-long = length-table-from _ 0 (capped (word m 4) 16)
+
+  pub elements-most : book-in m es .E ≤ 10000
+  unfolding book-in
+  elements-most = capped-most (word m 0) 10000
+
+  pub functions-most : length (book-in m es .functions) ≤ 32
+  functions-most = rw functions-long (capped-most (word m 2) 32)
+
+  pub nodes-most : length (book-in m es .nodes) ≤ 1024
+  nodes-most = rw nodes-long (capped-most (word m 3) 1024)
+
+  pub agents-most : length (book-in m es .agents) ≤ 16
+  agents-most = rw agents-long (capped-most (word m 4) 16)
 
   pub function-inside : (f : ℕ) → f < capped (word m 2) 32 → function-at (book-in m es) f ≡ function-of (row-in m (2 + f))
   unfolding book-in
