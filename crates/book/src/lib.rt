@@ -1,11 +1,11 @@
 // The rule book: what its lines say, and the image of it that the checks and the engine read.
 use text::Line;
 ghost use mathlib.Core.Path.{_≡_};
-ghost use Prim.Native.Nat.{_+_, _*_, _≤_};
+ghost use Prim.Native.Nat.{_+_, _<_, _≤_};
 ghost use lib.ListN.{length, getD, set};
 ghost use mathlib.Core.List.{[]};
 ghost use Rattle.text.specs.Text.{line};
-ghost use Rattle.book.specs.Book.{size, function-at, node-at, agent-at};
+ghost use Rattle.book.specs.Book.{size, location, function-at, node-at, agent-at};
 ghost use Rattle.book.specs.Image.{image-length, word, row-in, capped, book-in, Holds, Room, stored, filled, first-of, laid-row};
 
 // Bounds of a book.
@@ -221,6 +221,22 @@ pub fn size(e: u32, arity: u32) -> u64
         e as u64
     } else {
         e as u64 * e as u64
+    }
+}
+
+// The number of the location of function f at the arguments x and y.
+pub fn location(image: &[u32], f: u32, x: u32, y: u32) -> u64
+    ensures { λ r. ⌜ (r ≡ location (book-in (now (image .entry)) []) f x y) × (r < 1000000000000000) ⌝ }
+{
+    let e = elements(image);
+    let g = function_at(image, f);
+    let first = g.first as u64;
+    if g.arity == 0 {
+        first + 0
+    } else if g.arity == 1 {
+        first + x as u64
+    } else {
+        first + (x as u64 * e as u64 + y as u64)
     }
 }
 
