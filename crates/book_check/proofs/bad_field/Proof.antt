@@ -1,0 +1,14 @@
+use Rattle.book.specs.Lines.{bad-field}
+use mathlib.Core.Path.{refl}
+use Rattle.book_check.proofs.bad_field.Statement.{statement}
+use Rattle.book_check.proofs.bad_field.Tie as tie
+use Rattle.book_check.proofs.bad_field.Reads as reads
+use Rattle.book_check.proofs.bad_field.Lts as lts
+
+-- src/lib.rt:169:1
+returns : tie.Need-returns
+unfolding bad-field
+returns c = refl
+
+pub bad-field-spec : {M : Type 1} → statement M
+bad-field-spec = tie.close (tie.spec returns)

@@ -1,0 +1,66 @@
+use Rattle.text.proofs.Words.{least-start, least-pass, least-stop, least-end}
+use Rattle.text.specs.Words.{least-from, least}
+use mathlib.Core.Path.{_≡_}
+use Prim.Native.Nat.{_≤_, _-_, _+_}
+use borrow.Author.Needs.{needs}
+use Rattle.book.specs.Lines.{bad-function}
+use Rattle.text.specs.Text.{line}
+use Rattle.book_check.proofs.bad_functions.Statement.{statement}
+use Rattle.book_check.proofs.bad_functions.Tie as tie
+use Rattle.book_check.proofs.bad_functions.Reads as reads
+use Rattle.book_check.proofs.bad_functions.Lts as lts
+use Rattle.book_check.proofs.bad_function.Reads as bad-function-reads
+use Rattle.text.proofs.read_line.Reads as read-line-reads
+
+abbrev Inv-loop : tie.InvT-loop
+Inv-loop text n i₀ i = (i ≤ (n)) × (least-from (λ f. bad-function (line text (2 + f)) f) ((n) - i) i ≡ least (λ f. bad-function (line text (2 + f)) f) (n))
+
+abbrev μ-loop : tie.MeasureT-loop
+μ-loop text n i₀ i = (n) - i
+
+-- src/lib.rt:117:5
+loop-holds : tie.Need-loop-holds Inv-loop μ-loop
+loop-holds c = (search needs, least-start _ _)
+
+-- src/lib.rt:118:13
+read-line-requires : tie.Need-read-line-requires Inv-loop μ-loop
+read-line-requires c κs = search needs
+
+-- src/lib.rt:119:12
+bad-function-requires : tie.Need-bad-function-requires Inv-loop μ-loop
+bad-function-requires c κs = search needs
+
+-- src/lib.rt:120:13
+returns : tie.Need-returns Inv-loop μ-loop
+returns c = let a = c .before .before .before .before .before .before .args in let l = c .before .before .before .before .loop in least-stop (λ f. bad-function (line (a .text .now) (2 + f)) f) ((a .n)) (l .i) (c .before .before .before .loop-test .taken) (cc) (l .inv .1)
+
+-- src/lib.rt:122:9
+add-i : tie.Need-add-i Inv-loop μ-loop
+add-i c = search needs
+
+-- src/lib.rt:117:5
+loop-less : tie.Need-loop-less Inv-loop μ-loop
+loop-less c = search needs
+
+-- src/lib.rt:117:5
+loop-again : tie.Need-loop-again Inv-loop μ-loop
+loop-again c = let a = c .before .before .before .before .before .before .args in let l = c .before .before .before .before .loop in (search needs, least-pass (λ f. bad-function (line (a .text .now) (2 + f)) f) ((a .n)) (l .i) (c .before .before .before .loop-test .taken) (cc) (l .inv .1))
+
+-- src/lib.rt:113:1
+returns-2 : tie.Need-returns-2 Inv-loop μ-loop
+returns-2 c = let a = c .before .before .before .args in let l = c .before .loop in least-end (λ f. bad-function (line (a .text .now) (2 + f)) f) ((a .n)) (l .i) (c .loop-test .left) (l .inv .1)
+
+pub bad-functions-spec : {M : Type 1} → statement M
+bad-functions-spec =
+    tie.close
+    (tie.spec
+    Inv-loop
+    μ-loop
+    loop-holds
+    read-line-requires
+    bad-function-requires
+    returns
+    add-i
+    loop-less
+    loop-again
+    returns-2)

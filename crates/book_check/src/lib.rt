@@ -1,0 +1,234 @@
+// The whole check of a book, refusals 1 and 3 to 8 in 01's order, and its export to C.
+use book::Header;
+use text::Answer;
+use text::Found;
+use text::Line;
+ghost use mathlib.Core.Path.{_≡_};
+ghost use mathlib.Core.List.{[]};
+ghost use Prim.Native.Nat.{_+_};
+ghost use lib.ListN.{length};
+ghost use Rattle.text.specs.declared.Found.the-variants.{Nowhere};
+ghost use Rattle.text.specs.Words.{least, answer-of};
+ghost use Rattle.text.specs.Text.{line, bad-line};
+ghost use Rattle.book.specs.Lines.{bad-field, bad-function};
+ghost use Rattle.book.specs.Image.{Holds, Room};
+ghost use Rattle.book.specs.Check.{check-lines, check-book, packed};
+ghost use Rattle.book_check.specs.Chain.{refusal, from-contents, from-agents, from-around, from-use, from-nodes, from-locations, from-functions, from-surplus, from-present, from-header};
+
+// The place of L among the fields of the header.
+const FIELD_OF_L: u32 = 8;
+
+fn refuse(number: u32, p: u32) -> Answer
+    ensures { λ r. ⌜ r ≡ refusal number p ⌝ }
+{
+    Answer { number, p, q: 0 }
+}
+
+// 8.
+fn check_contents<'a>(text: &'a [u8], image: &'a [u32], h: Header) -> Answer
+    requires { ⌜ (Room h) × (Holds (now image) h (now text)) ⌝ }
+    ensures { λ r. ⌜ r ≡ answer-of (from-contents h (now (text .entry))) ⌝ }
+{
+    let first = 2 + h.functions + h.nodes + h.agents;
+    let found = contents::bad_contents(text, image, first, h.contents);
+    match found {
+        Found::Here(i) => refuse(text::CONTENTS_RULE, first + i),
+        Found::Nowhere => refuse(0, 0),
+    }
+}
+
+// 7, then 8.
+fn check_agents<'a>(text: &'a [u8], image: &'a [u32], h: Header) -> Answer
+    requires { ⌜ (Room h) × (Holds (now image) h (now text)) ⌝ }
+    ensures { λ r. ⌜ r ≡ answer-of (from-agents h (now (text .entry))) ⌝ }
+{
+    let first = 2 + h.functions + h.nodes;
+    let found = nodes::bad_agents(text, image, first, h.agents);
+    match found {
+        Found::Here(i) => refuse(text::AGENT_LINE, i),
+        Found::Nowhere => check_contents(text, image, h),
+    }
+}
+
+// 6, binding, depth and nesting, and what follows.
+fn check_around<'a>(text: &'a [u8], image: &'a [u32], h: Header) -> Answer
+    requires { ⌜ (Room h) × (Holds (now image) h (now text)) ⌝ }
+    ensures { λ r. ⌜ r ≡ answer-of (from-around h (now (text .entry))) ⌝ }
+{
+    let found = around::bad_around(image);
+    match found {
+        Found::Here(i) => refuse(text::NODE_USE, i),
+        Found::Nowhere => check_agents(text, image, h),
+    }
+}
+
+// 6, use, and what follows.
+fn check_use<'a>(text: &'a [u8], image: &'a [u32], h: Header) -> Answer
+    requires { ⌜ (Room h) × (Holds (now image) h (now text)) ⌝ }
+    ensures { λ r. ⌜ r ≡ answer-of (from-use h (now (text .entry))) ⌝ }
+{
+    let found = around::bad_use(image);
+    match found {
+        Found::Here(i) => refuse(text::NODE_USE, i),
+        Found::Nowhere => check_around(text, image, h),
+    }
+}
+
+// 5, and what follows.
+fn check_nodes<'a>(text: &'a [u8], image: &'a [u32], h: Header) -> Answer
+    requires { ⌜ (Room h) × (Holds (now image) h (now text)) ⌝ }
+    ensures { λ r. ⌜ r ≡ answer-of (from-nodes h (now (text .entry))) ⌝ }
+{
+    let found = nodes::bad_nodes(image, h.nodes);
+    match found {
+        Found::Here(i) => refuse(text::NODE_LINE, i),
+        Found::Nowhere => check_use(text, image, h),
+    }
+}
+
+// 3 for L, and what follows.
+fn check_locations<'a>(text: &'a [u8], image: &'a [u32], h: Header) -> Answer
+    requires { ⌜ (Room h) × (Holds (now image) h (now text)) ⌝ }
+    ensures { λ r. ⌜ r ≡ answer-of (from-locations h (now (text .entry))) ⌝ }
+{
+    if book::fetch(image, 6) <= book::MOST_LOCATIONS {
+        check_nodes(text, image, h)
+    } else {
+        refuse(text::HEADER_BOUNDS, FIELD_OF_L)
+    }
+}
+
+// 4: function line f is at fault.
+fn bad_function(l: Line, f: u32) -> bool
+    ensures { λ r. ⌜ r ≡ bad-function l f ⌝ }
+{
+    !((l.a <= 2) & (l.b <= 3) & (l.c == 0) & (l.d == 0) & (!(f == 0) | ((l.a == 1) & (l.b == 3))))
+}
+
+// 4: the least of n functions that is at fault.
+fn bad_functions(text: &[u8], n: u32) -> Found
+    ensures { λ r. ⌜ r ≡ least (λ f. bad-function (line (now (text .entry)) (2 + f)) f) n ⌝ }
+{
+    let mut i: u32 = 0;
+    while i < n {
+        let l = text::read_line(text, 2, i);
+        if bad_function(l, i) {
+            return Found::Here(i);
+        }
+        i += 1;
+    }
+    Found::Nowhere
+}
+
+// 4, and what follows.
+fn check_functions<'a>(text: &'a [u8], image: &'a [u32], h: Header) -> Answer
+    requires { ⌜ (Room h) × (Holds (now image) h (now text)) ⌝ }
+    ensures { λ r. ⌜ r ≡ answer-of (from-functions h (now (text .entry))) ⌝ }
+{
+    let found = bad_functions(text, h.functions);
+    match found {
+        Found::Here(i) => refuse(text::FUNCTION_LINE, i),
+        Found::Nowhere => check_locations(text, image, h),
+    }
+}
+
+// 4 to 8 on lines that are all in form.
+fn check_lines(text: &[u8], h: Header) -> Answer
+    requires { ⌜ Room h ⌝ }
+    ensures { λ r. ⌜ r ≡ answer-of (check-lines h (now (text .entry))) ⌝ }
+{
+    let mut image = [0u32; 4296];
+    book::decode(text, h, &mut image);
+    check_functions(text, &image, h)
+}
+
+// 1 on all lines that the header calls for, and on what comes after them.
+fn check_form(text: &[u8], h: Header) -> Answer
+    requires { ⌜ Room h ⌝ }
+    ensures { λ r. ⌜ r ≡ answer-of (from-present h (now (text .entry))) ⌝ }
+{
+    let all = 2 + h.functions + h.nodes + h.agents + h.contents;
+    let found = text::bad_line(text, all);
+    match found {
+        Found::Here(i) => refuse(text::ILL_FORMED, i),
+        Found::Nowhere => {
+            if text.len() <= text::LINE * all as usize {
+                check_lines(text, h)
+            } else {
+                refuse(text::ILL_FORMED, all)
+            }
+        }
+    }
+}
+
+// Field i of the header, whose lines are k and l, is outside its bounds.
+fn bad_field(k: Line, l: Line, i: u32) -> bool
+    ensures { λ r. ⌜ r ≡ bad-field k l i ⌝ }
+{
+    ((i == 0) & !((4 <= k.a) & (k.a <= 10000)))
+        | ((i == 1) & !((4 <= k.b) & (k.b <= k.a)))
+        | ((i == 2) & !((1 <= k.c) & (k.c <= 32)))
+        | ((i == 3) & !((1 <= k.d) & (k.d <= 1024)))
+        | ((i == 4) & !((1 <= l.a) & (l.a <= 16)))
+        | ((i == 5) & !(l.b <= 65536))
+        | ((i == 6) & !(l.c == 0))
+        | ((i == 7) & !(l.d == 0))
+}
+
+// 3: the least field of the header that is outside its bounds.
+fn bad_header(k: Line, l: Line) -> Found
+    ensures { λ r. ⌜ r ≡ least (bad-field k l) 8 ⌝ }
+{
+    let mut i: u32 = 0;
+    while i < 8 {
+        if bad_field(k, l, i) {
+            return Found::Here(i);
+        }
+        i += 1;
+    }
+    Found::Nowhere
+}
+
+// 3 on header lines that are in form, and what follows.
+fn check_header(text: &[u8]) -> Answer
+    requires { ⌜ least (bad-line (now text)) 2 ≡ Nowhere ⌝ }
+    ensures { λ r. ⌜ r ≡ answer-of (from-header (now (text .entry))) ⌝ }
+{
+    let k = text::read_line(text, 0, 0);
+    let l = text::read_line(text, 0, 1);
+    let found = bad_header(k, l);
+    match found {
+        Found::Here(i) => refuse(text::HEADER_BOUNDS, i),
+        Found::Nowhere => {
+            let h = Header {
+                elements: k.a,
+                permanent: k.b,
+                functions: k.c,
+                nodes: k.d,
+                agents: l.a,
+                contents: l.b,
+            };
+            check_form(text, h)
+        }
+    }
+}
+
+// The whole check of a book.
+pub fn check_book(book: &[u8]) -> Answer
+    ensures { λ r. ⌜ r ≡ answer-of (check-book (now (book .entry))) ⌝ }
+{
+    let found = text::bad_line(book, 2);
+    match found {
+        Found::Here(i) => refuse(text::ILL_FORMED, i),
+        Found::Nowhere => check_header(book),
+    }
+}
+
+// The same for C: number × 2^32 + p. Each refusal of a book has q 0.
+#[no_mangle]
+pub extern "C" fn rental_check_book(book: &[u8]) -> u64
+    ensures { λ r. ⌜ r ≡ packed (answer-of (check-book (now (book .entry)))) ⌝ }
+{
+    let a = check_book(book);
+    a.number as u64 * 4294967296 + a.p as u64
+}

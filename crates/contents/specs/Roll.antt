@@ -1,0 +1,26 @@
+-- What the code holds for 8: the contents lines as entries, and a table of the labels that they put on the roll.
+use mathlib.Core.Bool.{Bool, _&&_, _||_}
+use mathlib.Core.List.{List}
+use Prim.Native.Nat.{ℕ, zero, suc, _+_}
+use lib.Dec.{eqb}
+use lib.ListN.{getD, set}
+use Rattle.text.specs.Words.{if_then_else_, table}
+use Rattle.text.specs.Text.{line}
+use Rattle.book.specs.declared.Entry.{Entry}
+use Rattle.book.specs.Book.{Book, entry-at}
+use Rattle.book.specs.Lines.{entry-of}
+
+-- the entries of n lines from line `first` on
+abbrev pub entries-from : List ℕ → ℕ → ℕ → List Entry
+entries-from text first n = table (λ i. entry-of (line text (first + i))) n
+
+-- the label that an entry of function 0 puts on the roll has 1 in the table
+abbrev pub marked : Entry → List ℕ → List ℕ
+marked e s = if eqb (e .function) 0 then set s (e .arg1) 1 else s
+
+unfoldable pub roll-of : Book → ℕ → List ℕ → List ℕ
+roll-of B zero s = s
+roll-of B (suc i) s = marked (entry-at B i) (roll-of B i s)
+
+abbrev pub untraced-by : List ℕ → Entry → Bool
+untraced-by s e = eqb (e .function) 0 || eqb (getD s (e .arg1) 0) 0 && eqb (getD s (e .arg2) 0) 0 && eqb (getD s (e .value) 0) 0
