@@ -1,3 +1,4 @@
 pub mod Words
 pub mod Refusals
 pub mod Text
+pub mod Scan
