@@ -6,3 +6,5 @@ pub mod Around
 pub mod Contents
 pub mod Check
 pub mod Sound
+pub mod Open
+pub mod Examples

@@ -3,3 +3,5 @@ pub mod Term
 pub mod Rule
 pub mod Move
 pub mod Single
+pub mod Open
+pub mod Examples

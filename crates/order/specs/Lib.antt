@@ -5,3 +5,4 @@ pub mod Run
 pub mod Call
 pub mod Orders
 pub mod Demand
+pub mod Open

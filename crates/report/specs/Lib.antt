@@ -1,3 +1,4 @@
 pub mod Report
 pub mod Open
 pub mod Cases
+pub mod Examples

@@ -1,0 +1,78 @@
+-- Single moves and what they leave and read, as a table under the lemma of Quoted: 01's plausible misreadings, and 11 to 16.
+use mathlib.Core.Path.{_≡_, refl}
+use mathlib.Core.Bool.{true}
+use mathlib.Core.List.{List, [], _∷_, _++_}
+use Prim.Native.Nat.{ℕ, _<_}
+use lib.ListN.{length, getD, replicate}
+use Rattle.text.specs.Words.{Checked, good, refused}
+use Rattle.text.specs.Quoted.{padded, Case, case, all-right, each-right}
+use Rattle.book.specs.Book.{Book}
+use Rattle.book.specs.Check.{check-book}
+use Rattle.book.specs.Examples.{triple}
+use Rattle.engine.specs.Move.{reads}
+use Rattle.engine.specs.Single.{Stepped, step-call}
+use Rattle.engine.specs.Open.{open-engine}
+
+-- a book, contents and agent 0: what the single-move entry answers and leaves; what the move reads
+pub data Question : Type 0 where
+  leaves : List ℕ → List ℕ → Question
+  reads-in : List ℕ → List ℕ → Question
+
+abbrev pub shown : Stepped → List ℕ
+shown s = triple (s .answer) ++ s .contents
+
+abbrev pub read-by : List ℕ → Checked Book → List ℕ
+read-by c (good B) = reads B c (record { agent = 0 })
+read-by c (refused n p q) = []
+
+abbrev pub asked : Question → List ℕ
+asked (leaves book c) = shown (step-call book c 0 256)
+asked (reads-in book c) = read-by c (check-book book)
+
+-- s and t are functions 1 and 2, of no argument, at locations 6 and 7
+abbrev pub swap-book : List ℕ
+swap-book =
+    padded
+    "6 6 3 7 / 1 0 0 0 / 1 3 0 0 / 0 2 0 0 / 0 2 0 0 / 4 1 0 0 / 4 2 0 0 / 21 0 1 0 / 4 2 0 0 / 4 1 0 0 / 21 3 4 0 / 22 2 5 0 / 6 3 0 0"
+
+-- if s is 4 then t := 3
+abbrev pub guard-book : List ℕ
+guard-book =
+    padded
+    "6 6 3 8 / 1 0 0 0 / 1 3 0 0 / 0 2 0 0 / 0 2 0 0 / 4 1 0 0 / 1 4 0 0 / 7 0 1 0 / 4 2 0 0 / 1 3 0 0 / 21 3 4 0 / 20 0 0 0 / 23 2 5 6 / 7 3 0 0"
+
+-- every member of function 1 is released; function 2 is no relation. Labels are 4 and 5
+abbrev pub release-book : List ℕ
+release-book = padded "6 4 3 3 / 1 0 0 0 / 1 3 0 0 / 1 3 0 0 / 1 2 0 0 / 2 0 0 0 / 27 0 0 0 / 25 0 1 1 / 2 3 0 0"
+
+abbrev pub none : List ℕ
+none = replicate 6 1
+
+unfoldable pub examples : List (Case Question)
+examples =
+    -- s := t beside t := s swaps
+    case (leaves swap-book (none ++ (3 ∷ 4 ∷ []))) (0 ∷ 0 ∷ 0 ∷ none ++ (4 ∷ 3 ∷ []))
+    -- a guard is read whatever it gives; the branch not taken reads nothing
+    ∷ case (reads-in guard-book (none ++ (3 ∷ 0 ∷ []))) (6 ∷ [])
+    ∷ case (leaves guard-book (none ++ (3 ∷ 0 ∷ []))) (16 ∷ 0 ∷ 0 ∷ none ++ (3 ∷ 0 ∷ []))
+    -- a release clears arguments and values: 4 is a member, has a value and is one
+    ∷ case (leaves release-book (none ++ ((1 ∷ 1 ∷ 1 ∷ 1 ∷ 2 ∷ 1 ∷ []) ++ (0 ∷ 0 ∷ 0 ∷ 4 ∷ 3 ∷ 0 ∷ []))))
+    (0 ∷ 0 ∷ 0 ∷ (1 ∷ 1 ∷ 1 ∷ 1 ∷ 2 ∷ 1 ∷ []) ++ (none ++ replicate 6 0))
+    -- a permanent member: 12
+    ∷ case (leaves release-book (none ++ ((2 ∷ 1 ∷ 1 ∷ 1 ∷ 1 ∷ 1 ∷ []) ++ replicate 6 0))) (12 ∷ 0 ∷ 1 ∷ none ++ ((2 ∷ 1 ∷ 1 ∷ 1 ∷ 1 ∷ 1 ∷ []) ++ replicate 6 0))
+    -- a lent table with a trace of a label on the roll: 8, and too short: 2
+    ∷ case (leaves release-book ((1 ∷ 1 ∷ 1 ∷ 1 ∷ 2 ∷ 1 ∷ []) ++ (none ++ (0 ∷ 0 ∷ 0 ∷ 4 ∷ 0 ∷ 0 ∷ []))))
+    (8 ∷ 15 ∷ 0 ∷ (1 ∷ 1 ∷ 1 ∷ 1 ∷ 2 ∷ 1 ∷ []) ++ (none ++ (0 ∷ 0 ∷ 0 ∷ 4 ∷ 0 ∷ 0 ∷ [])))
+    ∷ case (leaves release-book none) (2 ∷ 18 ∷ 0 ∷ none)
+    ∷ []
+
+examples-right : all-right asked examples ≡ true
+unfolding examples open-engine
+examples-right = refl
+
+abbrev pub no-example : Case Question
+no-example = case (leaves [] []) []
+
+-- each move answers, leaves and reads as the table says
+pub answered : (i : ℕ) → i < length examples → asked (getD examples i no-example .question) ≡ getD examples i no-example .answer
+answered i h = each-right asked examples no-example i examples-right h

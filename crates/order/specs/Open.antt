@@ -1,0 +1,12 @@
+-- One name that opens every definition of logs, and those below, on an `unfolding` line, for theorems by computation.
+use Prim.Native.Nat.{ℕ}
+use Rattle.engine.specs.Open.{open-engine}
+use Rattle.order.specs.Sets.{bit}
+use Rattle.order.specs.Pairs.{before, rows, least-two-from, none-two}
+use Rattle.order.specs.Log.{log-of, check-agents, check-log-header, check-log-text, check-log-lines, check-log}
+use Rattle.order.specs.Run.{run, moves-that, readers, writers, finish, run-from, run-log}
+use Rattle.order.specs.Call.{check-lent, check-all, log-call}
+
+unfoldable pub open-order : ℕ
+unfolding open-engine bit before rows least-two-from none-two log-of check-agents check-log-header check-log-text check-log-lines check-log run moves-that readers writers finish run-from run-log check-lent check-all log-call
+open-order = 0

@@ -1,0 +1,159 @@
+-- One example and more for each refusal 1 to 17, and the limits (01, column 'Example' and the unmarked cases), as a second table under the same lemma.
+use mathlib.Core.Path.{_≡_, refl}
+use mathlib.Core.Bool.{true}
+use mathlib.Core.List.{List, [], _∷_, _++_}
+use Prim.Native.Nat.{ℕ, suc, _+_, _*_, _<_, _/_, _%_}
+use Prim.Native.String.{String}
+use lib.ListN.{length, getD, take, drop, replicate}
+use Rattle.text.specs.declared.Line.{Line}
+use Rattle.text.specs.Words.{table}
+use Rattle.text.specs.Text.{line-length}
+use Rattle.text.specs.Quoted.{bytes, padded, Case, case, all-right, each-right}
+use Rattle.report.specs.Report.{all-written, rental}
+use Rattle.report.specs.Open.{everything}
+use Rattle.report.specs.Cases.{book}
+
+-- the log of case (a)
+abbrev pub log : List ℕ
+log = padded "2 1 0 0 / 0 0 0 0 / 1 0 0 0 / 0 1 0 0"
+
+-- a text with line i replaced, which may be by no line or by several
+abbrev pub changed : List ℕ → ℕ → List ℕ → List ℕ
+changed text i new = take (line-length * i) text ++ (new ++ drop (line-length * suc i) text)
+
+-- 01's book with line i replaced, and its log
+abbrev pub book-with : ℕ → String → List ℕ
+book-with i new = changed book i (padded new) ++ log
+
+abbrev pub four : ℕ → ℕ → ℕ → ℕ → Line
+four a b c d = record { a = a; b = b; c = c; d = d }
+
+-- a universe of 16 elements, a rule that sets a binary function at each pair of them, and a log of one move: 256 instructions
+abbrev pub sixteen : List ℕ
+sixteen = all-written (table (λ i. four 1 i 0 2) 16)
+
+unfoldable pub squares : List ℕ
+squares =
+    padded "17 17 3 7 / 1 16 0 0 / 1 3 0 0 / 1 3 0 0 / 2 2 0 0 / 2 0 0 0 / 2 1 0 0 / 6 2 0 1 / 1 3 0 0 / 21 2 3 0 / 25 1 1 4 / 25 0 1 5 / 6 3 0 0"
+    ++ (sixteen ++ padded "1 0 0 0 / 0 0 0 0")
+
+-- the same beside one more
+unfoldable pub squares-and-one : List ℕ
+squares-and-one =
+    padded
+    "17 17 4 11 / 1 16 0 0 / 1 3 0 0 / 1 3 0 0 / 2 2 0 0 / 0 2 0 0 / 2 0 0 0 / 2 1 0 0 / 6 2 0 1 / 1 3 0 0 / 21 2 3 0 / 25 1 1 4 / 25 0 1 5 / 4 3 0 0 / 1 3 0 0 / 21 7 8 0 / 22 6 9 0 / 10 3 0 0"
+    ++ (sixteen ++ padded "1 0 0 0 / 0 0 0 0")
+
+abbrev pub squares-end : List ℕ
+squares-end = all-written (four 0 0 0 272 ∷ (table (λ i. four 1 i 0 2) 16 ++ table (λ i. four 2 (i / 16) (i % 16) 3) 256))
+
+-- a counter, and n moves that add one to it, each after the one before
+unfoldable pub counted : ℕ → List ℕ
+counted n =
+    padded "80 80 2 5 / 1 1 0 0 / 1 3 0 0 / 0 2 0 0 / 4 1 0 0 / 4 1 0 0 / 1 4 0 0 / 11 1 2 0 / 21 0 3 0 / 4 3 0 0 / 1 0 0 3"
+    ++ (all-written (four (suc n) n 0 0 ∷ [])
+    ++ (all-written (replicate (suc n) (four 0 0 0 0)) ++ all-written (table (λ i. four i (suc i) 0 0) n)))
+
+unfoldable pub examples : List (Case (List ℕ))
+examples =
+    -- 1: a leading zero; a blank field; a tab; a cut line; no line at all; a missing line; a surplus one; before 3 on the other header line
+    case (bytes "     8    07     3    13\n" ++ drop line-length (book ++ log)) (padded "1 0 0 0")
+    ∷ case (bytes "     8           3    13\n" ++ drop line-length (book ++ log)) (padded "1 0 0 0")
+    ∷ case (bytes "     8\t    6     3    13\n" ++ drop line-length (book ++ log)) (padded "1 0 0 0")
+    ∷ case (take 520 (book ++ log)) (padded "1 20 0 0")
+    ∷ case [] (padded "1 0 0 0")
+    ∷ case book (padded "1 0 1 0")
+    ∷ case (book ++ (log ++ log)) (padded "1 4 1 0")
+    ∷ case (padded "3 4 1 1") (padded "1 1 0 0")
+    -- 2: L is over 2,048
+    ∷ case (padded "1025 6 2 1 / 1 0 0 0 / 1 3 0 0 / 1 2 0 0 / 20 0 0 0 / 0 3 0 0 / 0 0 0 0") (padded "2 2050 0 0")
+    -- 3: E; P over E; an unused field; L
+    ∷ case (book-with 0 "10001 6 3 13") (padded "3 0 0 0")
+    ∷ case (book-with 0 "8 9 3 13") (padded "3 1 0 0")
+    ∷ case (book-with 1 "2 3 1 0") (padded "3 6 0 0")
+    ∷ case (padded "300 6 2 1 / 1 0 0 0 / 1 3 0 0 / 2 2 0 0 / 20 0 0 0 / 0 3 0 0 / 0 0 0 0") (padded "3 8 0 0")
+    -- 4: arity 3; Reserve is no relation
+    ∷ case (book-with 3 "3 3 0 0") (padded "4 1 0 0")
+    ∷ case (book-with 2 "1 2 0 0") (padded "4 0 0 0")
+    -- 5: kind 14; a node that names Reserve; an unused field
+    ∷ case (book-with 5 "14 0 0 0") (padded "5 0 0 0")
+    ∷ case (book-with 6 "5 0 0 0") (padded "5 1 0 0")
+    ∷ case (book-with 5 "2 0 0 1") (padded "5 0 0 0")
+    -- 6: unbound; used twice; bound again; a third forall; depth 33, where 32 fits
+    ∷ case (padded "8 6 1 2 / 1 0 0 0 / 1 3 0 0 / 2 0 0 0 / 27 0 0 0 / 1 3 0 0 / 0 0 0 0") (padded "6 0 0 0")
+    ∷ case (book-with 8 "21 1 1 0") (padded "6 1 0 0")
+    ∷ case
+    (padded "8 6 2 6 / 1 0 0 0 / 1 3 0 0 / 1 3 0 0 / 2 0 0 0 / 5 1 0 0 / 1 1 0 0 / 21 1 2 0 / 25 0 1 3 / 25 0 1 4 / 5 3 0 0 / 0 0 0 0")
+    (padded "6 4 0 0")
+    ∷ case
+    (padded "8 6 2 6 / 1 0 0 0 / 1 3 0 0 / 1 3 0 0 / 20 0 0 0 / 25 0 1 0 / 25 1 1 1 / 25 2 1 2 / 20 0 0 0 / 22 3 4 0 / 5 3 0 0 / 0 0 0 0")
+    (padded "6 1 0 0")
+    ∷ case
+    (padded "8 6 1 33 / 1 0 0 0 / 1 3 0 0 / 1 0 0 0" ++ (all-written (table (λ i. four 8 i 0 0) 31) ++ padded "27 31 0 0 / 32 3 0 0 / 0 0 0 0"))
+    (padded "6 0 0 0")
+    ∷ case
+    (padded "8 6 1 32 / 1 0 0 0 / 1 3 0 0 / 1 0 0 0" ++ (all-written (table (λ i. four 8 i 0 0) 30) ++ padded "27 30 0 0 / 31 3 0 0 / 0 0 0 0"))
+    (padded "0 0 0 0")
+    -- 7: a label as element; elements that do not ascend
+    ∷ case (book-with 19 "12 6 0 0") (padded "7 1 0 0")
+    ∷ case (book-with 19 "12 4 0 0") (padded "7 1 0 0")
+    -- 8: the default; a trace by argument; a trace by value; a label in a static function; twice the same location
+    ∷ case (book-with 22 "2 6 0 0") (padded "8 22 0 0")
+    ∷ case (book-with 22 "2 7 0 4") (padded "8 22 0 0")
+    ∷ case (book-with 22 "2 6 0 7") (padded "8 22 0 0")
+    ∷ case (padded "8 6 2 1 / 1 1 0 0 / 1 3 0 0 / 1 0 0 0 / 20 0 0 0 / 0 3 0 0 / 1 3 0 6 / 0 0 0 0") (padded "8 6 0 0")
+    ∷ case (book-with 21 "0 7 0 2") (padded "8 21 0 0")
+    -- 9: a pair 1 1; no such agent; the header before the lines that it calls for
+    ∷ case (book ++ changed log 3 (padded "1 1 0 0")) (padded "9 3 0 0")
+    ∷ case (book ++ changed log 2 (padded "2 0 0 0")) (padded "9 2 0 0")
+    ∷ case (book ++ padded "65 0 0 0") (padded "9 0 0 0")
+    -- 10
+    ∷ case (book ++ padded "2 0 0 0 / 0 0 0 0 / 0 0 0 0") (padded "10 0 1 0")
+    -- 11, 12
+    ∷ case (padded "8 6 2 4 / 1 0 0 0 / 1 3 0 0 / 1 3 0 0 / 1 5 0 0 / 5 1 0 0 / 1 3 0 0 / 21 1 2 0 / 3 3 0 0 / 1 0 0 0 / 0 0 0 0") (padded "11 0 3 0")
+    ∷ case (padded "8 6 1 2 / 1 0 0 0 / 1 3 0 0 / 1 0 0 0 / 27 0 0 0 / 1 3 0 0 / 1 0 0 0 / 0 0 0 0") (padded "12 0 1 0")
+    -- 13: the third import of a move, where two labels are left
+    ∷ case
+    (padded
+    "8 6 2 6 / 1 2 0 0 / 1 3 0 0 / 1 3 0 0 / 20 0 0 0 / 26 0 1 0 / 26 1 1 1 / 26 2 1 2 / 20 0 0 0 / 22 3 4 0 / 5 3 0 0 / 0 6 0 2 / 0 7 0 2 / 1 0 0 0 / 0 0 0 0")
+    (padded "13 0 1 0")
+    -- 15: two values; a value that is released; 16; 17
+    ∷ case
+    (padded
+    "8 6 2 7 / 1 0 0 0 / 1 3 0 0 / 0 2 0 0 / 4 1 0 0 / 1 3 0 0 / 21 0 1 0 / 4 1 0 0 / 1 4 0 0 / 21 3 4 0 / 22 2 5 0 / 6 3 0 0 / 1 0 0 0 / 0 0 0 0")
+    (padded "15 0 8 0")
+    ∷ case
+    (padded
+    "8 6 3 6 / 1 1 0 0 / 1 3 0 0 / 0 2 0 0 / 0 2 0 0 / 4 2 0 0 / 4 1 0 0 / 21 0 1 0 / 4 1 0 0 / 27 3 0 0 / 22 2 4 0 / 5 3 0 0 / 1 0 0 6 / 1 0 0 0 / 0 0 0 0")
+    (padded "15 0 9 0")
+    ∷ case (padded "8 6 1 1 / 1 0 0 0 / 1 3 0 0 / 20 0 0 0 / 0 3 0 0 / 1 0 0 0 / 0 0 0 0") (padded "16 0 0 0")
+    ∷ case (book ++ padded "2 0 0 0 / 0 0 0 0 / 1 0 0 0") (padded "17 0 1 0")
+    -- 65 moves
+    ∷ case (counted 64) (padded "9 0 0 0")
+    ∷ []
+
+-- the limits: 256 instructions fit, and 64 moves
+unfoldable pub limits : List (Case (List ℕ))
+limits =
+    case squares squares-end
+    ∷ case squares-and-one (padded "14 0 9 0")
+    ∷ case (counted 63) (padded "0 0 0 1 / 1 0 0 67")
+    ∷ []
+
+examples-right : all-right rental examples ≡ true
+unfolding examples counted everything
+examples-right = refl
+
+limits-right : all-right rental limits ≡ true
+unfolding limits squares squares-and-one counted everything
+limits-right = refl
+
+abbrev pub no-example : Case (List ℕ)
+no-example = case [] []
+
+-- each example is printed as the tables say
+pub printed-examples : (i : ℕ) → i < length examples → rental (getD examples i no-example .question) ≡ getD examples i no-example .answer
+printed-examples i h = each-right rental examples no-example i examples-right h
+
+pub printed-limits : (i : ℕ) → i < length limits → rental (getD limits i no-example .question) ≡ getD limits i no-example .answer
+printed-limits i h = each-right rental limits no-example i limits-right h
