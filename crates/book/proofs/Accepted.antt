@@ -10,15 +10,13 @@ use lib.Dec.{eqb, ltb, leb}
 use lib.ListN.{length, getD}
 use borrow.Author.Tests.{eqb-true, ltb-true, leb-true, not-false}
 use Rattle.text.specs.declared.Line.{Line}
-use Rattle.text.specs.declared.Found.{Found}
 use Rattle.text.specs.declared.Found.the-variants.{Nowhere}
-use Rattle.text.specs.Words.{if_then_else_, within, table-from, table, least, Checked, good, _>>=_, _>>_, none-at, must}
+use Rattle.text.specs.Words.{within, table-from, table, least, good}
 use Rattle.text.specs.Refusals.{ill-formed, book-text, header-bounds, function-line, node-line, node-use, agent-line, contents-rule}
 use Rattle.text.specs.Text.{line-length, bad-line, line, no-line}
 use Rattle.text.proofs.Words.{and-cases, length-table-from, getD-table, getD-table-past, least-none, bind-good, found-good, test-good, good-same}
 use Rattle.book.specs.declared.Header.{Header}
-use Rattle.book.specs.declared.Function.{Function}
-use Rattle.book.specs.Book.{Book, L, size, no-function, no-agent, dynamic-relation, function-at, node-at, agent-at}
+use Rattle.book.specs.Book.{Book, L, size, no-function, no-agent, dynamic-relation, node-at, agent-at}
 use Rattle.book.specs.Kinds.{is-rule}
 use Rattle.book.specs.Lines.{header-of, bad-field, most-locations, first-function, first-agent, first-entry, line-count, lay-out, agent-of, book-of, bad-function, bad-node, bad-agent}
 use Rattle.book.specs.Use.{bad-use}

@@ -1,8 +1,8 @@
 -- What is handed down to a node: each node is used once, so a root has what it began with, and an operand what its one user gave it; depths above all.
-use mathlib.Core.Path.{_≡_, refl, sym, ap, _∙_}
+use mathlib.Core.Path.{_≡_, refl, sym, _∙_}
 use mathlib.Core.Logic.{_⊎_, inl, inr, dite, _≢_}
-use mathlib.Core.Bool.{Bool, true, false, not, _&&_, _||_, true≢false, false≢true}
-use mathlib.Core.List.{List, [], _∷_}
+use mathlib.Core.Bool.{Bool, true, false, not, _&&_, _||_}
+use mathlib.Core.List.{List}
 use Prim.Native.Nat.{ℕ, zero, suc, _+_, _-_, _≤_, _<_}
 use native.Mathlib.Omega.{arith}
 use native.Mathlib.Decide.{ℕ-discrete}
@@ -10,14 +10,14 @@ use lib.Dec.{eqb, ltb, leb}
 use lib.ListN.{length, getD, set, replicate, length-set, length-replicate, getD-replicate}
 use lib.Seq.{getD-set-same, getD-set-other}
 use borrow.Author.Tests.{eqb-true, eqb-false, eq-eqb, ne-eqb, ltb-true, ltb-false, leb-true, not-false}
-use Rattle.text.specs.Words.{if_then_else_, one-if, some-below}
+use Rattle.text.specs.Words.{if_then_else_, one-if}
 use Rattle.text.proofs.Words.{and-cases, or-cases, or-no, some-below-from}
 use Rattle.book.specs.declared.Node.{Node}
 use Rattle.book.specs.Book.{Book, function-at, node-at, agent-at, dynamic}
 use Rattle.book.specs.Kinds.{is-term, is-rule, is-binder, is-node, names-location, variable-kind, forall-kind, sort}
 use Rattle.book.specs.Lines.{fits, bad-node}
 use Rattle.book.specs.Use.{is-root, places, uses, bad-use}
-use Rattle.book.specs.Around.{most-depth, most-foralls, binds, put-if, hand, handed, deeper, depths, foralls, bounds, misplaced, bad-around}
+use Rattle.book.specs.Around.{most-depth, most-foralls, binds, put-if, hand, handed, deeper, depths, foralls, bounds, misplaced}
 use Rattle.book.specs.Sound.{Lawful}
 
 -- the depth of node n

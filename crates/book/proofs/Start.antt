@@ -42,43 +42,66 @@ two-true true a b e h = go (or-cases a false e)
     go (inr q) = absurd (false≢true q)
 two-true false a b e h = absurd (false≢true h)
 
-in-form-is : (B : Book) (i : ℕ) → bad-entry B i ≡ false → InForm B i (entry-at B i)
-unfolding bad-entry in-bounds in-form untraced
-in-form-is B i h =
+in-bounds-is : (B : Book) (e : Entry) → in-bounds B e ≡ true → (e .function < length (B .functions)) × (e .arg1 < B .E) × (e .arg2 < B .E) × (e .value < B .E)
+unfolding in-bounds
+in-bounds-is B e h =
+    let a = ltb (e .function) (length (B .functions)) in
+    let b = ltb (e .arg1) (B .E) in
+    let c = ltb (e .arg2) (B .E) in
+    let d = ltb (e .value) (B .E) in
+    let t = and-cases (a && b && c) d h in
+    let u = and-three a b c (t .0) in
+    (ltb-true (e .function) (length (B .functions)) (u .0), ltb-true (e .arg1) (B .E) (u .1), ltb-true (e .arg2) (B .E) (u .2), ltb-true (e .value) (B .E) (t .1))
+
+-- in a relation the value is true; a static function has no label; Reserve holds for labels only
+in-form-is : (P : ℕ) (e : Entry) (f : Function) → in-form P e f ≡ true
+    → (relation f ≡ true → e .value ≡ true-element) × (dynamic f ≡ false → (e .arg1 < P) × (e .arg2 < P) × (e .value < P)) × (e .function ≡ 0 → P ≤ e .arg1)
+unfolding in-form
+in-form-is P e f h =
+    let a = (leb 1 (f .arity) || eqb (e .arg1) 0) && (eqb (f .arity) 2 || eqb (e .arg2) 0) in
+    let true-only = relation f && eqb (e .value) true-element || not (relation f) && not (eqb (e .value) (default f)) in
+    let permanent = ltb (e .arg1) P && ltb (e .arg2) P && ltb (e .value) P in
+    let label = not (eqb (e .function) 0) || leb P (e .arg1) in
+    let t = and-three (a && true-only) (dynamic f || permanent) label h in (
+      λ r. eqb-true (e .value) true-element (two-true (relation f) (eqb (e .value) true-element) (not (eqb (e .value) (default f))) (and-cases a true-only (t .0) .1) r),
+      λ d.
+          let p = and-three (ltb (e .arg1) P) (ltb (e .arg2) P) (ltb (e .value) P) (or-other (dynamic f) permanent (t .1) d) in
+          (ltb-true (e .arg1) P (p .0), ltb-true (e .arg2) P (p .1), ltb-true (e .value) P (p .2)),
+      λ q. leb-true P (e .arg1) (or-other (not (eqb (e .function) 0)) (leb P (e .arg1)) (t .2) (rw (eq-eqb (e .function) 0 q))),
+    )
+
+untraced-is : (B : Book) (i : ℕ) → untraced B i ≡ true → entry-at B i .function ≢ 0
+    → (rolled B (entry-at B i .arg1) i ≡ false) × (rolled B (entry-at B i .arg2) i ≡ false) × (rolled B (entry-at B i .value) i ≡ false)
+unfolding untraced
+untraced-is B i h n =
+    let e = entry-at B i in
+    let a = rolled B (e .arg1) i in
+    let b = rolled B (e .arg2) i in
+    let c = rolled B (e .value) i in
+    let p = and-three (not a) (not b) (not c) (or-other (eqb (e .function) 0) (not a && not b && not c) h (ne-eqb (e .function) 0 n)) in
+    (not-true a (p .0), not-true b (p .1), not-true c (p .2))
+
+passed : (B : Book) (i : ℕ) → bad-entry B i ≡ false → InForm B i (entry-at B i)
+unfolding bad-entry
+passed B i h =
     let e = entry-at B i in
     let f = function-at B (e .function) in
-    let b1 = ltb (e .function) (length (B .functions)) in
-    let b2 = ltb (e .arg1) (B .E) in
-    let b3 = ltb (e .arg2) (B .E) in
-    let b4 = ltb (e .value) (B .E) in
-    let a1 = leb 1 (f .arity) || eqb (e .arg1) 0 in
-    let a2 = eqb (f .arity) 2 || eqb (e .arg2) 0 in
-    let a3 = relation f && eqb (e .value) true-element || not (relation f) && not (eqb (e .value) (default f)) in
-    let a4 = dynamic f || ltb (e .arg1) (B .P) && ltb (e .arg2) (B .P) && ltb (e .value) (B .P) in
-    let a5 = not (eqb (e .function) 0) || leb (B .P) (e .arg1) in
-    let c1 = leb (least-location B i) (entry-location B e) in
-    let c2 = eqb (e .function) 0 || not (rolled B (e .arg1) i) && not (rolled B (e .arg2) i) && not (rolled B (e .value) i) in
-    let t = and-cases (b1 && b2 && b3 && b4) (a1 && a2 && a3 && a4 && a5 && c1 && c2) (not-false (b1 && b2 && b3 && b4 && (a1 && a2 && a3 && a4 && a5 && c1 && c2)) h) in
-    let t3 = and-cases (b1 && b2 && b3) b4 (t .0) in
-    let t2 = and-three b1 b2 b3 (t3 .0) in
-    let u = and-three (a1 && a2 && a3 && a4 && a5) c1 c2 (t .1) in
-    let s = and-three (a1 && a2 && a3) a4 a5 (u .0) in
-    let r = and-three a1 a2 a3 (s .0) in
+    let form = in-form (B .P) e f in
+    let above = leb (least-location B i) (entry-location B e) in
+    let t = and-cases (in-bounds B e) (form && above && untraced B i) (not-false (in-bounds B e && (form && above && untraced B i)) h) in
+    let u = and-three form above (untraced B i) (t .1) in
+    let b = in-bounds-is B e (t .0) in
+    let g = in-form-is (B .P) e f (u .0) in
     record {
-      known = ltb-true (e .function) (length (B .functions)) (t2 .0);
-      first = ltb-true (e .arg1) (B .E) (t2 .1);
-      second = ltb-true (e .arg2) (B .E) (t2 .2);
-      small = ltb-true (e .value) (B .E) (t3 .1);
-      true-only = λ q. eqb-true (e .value) true-element (two-true (relation f) (eqb (e .value) true-element) (not (eqb (e .value) (default f))) (r .2) q);
-      permanent = λ d.
-          let p = and-three (ltb (e .arg1) (B .P)) (ltb (e .arg2) (B .P)) (ltb (e .value) (B .P)) (or-other (dynamic f) (ltb (e .arg1) (B .P) && ltb (e .arg2) (B .P) && ltb (e .value) (B .P)) (s .1) d) in
-          (ltb-true (e .arg1) (B .P) (p .0), ltb-true (e .arg2) (B .P) (p .1), ltb-true (e .value) (B .P) (p .2));
-      label = λ q. leb-true (B .P) (e .arg1) (or-other (not (eqb (e .function) 0)) (leb (B .P) (e .arg1)) (s .2) (rw (eq-eqb (e .function) 0 q)));
+      known = b .0;
+      first = b .1;
+      second = b .2;
+      small = b .3;
+      true-only = g .0;
+      permanent = g .1;
+      label = g .2;
       above = leb-true (least-location B i) (entry-location B e) (u .1);
-      clear = λ n.
-          let p = and-three (not (rolled B (e .arg1) i)) (not (rolled B (e .arg2) i)) (not (rolled B (e .value) i))
-          (or-other (eqb (e .function) 0) (not (rolled B (e .arg1) i) && not (rolled B (e .arg2) i) && not (rolled B (e .value) i)) (u .2) (ne-eqb (e .function) 0 n)) in
-          (not-true (rolled B (e .arg1) i) (p .0), not-true (rolled B (e .arg2) i) (p .1), not-true (rolled B (e .value) i) (p .2));
+      clear = untraced-is B i (u .2);
     }
 
 module _ (B : Book) (ok : Lawful B) where
@@ -253,7 +276,7 @@ module _ (B : Book) (ok : Lawful B) where
       let z : i + 0 ≡ i = omega arith in
       let q : e ≡ entry-at B i = g 0 ∙ ap (λ (j : ℕ). entry-at B j) z in
       all-entered es (suc i) (set c (entry-location B e) (e .value)) (omega arith) (λ j. g (suc j) ∙ ap (λ (n : ℕ). entry-at B n) (step j))
-      (subst (λ (x : Entry). Entered (suc i) (set c (entry-location B x) (x .value))) (sym q) (one-entered i c k (in-form-is B i (ok .entries i (omega arith)))))
+      (subst (λ (x : Entry). Entered (suc i) (set c (entry-location B x) (x .value))) (sym q) (one-entered i c k (passed B i (ok .entries i (omega arith)))))
     where
       step : (j : ℕ) → i + suc j ≡ suc i + j
       step j = omega arith

@@ -7,12 +7,11 @@ use Prim.Native.Nat.{ℕ, _≤_, _<_}
 use native.Mathlib.Omega.{arith}
 use native.Mathlib.Decide.{decLt}
 use lib.Dec.{eqb, ltb, leb}
-use lib.ListN.{length, getD, List·getD-eq-default}
+use lib.ListN.{length, List·getD-eq-default}
 use borrow.Author.Tests.{eqb-true, eq-eqb, ltb-true, leb-true, lt-ltb, le-ltb, not-true, not-false}
-use Rattle.text.specs.declared.Found.{Found}
 use Rattle.text.specs.declared.Found.the-variants.{Nowhere}
 use Rattle.text.specs.Words.{if_then_else_, has, least}
-use Rattle.text.proofs.Words.{and-cases, or-cases, or-no, or-other, least-none}
+use Rattle.text.proofs.Words.{and-cases, and-three, or-cases, or-no, or-other, least-none}
 use Rattle.book.specs.Book.{Book, L, true-element, boolean, place, relation-at, dynamic-at, default-at, arguments-at}
 use Rattle.book.specs.Contents.{on-roll, some-on-roll, roll-trace, all-permanent, bad-value}
 use Rattle.book.specs.Sound.{Lawful, at, Argument, OnRoll, Sound}
@@ -74,30 +73,37 @@ module _ (B : Book) (ok : Lawful B) (c : List ℕ) where
   equal-or v e a (inl q) = inl (eqb-true v e q)
   equal-or v e a (inr q) = inr q
 
+  -- a location that is no trace holds no label on the roll, and is at its default or has none as argument
+  no-trace : (l : ℕ) → roll-trace B c l ≡ false → (on-roll B c (at c l) ≡ false) × ((at c l ≡ default-at B l) ⊎ (some-on-roll B c (arguments-at B l) ≡ false))
+  no-trace l h =
+      let v = at c l in
+      let e = eqb v (default-at B l) in
+      let some = some-on-roll B c (arguments-at B l) in
+      let t = or-no (on-roll B c v) (not e && some) h in
+      (t .0, equal-or v (default-at B l) some (either-trace e some (t .1)))
+
   cell : (l : ℕ) → bad-value B c l ≡ false → Cell l
   unfolding bad-value
   cell l h =
       let v = at c l in
       let e = default-at B l in
-      let a1 = ltb v (B .E) in
-      let a2 = not (relation-at B l) || boolean v in
-      let p = all-permanent (B .P) (arguments-at B l) in
-      let a3 = dynamic-at B l || eqb v e || p && ltb v (B .P) in
-      let own-ok = not (eqb v true-element) || leb (B .P) l in
+      let small = ltb v (B .E) in
+      let booleans = not (relation-at B l) || boolean v in
+      let permanent = all-permanent (B .P) (arguments-at B l) in
+      let fixed = dynamic-at B l || eqb v e || permanent && ltb v (B .P) in
+      let own = not (eqb v true-element) || leb (B .P) l in
       let trace = roll-trace B c l in
-      let a4 = if ltb l (B .E) then own-ok else not trace in
-      let h3 = and-cases (a1 && a2 && a3) a4 (not-false (a1 && a2 && a3 && a4) h) in
-      let h2 = and-cases (a1 && a2) a3 (h3 .0) in
-      let h1 = and-cases a1 a2 (h2 .0) in
-      let none : B .E ≤ l → (on-roll B c v ≡ false) × ((not (eqb v e) && some-on-roll B c (arguments-at B l)) ≡ false) =
-      λ b. or-no (on-roll B c v) (not (eqb v e) && some-on-roll B c (arguments-at B l)) (not-true trace (pick-no (ltb l (B .E)) own-ok (not trace) (le-ltb l (B .E) b) (h3 .1))) in
+      let roll = if ltb l (B .E) then own else not trace in
+      let t = and-cases (small && booleans && fixed) roll (not-false (small && booleans && fixed && roll) h) in
+      let u = and-three small booleans fixed (t .0) in
+      let past : B .E ≤ l → trace ≡ false = λ b. not-true trace (pick-no (ltb l (B .E)) own (not trace) (le-ltb l (B .E) b) (t .1)) in
       record {
-        small = ltb-true v (B .E) (h1 .0);
-        booleans = λ r. or-other (not (relation-at B l)) (boolean v) (h1 .1) (rw r);
-        fixed = λ d. either-fixed (dynamic-at B l) (eqb v e) p (ltb v (B .P)) v e (B .P) d (eqb-true v e) (ltb-true v (B .P)) (h2 .1);
-        own = λ b r. leb-true (B .P) l (or-other (not (eqb v true-element)) (leb (B .P) l) (pick-yes (ltb l (B .E)) own-ok (not trace) (lt-ltb l (B .E) b) (h3 .1)) (rw (eq-eqb v true-element r)));
-        holds = λ b. none b .0;
-        traces = λ b. equal-or v e (some-on-roll B c (arguments-at B l)) (either-trace (eqb v e) (some-on-roll B c (arguments-at B l)) (none b .1));
+        small = ltb-true v (B .E) (u .0);
+        booleans = λ r. or-other (not (relation-at B l)) (boolean v) (u .1) (rw r);
+        fixed = λ d. either-fixed (dynamic-at B l) (eqb v e) permanent (ltb v (B .P)) v e (B .P) d (eqb-true v e) (ltb-true v (B .P)) (u .2);
+        own = λ b r. leb-true (B .P) l (or-other (not (eqb v true-element)) (leb (B .P) l) (pick-yes (ltb l (B .E)) own (not trace) (lt-ltb l (B .E) b) (t .1)) (rw (eq-eqb v true-element r)));
+        holds = λ b. no-trace l (past b) .0;
+        traces = λ b. no-trace l (past b) .1;
       }
 
   default-small : (l : ℕ) → at c l ≡ default-at B l → at c l < B .P

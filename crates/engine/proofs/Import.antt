@@ -10,7 +10,7 @@ use Rattle.text.specs.Words.{if_then_else_, table-from}
 use Rattle.text.specs.declared.Found.the-variants.{Here}
 use Rattle.book.specs.Book.{Book, true-element, agent-at, node-at}
 use Rattle.book.specs.Sound.{at}
-use Rattle.engine.specs.Look.{done, gives, seen}
+use Rattle.engine.specs.Look.{done, gives, seen, _>>=_}
 use Rattle.engine.specs.Rule.{Rule, import, Walk, lowest, import-of, walk, agent-walk, rule-at, no-variables}
 use Rattle.engine.proofs.Look.{seen-bind}
 

@@ -6,3 +6,4 @@ pub mod Walks
 pub mod Moves
 pub mod Numbers
 pub mod Import
+pub mod Fuel

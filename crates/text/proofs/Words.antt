@@ -1,8 +1,7 @@
 -- Laws of the words that every layer uses: choices, lists made by place, the least place at fault, and checks that pass.
-use mathlib.Core.Path.{_≡_, refl, sym, ap, _∙_}
+use mathlib.Core.Path.{_≡_, refl, ap, _∙_}
 use mathlib.Core.Logic.{_⊎_, inl, inr, dite}
 use mathlib.Core.Bool.{Bool, true, false, _||_, _&&_, or-true, true≢false, false≢true}
-use mathlib.Core.List.{List, [], _∷_}
 use Prim.Native.Nat.{ℕ, zero, suc, _+_, _-_, _≤_, _<_}
 use native.Mathlib.Nat.{zero-add}
 use native.Mathlib.Numerals.{add-one}
