@@ -8,3 +8,4 @@ pub mod Check
 pub mod Sound
 pub mod Open
 pub mod Examples
+pub mod Image
