@@ -9,3 +9,5 @@ pub mod Log
 pub mod Numbers
 pub mod Swap
 pub mod Claim
+pub mod Masks
+pub mod Search
