@@ -1,7 +1,7 @@
 -- Sets of moves as 64-bit words: intersection, complement, the least move (trailing zeros), how many there are (ones), and the set without its least.
-use mathlib.Core.Path.{_≡_, refl, sym, ap, _∙_}
-use mathlib.Core.Logic.{_↔_, dite, _≢_}
-use mathlib.Core.Bool.{Bool, true, false, not, _&&_, and-true, true≢false, false≢true}
+use mathlib.Core.Path.{_≡_, refl, sym, _∙_}
+use mathlib.Core.Logic.{dite, _≢_}
+use mathlib.Core.Bool.{Bool, true, false, not, _&&_, and-true, true≢false}
 use Prim.Native.Nat.{ℕ, zero, suc, _+_, _-_, _*_, _/_, _%_, _^_, _≤_, _<_}
 use native.Mathlib.Omega.{arith}
 use native.Mathlib.Decide.{ℕ-discrete, decLt}
@@ -30,6 +30,12 @@ unfolding bit
 test-out s i n = ne-eqb (s / 2 ^ i % 2) 1 (λ e. n (and-mask (s / 2 ^ i) 1 ∙ e))
 
 -- ---- sets with the same moves are equal
+
+-- two tests are equal where each passes with the other
+pub both-ways : (a b : Bool) → (a ≡ true → b ≡ true) → (b ≡ true → a ≡ true) → a ≡ b
+both-ways true b f g = sym (f refl)
+both-ways false true f g = g refl
+both-ways false false f g = refl
 
 no-moves : (s : ℕ) → ((i : ℕ) → bit s i ≡ false) → s ≡ 0
 no-moves s = bin-ind (λ (s : ℕ). ((i : ℕ) → bit s i ≡ false) → s ≡ 0) (λ h. refl) turn s

@@ -1,33 +1,30 @@
 -- The least pair of moves by loops, and by tests that agree.
-use mathlib.Core.Path.{_≡_, refl, sym, ap, _∙_}
-use mathlib.Core.Bool.{Bool, true}
-use Prim.Native.Nat.{ℕ, zero, suc, _+_, _-_, _≤_, _<_}
+use mathlib.Core.Path.{_≡_, refl, sym, _∙_}
+use mathlib.Core.Bool.{Bool}
+use Prim.Native.Nat.{ℕ, suc, _+_, _-_, _≤_, _<_}
 use native.Mathlib.Numerals.{add-one}
 use native.Mathlib.Omega.{arith}
-use Rattle.text.specs.declared.Found.{Found}
 use Rattle.text.specs.declared.Found.the-variants.{Nowhere, Here}
 use Rattle.text.specs.Words.{least-from}
 use Rattle.order.specs.Pairs.{TwoFound, no-two, two, or-else, least-two-from, least-two}
-use Rattle.order.specs.Orders.{LeastPair}
 use Rattle.order.proofs.Pairs.{Passing, two-none, two-least}
 
--- ---- by two tests that agree on the pairs i < j < m
+-- ---- by tests that the same pairs pass
 
-module _ (f g : ℕ → ℕ → Bool) (m : ℕ) (same : (i j : ℕ) → i < j → j < m → f i j ≡ g i j) where
-  pub two-same : least-two f m ≡ least-two g m
-  two-same = go (least-two g m) refl
+module _ (f g : ℕ → ℕ → Bool) (m n : ℕ)
+    (to : (i j : ℕ) → Passing f m i j → Passing g n i j) (from : (i j : ℕ) → Passing g n i j → Passing f m i j) where
+  pub two-alike : least-two f m ≡ least-two g n
+  two-alike = go (least-two g n) refl
     where
-      to : (i j : ℕ) → Passing f m i j → Passing g m i j
-      to i j (a, b, e) = (a, b, sym (same i j a b) ∙ e)
-
-      from : (i j : ℕ) → Passing g m i j → Passing f m i j
-      from i j (a, b, e) = (a, b, same i j a b ∙ e)
-
-      go : (o : TwoFound) → least-two g m ≡ o → least-two f m ≡ o
-      go no-two e = two-none f m .1 (λ i j p. two-none g m .0 e i j (to i j p))
+      go : (o : TwoFound) → least-two g n ≡ o → least-two f m ≡ o
+      go no-two e = two-none f m .1 (λ i j p. two-none g n .0 e i j (to i j p))
       go (two i j) e =
-          let l = two-least g m i j .0 e in
+          let l = two-least g n i j .0 e in
           two-least f m i j .1 (record { holds = from i j (l .holds); least = λ a b p. l .least a b (to a b p) })
+
+-- the tests agree on the pairs i < j < m
+pub two-same : (f g : ℕ → ℕ → Bool) (m : ℕ) → ((i j : ℕ) → i < j → j < m → f i j ≡ g i j) → least-two f m ≡ least-two g m
+two-same f g m same = two-alike f g m m (λ i j p. (p .0, p .1, sym (same i j (p .0) (p .1)) ∙ p .2)) (λ i j p. (p .0, p .1, same i j (p .0) (p .1) ∙ p .2))
 
 -- ---- a loop over the first moves, each of which looks for the least second
 
