@@ -60,11 +60,11 @@ mul-behind c = omega (arith, small c)
 
 -- src/lib.rt:188:22
 array-read-behind : tie.Need-array-read-behind Inv-loop μ-loop
-array-read-behind c = small c .0
+array-read-behind c = omega (arith, small c)
 
 -- src/lib.rt:188:33
 shl-behind : tie.Need-shl-behind Inv-loop μ-loop
-shl-behind c = small c .0
+shl-behind c = omega (arith, small c)
 
 -- src/lib.rt:189:19
 mul-rows : tie.Need-mul-rows Inv-loop μ-loop
@@ -72,7 +72,7 @@ mul-rows c = omega (arith, small c)
 
 -- src/lib.rt:189:19
 array-read-rows : tie.Need-array-read-rows Inv-loop μ-loop
-array-read-rows c = small c .1
+array-read-rows c = omega (arith, small c)
 
 -- src/lib.rt:189:9
 mul-rows-2 : tie.Need-mul-rows-2 Inv-loop μ-loop
@@ -80,7 +80,7 @@ mul-rows-2 c = omega (arith, small c)
 
 -- src/lib.rt:189:9
 array-write-rows : tie.Need-array-write-rows Inv-loop μ-loop
-array-write-rows c = small c .1
+array-write-rows c = omega (arith, small c)
 
 -- src/lib.rt:190:9
 add-i : tie.Need-add-i Inv-loop μ-loop
