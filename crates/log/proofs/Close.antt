@@ -3,7 +3,7 @@ use mathlib.Core.Path.{_≡_, refl, sym, _∙_}
 use mathlib.Core.Logic.{_↔_, _⊎_, inl, inr, dite, _≢_}
 use mathlib.Core.List.{List, [], _∷_}
 use mathlib.Core.Bool.{true, _||_, or-true, true≢false}
-use Prim.Native.Nat.{ℕ, zero, suc, _≤_, _<_}
+use Prim.Native.Nat.{ℕ, _≤_, _<_}
 use native.Mathlib.Omega.{arith}
 use native.Mathlib.Decide.{ℕ-discrete, decLt}
 use lib.Dec.{eqb}
@@ -18,7 +18,7 @@ use Rattle.order.specs.Orders.{Before, one, more}
 use Rattle.order.specs.Demand.{PairOf}
 use Rattle.order.proofs.Sets.{bit-or, bit-with, bit-empty}
 use Rattle.order.proofs.Rows.{length-rows, rows-set}
-use Rattle.order.proofs.Masks.{both-ways, bit-ext}
+use Rattle.order.proofs.Masks.{row-none, both-ways, bit-ext}
 
 -- each goes upwards, below m, and their earlier moves ascend
 abbrev pub Up : ℕ → ℕ → List Pair → Type 0
@@ -148,11 +148,6 @@ close-says q lo (p ∷ ps) r low up w =
 up-weaken : (m n lo : ℕ) (ps : List Pair) → m ≤ n → Up m lo ps → Up n lo ps
 up-weaken m n lo [] h u = tt
 up-weaken m n lo (p ∷ ps) h u = (u .0, u .1, omega (arith, u .2), up-weaken m n (p .earlier) ps h (u .3))
-
-row-none : (n j : ℕ) → getD (replicate n zero) j zero ≡ zero
-row-none zero j = refl
-row-none (suc n) zero = refl
-row-none (suc n) (suc j) = row-none n j
 
 closed : (ps : List Pair) → Up 64 0 ps → Says (PairOf ps) (close ps (replicate 64 0))
 closed ps up = says-iff (λ a b. (back a b, inr)) (close-says (λ c d. ⊥) 0 ps (replicate 64 0) (λ c d h. absurd h) up none)

@@ -15,7 +15,7 @@ use Rattle.text.specs.declared.Found.the-variants.{Nowhere, Here}
 use Rattle.text.specs.Words.{table, least-from, least, Checked, good, refused, _>>=_, _>>_, none-at, must, answer-of}
 use Rattle.text.specs.Refusals.{ill-formed, log-text, log-line, agent-unordered}
 use Rattle.text.specs.Text.{line-length, well-formed, line-bytes, bad-line, line}
-use Rattle.text.proofs.Words.{length-table-from, then-good, good-same}
+use Rattle.text.proofs.Words.{length-table-from, bind-good, then-good, found-good, test-good, good-same}
 use Rattle.book.specs.Book.{Book}
 use Rattle.order.specs.Pairs.{rows, least-two, none-two}
 use Rattle.order.specs.Log.{Log, move-at, log-header-ok, log-lines, input-of, pair-of, log-of, loose, check-agents, check-log-header, check-log-text, check-log-lines, check-log}
@@ -277,3 +277,17 @@ module _ (A : ℕ) (text : List ℕ) where
                   pairs = n ∙ sym how-many-pairs;
                   rows = λ j. rw (s, how-many) (row-same j);
                 }
+
+-- ---- the log that passes is that of the text
+
+pub passed-log : (B : Book) (text : List ℕ) (g : Log) → check-log B text ≡ good g → g ≡ log-of (line text 0) text
+unfolding check-log check-log-header
+passed-log B text g e =
+    let r = bind-good (check-log-header text) _ g e in
+    let h = r .0 in
+    let t = then-good (check-log-text h text) _ g (r .2) in
+    let u = then-good (check-log-lines B h text) _ g (t .2) in
+    let v = then-good (check-agents (log-of h text)) (good (log-of h text)) g (u .2) in
+    let f = found-good ill-formed 0 log-text (least (bad-line text) 1) (after-form text) h (r .1) in
+    let k = test-good (log-header-ok (line text 0)) log-line 0 0 (good (line text 0)) h (f .1) in
+    sym (ap (λ (x : Line). log-of x text) (good-same (line text 0) h (k .1)) ∙ good-same (log-of h text) g (v .2))

@@ -10,6 +10,7 @@ use lib.Bits.{bitAnd, and-step, and-self, and-shr, and-mod, and-mask}
 use lib.Pow.{pow-pos, shl-exact}
 use lib.Count.{trailingZeros, ones, under, ones-step}
 use lib.Arith.{bin-ind}
+use lib.ListN.{getD, replicate}
 use borrow.Author.Tests.{eqb-true, eqb-false, eq-eqb, ne-eqb}
 use Rattle.order.specs.Sets.{bit}
 use Rattle.order.proofs.Sets.{bit-low, bit-suc, bit-empty}
@@ -19,6 +20,12 @@ use Rattle.order.proofs.Sets.{bit-low, bit-suc, bit-empty}
 -- the set of one move, as it is shifted
 pub shl-one : (j : ℕ) → j < 64 → (1 * 2 ^ j) % 2 ^ 64 ≡ 2 ^ j
 shl-one j h = shl-exact {a = 1} 1 j 64 (omega arith) (omega arith) ∙ omega arith
+
+-- a table of empty sets
+pub row-none : (n j : ℕ) → getD (replicate n zero) j zero ≡ zero
+row-none zero j = refl
+row-none (suc n) zero = refl
+row-none (suc n) (suc j) = row-none n j
 
 -- the test of a move
 pub test-in : (s i : ℕ) → bitAnd (s / 2 ^ i) 1 ≡ 1 → bit s i ≡ true

@@ -3,7 +3,7 @@ use mathlib.Core.Path.{_≡_, refl, sym, ap, _∙_}
 use mathlib.Core.Logic.{dite, _≢_}
 use mathlib.Core.Bool.{Bool, true, false, not, _||_, _&&_, and-true, or-false}
 use mathlib.Core.List.{List}
-use Prim.Native.Nat.{ℕ, zero, suc, _+_, _-_, _/_, _^_, _<_}
+use Prim.Native.Nat.{ℕ, _+_, _-_, _/_, _^_, _<_}
 use native.Mathlib.Numerals.{add-one}
 use native.Mathlib.Omega.{arith}
 use native.Mathlib.Decide.{ℕ-discrete}
@@ -17,7 +17,7 @@ use Rattle.text.specs.Words.{if_then_else_, some-below}
 use Rattle.text.proofs.Words.{and-cases}
 use Rattle.order.specs.Sets.{bit}
 use Rattle.order.proofs.Sets.{bit-or, bit-empty}
-use Rattle.order.proofs.Masks.{test-in, test-out, least-in, least-lt, rest, ones-rest, ones-nonempty, ones-none, bit-rest}
+use Rattle.order.proofs.Masks.{row-none, test-in, test-out, least-in, least-lt, rest, ones-rest, ones-nonempty, ones-none, bit-rest}
 use Rattle.touch.specs.Marked.{touch-by, Met, AllMet}
 
 -- of the users of a location those that touch j, if it is one
@@ -136,11 +136,6 @@ sofar-end r w t u left n e z s = record {
         rw (none, bit-empty j, bit-or r w j, others-bit r w j i) (touch-bool (bit r i) (bit w i) (bit r j) (bit w j))
 
 -- ---- all locations
-
-row-none : (n j : ℕ) → getD (replicate n zero) j zero ≡ zero
-row-none zero j = refl
-row-none (suc n) zero = refl
-row-none (suc n) (suc j) = row-none n j
 
 module _ (rs ws : List ℕ) where
   pub all-start : AllMet rs ws 0 (replicate 64 0)
