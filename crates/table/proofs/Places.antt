@@ -49,6 +49,10 @@ module _ (B : Book) where
         let e : first + i - first ≡ i = omega arith in
         at .places (first + i) (omega arith) ∙ rw (e, cons, lt-ltb i n h)
 
+    -- the same, by the location's own number
+    pub from-at : (l : ℕ) → first ≤ l → l < first + n → place B l ≡ record { function = function-at B g; index = l - first }
+    from-at l h k = let e : first + (l - first) ≡ l = omega arith in rw e at (from-here (l - first) (omega arith))
+
     pub from-next : B .E ≤ 10000 → From (g + 1) (first + n)
     unfolding place-in total
     from-next low =
