@@ -7,3 +7,4 @@ pub mod Moves
 pub mod Numbers
 pub mod Import
 pub mod Fuel
+pub mod Steps
