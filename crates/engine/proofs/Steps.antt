@@ -1,6 +1,7 @@
 -- The tree that a node stands for, from its kind, one equation for each: what the arms of code that recurs on the depth left have to show.
 use mathlib.Core.Path.{_≡_, refl}
 use mathlib.Core.Logic.{_⊎_, inl, inr}
+use mathlib.Core.List.{List}
 use Prim.Native.Nat.{ℕ, zero, suc, _-_, _≤_, _<_}
 use native.Mathlib.Numerals.{sub-one}
 use native.Mathlib.Omega.{arith}
@@ -8,8 +9,9 @@ use lib.Dec.{leb}
 use lib.ListN.{getD, length, List·getD-eq-default}
 use borrow.Author.Tests.{le-leb, lt-leb}
 use Rattle.book.specs.declared.Node.{Node}
-use Rattle.book.specs.Book.{undef}
-use Rattle.engine.specs.Term.{Op, equal, both, either, plus, minus, less, Term, element, variable, self, at0, at1, at2, negated, joined, Shape, no-term, shapes, shape, tree, term-at}
+use Rattle.book.specs.Book.{undef, Book}
+use Rattle.engine.specs.Look.{Look, done}
+use Rattle.engine.specs.Term.{Op, equal, both, either, plus, minus, less, Term, element, variable, self, at0, at1, at2, negated, joined, Shape, no-term, shapes, shape, tree, term-at, target, function-of}
 use Rattle.engine.specs.Rule.{Rule, skip, assign, pair, test, bind, for-all, import, free, RuleShape, a-skip, no-rule, rule-shapes, rule-shape, rule-tree}
 
 -- ---- a depth of at least one, or of at least two
@@ -136,3 +138,47 @@ module _ (ns : ℕ → Node) (d n : ℕ) (x : Node) (some : 2 ≤ d) (loaded : x
       shape-of : (x .kind < 20) ⊎ (28 ≤ x .kind) → rule-shape x ≡ no-rule
       shape-of (inl l) = rw (lt-leb 20 (x .kind) l)
       shape-of (inr l) = rw (le-leb 20 (x .kind) (omega arith)) (List·getD-eq-default rule-shapes no-rule {n = x .kind - 20} (omega arith))
+
+-- ---- what a term of no kind 4 to 6 names
+
+module _ (B : Book) (me : ℕ) (vs : List ℕ) (ns : ℕ → Node) where
+  no-aim : (k d : ℕ) (x : Node) → ((k ≡ 4) → ⊥) → ((k ≡ 5) → ⊥) → ((k ≡ 6) → ⊥)
+      → (target B me vs (tree ns d (getD shapes k no-term) x) ≡ done 0) × (function-of (tree ns d (getD shapes k no-term) x) ≡ 0)
+  unfolding tree target function-of
+  no-aim k zero x a b c = (refl, refl)
+  no-aim zero (suc d) x a b c = (refl, refl)
+  no-aim (suc zero) (suc d) x a b c = (refl, refl)
+  no-aim (suc (suc zero)) (suc d) x a b c = (refl, refl)
+  no-aim (suc (suc (suc zero))) (suc d) x a b c = (refl, refl)
+  no-aim (suc (suc (suc (suc zero)))) (suc d) x a b c = absurd (a refl)
+  no-aim (suc (suc (suc (suc (suc zero))))) (suc d) x a b c = absurd (b refl)
+  no-aim (suc (suc (suc (suc (suc (suc zero)))))) (suc d) x a b c = absurd (c refl)
+  no-aim (suc (suc (suc (suc (suc (suc (suc zero))))))) (suc d) x a b c = (refl, refl)
+  no-aim (suc (suc (suc (suc (suc (suc (suc (suc zero)))))))) (suc d) x a b c = (refl, refl)
+  no-aim (suc (suc (suc (suc (suc (suc (suc (suc (suc zero))))))))) (suc d) x a b c = (refl, refl)
+  no-aim (suc (suc (suc (suc (suc (suc (suc (suc (suc (suc zero)))))))))) (suc d) x a b c = (refl, refl)
+  no-aim (suc (suc (suc (suc (suc (suc (suc (suc (suc (suc (suc zero))))))))))) (suc d) x a b c = (refl, refl)
+  no-aim (suc (suc (suc (suc (suc (suc (suc (suc (suc (suc (suc (suc zero)))))))))))) (suc d) x a b c = (refl, refl)
+  no-aim (suc (suc (suc (suc (suc (suc (suc (suc (suc (suc (suc (suc (suc zero))))))))))))) (suc d) x a b c = (refl, refl)
+  no-aim (suc (suc (suc (suc (suc (suc (suc (suc (suc (suc (suc (suc (suc (suc k)))))))))))))) (suc d) x a b c = (refl, refl)
+
+  module _ (d n : ℕ) (x : Node) (loaded : x ≡ ns n) (a : (x .kind ≡ 4) → ⊥) (b : (x .kind ≡ 5) → ⊥) (c : (x .kind ≡ 6) → ⊥) where
+    pub no-target : target B me vs (term-at ns d n) ≡ done 0
+    no-target = rw (← loaded) (no-aim (x .kind) d x a b c .0)
+
+    pub no-function-of : function-of (term-at ns d n) ≡ 0
+    no-function-of = rw (← loaded) (no-aim (x .kind) d x a b c .1)
+
+-- the function of a term of kinds 4 to 6
+module _ (ns : ℕ → Node) (d n : ℕ) (x : Node) (some : (d ≡ 0) → ⊥) (loaded : x ≡ ns n) where
+  pub function-none : x .kind ≡ 4 → function-of (term-at ns d n) ≡ x .a
+  unfolding function-of
+  function-none k = rw (term-none ns d n x some loaded k)
+
+  pub function-one : x .kind ≡ 5 → function-of (term-at ns d n) ≡ x .a
+  unfolding function-of
+  function-one k = rw (term-one ns d n x some loaded k)
+
+  pub function-two : x .kind ≡ 6 → function-of (term-at ns d n) ≡ x .a
+  unfolding function-of
+  function-two k = rw (term-two ns d n x some loaded k)
