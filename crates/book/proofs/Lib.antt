@@ -4,3 +4,4 @@ pub mod Start
 pub mod Table
 pub mod Depth
 pub mod Claims
+pub mod Image

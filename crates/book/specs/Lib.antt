@@ -9,3 +9,4 @@ pub mod Sound
 pub mod Open
 pub mod Examples
 pub mod Claims
+pub mod Image

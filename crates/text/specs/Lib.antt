@@ -2,3 +2,4 @@ pub mod Words
 pub mod Refusals
 pub mod Text
 pub mod Quoted
+pub mod Scan

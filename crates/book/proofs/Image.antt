@@ -1,0 +1,342 @@
+-- The image: what its rows hold after they are stored, and that a decoded image holds the text's book. Assumes nothing.
+use mathlib.Core.Path.{_≡_, refl, sym, _∙_, ap}
+use mathlib.Core.Bool.{Bool, true, false}
+use mathlib.Core.List.{List, [], _∷_}
+use Prim.Native.Nat.{ℕ, zero, suc, _+_, _-_, _*_, _^_, _<_, _≤_}
+use native.Mathlib.Decide.{decLt}
+use native.Mathlib.Nat.{le-of-lt, lt-of-le-of-lt, mul-le-mul-left, mul-le-mul-right, mul-lt-mul-of-pos-right}
+use native.Mathlib.Numerals.{add-one}
+use native.Mathlib.Omega.{arith}
+use lib.Pow.{pow-pos, pow-add}
+use lib.Dec.{eqb, ltb}
+use lib.ListN.{length, getD, set, length-set}
+use lib.Seq.{getD-set-same, getD-set-other}
+use borrow.Author.Tests.{lt-ltb, le-ltb}
+use Rattle.text.specs.declared.Line.{Line}
+use Rattle.text.specs.Words.{if_then_else_, table-from, table}
+use Rattle.text.specs.Text.{line}
+use Rattle.text.proofs.Words.{length-table-from, getD-table, getD-table-past, table-ext}
+use Rattle.book.specs.declared.Header.{Header}
+use Rattle.book.specs.declared.Function.{Function}
+use Rattle.book.specs.declared.Entry.{Entry}
+use Rattle.book.specs.Book.{Book, L, total, size, function-at, node-at, agent-at, no-function, no-node, no-agent}
+use Rattle.book.specs.Lines.{lay-out, node-of, agent-of, entry-of, book-of, first-node, first-agent, first-entry}
+use Rattle.book.specs.Image.{image-length, word, row-in, capped, function-of, book-in, Holds, Room, stored, filled, first-of, laid-row}
+
+-- a count within its bound
+pub uncapped : (n most : ℕ) → n ≤ most → capped n most ≡ n
+uncapped n most h = go (decLt n most)
+  where
+    go : Dec (n < most) → capped n most ≡ n
+    go (yes l) = rw (lt-ltb n most l)
+    go (no l) = let e : n ≡ most = omega arith in rw (le-ltb n most (omega arith)) (sym e)
+
+capped-most : (n most : ℕ) → capped n most ≤ most
+capped-most n most = go (decLt n most)
+  where
+    go : Dec (n < most) → capped n most ≤ most
+    go (yes l) = rw (lt-ltb n most l) (omega arith)
+    go (no l) = rw (le-ltb n most (omega arith)) (omega arith)
+
+-- ---- what an image's book has
+
+module _ (m : List ℕ) (es : List Entry) where
+  pub functions-long : length (book-in m es .functions) ≡ capped (word m 2) 32
+  unfolding book-in
+  functions-long = length-table-from _ 0 (capped (word m 2) 32)
+
+  pub nodes-long : length (book-in m es .nodes) ≡ capped (word m 3) 1024
+  unfolding book-in
+  nodes-long = length-table-from _ 0 (capped (word m 3) 1024)
+
+  pub agents-long : length (book-in m es .agents) ≡ capped (word m 4) 16
+  unfolding book-in
+  agents-long = length-table-from _ 0 (capped (word m 4) 16)
+
+  pub elements-most : book-in m es .E ≤ 10000
+  unfolding book-in
+  elements-most = capped-most (word m 0) 10000
+
+  pub functions-most : length (book-in m es .functions) ≤ 32
+  functions-most = rw functions-long (capped-most (word m 2) 32)
+
+  pub nodes-most : length (book-in m es .nodes) ≤ 1024
+  nodes-most = rw nodes-long (capped-most (word m 3) 1024)
+
+  pub agents-most : length (book-in m es .agents) ≤ 16
+  agents-most = rw agents-long (capped-most (word m 4) 16)
+
+  pub function-inside : (f : ℕ) → f < capped (word m 2) 32 → function-at (book-in m es) f ≡ function-of (row-in m (2 + f))
+  unfolding book-in
+  function-inside f h = getD-table (λ f. function-of (row-in m (2 + f))) (capped (word m 2) 32) f no-function h
+
+  pub function-past : (f : ℕ) → capped (word m 2) 32 ≤ f → function-at (book-in m es) f ≡ no-function
+  unfolding book-in
+  function-past f h = getD-table-past (λ f. function-of (row-in m (2 + f))) (capped (word m 2) 32) f no-function h
+
+  pub node-inside : (n : ℕ) → n < capped (word m 3) 1024 → node-at (book-in m es) n ≡ node-of (row-in m (50 + n))
+  unfolding book-in
+  node-inside n h = getD-table (λ n. node-of (row-in m (50 + n))) (capped (word m 3) 1024) n no-node h
+
+  pub node-past : (n : ℕ) → capped (word m 3) 1024 ≤ n → node-at (book-in m es) n ≡ no-node
+  unfolding book-in
+  node-past n h = getD-table-past (λ n. node-of (row-in m (50 + n))) (capped (word m 3) 1024) n no-node h
+
+  pub agent-inside : (i : ℕ) → i < capped (word m 4) 16 → agent-at (book-in m es) i ≡ agent-of (row-in m (34 + i))
+  unfolding book-in
+  agent-inside i h = getD-table (λ i. agent-of (row-in m (34 + i))) (capped (word m 4) 16) i no-agent h
+
+  pub agent-past : (i : ℕ) → capped (word m 4) 16 ≤ i → agent-at (book-in m es) i ≡ no-agent
+  unfolding book-in
+  agent-past i h = getD-table-past (λ i. agent-of (row-in m (34 + i))) (capped (word m 4) 16) i no-agent h
+
+-- ---- rows stored
+
+length-stored : (r : ℕ) (l : Line) (m : List ℕ) → length (stored r l m) ≡ length m
+unfolding stored
+length-stored r l m = simp length-set
+
+-- what stands in no place of the row stays
+stored-at :
+    (r : ℕ) (l : Line) (m : List ℕ) (i : ℕ) → (i ≡ r * 4 → ⊥) → (i ≡ r * 4 + 1 → ⊥) → (i ≡ r * 4 + 2 → ⊥) → (i ≡ r * 4 + 3 → ⊥) →
+    getD (stored r l m) i 0 ≡ getD m i 0
+unfolding stored
+stored-at r l m i a b c d = simp getD-set-other
+
+stored-other : (r : ℕ) (l : Line) (m : List ℕ) (q : ℕ) → (q ≡ r → ⊥) → row-in (stored r l m) q ≡ row-in m q
+stored-other r l m q n =
+    rw (
+      stored-at r l m (q * 4) (λ e. n (omega arith)) (λ e. omega arith) (λ e. omega arith) (λ e. omega arith),
+      stored-at r l m (q * 4 + 1) (λ e. omega arith) (λ e. n (omega arith)) (λ e. omega arith) (λ e. omega arith),
+      stored-at r l m (q * 4 + 2) (λ e. omega arith) (λ e. omega arith) (λ e. n (omega arith)) (λ e. omega arith),
+      stored-at r l m (q * 4 + 3) (λ e. omega arith) (λ e. omega arith) (λ e. omega arith) (λ e. n (omega arith)),
+    )
+
+stored-same : (r : ℕ) (l : Line) (m : List ℕ) → r * 4 + 3 < length m → row-in (stored r l m) r ≡ l
+unfolding stored
+stored-same n l ns h =
+    let l0 : n * 4 < length ns = omega arith in
+    let l1 : n * 4 + 1 < length (set ns (n * 4) (l .a)) = simp length-set (omega arith) in
+    let l2 : n * 4 + 2 < length (set (set ns (n * 4) (l .a)) (n * 4 + 1) (l .b)) = simp length-set (omega arith) in
+    let l3 : n * 4 + 3 < length (set (set (set ns (n * 4) (l .a)) (n * 4 + 1) (l .b)) (n * 4 + 2) (l .c)) = simp length-set (omega arith) in
+    let a : (n * 4 ≡ n * 4 + 1) → ⊥ = omega arith in
+    let b : (n * 4 ≡ n * 4 + 2) → ⊥ = omega arith in
+    let c : (n * 4 ≡ n * 4 + 3) → ⊥ = omega arith in
+    let d : (n * 4 + 1 ≡ n * 4 + 2) → ⊥ = omega arith in
+    let e : (n * 4 + 1 ≡ n * 4 + 3) → ⊥ = omega arith in
+    let f : (n * 4 + 2 ≡ n * 4 + 3) → ⊥ = omega arith in
+    simp (getD-set-other, getD-set-same)
+
+-- ---- a run of rows filled
+
+module _ (f : ℕ → Line) (base : ℕ) where
+  pub length-filled : (left i : ℕ) (m : List ℕ) → length (filled f base left i m) ≡ length m
+  unfolding filled
+  length-filled zero i m = refl
+  length-filled (suc left) i m = length-filled left (suc i) (stored (base + i) (f i) m) ∙ length-stored (base + i) (f i) m
+
+  filled-below : (left i : ℕ) (m : List ℕ) (q : ℕ) → q < base + i → row-in (filled f base left i m) q ≡ row-in m q
+  unfolding filled
+  filled-below zero i m q h = refl
+  filled-below (suc left) i m q h =
+      filled-below left (suc i) (stored (base + i) (f i) m) q (omega arith) ∙ stored-other (base + i) (f i) m q (λ e. omega arith)
+
+  filled-above : (left i : ℕ) (m : List ℕ) (q : ℕ) → base + i + left ≤ q → row-in (filled f base left i m) q ≡ row-in m q
+  unfolding filled
+  filled-above zero i m q h = refl
+  filled-above (suc left) i m q h =
+      filled-above left (suc i) (stored (base + i) (f i) m) q (omega arith) ∙ stored-other (base + i) (f i) m q (λ e. omega arith)
+
+  filled-in :
+      (left i : ℕ) (m : List ℕ) → (base + i + left) * 4 ≤ length m → (j : ℕ) → i ≤ j → j < i + left → row-in (filled f base left i m) (base + j) ≡ f j
+  unfolding filled
+  filled-in zero i m h j l g = absurd (omega arith)
+  filled-in (suc left) i m h j l g =
+      go (decLt i j) (λ k. filled-in left (suc i) (stored (base + i) (f i) m) (rw (length-stored (base + i) (f i) m) (omega arith)) j k (omega arith))
+    where
+      go :
+          Dec (i < j) → (i < j → row-in (filled f base left (suc i) (stored (base + i) (f i) m)) (base + j) ≡ f j) →
+          row-in (filled f base left (suc i) (stored (base + i) (f i) m)) (base + j) ≡ f j
+      go (yes k) p = p k
+      go (no k) p =
+          let e : j ≡ i = omega arith in
+          rw e (filled-below left (suc i) (stored (base + i) (f i) m) (base + i) (omega arith) ∙ stored-same (base + i) (f i) m (omega arith))
+
+  -- the loop that fills them
+  pub filled-start : (n : ℕ) (m : List ℕ) → filled f base (n - 0) 0 m ≡ filled f base n 0 m
+  filled-start n m = let e : n - 0 ≡ n = omega arith in rw e
+
+  pub filled-step : (n i : ℕ) (m : List ℕ) → i < n → filled f base (n - (i + 1)) (i + 1) (stored (base + i) (f i) m) ≡ filled f base (n - i) i m
+  unfolding filled
+  filled-step n i m h = let e : n - i ≡ suc (n - suc i) = omega arith in rw (add-one i, e)
+
+  pub filled-end : (n i : ℕ) (m : List ℕ) → n ≤ i → filled f base (n - i) i m ≡ m
+  unfolding filled
+  filled-end n i m h = let e : n - i ≡ 0 = omega arith in rw e
+
+-- ---- functions laid out one after the other
+
+module _ (at : ℕ → Line) (E : ℕ) where
+  pub first-none : 0 ≡ first-of at E 0
+  unfolding first-of
+  first-none = refl
+
+  pub first-step : (f : ℕ) → first-of at E (f + 1) ≡ first-of at E f + size E (at f .a)
+  unfolding first-of
+  first-step f = rw (add-one f)
+
+  laid-from : (i n : ℕ) → lay-out E (first-of at E i) (table-from at i n) ≡ table-from (λ f. function-of (laid-row at E f)) i n
+  unfolding table-from lay-out first-of
+  laid-from i zero = refl
+  laid-from i (suc n) = ap (λ (fs : List Function). function-of (laid-row at E i) ∷ fs) (laid-from (suc i) n)
+
+  pub laid : (n : ℕ) → lay-out E 0 (table at n) ≡ table (λ f. function-of (laid-row at E f)) n
+  unfolding first-of
+  laid n = laid-from 0 n
+
+  total-from : (i n : ℕ) → first-of at E i + total E (lay-out E (first-of at E i) (table-from at i n)) ≡ first-of at E (i + n)
+  unfolding table-from lay-out first-of total
+  total-from i zero = let e : i + 0 ≡ i = omega arith in rw e (omega arith)
+  total-from i (suc n) =
+      let e : i + suc n ≡ suc i + n = omega arith in
+      let p = total-from (suc i) n in
+      rw e (omega (arith, p))
+
+  pub total-laid : (n : ℕ) → first-of at E n ≡ total E (lay-out E 0 (table at n))
+  unfolding first-of
+  total-laid n = let p = total-from 0 n in let e : 0 + n ≡ n = omega arith in sym (rw e at p) ∙ omega arith
+
+-- a function of at most 10,000 elements has at most 100,000,000 locations
+pub size-most : (E arity : ℕ) → E ≤ 10000 → size E arity ≤ 100000000
+size-most E arity h = go (eqb arity 0) (eqb arity 1)
+  where
+    square : E * E ≤ 100000000
+    square = omega (arith, mul-le-mul-left E h, mul-le-mul-right 10000 h)
+
+    go : (a b : Bool) → (if a then 1 else if b then E else E * E) ≤ 100000000
+    go true b = omega arith
+    go false true = omega arith
+    go false false = square
+
+-- a product of two numbers of k bits
+pub below : (k : ℕ) {a b : ℕ} → a < 2 ^ k → b < 2 ^ k → a * b < 2 ^ (k + k)
+below k {a} {b} ha hb =
+    rw (pow-add 2 k k) (lt-of-le-of-lt (mul-le-mul-left a (le-of-lt hb)) (mul-lt-mul-of-pos-right ha (pow-pos k)))
+
+-- ---- a decoded image
+
+abbrev head-row : Header → Line
+head-row h = record { a = h .elements; b = h .permanent; c = h .functions; d = h .nodes }
+
+abbrev tail-row : List ℕ → Header → Line
+tail-row text h = record { a = h .agents; b = h .contents; c = first-of (λ i. line text (2 + i)) (h .elements) (h .functions); d = 0 }
+
+abbrev with-nodes : List ℕ → Header → List ℕ → List ℕ
+with-nodes text h m = filled (λ i. line text (2 + h .functions + i)) 50 (h .nodes) 0 (stored 0 (head-row h) m)
+
+abbrev with-agents : List ℕ → Header → List ℕ → List ℕ
+with-agents text h m = filled (λ i. line text (2 + h .functions + h .nodes + i)) 34 (h .agents) 0 (with-nodes text h m)
+
+abbrev with-functions : List ℕ → Header → List ℕ → List ℕ
+with-functions text h m = filled (laid-row (λ i. line text (2 + i)) (h .elements)) 2 (h .functions) 0 (with-agents text h m)
+
+abbrev pub decoded : List ℕ → Header → List ℕ → List ℕ
+decoded text h m = stored 1 (tail-row text h) (with-functions text h m)
+
+module _ (text : List ℕ) (h : Header) (m : List ℕ) (long : image-length ≤ length m) (room : Room h) where
+  long1 : length (stored 0 (head-row h) m) ≡ length m
+  long1 = length-stored 0 (head-row h) m
+
+  long2 : length (with-nodes text h m) ≡ length m
+  long2 = length-filled (λ i. line text (2 + h .functions + i)) 50 (h .nodes) 0 (stored 0 (head-row h) m) ∙ long1
+
+  long3 : length (with-agents text h m) ≡ length m
+  long3 = length-filled (λ i. line text (2 + h .functions + h .nodes + i)) 34 (h .agents) 0 (with-nodes text h m) ∙ long2
+
+  long4 : length (with-functions text h m) ≡ length m
+  long4 = length-filled (laid-row (λ i. line text (2 + i)) (h .elements)) 2 (h .functions) 0 (with-agents text h m) ∙ long3
+
+  row-head : row-in (decoded text h m) 0 ≡ head-row h
+  row-head =
+      stored-other 1 (tail-row text h) (with-functions text h m) 0 (λ e. omega arith)
+      ∙ filled-below (laid-row (λ i. line text (2 + i)) (h .elements)) 2 (h .functions) 0 (with-agents text h m) 0 (omega arith)
+      ∙ filled-below (λ i. line text (2 + h .functions + h .nodes + i)) 34 (h .agents) 0 (with-nodes text h m) 0 (omega arith)
+      ∙ filled-below (λ i. line text (2 + h .functions + i)) 50 (h .nodes) 0 (stored 0 (head-row h) m) 0 (omega arith)
+      ∙ stored-same 0 (head-row h) m (omega arith)
+
+  row-tail : row-in (decoded text h m) 1 ≡ tail-row text h
+  row-tail = stored-same 1 (tail-row text h) (with-functions text h m) (rw long4 (omega arith))
+
+  row-function : (f : ℕ) → f < h .functions → row-in (decoded text h m) (2 + f) ≡ laid-row (λ i. line text (2 + i)) (h .elements) f
+  row-function f l =
+      stored-other 1 (tail-row text h) (with-functions text h m) (2 + f) (λ e. omega arith)
+      ∙ filled-in (laid-row (λ i. line text (2 + i)) (h .elements)) 2 (h .functions) 0 (with-agents text h m) (rw long3 (omega (arith, room .functions))) f (omega arith) (omega arith)
+
+  row-agent : (i : ℕ) → i < h .agents → row-in (decoded text h m) (34 + i) ≡ line text (2 + h .functions + h .nodes + i)
+  row-agent i l =
+      stored-other 1 (tail-row text h) (with-functions text h m) (34 + i) (λ e. omega arith)
+      ∙ filled-above (laid-row (λ i. line text (2 + i)) (h .elements)) 2 (h .functions) 0 (with-agents text h m) (34 + i) (omega (arith, room .functions))
+      ∙ filled-in (λ i. line text (2 + h .functions + h .nodes + i)) 34 (h .agents) 0 (with-nodes text h m) (rw long2 (omega (arith, room .agents))) i (omega arith) (omega arith)
+
+  row-node : (n : ℕ) → n < h .nodes → row-in (decoded text h m) (50 + n) ≡ line text (2 + h .functions + n)
+  row-node n l =
+      stored-other 1 (tail-row text h) (with-functions text h m) (50 + n) (λ e. omega arith)
+      ∙ filled-above (laid-row (λ i. line text (2 + i)) (h .elements)) 2 (h .functions) 0 (with-agents text h m) (50 + n) (omega (arith, room .functions))
+      ∙ filled-above (λ i. line text (2 + h .functions + h .nodes + i)) 34 (h .agents) 0 (with-nodes text h m) (50 + n) (omega (arith, room .agents))
+      ∙ filled-in (λ i. line text (2 + h .functions + i)) 50 (h .nodes) 0 (stored 0 (head-row h) m) (rw long1 (omega (arith, room .nodes))) n (omega arith) (omega arith)
+
+  functions-same :
+      table (λ f. function-of (row-in (decoded text h m) (2 + f))) (h .functions) ≡ lay-out (h .elements) 0 (table (λ i. line text (2 + i)) (h .functions))
+  functions-same =
+      table-ext (λ f. function-of (row-in (decoded text h m) (2 + f))) (λ f. function-of (laid-row (λ i. line text (2 + i)) (h .elements) f)) (h .functions)
+      (λ f l. ap function-of (row-function f l))
+      ∙ sym (laid (λ i. line text (2 + i)) (h .elements) (h .functions))
+
+  nodes-same : table (λ n. node-of (row-in (decoded text h m) (50 + n))) (h .nodes) ≡ table (λ n. node-of (line text (2 + h .functions + n))) (h .nodes)
+  nodes-same =
+      table-ext (λ n. node-of (row-in (decoded text h m) (50 + n))) (λ n. node-of (line text (2 + h .functions + n))) (h .nodes)
+      (λ n l. ap node-of (row-node n l))
+
+  agents-same :
+      table (λ i. agent-of (row-in (decoded text h m) (34 + i))) (h .agents) ≡ table (λ i. agent-of (line text (2 + h .functions + h .nodes + i))) (h .agents)
+  agents-same =
+      table-ext (λ i. agent-of (row-in (decoded text h m) (34 + i))) (λ i. agent-of (line text (2 + h .functions + h .nodes + i))) (h .agents)
+      (λ i l. ap agent-of (row-agent i l))
+
+  word0 : word (decoded text h m) 0 ≡ h .elements
+  word0 = ap (λ (l : Line). l .a) row-head
+
+  word1 : word (decoded text h m) 1 ≡ h .permanent
+  word1 = ap (λ (l : Line). l .b) row-head
+
+  word2 : word (decoded text h m) 2 ≡ h .functions
+  word2 = ap (λ (l : Line). l .c) row-head
+
+  word3 : word (decoded text h m) 3 ≡ h .nodes
+  word3 = ap (λ (l : Line). l .d) row-head
+
+  word4 : word (decoded text h m) 4 ≡ h .agents
+  word4 = ap (λ (l : Line). l .a) row-tail
+
+  pub decoded-holds : Holds (decoded text h m) h text
+  unfolding book-in book-of
+  decoded-holds =
+      record {
+        book =
+            rw (
+              word0,
+              word1,
+              word2,
+              word3,
+              word4,
+              uncapped (h .elements) 10000 (room .elements),
+              uncapped (h .functions) 32 (room .functions),
+              uncapped (h .nodes) 1024 (room .nodes),
+              uncapped (h .agents) 16 (room .agents),
+              functions-same,
+              nodes-same,
+              agents-same,
+            );
+        contents = ap (λ (l : Line). l .b) row-tail;
+        locations = ap (λ (l : Line). l .c) row-tail ∙ total-laid (λ i. line text (2 + i)) (h .elements) (h .functions);
+      }

@@ -1,0 +1,74 @@
+-- The image of a book, which the code holds: rows of four numbers. Rows 0 and 1 are `E P F N` and `A C L 0`; function f is row 2 + f (first, arity,
+-- kind), agent i row 34 + i (root, element), node n row 50 + n (kind, a, b, c). A count past its bound counts as the bound: every image holds a book.
+use mathlib.Core.Path.{_≡_}
+use mathlib.Core.List.{List}
+use Prim.Native.Nat.{ℕ, zero, suc, _+_, _*_, _≤_}
+use lib.Dec.{ltb}
+use lib.ListN.{getD, set}
+use Rattle.text.specs.declared.Line.{Line}
+use Rattle.text.specs.Words.{if_then_else_, table}
+use Rattle.text.specs.Text.{line}
+use Rattle.book.specs.declared.Header.{Header}
+use Rattle.book.specs.declared.Function.{Function}
+use Rattle.book.specs.declared.Entry.{Entry}
+use Rattle.book.specs.Book.{Book, L, size}
+use Rattle.book.specs.Lines.{node-of, agent-of, book-of}
+
+abbrev pub image-length : ℕ
+image-length = 4296
+
+abbrev pub word : List ℕ → ℕ → ℕ
+word m i = getD m i 0
+
+abbrev pub row-in : List ℕ → ℕ → Line
+row-in m r = record { a = word m (r * 4); b = word m (r * 4 + 1); c = word m (r * 4 + 2); d = word m (r * 4 + 3) }
+
+abbrev pub capped : ℕ → ℕ → ℕ
+capped n most = if ltb n most then n else most
+
+abbrev pub function-of : Line → Function
+function-of l = record { first = l .a; arity = l .b; kind = l .c }
+
+-- the book that an image holds, with these entries
+unfoldable pub book-in : List ℕ → List Entry → Book
+book-in m es =
+    record {
+      E = capped (word m 0) 10000;
+      P = word m 1;
+      functions = table (λ f. function-of (row-in m (2 + f))) (capped (word m 2) 32);
+      nodes = table (λ n. node-of (row-in m (50 + n))) (capped (word m 3) 1024);
+      agents = table (λ i. agent-of (row-in m (34 + i))) (capped (word m 4) 16);
+      entries = es;
+    }
+
+-- the image is that of the book that a text says
+pub record Holds (m : List ℕ) (h : Header) (text : List ℕ) : Type 0 where
+  pub book : book-in m (book-of h text .entries) ≡ book-of h text
+  pub contents : word m 5 ≡ h .contents
+  pub locations : word m 6 ≡ L (book-of h text)
+
+-- a header whose book has room in an image
+pub record Room (h : Header) : Type 0 where
+  pub elements : h .elements ≤ 10000
+  pub functions : h .functions ≤ 32
+  pub nodes : h .nodes ≤ 1024
+  pub agents : h .agents ≤ 16
+  pub contents : h .contents ≤ 65536
+
+-- ---- rows stored
+
+unfoldable pub stored : ℕ → Line → List ℕ → List ℕ
+stored r l m = set (set (set (set m (r * 4) (l .a)) (r * 4 + 1) (l .b)) (r * 4 + 2) (l .c)) (r * 4 + 3) (l .d)
+
+-- rows from base + i on, `left` of them, with f i and so on
+unfoldable pub filled : (ℕ → Line) → ℕ → ℕ → ℕ → List ℕ → List ℕ
+filled f base zero i m = m
+filled f base (suc left) i m = filled f base left (suc i) (stored (base + i) (f i) m)
+
+-- the first location of function f, line f being `at f`; of the function past the last, L
+unfoldable pub first-of : (ℕ → Line) → ℕ → ℕ → ℕ
+first-of at E zero = 0
+first-of at E (suc f) = first-of at E f + size E (at f .a)
+
+abbrev pub laid-row : (ℕ → Line) → ℕ → ℕ → Line
+laid-row at E f = record { a = first-of at E f; b = at f .a; c = at f .b; d = 0 }

@@ -1,0 +1,189 @@
+-- The columns of a field, one by one: what the scan and the pushes give is what the definitions say. Assumes nothing.
+use mathlib.Core.Path.{_≡_, refl, sym, _∙_, ap}
+use mathlib.Core.Bool.{Bool, true, false, _&&_, _||_, not}
+use mathlib.Core.List.{List, [], _∷_, _++_}
+use Prim.Native.Nat.{ℕ, zero, suc, _+_, _-_, _*_, _<_, _≤_, min}
+use native.Mathlib.Nat.{mul-comm, min-le-right}
+use native.Mathlib.Omega.{arith}
+use lib.Dec.{eqb, leb, eqb·suc-zero}
+use lib.ListN.{length, getD, take, drop, length-take, length-drop, drop-of-length-le}
+use lib.Seq.{length-take-le, take-take, drop-drop, drop-cons, getD-take, getD-drop, take-add}
+use borrow.Author.Tests.{eqb-true, ne-eqb}
+use Rattle.text.specs.declared.Scan.{Scan}
+use Rattle.text.specs.declared.Scan.the-variants.{Blank, Zero, Digits, Bad}
+use Rattle.text.specs.Words.{if_then_else_}
+use Rattle.text.specs.Text.{blank, zero-digit, digit, digits, field-ok, value-of, line-bytes, column, well-formed, numbers-of, line}
+use Rattle.text.specs.declared.Line.{Line}
+use Rattle.text.specs.Scan.{step-of, scan, ends-well}
+
+-- ---- the form of a field
+
+scan-bad : (cs : List ℕ) → ends-well (scan Bad cs) ≡ false
+unfolding scan step-of
+scan-bad [] = refl
+scan-bad (c ∷ cs) = scan-bad cs
+
+scan-digits : (cs : List ℕ) → ends-well (scan Digits cs) ≡ digits cs
+unfolding scan step-of digits
+scan-digits [] = refl
+scan-digits (c ∷ cs) = go (digit c) (scan-digits cs) (scan-bad cs)
+  where
+    go : (d : Bool) → ends-well (scan Digits cs) ≡ digits cs → ends-well (scan Bad cs) ≡ false →
+        ends-well (scan (if d then Digits else Bad) cs) ≡ (d && digits cs)
+    go true p q = p
+    go false p q = q
+
+-- a 0 stands alone
+scan-zero : (cs : List ℕ) → ends-well (scan Zero cs) ≡ (digits cs && (eqb (length cs) 0 || not true))
+unfolding scan step-of digits
+scan-zero [] = refl
+scan-zero (c ∷ cs) = scan-bad cs ∙ go (digit c && digits cs)
+  where
+    go : (d : Bool) → false ≡ (d && (eqb (suc (length cs)) 0 || not true))
+    go true = rw (eqb·suc-zero (length cs))
+    go false = refl
+
+pub scan-field : (cs : List ℕ) → ends-well (scan Blank cs) ≡ field-ok cs
+unfolding scan step-of field-ok
+scan-field [] = refl
+scan-field (c ∷ cs) = go (eqb c blank) (eqb c zero-digit) refl (digit c) refl (scan-field cs)
+  where
+    last : (x y : Bool) → x ≡ (true && x && (y || not false))
+    last true true = refl
+    last true false = refl
+    last false y = refl
+
+    go :
+        (b z : Bool) → eqb c zero-digit ≡ z → (d : Bool) → digit c ≡ d → ends-well (scan Blank cs) ≡ field-ok cs →
+        ends-well (scan (if b then Blank else if z then Zero else if d then Digits else Bad) cs)
+        ≡ (if b then field-ok cs else d && digits cs && (eqb (length cs) 0 || not z))
+    go true z e d f p = p
+    go false true e d f p =
+        let q : c ≡ zero-digit = eqb-true c zero-digit e in
+        let t : d ≡ true = sym f ∙ rw q in
+        rw t (scan-zero cs)
+    go false false e true f p = scan-digits cs ∙ last (digits cs) (eqb (length cs) 0)
+    go false false e false f p = scan-bad cs
+
+-- ---- parts of a text
+
+-- a part of the first n bytes is a part of the whole
+part-of-front : (k m n : ℕ) (l : List ℕ) → k + m ≤ n → take m (drop k (take n l)) ≡ take m (drop k l)
+part-of-front zero m n l h = take-take m n l (omega arith)
+part-of-front (suc k) m zero l h = absurd (omega arith)
+part-of-front (suc k) m (suc n) [] h = refl
+part-of-front (suc k) m (suc n) (x ∷ xs) h = part-of-front k m n xs (omega arith)
+
+-- field j of line i
+column-of : (text : List ℕ) (i j k : ℕ) → k ≡ 6 * j → k ≤ 18 → column j (line-bytes text i) ≡ take 6 (drop (i * 25 + k) text)
+column-of text i j k e h =
+    let n : 25 * i + 6 * j ≡ i * 25 + k = omega arith in
+    part-of-front (6 * j) 6 25 (drop (25 * i) text) (omega arith) ∙ rw (drop-drop (6 * j) (25 * i) text, n)
+
+-- line i is whole: its fields are parts of the text
+pub whole-line :
+    (text : List ℕ) (i : ℕ) → i * 25 + 25 ≤ length text →
+    well-formed (line-bytes text i)
+    ≡ (field-ok (take 6 (drop (i * 25) text)) && field-ok (take 6 (drop (i * 25 + 6) text)) && field-ok (take 6 (drop (i * 25 + 12) text))
+    && field-ok (take 6 (drop (i * 25 + 18) text))
+    && eqb (getD text (i * 25 + 24) 0) 10)
+unfolding well-formed
+whole-line text i h =
+    let n : length (line-bytes text i) ≡ 25 = length-take-le 25 (drop (25 * i) text) (rw (length-drop (25 * i) text) (omega arith)) in
+    let g : getD (line-bytes text i) 24 0 ≡ getD text (i * 25 + 24) 0 =
+    getD-take 25 (drop (25 * i) text) 24 0 (omega arith) ∙ getD-drop (25 * i) text 24 0 ∙ ap (λ (k : ℕ). getD text (k + 24) 0) (mul-comm 25 i) in
+    rw (
+      n,
+      column-of text i 0 0 (omega arith) (omega arith),
+      column-of text i 1 6 (omega arith) (omega arith),
+      column-of text i 2 12 (omega arith) (omega arith),
+      column-of text i 3 18 (omega arith) (omega arith),
+      g,
+    )
+    (let z : i * 25 + 0 ≡ i * 25 = omega arith in rw z)
+
+-- line i is missing or cut short
+pub cut-line : (text : List ℕ) (i : ℕ) → length text < i * 25 + 25 → well-formed (line-bytes text i) ≡ false
+unfolding well-formed
+cut-line text i h =
+    let n : length (line-bytes text i) ≡ 25 → ⊥ = λ e. omega (arith, rw (length-take, length-drop) at e, min-le-right 25 (length text - 25 * i)) in
+    rw (ne-eqb (length (line-bytes text i)) 25 n)
+
+-- the numbers of line i
+pub line-of :
+    (text : List ℕ) (i a b c d : ℕ) → a ≡ value-of 0 (take 6 (drop (i * 25) text)) → b ≡ value-of 0 (take 6 (drop (i * 25 + 6) text)) →
+    c ≡ value-of 0 (take 6 (drop (i * 25 + 12) text)) → d ≡ value-of 0 (take 6 (drop (i * 25 + 18) text)) →
+    _≡_ {A = Line} (record { a = a; b = b; c = c; d = d }) (line text i)
+unfolding numbers-of
+line-of text i a b c d p q r s =
+    let z : i * 25 + 0 ≡ i * 25 = omega arith in
+    rw (
+      column-of text i 0 0 (omega arith) (omega arith),
+      column-of text i 1 6 (omega arith) (omega arith),
+      column-of text i 2 12 (omega arith) (omega arith),
+      column-of text i 3 18 (omega arith) (omega arith),
+      z,
+      p,
+      q,
+      r,
+      s,
+    )
+
+-- ---- one column more
+
+-- the scan of the columns that are left, from column k on
+module _ (text : List ℕ) (at : ℕ) where
+  pub scan-step :
+      (k : ℕ) (s : Scan) → at + 6 ≤ length text → k < 6 →
+      scan s (take (6 - k) (drop (at + k) text)) ≡ scan (step-of s (getD text (at + k) 0)) (take (6 - (k + 1)) (drop (at + (k + 1)) text))
+  unfolding scan
+  scan-step k s h l =
+      let e : 6 - k ≡ suc (6 - (k + 1)) = omega arith in
+      let n : suc (at + k) ≡ at + (k + 1) = omega arith in
+      let r : at + k < length text = omega arith in
+      rw (e, drop-cons text (at + k) 0 r, n)
+
+  pub scan-end : (k : ℕ) (s : Scan) → 6 ≤ k → scan s (take (6 - k) (drop (at + k) text)) ≡ s
+  unfolding scan
+  scan-end k s h = let e : 6 - k ≡ 0 = omega arith in rw e
+
+value-append : (n : ℕ) (a b : List ℕ) → value-of n (a ++ b) ≡ value-of (value-of n a) b
+unfolding value-of
+value-append n [] b = refl
+value-append n (x ∷ a) b = value-append (if eqb x blank then n else 10 * n + (x - zero-digit)) a b
+
+module _ (text : List ℕ) (at : ℕ) where
+  -- the number of column k, then that of the `left` others
+  value-step :
+      (k left n m r : ℕ) → m ≡ value-of n (take 1 (drop (at + k) text)) → value-of m (take left (drop (at + (k + 1)) text)) ≡ r →
+      value-of n (take (1 + left) (drop (at + k) text)) ≡ r
+  value-step k left n m r p q =
+      let e : (at + k) + 1 ≡ at + (k + 1) = omega arith in
+      ap (value-of n) (take-add 1 left (drop (at + k) text)) ∙ value-append n (take 1 (drop (at + k) text)) (take left (drop 1 (drop (at + k) text)))
+      ∙ rw (drop-drop 1 (at + k) text, e, ← p) q
+
+  -- six columns pushed one after the other
+  pub six :
+      (a b c d e f : ℕ) → a ≡ value-of 0 (take 1 (drop at text)) → b ≡ value-of a (take 1 (drop (at + 1) text)) →
+      c ≡ value-of b (take 1 (drop (at + 2) text)) → d ≡ value-of c (take 1 (drop (at + 3) text)) →
+      e ≡ value-of d (take 1 (drop (at + 4) text)) → f ≡ value-of e (take 1 (drop (at + 5) text)) →
+      f ≡ value-of 0 (take 6 (drop at text))
+  six a b c d e f p q r s t u =
+      let z : at + 0 ≡ at = omega arith in
+      let h4 = value-step 4 1 d e f t (sym u) in
+      let h3 = value-step 3 2 c d f s h4 in
+      let h2 = value-step 2 3 b c f r h3 in
+      let h1 = value-step 1 4 a b f q h2 in
+      let h0 = value-step 0 5 0 a f (rw z p) h1 in
+      sym (rw z at h0)
+
+  -- one column pushed
+  pub pushed :
+      (n : ℕ) → at < length text →
+      value-of n (take 1 (drop at text)) ≡ (if eqb (getD text at 0) blank then n else 10 * n + (getD text at 0 - zero-digit))
+  unfolding value-of
+  pushed n h = rw (drop-cons text at 0 h)
+
+  pub ended : (n : ℕ) → length text ≤ at → value-of n (take 1 (drop at text)) ≡ n
+  unfolding value-of
+  ended n h = rw (drop-of-length-le text {i = at} h)
