@@ -9,8 +9,8 @@ use Rattle.text.specs.declared.Answer.{Answer}
 use Rattle.text.specs.Words.{if_then_else_}
 use Rattle.text.specs.Text.{line-length}
 use Rattle.book.specs.declared.Function.{Function}
-use Rattle.book.specs.Book.{Book, L, default, arguments}
-use Rattle.report.specs.Report.{all-written, print-answer}
+use Rattle.book.specs.Book.{Book, L, size, default, arguments, function-at}
+use Rattle.report.specs.Report.{part-lines, all-written, print-answer}
 use Rattle.write.specs.Bytes.{put-bytes}
 
 -- the line of location i of function k, which is f and holds v there
@@ -20,6 +20,10 @@ line-for E f k i v = let xs = arguments E (f .arity) i in record { a = k; b = ge
 -- none, if v is the default
 unfoldable pub shown : ℕ → Function → ℕ → ℕ → ℕ → List Line
 shown E f k i v = if eqb v (default f) then [] else line-for E f k i v ∷ []
+
+-- those of all locations of function k
+abbrev pub function-lines : Book → List ℕ → ℕ → List Line
+function-lines B c k = part-lines B c k 0 (size (B .E) (function-at B k .arity))
 
 -- ls put after the first line and n others
 unfoldable pub lines-put : ℕ → List Line → List ℕ → List ℕ

@@ -4,12 +4,12 @@ use text::Answer;
 use text::Line;
 ghost use mathlib.Core.Path.{_≡_};
 ghost use mathlib.Core.List.{[]};
-ghost use Prim.Native.Nat.{_+_, _*_, _<_, _≤_};
+ghost use Prim.Native.Nat.{_+_, _<_, _≤_};
 ghost use lib.ListN.{length, getD};
-ghost use Rattle.book.specs.Book.{size, default, function-at};
+ghost use Rattle.book.specs.Book.{size, default};
 ghost use Rattle.book.specs.Image.{book-in};
-ghost use Rattle.report.specs.Report.{part-lines, contents-lines};
-ghost use Rattle.print.specs.Print.{line-for, shown, lines-put, Prints};
+ghost use Rattle.report.specs.Report.{contents-lines};
+ghost use Rattle.print.specs.Print.{line-for, shown, function-lines, lines-put, Prints};
 ghost use Rattle.print.specs.Split.{book-length, in-bounds};
 
 // The value at an index, 0 past the end.
@@ -67,14 +67,14 @@ fn print_location(e: u32, f: Function, k: u32, i: u32, v: u16, n: u32, out: &mut
         return n;
     }
     let l = line_of(e, f, k, i, v);
-    write::write_line(out, 25 + 25 * n as usize, l);
+    write::write_line(out, text::LINE + text::LINE * n as usize, l);
     n + 1
 }
 
 // Prints the contents of function k after n lines.
 fn print_function(image: &[u32], contents: &[u16], k: u32, n: u32, out: &mut [u8]) -> u32
     requires { ⌜ n ≤ 3100000000 ⌝ }
-    ensures { λ r. ⌜ (r ≡ n + length (part-lines (book-in (now (image .entry)) []) (now (contents .entry)) k 0 (size (book-in (now (image .entry)) [] .E) (function-at (book-in (now (image .entry)) []) k .arity)))) × (now (out .exit) ≡ lines-put n (part-lines (book-in (now (image .entry)) []) (now (contents .entry)) k 0 (size (book-in (now (image .entry)) [] .E) (function-at (book-in (now (image .entry)) []) k .arity))) (now (out .entry))) × (r ≤ n + 100000000) ⌝ }
+    ensures { λ r. ⌜ (r ≡ n + length (function-lines (book-in (now (image .entry)) []) (now (contents .entry)) k)) × (now (out .exit) ≡ lines-put n (function-lines (book-in (now (image .entry)) []) (now (contents .entry)) k) (now (out .entry))) × (r ≤ n + 100000000) ⌝ }
 {
     let f = book::function_at(image, k);
     let e = book::elements(image);
@@ -117,7 +117,7 @@ pub fn print_answer(image: &[u32], contents: &[u16], answer: Answer, out: &mut [
             d: n,
         };
         write::write_line(out, 0, l);
-        25 + 25 * n as usize
+        text::LINE + text::LINE * n as usize
     } else {
         let l = Line {
             a: answer.number,
@@ -126,7 +126,7 @@ pub fn print_answer(image: &[u32], contents: &[u16], answer: Answer, out: &mut [
             d: 0,
         };
         write::write_line(out, 0, l);
-        25
+        text::LINE
     }
 }
 
@@ -154,8 +154,8 @@ pub fn book_bytes(input: &[u8]) -> usize
         let l = text::read_line(input, 0, 1);
         if bounded(k, l) {
             let lines = 2 + k.c as usize + k.d as usize + l.a as usize + l.b as usize;
-            if 25 * lines < n {
-                return 25 * lines;
+            if text::LINE * lines < n {
+                return text::LINE * lines;
             }
         }
     }
