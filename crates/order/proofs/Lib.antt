@@ -11,3 +11,5 @@ pub mod Swap
 pub mod Touching
 pub mod Claim
 pub mod Claims
+pub mod Masks
+pub mod Search

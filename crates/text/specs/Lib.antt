@@ -3,3 +3,5 @@ pub mod Refusals
 pub mod Text
 pub mod Quoted
 pub mod Scan
+pub mod Scan
+pub mod Quoted

@@ -1,0 +1,3 @@
+pub mod Gather
+pub mod Best
+pub mod Fired

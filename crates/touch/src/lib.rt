@@ -1,0 +1,112 @@
+// The order check: the least pair of unordered moves that touch, from the marks alone.
+ghost use mathlib.Core.Path.{_≡_};
+ghost use mathlib.Core.Bool.{_&&_, not};
+ghost use Prim.Native.Nat.{_<_, _≤_, min};
+ghost use lib.ListN.{length, getD};
+ghost use Rattle.order.specs.Sets.{bit};
+ghost use Rattle.order.specs.Pairs.{ordered-by, least-two};
+ghost use Rattle.touch.specs.Marked.{unordered-marked, clipped, two-of, Met, AllMet, Nearest};
+
+// A pair of moves, if there is one: 0 0 if not.
+pub struct Two {
+    pub found: bool,
+    pub first: u32,
+    pub second: u32,
+}
+
+fn smaller(a: usize, b: usize) -> usize
+    ensures { λ r. ⌜ r ≡ min a b ⌝ }
+{
+    if a < b { a } else { b }
+}
+
+// To the moves that touch each of 64 come those that do so at a location with these marks: all its
+// users if the move writes it, its writers if it only reads it.
+fn meet(readers: u64, writers: u64, met: &mut [u64; 64])
+    requires { ⌜ length (now met) ≡ 64 ⌝ }
+    ensures { λ _. ⌜ Met readers writers (now (met .entry)) (now (met .exit)) ⌝ }
+{
+    let users = readers | writers;
+    let mut left = users;
+    let mut count = u64::count_ones(users);
+    while count > 0 {
+        let j = u64::trailing_zeros(left) as usize;
+        let mut others = writers;
+        if (writers >> j) & 1 == 1 {
+            others = users;
+        }
+        met[j] = met[j] | others;
+        left = left & (left - 1);
+        count -= 1;
+    }
+}
+
+// For each move those that touch it at one of the first n locations.
+fn met_of(readers: &[u64], writers: &[u64], n: usize) -> [u64; 64]
+    requires { ⌜ (n ≤ length (now readers)) × (n ≤ length (now writers)) ⌝ }
+    ensures { λ r. ⌜ AllMet (now (readers .entry)) (now (writers .entry)) n r ⌝ }
+{
+    let mut met: [u64; 64] = [0; 64];
+    let mut l: usize = 0;
+    while l < n {
+        meet(readers[l], writers[l], &mut met);
+        l += 1;
+    }
+    met
+}
+
+// The least move before j that touches it and is not ordered with it; 64 for none.
+fn nearest(met: u64, row: u64, j: usize) -> u32
+    requires { ⌜ j < 64 ⌝ }
+    ensures { λ r. ⌜ Nearest met row j r ⌝ }
+{
+    let earlier = (1u64 << j) - 1;
+    u64::trailing_zeros(met & !row & earlier)
+}
+
+// The least pair of the first m moves, by its first move and then its second.
+fn least_pair(met: &[u64; 64], rows: &[u64; 64], m: usize) -> Two
+    requires { ⌜ m ≤ 64 ⌝ }
+    ensures { λ r. ⌜ r ≡ two-of (least-two (λ i j. not (ordered-by (now (rows .entry)) i j) && bit (getD (now (met .entry)) j 0) i) m) ⌝ }
+{
+    let mut first: u32 = 64;
+    let mut second: usize = 0;
+    let mut j: usize = 0;
+    while j < m {
+        let i = nearest(met[j], rows[j], j);
+        if i < first {
+            first = i;
+            second = j;
+        }
+        j += 1;
+    }
+    if first < 64 {
+        Two {
+            found: true,
+            first: first,
+            second: second as u32,
+        }
+    } else {
+        Two {
+            found: false,
+            first: 0,
+            second: 0,
+        }
+    }
+}
+
+// 17: the least pair of the first `moves` moves that the rows leave unordered and that touch at one
+// of the first `locations` locations.
+pub fn touching(
+    readers: &[u64],
+    writers: &[u64],
+    rows: &[u64; 64],
+    moves: u32,
+    locations: usize,
+) -> Two
+    ensures { λ r. ⌜ r ≡ two-of (least-two (unordered-marked (now (rows .entry)) (now (readers .entry)) (now (writers .entry)) (clipped (now (readers .entry)) (now (writers .entry)) locations)) moves) ⌝ }
+{
+    let n = smaller(locations, smaller(readers.len(), writers.len()));
+    let met = met_of(readers, writers, n);
+    least_pair(&met, rows, smaller(moves as usize, 64))
+}
