@@ -1,0 +1,7 @@
+pub mod Laws
+pub mod Best
+pub mod Idle
+pub mod Sweep
+pub mod Runs
+pub mod Fires
+pub mod Judged

@@ -1,0 +1,79 @@
+use mathlib.Core.Path.{_≡_, refl, sym, ap, ap₂, _∙_}
+use mathlib.Core.Bool.{Bool, true, false, _&&_, _||_, not}
+use mathlib.Core.List.{List, []}
+use Prim.Native.Nat.{ℕ, _+_, _≤_, _<_, _-_, _/_, _%_, min}
+use native.Mathlib.Omega.{arith}
+use borrow.Author.Tests.{le-ltb, lt-ltb, lt-leb, le-leb, eq-eqb, ne-eqb}
+use lib.Dec.{eqb, ltb, leb}
+use lib.ListN.{length, getD, take, drop, set, length-set}
+use Rattle.book.specs.Image.{book-in}
+use Rattle.engine.specs.Move.{other, values}
+use Rattle.firing.specs.Code.{items}
+use Rattle.firing.specs.Steps.{own, gets, any, gives, spot}
+use Rattle.firing.proofs.Laws.{other-any}
+use borrow.Author.Needs.{needs}
+use Rattle.firing.proofs.better_of.Statement.{statement}
+use Rattle.firing.proofs.better_of.Tie as tie
+use Rattle.firing.proofs.better_of.Reads as reads
+use Rattle.firing.proofs.better_of.Lts as lts
+use Rattle.firing.proofs.is_doomed.Reads as is-doomed-reads
+use Rattle.firing.proofs.other_at.Reads as other-at-reads
+use Rattle.firing.proofs.own_location.Reads as own-location-reads
+use Rattle.firing.proofs.own_value.Reads as own-value-reads
+use Rattle.firing.proofs.spot_of.Reads as spot-of-reads
+use Rattle.table.proofs.elements.Reads as elements-reads
+
+-- src/lib.rt:236:9
+own-location-requires : tie.Need-own-location-requires
+own-location-requires c κs = search needs
+
+-- src/lib.rt:238:9
+returns : tie.Need-returns
+returns c = rw (← (c .before .own-location .ensures), le-ltb _ _ (c .if1 .taken))
+
+-- src/lib.rt:240:9
+elements-requires : tie.Need-elements-requires
+elements-requires c κs = search needs
+
+-- src/lib.rt:241:9
+spot-of-requires : tie.Need-spot-of-requires
+spot-of-requires c κs = search needs
+
+-- src/lib.rt:242:34
+own-value-requires : tie.Need-own-value-requires
+own-value-requires c κs = search needs
+
+-- src/lib.rt:242:8
+other-at-requires : tie.Need-other-at-requires
+other-at-requires c κs = search needs
+
+-- src/lib.rt:243:9
+returns-2 : tie.Need-returns-2
+returns-2 c = let a = c .before .before .before .before .before .before .before .before .before .args in let B = book-in (a .image .now) [] in let w = c .before .before .own-value .result in let is = items (a .list .now) (a .len) in let at = c .before .before .before .before .before .before .own-location in let h : other (gets (a .what)) (values B (a .contents .now) (own (a .what)) is) ≡ c .before .other-at .result = rw (← c .before .before .own-value .ensures, ← at .ensures) (other-any w B (a .contents .now) (at .result) is ∙ sym (c .before .other-at .ensures ∙ rw (c .before .before .before .spot-of .ensures, c .before .before .before .before .elements .ensures .0))) in rw (h, ← (at .ensures), lt-ltb _ _ (c .before .before .before .before .before .if1 .left), c .if2 .taken)
+
+-- src/lib.rt:245:8
+is-doomed-requires : tie.Need-is-doomed-requires
+is-doomed-requires c κs = search needs
+
+-- src/lib.rt:246:9
+returns-3 : tie.Need-returns-3
+returns-3 c = let a = c .before .before .before .before .before .before .before .before .before .before .before .args in let B = book-in (a .image .now) [] in let w = c .before .before .before .before .own-value .result in let is = items (a .list .now) (a .len) in let at = c .before .before .before .before .before .before .before .before .own-location in let h : other (gets (a .what)) (values B (a .contents .now) (own (a .what)) is) ≡ c .before .before .before .other-at .result = rw (← c .before .before .before .before .own-value .ensures, ← at .ensures) (other-any w B (a .contents .now) (at .result) is ∙ sym (c .before .before .before .other-at .ensures ∙ rw (c .before .before .before .before .before .spot-of .ensures, c .before .before .before .before .before .before .elements .ensures .0))) in rw (h, ← (at .ensures), lt-ltb _ _ (c .before .before .before .before .before .before .before .if1 .left), c .before .before .if2 .left, ← (c .before .is-doomed .ensures), c .if3 .taken)
+
+-- src/lib.rt:226:1
+returns-4 : tie.Need-returns-4
+returns-4 c = let a = c .before .before .before .before .before .before .before .before .before .before .before .args in let B = book-in (a .image .now) [] in let w = c .before .before .before .before .own-value .result in let is = items (a .list .now) (a .len) in let at = c .before .before .before .before .before .before .before .before .own-location in let h : other (gets (a .what)) (values B (a .contents .now) (own (a .what)) is) ≡ c .before .before .before .other-at .result = rw (← c .before .before .before .before .own-value .ensures, ← at .ensures) (other-any w B (a .contents .now) (at .result) is ∙ sym (c .before .before .before .other-at .ensures ∙ rw (c .before .before .before .before .before .spot-of .ensures, c .before .before .before .before .before .before .elements .ensures .0))) in rw (h, ← (at .ensures), lt-ltb _ _ (c .before .before .before .before .before .before .before .if1 .left), c .before .before .if2 .left, ← (c .before .is-doomed .ensures), c .if3 .left)
+
+pub better-of-spec : {M : Type 1} → statement M
+better-of-spec =
+    tie.close
+    (tie.spec
+    own-location-requires
+    returns
+    elements-requires
+    spot-of-requires
+    own-value-requires
+    other-at-requires
+    returns-2
+    is-doomed-requires
+    returns-3
+    returns-4)

@@ -1,0 +1,46 @@
+use mathlib.Core.Path.{_≡_, refl, sym, ap, ap₂, _∙_}
+use mathlib.Core.Bool.{Bool, true, false, _&&_, _||_, not}
+use mathlib.Core.List.{List, []}
+use Prim.Native.Nat.{ℕ, _+_, _≤_, _<_, _-_, _/_, _%_, min}
+use native.Mathlib.Omega.{arith}
+use borrow.Author.Tests.{le-ltb, lt-ltb, lt-leb, le-leb, eq-eqb, ne-eqb}
+use lib.Dec.{eqb, ltb, leb}
+use lib.ListN.{length, getD, take, drop, set, length-set}
+use borrow.Author.Needs.{needs}
+use Rattle.firing.proofs.clear_for.Statement.{statement}
+use Rattle.firing.proofs.clear_for.Tie as tie
+use Rattle.firing.proofs.clear_for.Reads as reads
+use Rattle.firing.proofs.clear_for.Lts as lts
+use Rattle.firing.proofs.clear.Reads as clear-reads
+
+enum-told : tie.Need-enum-told
+enum-told c = search needs
+
+-- src/lib.rt:432:32
+enum-known-what : tie.Need-enum-known-what
+enum-known-what c = search needs
+
+-- src/lib.rt:433:13
+clear-requires : tie.Need-clear-requires
+clear-requires c κs = search needs
+
+-- src/lib.rt:417:1
+returns : tie.Need-returns
+returns c = search needs
+
+-- src/lib.rt:417:1
+same-length : tie.Need-same-length
+same-length c = search needs
+
+-- src/lib.rt:417:1
+same-length-2 : tie.Need-same-length-2
+same-length-2 c = search needs
+
+-- src/lib.rt:417:1
+returns-2 : tie.Need-returns-2
+returns-2 c = (c .before .before .before .before .clear .ensures .0 ∙ rw (c .before .before .before .before .before .before .before .before .what .given .1), c .before .before .before .before .clear .ensures .1 ∙ rw (c .before .before .before .before .before .before .before .before .what .given .1))
+
+pub clear-for-spec : {M : Type 1} → statement M
+clear-for-spec =
+    tie.close
+    (tie.spec enum-told enum-known-what clear-requires returns same-length same-length-2 returns-2)

@@ -1,0 +1,38 @@
+use mathlib.Core.Path.{_≡_, refl, sym, ap, ap₂, _∙_}
+use mathlib.Core.Bool.{Bool, true, false, _&&_, _||_, not}
+use mathlib.Core.List.{List, []}
+use Prim.Native.Nat.{ℕ, _+_, _≤_, _<_, _-_, _/_, _%_, min}
+use native.Mathlib.Omega.{arith}
+use borrow.Author.Tests.{le-ltb, lt-ltb, lt-leb, le-leb, eq-eqb, ne-eqb}
+use lib.Dec.{eqb, ltb, leb}
+use lib.ListN.{length, getD, take, drop, set, length-set}
+use borrow.Author.Needs.{needs}
+use Rattle.firing.proofs.is_doomed.Statement.{statement}
+use Rattle.firing.proofs.is_doomed.Tie as tie
+use Rattle.firing.proofs.is_doomed.Reads as reads
+use Rattle.firing.proofs.is_doomed.Lts as lts
+use Rattle.firing.proofs.is_released.Reads as is-released-reads
+
+-- src/lib.rt:220:44
+enum-known-what : tie.Need-enum-known-what
+enum-known-what c = search needs
+
+-- src/lib.rt:220:55
+is-released-requires : tie.Need-is-released-requires
+is-released-requires c κs = search needs
+
+-- src/lib.rt:221:46
+enum-told : tie.Need-enum-told
+enum-told c = search needs
+
+-- src/lib.rt:216:1
+returns : tie.Need-returns
+returns c = c .is-released .ensures ∙ rw (c .before .before .what .given .1)
+
+-- src/lib.rt:216:1
+returns-2 : tie.Need-returns-2
+returns-2 c = rw (c .enum-told .given .1)
+
+pub is-doomed-spec : {M : Type 1} → statement M
+is-doomed-spec =
+    tie.close (tie.spec enum-known-what is-released-requires enum-told returns returns-2)

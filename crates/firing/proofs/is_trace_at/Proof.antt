@@ -1,0 +1,31 @@
+use mathlib.Core.Path.{_≡_, refl, sym, ap, ap₂, _∙_}
+use mathlib.Core.Bool.{Bool, true, false, _&&_, _||_, not}
+use mathlib.Core.List.{List, []}
+use Prim.Native.Nat.{ℕ, _+_, _≤_, _<_, _-_, _/_, _%_, min}
+use native.Mathlib.Omega.{arith}
+use borrow.Author.Tests.{le-ltb, lt-ltb, lt-leb, le-leb, eq-eqb, ne-eqb}
+use lib.Dec.{eqb, ltb, leb}
+use lib.ListN.{length, getD, take, drop, set, length-set}
+use mathlib.Core.Path.{sym, ap, _∙_}
+use borrow.Author.Needs.{needs}
+use Rattle.firing.proofs.is_trace_at.Statement.{statement}
+use Rattle.firing.proofs.is_trace_at.Tie as tie
+use Rattle.firing.proofs.is_trace_at.Reads as reads
+use Rattle.firing.proofs.is_trace_at.Lts as lts
+use Rattle.firing.proofs.has_argument.Reads as has-argument-reads
+use Rattle.table.proofs.is_dynamic.Reads as is-dynamic-reads
+
+-- src/lib.rt:98:5
+is-dynamic-requires : tie.Need-is-dynamic-requires
+is-dynamic-requires c κs = search needs
+
+-- src/lib.rt:98:29
+has-argument-requires : tie.Need-has-argument-requires
+has-argument-requires c κs = search needs
+
+-- src/lib.rt:95:1
+returns : tie.Need-returns
+returns c = rw (c .before .is-dynamic .ensures, c .has-argument .ensures)
+
+pub is-trace-at-spec : {M : Type 1} → statement M
+is-trace-at-spec = tie.close (tie.spec is-dynamic-requires has-argument-requires returns)

@@ -1,0 +1,3 @@
+pub mod Code
+pub mod Outcome
+pub mod Steps

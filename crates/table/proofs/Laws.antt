@@ -1,0 +1,73 @@
+-- Laws of numbers: a product of two u16 fits, the row and the column of the next place, and what an image's book has. Assumes nothing.
+use mathlib.Core.Path.{_≡_, refl, sym, ap, _∙_, subst⁻¹}
+use mathlib.Core.Bool.{Bool, true, false, _&&_}
+use mathlib.Core.List.{List, [], _∷_}
+use Prim.Native.Nat.{ℕ, zero, suc, _+_, _*_, _^_, _-_, _/_, _%_, _<_, _≤_}
+use native.Mathlib.Nat.{div-zero, mod-zero, mod-lt, div-add-mod', mul-add-div-right, mul-add-mod-self-right, div-eq-of-lt, mod-eq-of-lt, div-self, mod-self, le-of-lt, lt-of-le-of-lt, mul-le-mul-left, mul-le-mul-right, mul-lt-mul-of-pos-right}
+use native.Mathlib.Omega.{arith}
+use borrow.Author.Tests.{eqb-true, eqb-false}
+use lib.Pow.{pow-pos, pow-add}
+use lib.Dec.{eqb, ltb}
+use lib.ListN.{length, getD}
+use Rattle.text.specs.Words.{table}
+use Rattle.text.proofs.Words.{length-table-from, getD-table, getD-table-past}
+use Rattle.book.specs.declared.Function.{Function}
+use Rattle.book.specs.Book.{Book, function-at, no-function}
+use Rattle.book.specs.Image.{word, row-in, capped, function-of, book-in}
+
+pub below : (k : ℕ) {a b : ℕ} → a < 2 ^ k → b < 2 ^ k → a * b < 2 ^ (k + k)
+below k {a} {b} ha hb =
+    subst⁻¹ (λ (n : ℕ). a * b < n) (pow-add 2 k k)
+    (lt-of-le-of-lt (mul-le-mul-left a (le-of-lt hb)) (mul-lt-mul-of-pos-right ha (pow-pos k)))
+
+pub square-low : (e : ℕ) → e ≤ 10000 → e * e ≤ 100000000
+square-low e h = omega (arith, mul-le-mul-left e h, mul-le-mul-right 10000 h)
+
+pub and-one : (b : Bool) → b && true ≡ b
+and-one true = refl
+and-one false = refl
+
+-- ---- the row and the column of a place, and of the next
+
+module _ (e i : ℕ) where
+  next-is : 0 < e → i + 1 ≡ i / e * e + (i % e + 1)
+  next-is h = omega (arith, div-add-mod' i e)
+
+  pub turn : i % e + 1 ≡ e → (i / e + 1 ≡ (i + 1) / e) × (0 ≡ (i + 1) % e)
+  turn h =
+      let p : 0 < e = omega arith in (
+        sym
+            (ap (λ (n : ℕ). n / e) (next-is p) ∙ mul-add-div-right p (i / e) (i % e + 1) ∙ ap (λ (n : ℕ). i / e + n / e) h
+            ∙ ap (λ (n : ℕ). i / e + n) (div-self p)),
+        sym (ap (λ (n : ℕ). n % e) (next-is p) ∙ mul-add-mod-self-right (i / e) e (i % e + 1) ∙ ap (λ (n : ℕ). n % e) h ∙ mod-self e),
+      )
+
+  pub along : (i % e + 1 ≡ e → ⊥) → (i / e ≡ (i + 1) / e) × (i % e + 1 ≡ (i + 1) % e)
+  along h = step (eqb e 0) refl
+    where
+      step : (b : Bool) → eqb e 0 ≡ b → (i / e ≡ (i + 1) / e) × (i % e + 1 ≡ (i + 1) % e)
+      step true f = let z : e ≡ 0 = eqb-true e 0 f in (rw (z, div-zero, div-zero), rw (z, mod-zero, mod-zero))
+      step false f =
+          let n : e ≡ 0 → ⊥ = eqb-false e 0 f in
+          let p : 0 < e = omega (arith, n) in
+          let m : i % e < e = mod-lt i p in
+          let q : i % e + 1 < e = omega (arith, h, m) in (
+            sym
+                (ap (λ (n : ℕ). n / e) (next-is p) ∙ mul-add-div-right p (i / e) (i % e + 1) ∙ ap (λ (n : ℕ). i / e + n) (div-eq-of-lt q) ∙ omega arith),
+            sym (ap (λ (n : ℕ). n % e) (next-is p) ∙ mul-add-mod-self-right (i / e) e (i % e + 1) ∙ mod-eq-of-lt q),
+          )
+
+-- ---- what an image's book has
+
+module _ (m : List ℕ) where
+  pub functions-long : length (book-in m [] .functions) ≡ capped (word m 2) 32
+  unfolding book-in
+  functions-long = length-table-from _ 0 (capped (word m 2) 32)
+
+  pub function-inside : (f : ℕ) → f < length (book-in m [] .functions) → function-at (book-in m []) f ≡ function-of (row-in m (2 + f))
+  unfolding book-in
+  function-inside f h = getD-table (λ f. function-of (row-in m (2 + f))) (capped (word m 2) 32) f no-function (rw functions-long at h)
+
+  pub function-past : (f : ℕ) → length (book-in m [] .functions) ≤ f → function-at (book-in m []) f ≡ no-function
+  unfolding book-in
+  function-past f h = getD-table-past (λ f. function-of (row-in m (2 + f))) (capped (word m 2) 32) f no-function (rw functions-long at h)

@@ -1,0 +1,256 @@
+// A contents table of the book that an image holds: its functions, how many locations it has, and refusal 8 of a lent one.
+use book::Function;
+use text::Found;
+ghost use mathlib.Core.Path.{_≡_};
+ghost use mathlib.Core.Bool.{_&&_};
+ghost use mathlib.Core.List.{[]};
+ghost use Prim.Native.Nat.{_+_, _*_, _/_, _%_, _<_, _≤_};
+ghost use lib.Dec.{eqb, ltb};
+ghost use lib.ListN.{length, getD, take};
+ghost use Rattle.text.specs.Words.{least};
+ghost use Rattle.book.specs.Book.{Book, L, true-element, size, boolean, relation, dynamic, default, function-at, place};
+ghost use Rattle.book.specs.Image.{word, capped, book-in};
+ghost use Rattle.book.specs.Contents.{some-on-roll, all-permanent, bad-value};
+ghost use Rattle.table.specs.Part.{arguments-by, Part};
+
+// The bounds of the counts in an image.
+pub const MOST_ELEMENTS: u16 = 10000;
+
+pub const MOST_FUNCTIONS: u16 = 32;
+
+// ---- the image
+
+// The number at an index, 0 past the end.
+pub fn fetch(s: &[u16], i: usize) -> u16
+    ensures { λ r. ⌜ r ≡ getD (now (s .entry)) i 0 ⌝ }
+{
+    if i < s.len() { s[i] } else { 0 }
+}
+
+pub fn word(image: &[u16; 4296], i: usize) -> u16
+    ensures { λ r. ⌜ r ≡ word (now (image .entry)) i ⌝ }
+{
+    fetch(image, i)
+}
+
+fn cap(n: u16, most: u16) -> u16
+    ensures { λ r. ⌜ (r ≡ capped n most) × (r ≤ most) ⌝ }
+{
+    if n < most { n } else { most }
+}
+
+// E.
+pub fn elements(image: &[u16; 4296]) -> u16
+    ensures { λ r. ⌜ (r ≡ book-in (now (image .entry)) [] .E) × (r ≤ 10000) ⌝ }
+{
+    cap(word(image, 0), MOST_ELEMENTS)
+}
+
+// P.
+pub fn permanent(image: &[u16; 4296]) -> u16
+    ensures { λ r. ⌜ r ≡ book-in (now (image .entry)) [] .P ⌝ }
+{
+    word(image, 1)
+}
+
+// How many functions there are.
+pub fn functions(image: &[u16; 4296]) -> u16
+    ensures { λ r. ⌜ (r ≡ length (book-in (now (image .entry)) [] .functions)) × (r ≤ 32) ⌝ }
+{
+    cap(word(image, 2), MOST_FUNCTIONS)
+}
+
+// Function f; past the last one all 0.
+pub fn function_at(image: &[u16; 4296], f: u16) -> Function
+    ensures { λ r. ⌜ r ≡ function-at (book-in (now (image .entry)) []) f ⌝ }
+{
+    if f < functions(image) {
+        let at = (2 + f as usize) * 4;
+        Function {
+            first: word(image, at) as u32,
+            arity: word(image, at + 1) as u32,
+            kind: word(image, at + 2) as u32,
+        }
+    } else {
+        Function {
+            first: 0,
+            arity: 0,
+            kind: 0,
+        }
+    }
+}
+
+// How many locations a function of that arity has.
+pub fn size(e: u16, arity: u32) -> u32
+    ensures { λ r. ⌜ (r ≡ size e arity) × (e ≤ 10000 → r ≤ 100000000) ⌝ }
+{
+    if arity == 0 {
+        return 1;
+    }
+    if arity == 1 {
+        return e as u32;
+    }
+    e as u32 * e as u32
+}
+
+// L.
+pub fn total(image: &[u16; 4296]) -> u32
+    ensures { λ r. ⌜ r ≡ L (book-in (now (image .entry)) []) ⌝ }
+{
+    let e = elements(image);
+    let n = functions(image);
+    let mut first: u32 = 0;
+    let mut g: u16 = 0;
+    while g < n {
+        let f = function_at(image, g);
+        first = first + size(e, f.arity);
+        g = g + 1;
+    }
+    first
+}
+
+// ---- functions and values
+
+pub fn is_relation(f: Function) -> bool
+    ensures { λ r. ⌜ r ≡ relation f ⌝ }
+{
+    (f.kind == 1) | (f.kind == 3)
+}
+
+pub fn is_dynamic(f: Function) -> bool
+    ensures { λ r. ⌜ r ≡ dynamic f ⌝ }
+{
+    2 <= f.kind
+}
+
+pub fn default_of(f: Function) -> u16
+    ensures { λ r. ⌜ r ≡ default f ⌝ }
+{
+    if is_relation(f) { 1 } else { 0 }
+}
+
+fn is_boolean(v: u16) -> bool
+    ensures { λ r. ⌜ r ≡ boolean v ⌝ }
+{
+    (v == 1) | (v == 2)
+}
+
+// The row and the column of the place after i.
+fn next_row(e: u16, i: u32, row: u32, col: u32) -> u32
+    requires { ⌜ (i < 2147483648) × (row ≡ i / e) × (col ≡ i % e) ⌝ }
+    ensures { λ r. ⌜ r ≡ (i + 1) / e ⌝ }
+{
+    if col + 1 == e as u32 { row + 1 } else { row }
+}
+
+fn next_col(e: u16, i: u32, col: u32) -> u32
+    requires { ⌜ (i < 2147483648) × (col ≡ i % e) ⌝ }
+    ensures { λ r. ⌜ r ≡ (i + 1) % e ⌝ }
+{
+    if col + 1 == e as u32 { 0 } else { col + 1 }
+}
+
+// ---- 8
+
+// x is on the roll.
+fn on_roll(contents: &[u16], e: u16, x: u32) -> bool
+    ensures { λ r. ⌜ r ≡ (ltb x e && eqb (getD (now (contents .entry)) x 0) true-element) ⌝ }
+{
+    (x < e as u32) & (fetch(contents, x as usize) == 2)
+}
+
+// The arguments are all permanent.
+fn all_permanent(p: u16, arity: u32, i: u32, row: u32, col: u32) -> bool
+    ensures { λ r. ⌜ r ≡ all-permanent p (arguments-by arity i row col) ⌝ }
+{
+    if arity == 0 {
+        return true;
+    }
+    if arity == 1 {
+        return i < p as u32;
+    }
+    (row < p as u32) & (col < p as u32)
+}
+
+// One of the arguments is on the roll.
+fn some_on_roll(contents: &[u16], e: u16, arity: u32, i: u32, row: u32, col: u32) -> bool
+    ensures { λ r. ⌜ ((B : Book) → B .E ≡ e → r ≡ some-on-roll B (now (contents .entry)) (arguments-by arity i row col)) ⌝ }
+{
+    if arity == 0 {
+        return false;
+    }
+    if arity == 1 {
+        return on_roll(contents, e, i);
+    }
+    on_roll(contents, e, row) | on_roll(contents, e, col)
+}
+
+// Location l, which is number i of f, is at fault.
+fn is_bad(contents: &[u16], e: u16, p: u16, f: Function, l: u32, i: u32, row: u32, col: u32) -> bool
+    requires { ⌜ (row ≡ i / e) × (col ≡ i % e) ⌝ }
+    ensures { λ r. ⌜ ((B : Book) → B .E ≡ e → B .P ≡ p → place B l ≡ record { function = f; index = i } → r ≡ bad-value B (now (contents .entry)) l) ⌝ }
+{
+    let v = fetch(contents, l as usize);
+    let at_rest = v == default_of(f);
+    let lawful = (v < e)
+        & (!is_relation(f) | is_boolean(v))
+        & (is_dynamic(f) | at_rest | all_permanent(p, f.arity, i, row, col) & (v < p));
+    if l < e as u32 {
+        return !(lawful & (!(v == 2) | (p as u32 <= l)));
+    }
+    let trace = on_roll(contents, e, v as u32)
+        | !at_rest & some_on_roll(contents, e, f.arity, i, row, col);
+    !(lawful & !trace)
+}
+
+// The least location at fault of f's part, counted from its first.
+fn bad_part(contents: &[u16], e: u16, p: u16, f: Function, first: u32) -> Found
+    requires { ⌜ (e ≤ 10000) × (first ≤ 3200000000) ⌝ }
+    ensures { λ r. ⌜ ((B : Book) → Part B e p f first → r ≡ least (λ i. bad-value B (now (contents .entry)) (first + i)) (size e (f .arity))) ⌝ }
+{
+    let n = size(e, f.arity);
+    let mut i: u32 = 0;
+    let mut row: u32 = 0;
+    let mut col: u32 = 0;
+    while i < n {
+        if is_bad(contents, e, p, f, first + i, i, row, col) {
+            return Found::Here(i);
+        }
+        row = next_row(e, i, row, col);
+        col = next_col(e, i, col);
+        i = i + 1;
+    }
+    Found::Nowhere
+}
+
+// The least location at fault, function after function.
+fn bad_in(image: &[u16; 4296], contents: &[u16]) -> Found
+    ensures { λ r. ⌜ r ≡ least (bad-value (book-in (now (image .entry)) []) (now (contents .entry))) (L (book-in (now (image .entry)) [])) ⌝ }
+{
+    let e = elements(image);
+    let p = permanent(image);
+    let n = functions(image);
+    let mut first: u32 = 0;
+    let mut g: u16 = 0;
+    while g < n {
+        let f = function_at(image, g);
+        let found = bad_part(contents, e, p, f, first);
+        if let Found::Here(i) = found {
+            return Found::Here(first + i);
+        }
+        first = first + size(e, f.arity);
+        g = g + 1;
+    }
+    Found::Nowhere
+}
+
+// 8 of a lent table, whose first L records are judged.
+pub fn bad_value(image: &[u16; 4296], contents: &[u16]) -> Found
+    ensures { λ r. ⌜ r ≡ least (bad-value (book-in (now (image .entry)) []) (take (L (book-in (now (image .entry)) [])) (now (contents .entry)))) (L (book-in (now (image .entry)) [])) ⌝ }
+{
+    let n = total(image) as usize;
+    if n <= contents.len() {
+        return bad_in(image, &contents[0..n]);
+    }
+    bad_in(image, contents)
+}
