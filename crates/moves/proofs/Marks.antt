@@ -4,17 +4,17 @@ use mathlib.Core.Bool.{Bool, true, false, _||_, or-true, or-false}
 use mathlib.Core.List.{List, [], _∷_}
 use Prim.Native.Nat.{ℕ, _<_}
 use native.Mathlib.Omega.{arith}
-use borrow.Author.Tests.{eqb-true, eqb-false, eq-eqb}
+use borrow.Author.Tests.{eqb-true, eqb-false}
 use lib.Bits.{bitOr}
 use lib.Dec.{eqb}
-use lib.ListN.{length, getD, set, length-set}
+use lib.ListN.{length, getD, length-set}
 use lib.Seq.{getD-set-same, getD-set-other}
 use Rattle.text.specs.Words.{has}
-use Rattle.book.specs.Book.{Book, dynamic}
+use Rattle.book.specs.Book.{Book}
 use Rattle.book.specs.Sound.{Lawful}
 use Rattle.book.proofs.Places.{spot, roll-place}
 use Rattle.term.specs.Marks.{mark-one, marked, Placed}
-use Rattle.firing.specs.Outcome.{each, mark}
+use Rattle.firing.specs.Outcome.{mark}
 use Rattle.firing.proofs.Sweep.{each-is}
 use Rattle.firing.proofs.Fires.{mark-mark}
 use Rattle.moves.specs.Effect.{joined}

@@ -1,4 +1,4 @@
-use mathlib.Core.Path.{_≡_, _∙_}
+use mathlib.Core.Path.{_∙_}
 use borrow.Author.Needs.{needs}
 use Rattle.moves.proofs.close.Statement.{statement}
 use Rattle.moves.proofs.close.Tie as tie
