@@ -1,0 +1,21 @@
+use borrow.Author.Needs.{needs}
+use Rattle.step.proofs.agents.Statement.{statement}
+use Rattle.step.proofs.agents.Tie as tie
+use Rattle.step.proofs.agents.Reads as reads
+use Rattle.step.proofs.agents.Lts as lts
+use Rattle.table.proofs.word.Reads as word-reads
+
+-- src/lib.rt:51:9
+word-requires : tie.Need-word-requires
+word-requires c κs = search needs
+
+-- src/lib.rt:48:1
+returns : tie.Need-returns
+returns c = ?
+
+-- src/lib.rt:48:1
+returns-2 : tie.Need-returns-2
+returns-2 c = ?
+
+pub agents-spec : {M : Type 1} → statement M
+agents-spec = tie.close (tie.spec word-requires returns returns-2)
