@@ -1,3 +1,8 @@
+use Rattle.step.proofs.Checks.{agent-there, agent-missing}
+use Rattle.book.specs.Image.{book-in}
+use native.Mathlib.Omega.{arith}
+use mathlib.Core.List.{[]}
+use mathlib.Core.Path.{_∙_}
 use borrow.Author.Needs.{needs}
 use Rattle.step.proofs.check_agent.Statement.{statement}
 use Rattle.step.proofs.check_agent.Tie as tie
@@ -24,11 +29,11 @@ answer-requires-2 c κs = search needs
 
 -- src/lib.rt:56:1
 returns : tie.Need-returns
-returns c = ?
+returns c = let a = c .before .before .before .args in c .answer .ensures ∙ agent-there (book-in (a .image .now) []) (a .agent) (omega (arith, c .before .if1 .taken, c .before .before .agents .ensures .0))
 
 -- src/lib.rt:56:1
 returns-2 : tie.Need-returns-2
-returns-2 c = ?
+returns-2 c = let a = c .before .before .before .args in c .answer2 .ensures ∙ agent-missing (book-in (a .image .now) []) (a .agent) (omega (arith, c .before .if1 .left, c .before .before .agents .ensures .0))
 
 pub check-agent-spec : {M : Type 1} → statement M
 check-agent-spec =

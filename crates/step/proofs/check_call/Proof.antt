@@ -1,3 +1,6 @@
+use Rattle.step.proofs.Checks.{all-three}
+use Rattle.book.specs.Image.{book-in}
+use mathlib.Core.List.{[]}
 use borrow.Author.Needs.{needs}
 use Rattle.step.proofs.check_call.Statement.{statement}
 use Rattle.step.proofs.check_call.Tie as tie
@@ -30,7 +33,7 @@ first-of-requires-2 c κs = search needs
 
 -- src/lib.rt:92:1
 returns : tie.Need-returns
-returns c = ?
+returns c = let a = c .before .before .before .before .before .before .args in all-three (book-in (a .image .now) []) (a .contents .now) (a .agent) (a .lent) _ _ _ _ _ (c .first-of2 .ensures) (c .before .first-of .ensures) (c .before .before .before .before .check-agent .ensures) (c .before .before .before .check-lent .ensures) (c .before .before .check-contents .ensures)
 
 pub check-call-spec : {M : Type 1} → statement M
 check-call-spec =

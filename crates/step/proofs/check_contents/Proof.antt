@@ -1,3 +1,9 @@
+use Rattle.step.proofs.Checks.{value-bad, values-fine}
+use Rattle.book.specs.Book.{L}
+use Rattle.book.specs.Image.{book-in}
+use lib.ListN.{take}
+use mathlib.Core.List.{[]}
+use mathlib.Core.Path.{_∙_, sym}
 use borrow.Author.Needs.{needs}
 use Rattle.step.proofs.check_contents.Statement.{statement}
 use Rattle.step.proofs.check_contents.Tie as tie
@@ -28,11 +34,11 @@ answer-requires-2 c κs = search needs
 
 -- src/lib.rt:81:1
 returns : tie.Need-returns
-returns c = ?
+returns c = let a = c .before .before .before .before .before .before .args in let B = book-in (a .image .now) [] in c .answer .ensures ∙ value-bad B (take (L B) (a .contents .now)) _ (sym (c .before .before .before .before .bad-value .ensures) ∙ c .before .before .found .given .1)
 
 -- src/lib.rt:81:1
 returns-2 : tie.Need-returns-2
-returns-2 c = ?
+returns-2 c = let a = c .before .before .before .before .before .args in let B = book-in (a .image .now) [] in c .answer2 .ensures ∙ values-fine B (take (L B) (a .contents .now)) (sym (c .before .before .before .bad-value .ensures) ∙ c .before .enum-told .given .1)
 
 pub check-contents-spec : {M : Type 1} → statement M
 check-contents-spec =

@@ -1,3 +1,7 @@
+use Rattle.step.proofs.Fired.{fit, effect-told}
+use Rattle.book.specs.Image.{book-in}
+use mathlib.Core.List.{[]}
+use mathlib.Core.Path.{_∙_}
 use borrow.Author.Needs.{needs}
 use Rattle.step.proofs.fire.Statement.{statement}
 use Rattle.step.proofs.fire.Tie as tie
@@ -36,7 +40,7 @@ same-length c = search needs
 
 -- src/lib.rt:104:1
 returns : tie.Need-returns
-returns c = ?
+returns c = let a = c .before .before .before .before .before .before .before .before .before .before .args in let B = book-in (a .image .now) [] in let f = c .before .before .before .before .before .fire-move in let e = effect-told B (a .agent) (a .contents .now) [] [] (f .result) _ _ _ (f .ensures (fit B (a .contents .now) (a .agent) (c .before .before .before .before .before .before .before .before .before .before .pre))) in (c .answer .ensures ∙ e .0, e .1)
 
 pub fire-spec : {M : Type 1} → statement M
 fire-spec =

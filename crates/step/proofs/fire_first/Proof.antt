@@ -1,3 +1,12 @@
+use Rattle.step.proofs.Fired.{first-step}
+use Rattle.step.specs.Stages.{Ready}
+use Rattle.book.specs.Image.{book-in}
+use lib.ListN.{take}
+use lib.Seq.{length-take-le}
+use native.Mathlib.Omega.{arith}
+use Prim.Native.Nat.{ℕ}
+use mathlib.Core.List.{[]}
+use mathlib.Core.Path.{sym, subst}
 use borrow.Author.Needs.{needs}
 use Rattle.step.proofs.fire_first.Statement.{statement}
 use Rattle.step.proofs.fire_first.Tie as tie
@@ -20,11 +29,11 @@ slice-relend-prefix-fire c = search needs
 
 -- src/lib.rt:122:17
 slice-aggregate-fire : tie.Need-slice-aggregate-fire
-slice-aggregate-fire c = ?
+slice-aggregate-fire c = sym (length-take-le (c .before .total .result) (c .before .before .before .args .contents .now) (omega (arith, c .before .before .before .pre .0, c .before .total .ensures)))
 
 -- src/lib.rt:122:5
 fire-requires : tie.Need-fire-requires
-fire-requires c κs = ?
+fire-requires c κs = let a = c .before .before .before .args in subst (λ (n : ℕ). Ready (book-in (a .image .now) []) (take n (a .contents .now)) (a .agent)) (sym (c .before .total .ensures)) (c .before .before .before .pre .1)
 
 -- src/lib.rt:116:1
 same-length : tie.Need-same-length
@@ -32,7 +41,7 @@ same-length c = search needs
 
 -- src/lib.rt:116:1
 returns : tie.Need-returns
-returns c = ?
+returns c = let a = c .before .before .before .before .before .before .args in let t = c .before .before .before .before .total in let f = c .before .before .fire in first-step (book-in (a .image .now) []) (a .contents .now) (a .agent) (t .result) (t .ensures) (omega (arith, c .before .before .before .before .before .before .pre .0, t .ensures)) (f .result) (f .last .1 .0) (f .ensures .0) (f .ensures .1)
 
 pub fire-first-spec : {M : Type 1} → statement M
 fire-first-spec =

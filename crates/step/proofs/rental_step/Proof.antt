@@ -1,3 +1,8 @@
+use Rattle.step.proofs.Numbered.{low}
+use Rattle.text.specs.declared.Answer.{Answer}
+use Rattle.step.specs.Stages.{packed}
+use native.Mathlib.Omega.{arith}
+use mathlib.Core.Path.{ap}
 use borrow.Author.Needs.{needs}
 use Rattle.step.proofs.rental_step.Statement.{statement}
 use Rattle.step.proofs.rental_step.Tie as tie
@@ -15,7 +20,7 @@ cast-result c = search needs
 
 -- src/lib.rt:151:5
 mul-result : tie.Need-mul-result
-mul-result c = ?
+mul-result c = let a = c .before .before .before .before .before .before .before .args in let s = c .before .before .before .step-core in record { fits = omega (arith, low (a .book .now) (a .contents .now) (a .agent) (a .lent) (s .result) (s .ensures .0)) }
 
 -- src/lib.rt:151:41
 cast-result-2 : tie.Need-cast-result-2
@@ -27,7 +32,7 @@ mul-result-2 c = search needs
 
 -- src/lib.rt:151:5
 add-result : tie.Need-add-result
-add-result c = ?
+add-result c = let a = c .before .before .before .before .before .before .before .before .args in let s = c .before .before .before .before .step-core in record { fits = omega (arith, low (a .book .now) (a .contents .now) (a .agent) (a .lent) (s .result) (s .ensures .0)) }
 
 -- src/lib.rt:151:65
 cast-result-3 : tie.Need-cast-result-3
@@ -35,7 +40,7 @@ cast-result-3 c = search needs
 
 -- src/lib.rt:151:5
 add-result-2 : tie.Need-add-result-2
-add-result-2 c = ?
+add-result-2 c = let a = c .before .before .before .before .before .before .before .before .before .args in let s = c .before .before .before .before .before .step-core in record { fits = omega (arith, low (a .book .now) (a .contents .now) (a .agent) (a .lent) (s .result) (s .ensures .0)) }
 
 -- src/lib.rt:145:1
 same-length : tie.Need-same-length
@@ -43,7 +48,7 @@ same-length c = search needs
 
 -- src/lib.rt:145:1
 returns : tie.Need-returns
-returns c = ?
+returns c = let s = c .before .before .before .before .before .step-core in (ap (λ (a : Answer). packed a) (s .ensures .0), s .ensures .1)
 
 pub rental-step-spec : {M : Type 1} → statement M
 rental-step-spec =

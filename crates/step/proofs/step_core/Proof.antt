@@ -1,3 +1,8 @@
+use Rattle.step.proofs.Whole.{refused-book, refused-call, shown, ready, moved}
+use Rattle.step.proofs.Checks.{agents-low}
+use Rattle.engine.specs.Single.{Stepped}
+use native.Mathlib.Omega.{arith}
+use mathlib.Core.Path.{_≡_, _∙_, ap}
 use borrow.Author.Needs.{needs}
 use Rattle.step.proofs.step_core.Statement.{statement}
 use Rattle.step.proofs.step_core.Tie as tie
@@ -13,7 +18,7 @@ open-requires c κs = search needs
 
 -- src/lib.rt:135:9
 returns : tie.Need-returns
-returns c = ?
+returns c = let a = c .before .before .before .before .before .before .args in let o = c .before .before .«open» in refused-book (a .book .now) (a .contents .now) (a .agent) (a .lent) (o .result) (o .ensures .0) (λ e. omega (arith, c .if1 .taken, e))
 
 -- src/lib.rt:137:9
 check-call-requires : tie.Need-check-call-requires
@@ -25,15 +30,15 @@ same-length c = search needs
 
 -- src/lib.rt:139:9
 returns-2 : tie.Need-returns-2
-returns-2 c = ?
+returns-2 c = let a = c .before .before .before .before .before .before .before .before .before .before .before .args in let o = c .before .before .before .before .before .before .before .«open» in let d = c .before .before .check-call in refused-call (a .book .now) (a .contents .now) (a .agent) (a .lent) (o .last .1 .0) (o .ensures .1) (o .result) (o .ensures .0) (omega (arith, c .before .before .before .before .before .if1 .left)) (d .result) (d .ensures) (λ e. omega (arith, c .if2 .taken, e))
 
 -- src/lib.rt:141:34
 cast-fire-first : tie.Need-cast-fire-first
-cast-fire-first c = ?
+cast-fire-first c = let a = c .before .before .before .before .before .before .before .before .before .before .before .before .before .args in let o = c .before .before .before .before .before .before .before .before .before .«open» in let d = c .before .before .before .before .check-call in record { fits = omega (arith, shown (a .book .now) (a .contents .now) (a .agent) (a .lent) (o .last .1 .0) (o .ensures .1) (o .result) (o .ensures .0) (omega (arith, c .before .before .before .before .before .before .before .if1 .left)) (d .result) (d .ensures) (omega (arith, c .before .before .if2 .left)) .agent, agents-low (o .last .1 .0)) }
 
 -- src/lib.rt:141:5
 fire-first-requires : tie.Need-fire-first-requires
-fire-first-requires c κs = ?
+fire-first-requires c κs = let a = c .before .before .before .before .before .before .before .before .before .before .before .before .before .args in let o = c .before .before .before .before .before .before .before .before .before .«open» in let d = c .before .before .before .before .check-call in let z : d .result .number ≡ 0 = omega (arith, c .before .before .if2 .left) in (shown (a .book .now) (a .contents .now) (a .agent) (a .lent) (o .last .1 .0) (o .ensures .1) (o .result) (o .ensures .0) (omega (arith, c .before .before .before .before .before .before .before .if1 .left)) (d .result) (d .ensures) z .long, ready (a .book .now) (a .contents .now) (a .agent) (a .lent) (o .last .1 .0) (o .ensures .1) (o .result) (o .ensures .0) (omega (arith, c .before .before .before .before .before .before .before .if1 .left)) (d .result) (d .ensures) z)
 
 -- src/lib.rt:128:1
 same-length-2 : tie.Need-same-length-2
@@ -41,7 +46,7 @@ same-length-2 c = search needs
 
 -- src/lib.rt:128:1
 returns-3 : tie.Need-returns-3
-returns-3 c = ?
+returns-3 c = let a = c .before .before .before .before .before .before .before .before .before .before .before .before .before .before .before .before .args in let o = c .before .before .before .before .before .before .before .before .before .before .before .before .«open» in let d = c .before .before .before .before .before .before .before .check-call in let s = moved (a .book .now) (a .contents .now) (a .agent) (a .lent) (o .last .1 .0) (o .ensures .1) (o .result) (o .ensures .0) (omega (arith, c .before .before .before .before .before .before .before .before .before .before .if1 .left)) (d .result) (d .ensures) (omega (arith, c .before .before .before .before .before .if2 .left)) in let f = c .before .before .fire-first in (f .ensures .0 ∙ ap (λ (x : Stepped). x .answer) s, f .ensures .1 ∙ ap (λ (x : Stepped). x .contents) s)
 
 pub step-core-spec : {M : Type 1} → statement M
 step-core-spec =
