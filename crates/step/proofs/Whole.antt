@@ -75,7 +75,7 @@ module _ (text c : List ℕ) (k n : ℕ) where
     accepted-as : (B : Book) × (check-book text ≡ good B)
     accepted-as = accepts (check-book text) (book-numbered text) (sym (ap (λ (r : Answer). r .number) told) ∙ zero-a)
 
-    B : Book
+    abbrev B : Book
     B = accepted-as .0
 
     held : book-in m (B .entries) ≡ B
@@ -86,8 +86,10 @@ module _ (text c : List ℕ) (k n : ℕ) where
 
     pub refused-call : b .number ≢ 0 → Tells b c (step-call text c k n)
     refused-call h =
-        rw (step-good B (accepted-as .1), call, call-held)
-        (call-stops c k (check-call B c k n) B (rw (call, call-held) at h))
+        let e : b ≡ answer-of (check-call B c k n) = call ∙ ap (λ (x : Checked (Unit {0})). answer-of x) call-held in
+        let t = call-stops c k (check-call B c k n) B (λ z. h (ap (λ (r : Answer). r .number) e ∙ z)) in
+        let s = sym (step-good B (accepted-as .1)) in
+        (e ∙ t .0 ∙ ap (λ (x : Stepped). x .answer) s, t .1 ∙ ap (λ (x : Stepped). x .contents) s)
 
     module _ (zero-b : b .number ≡ 0) where
       passed : (u : Unit {0}) × (check-call (book-in m []) c k n ≡ good u)
