@@ -108,7 +108,14 @@ fn fire(image: &[u16; 4296], contents: &mut [u16], agent: u32) -> Answer
 {
     let mut readers = [0u64; 1];
     let mut writers = [0u64; 1];
-    let v = moves::fire_move(image, contents, &mut readers[..0], &mut writers[..0], 1, agent);
+    let v = moves::fire_move(
+        image,
+        contents,
+        &mut readers[..0],
+        &mut writers[..0],
+        1,
+        agent,
+    );
     answer(v.number, 0, v.q)
 }
 
