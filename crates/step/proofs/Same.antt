@@ -1,31 +1,30 @@
 -- A book's entries do not matter to the checks of a call nor to a move.
 use mathlib.Core.Path.{_≡_, refl, sym, ap, subst, _∙_}
-use mathlib.Core.Bool.{Bool}
 use mathlib.Core.List.{List, []}
 use Prim.Native.Nat.{ℕ}
-use lib.Dec.{ltb, leb}
-use lib.ListN.{length, take}
-use Rattle.text.specs.declared.Found.{Found}
-use Rattle.text.specs.Words.{Checked, _>>_, none-at, least}
+use lib.ListN.{take}
+use Rattle.text.specs.Words.{none-at}
 use Rattle.text.proofs.Words.{least-same}
 use Rattle.book.specs.declared.Entry.{Entry}
 use Rattle.book.specs.Book.{Book, L}
 use Rattle.book.specs.Contents.{bad-value}
 use Rattle.book.specs.Sound.{Lawful}
 use Rattle.book.specs.Image.{book-in}
+use Rattle.book.proofs.Bare.{bare-image, bad-value-bare, lawful-bare}
 use Rattle.engine.specs.Move.{Input, move}
 use Rattle.engine.specs.Single.{check-agent, check-lent-step, check-contents}
+use Rattle.engine.proofs.Entries.{move-bare}
 use Rattle.step.specs.Stages.{check-call}
 
 module _ (m : List ℕ) (es : List Entry) where
   pub lawful-same : Lawful (book-in m es) → Lawful (book-in m [])
-  lawful-same ok = ?
+  lawful-same ok = subst Lawful (bare-image m es) (lawful-bare (book-in m es) ok)
 
   pub bad-value-same : (c : List ℕ) (l : ℕ) → bad-value (book-in m []) c l ≡ bad-value (book-in m es) c l
-  bad-value-same c l = ?
+  bad-value-same c l = ap (λ (B : Book). bad-value B c l) (sym (bare-image m es)) ∙ bad-value-bare (book-in m es) c l
 
   pub move-same : (c : List ℕ) (i : Input) → move (book-in m []) c i ≡ move (book-in m es) c i
-  move-same c i = ?
+  move-same c i = ap (λ (B : Book). move B c i) (sym (bare-image m es)) ∙ move-bare (book-in m es) c i
 
   pub L-same : L (book-in m []) ≡ L (book-in m es)
   unfolding book-in
