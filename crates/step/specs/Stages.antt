@@ -34,6 +34,6 @@ pub record Ready (B : Book) (c : List ℕ) (k : ℕ) : Type 0 where
   pub sound : Sound B c
   pub agent : k < length (B .agents)
 
--- for C: number × 2^48 + p × 2^24 + q. Each p and q is below 2^24
+-- for C: number × 2^48 + p × 2^24 + q; the places of 01 are below 2^24
 abbrev pub packed : Answer → ℕ
 packed a = a .number * 281474976710656 + a .p * 16777216 + a .q
