@@ -1,0 +1,5 @@
+pub mod Numbered
+pub mod Checks
+pub mod Fired
+pub mod Same
+pub mod Whole

@@ -1,0 +1,159 @@
+// The single-move entry: a book's checks, then 9, 2 and 8, then an agent's move as move 0.
+use text::Answer;
+use text::Found;
+ghost use mathlib.Core.Path.{_≡_};
+ghost use mathlib.Core.List.{[]};
+ghost use Prim.Native.Nat.{_<_, _≤_};
+ghost use lib.ListN.{length, take};
+ghost use Rattle.text.specs.Words.{answer-of};
+ghost use Rattle.book.specs.Book.{L};
+ghost use Rattle.book.specs.Image.{book-in};
+ghost use Rattle.engine.specs.Move.{move};
+ghost use Rattle.engine.specs.Single.{check-agent, check-lent-step, check-contents, stepped, step-call};
+ghost use Rattle.step.specs.Stages.{check-call, first-of, told, left-of, Ready, packed};
+
+// Records in a list of instructions.
+pub const MOST_INSTRUCTIONS: usize = 256;
+
+// Agents in a book, at most.
+const MOST_AGENTS: u16 = 16;
+
+// The lent tables, as the q of 2.
+const CONTENTS: u32 = 0;
+
+const INSTRUCTIONS: u32 = 3;
+
+// ---- answers
+
+fn answer(number: u32, p: u32, q: u32) -> Answer
+    ensures { λ r. ⌜ r ≡ record { number = number; p = p; q = q } ⌝ }
+{
+    Answer {
+        number: number,
+        p: p,
+        q: q,
+    }
+}
+
+// a if it refuses, and b otherwise.
+fn first_of(a: Answer, b: Answer) -> Answer
+    ensures { λ r. ⌜ r ≡ first-of a b ⌝ }
+{
+    if a.number == 0 { b } else { a }
+}
+
+// ---- the checks after the book's
+
+// How many agents there are.
+fn agents(image: &[u16; 4296]) -> u16
+    ensures { λ r. ⌜ (r ≡ length (book-in (now (image .entry)) [] .agents)) × (r ≤ 16) ⌝ }
+{
+    let n = table::word(image, 4);
+    if n < MOST_AGENTS { n } else { MOST_AGENTS }
+}
+
+// 9.
+fn check_agent(image: &[u16; 4296], agent: usize) -> Answer
+    ensures { λ r. ⌜ r ≡ answer-of (check-agent (book-in (now (image .entry)) []) agent) ⌝ }
+{
+    if agent < agents(image) as usize {
+        answer(0, 0, 0)
+    } else {
+        answer(text::LOG_LINE, 0, 0)
+    }
+}
+
+// 2, of contents and then of instructions.
+fn check_lent(image: &[u16; 4296], contents: &[u16], lent: usize) -> Answer
+    ensures { λ r. ⌜ r ≡ answer-of (check-lent-step (book-in (now (image .entry)) []) (now (contents .entry)) lent) ⌝ }
+{
+    let all = table::total(image);
+    if contents.len() < all as usize {
+        return answer(text::LENT_SHORT, all, CONTENTS);
+    }
+    if lent < MOST_INSTRUCTIONS {
+        return answer(text::LENT_SHORT, 256, INSTRUCTIONS);
+    }
+    answer(0, 0, 0)
+}
+
+// 8.
+fn check_contents(image: &[u16; 4296], contents: &[u16]) -> Answer
+    ensures { λ r. ⌜ r ≡ answer-of (check-contents (book-in (now (image .entry)) []) (take (L (book-in (now (image .entry)) [])) (now (contents .entry)))) ⌝ }
+{
+    let found = table::bad_value(image, contents);
+    match found {
+        Found::Here(l) => answer(text::CONTENTS_RULE, l, 0),
+        Found::Nowhere => answer(0, 0, 0),
+    }
+}
+
+// 9, 2 and 8.
+fn check_call(image: &[u16; 4296], contents: &[u16], agent: usize, lent: usize) -> Answer
+    ensures { λ r. ⌜ r ≡ answer-of (check-call (book-in (now (image .entry)) []) (now (contents .entry)) agent lent) ⌝ }
+{
+    let nine = check_agent(image, agent);
+    let two = check_lent(image, contents, lent);
+    let eight = check_contents(image, contents);
+    first_of(nine, first_of(two, eight))
+}
+
+// ---- the move
+
+// The move, with no marks, on a table of exactly L records.
+fn fire(image: &[u16; 4296], contents: &mut [u16], agent: u32) -> Answer
+    requires { ⌜ Ready (book-in (now image) []) (now contents) agent ⌝ }
+    ensures { λ r. ⌜ r ≡ told (move (book-in (now (image .entry)) []) (now (contents .entry)) (record { agent = agent })) ⌝ }
+    ensures { λ _. ⌜ now (contents .exit) ≡ left-of (now (contents .entry)) (move (book-in (now (image .entry)) []) (now (contents .entry)) (record { agent = agent })) ⌝ }
+{
+    let mut readers = [0u64; 1];
+    let mut writers = [0u64; 1];
+    let v = moves::fire_move(
+        image,
+        contents,
+        &mut readers[..0],
+        &mut writers[..0],
+        1,
+        agent,
+    );
+    answer(v.number, 0, v.q)
+}
+
+// The move on the first L records of a lent table.
+fn fire_first(image: &[u16; 4296], contents: &mut [u16], agent: u32) -> Answer
+    requires { ⌜ (L (book-in (now image) []) ≤ length (now contents)) × (Ready (book-in (now image) []) (take (L (book-in (now image) [])) (now contents)) agent) ⌝ }
+    ensures { λ r. ⌜ r ≡ stepped (now (contents .entry)) (take (L (book-in (now (image .entry)) [])) (now (contents .entry))) (move (book-in (now (image .entry)) []) (take (L (book-in (now (image .entry)) [])) (now (contents .entry))) (record { agent = agent })) .answer ⌝ }
+    ensures { λ _. ⌜ now (contents .exit) ≡ stepped (now (contents .entry)) (take (L (book-in (now (image .entry)) [])) (now (contents .entry))) (move (book-in (now (image .entry)) []) (take (L (book-in (now (image .entry)) [])) (now (contents .entry))) (record { agent = agent })) .contents ⌝ }
+{
+    let all = table::total(image) as usize;
+    fire(image, &mut contents[..all], agent)
+}
+
+// ---- the entry
+
+// A book, a contents table, an agent, and how many instruction records are lent.
+pub fn step_core(book: &[u8], contents: &mut [u16], agent: usize, lent: usize) -> Answer
+    ensures { λ r. ⌜ r ≡ step-call (now (book .entry)) (now (contents .entry)) agent lent .answer ⌝ }
+    ensures { λ _. ⌜ now (contents .exit) ≡ step-call (now (book .entry)) (now (contents .entry)) agent lent .contents ⌝ }
+{
+    let mut image = [0u16; 4296];
+    let a = open::open(book, &mut image);
+    if a.number != 0 {
+        return a;
+    }
+    let b = check_call(&image, contents, agent, lent);
+    if b.number != 0 {
+        return b;
+    }
+    fire_first(&image, contents, agent as u32)
+}
+
+// The same for C: number × 2^48 + p × 2^24 + q.
+#[no_mangle]
+pub extern "C" fn rental_step(book: &[u8], contents: &mut [u16], agent: usize, lent: usize) -> u64
+    ensures { λ r. ⌜ r ≡ packed (step-call (now (book .entry)) (now (contents .entry)) agent lent .answer) ⌝ }
+    ensures { λ _. ⌜ now (contents .exit) ≡ step-call (now (book .entry)) (now (contents .entry)) agent lent .contents ⌝ }
+{
+    let a = step_core(book, contents, agent, lent);
+    a.number as u64 * 281474976710656 + a.p as u64 * 16777216 + a.q as u64
+}
