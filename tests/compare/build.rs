@@ -2,6 +2,8 @@
 fn main() {
     let library = concat!(env!("CARGO_MANIFEST_DIR"), "/../../target/staticlib");
     println!("cargo:rustc-link-search=native={library}");
-    println!("cargo:rustc-link-lib=static=book_check");
+    for name in ["book_check", "step"] {
+        println!("cargo:rustc-link-lib=static={name}");
+    }
     println!("cargo:rerun-if-changed={library}");
 }

@@ -25,3 +25,31 @@ pub fn paper_check_book(book: &[u8]) -> Answer {
         Err(answer) => answer,
     }
 }
+
+extern "C" {
+    fn rental_step(
+        book: *const u8,
+        length: usize,
+        contents: *mut u16,
+        locations: usize,
+        agent: usize,
+        lent: usize,
+    ) -> u64;
+}
+
+// An answer as the exported functions give it: number × 2^48 + p × 2^24 + q.
+fn unpacked(answer: u64) -> Answer {
+    Answer {
+        number: (answer >> 48) as u32,
+        p: (answer >> 24) as u32 & 0xff_ffff,
+        q: answer as u32 & 0xff_ffff,
+    }
+}
+
+// The proved single-move entry.
+pub fn step(book: &[u8], contents: &mut [u16], agent: usize, lent: usize) -> Answer {
+    // The exported function reads the bytes and reads and writes the records that it is given, and nothing else.
+    unpacked(unsafe {
+        rental_step(book.as_ptr(), book.len(), contents.as_mut_ptr(), contents.len(), agent, lent)
+    })
+}
