@@ -1,0 +1,115 @@
+-- Laws of what a move's walk leaves: a refused one, none of its marks.
+use mathlib.Core.Path.{_≡_, refl, sym, ap, _∙_}
+use mathlib.Core.Bool.{Bool, true, false}
+use mathlib.Core.List.{List, [], _∷_, map, map-append}
+use Prim.Native.Nat.{ℕ, suc, _+_, _-_, _^_, _<_}
+use native.Mathlib.Numerals.{add-one}
+use native.Mathlib.Nat.{mod-self, mod-eq-of-lt}
+use native.Mathlib.Omega.{arith}
+use lib.Bits.{bitOr, bitAnd, and-mask, or-mod, or-zero-r}
+use lib.Dec.{eqb}
+use lib.ListN.{length, getD, set, take, drop}
+use lib.Seq.{map-set-same, set-getD, take-suc, take-suc-set, drop-cons, drop-set-lt}
+use borrow.Author.Tests.{eqb-true}
+use Rattle.text.specs.Words.{if_then_else_}
+use Rattle.book.specs.declared.Agent.{Agent}
+use Rattle.book.specs.Book.{Book, node-at, agent-at}
+use Rattle.engine.specs.Look.{Look, gives, seen}
+use Rattle.engine.specs.Move.{dynamic-among, looked}
+use Rattle.engine.specs.Rule.{Walk, Walked, going, met, walk, no-variables, agent-walk}
+use Rattle.term.specs.Marks.{mark-one, marked, Placed, Runs}
+use Rattle.walk.specs.declared.State.{State}
+use Rattle.walk.specs.Walk.{outcome, walk-of, rule-from}
+use Rattle.walk.specs.Gather.{masked, cleared, Below, Gathered}
+use Rattle.walk.proofs.Steps.{outcome-going, outcome-met}
+
+-- ---- one more element of a list that is changed in place, element after element
+
+module _ (f : ℕ → ℕ) (l₀ l : List ℕ) (i : ℕ) (same : length l ≡ length l₀) (below : i < length l)
+    (before : take i l ≡ map f (take i l₀)) (left : drop i l ≡ drop i l₀) where
+  here : getD l i 0 ∷ drop (suc i) l ≡ getD l₀ i 0 ∷ drop (suc i) l₀
+  here = sym (drop-cons l i 0 below) ∙ left ∙ drop-cons l₀ i 0 (omega arith)
+
+  pub done-next : take (i + 1) (set l i (f (getD l i 0))) ≡ map f (take (i + 1) l₀)
+  done-next =
+      let h : i < length l₀ = omega arith in
+      let e : getD l i 0 ≡ getD l₀ i 0 = cc here in
+      rw (add-one, take-suc-set l i (f (getD l i 0)) below, take-suc l₀ i 0 h, map-append, before, e)
+
+  pub left-next : drop (i + 1) (set l i (f (getD l i 0))) ≡ drop (i + 1) l₀
+  left-next =
+      let t : drop (suc i) l ≡ drop (suc i) l₀ = cc here in
+      rw (add-one, drop-set-lt (suc i) l i (f (getD l i 0)) (omega arith)) t
+
+-- ---- marks taken back
+
+-- nothing is marked with no bit
+pub marked-zero : (ls m : List ℕ) → marked 0 ls m ≡ m
+unfolding marked
+marked-zero [] m = refl
+marked-zero (l ∷ ls) m = let e : mark-one 0 l m ≡ m = rw (or-zero-r (getD m l 0)) (set-getD m l 0) in rw e (marked-zero ls m)
+
+-- a move's own bit is not among the lower ones
+own-bit : (k r : ℕ) → bitAnd (bitOr r (2 ^ k)) (2 ^ k - 1) ≡ bitAnd r (2 ^ k - 1)
+own-bit k r = rw (and-mask, or-mod, mod-self, or-zero-r, and-mask)
+
+masked-marked : (k : ℕ) (ls m : List ℕ) → masked (2 ^ k - 1) (marked (2 ^ k) ls m) ≡ masked (2 ^ k - 1) m
+unfolding marked
+masked-marked k [] m = refl
+masked-marked k (l ∷ ls) m =
+    masked-marked k ls (mark-one (2 ^ k) l m)
+    ∙ map-set-same (λ v. bitAnd v (2 ^ k - 1)) m l (bitOr (getD m l 0) (2 ^ k)) 0 (own-bit k (getD m l 0))
+
+masked-below : (k : ℕ) (m : List ℕ) → Below (2 ^ k) m → masked (2 ^ k - 1) m ≡ m
+masked-below k [] h = refl
+masked-below k (x ∷ xs) h =
+    let e : bitAnd x (2 ^ k - 1) ≡ x = and-mask x k ∙ mod-eq-of-lt (h 0) in
+    rw (e, masked-below k xs (λ i. h (suc i)))
+
+taken-back : (bit k : ℕ) (ls m : List ℕ) → bit ≡ 2 ^ k → Below bit m → cleared bit (marked bit ls m) ≡ m
+taken-back bit k ls m e h = go (eqb bit 0) refl
+  where
+    go : (b : Bool) → eqb bit 0 ≡ b → (if b then marked bit ls m else masked (bit - 1) (marked bit ls m)) ≡ m
+    go true q = rw (eqb-true bit 0 q) (marked-zero ls m)
+    go false q =
+        let g : Below (2 ^ k) m = rw e at h in
+        rw e (masked-marked k ls m ∙ masked-below k m g)
+
+-- ---- the walk of an agent's rule
+
+module _ (B : Book) (c : List ℕ) (bit : ℕ) (z : Walked) (m n : List ℕ) where
+  started : (p q : ℕ) (g h : Agent) → g ≡ h → p ≡ q
+      → Runs B c bit (walk B (g .element) (rule-from (node-at B) 32 (g .root)) no-variables (record { made = []; next = p })) z m n
+      → Runs B c bit (walk B (h .element) (rule-from (node-at B) 32 (h .root)) no-variables (record { made = []; next = q })) z m n
+  started p q g h e f r = rw (← e, ← f) r
+
+  pub runs-agent : (agent p : ℕ) (g : Agent) → g ≡ agent-at B agent → p ≡ B .P
+      → Runs B c bit (walk B (g .element) (rule-from (node-at B) 32 (g .root)) no-variables (record { made = []; next = p })) z m n
+      → Runs B c bit (agent-walk B agent) z m n
+  unfolding agent-walk
+  runs-agent agent p g e f r = started p (B .P) g (agent-at B agent) e f r
+
+module _ (B : Book) (c : List ℕ) (bit agent : ℕ) (s : State) (l m n : List ℕ) (h : Runs B c bit (agent-walk B agent) (outcome s l) m n) where
+  pub gathered : s .refused ≡ 0 → Gathered B c bit agent (outcome s l) m n
+  gathered e =
+      record {
+        outcome = h .value;
+        fired = λ p w q. h .marks p;
+        refused = λ p r q u k b low.
+            let g : going (walk-of s l) ≡ met r q = sym (outcome-going s l e) ∙ u in
+            let z : _≡_ {A = ℕ} 0 1 = cc g in
+            absurd (omega arith);
+        silent = λ p q. h .marks p ∙ rw q (marked-zero (looked B c (record { agent = agent })) m);
+      }
+
+  pub gathered-back : (o : List ℕ) → o ≡ cleared bit n → ((s .refused ≡ 0) → ⊥) → Gathered B c bit agent (outcome s l) m o
+  gathered-back o k e =
+      record {
+        outcome = h .value;
+        fired = λ p w q.
+            let g : met (s .refused) (s .node) ≡ going w = sym (outcome-met s l e) ∙ q in
+            let z : _≡_ {A = ℕ} 0 1 = cc g in
+            absurd (omega arith);
+        refused = λ p r q u j b low. k ∙ rw (h .marks p) (taken-back bit j (looked B c (record { agent = agent })) m b low);
+        silent = λ p q. k ∙ rw (h .marks p, q) (marked-zero (looked B c (record { agent = agent })) m);
+      }

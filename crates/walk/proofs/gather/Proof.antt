@@ -1,0 +1,72 @@
+-- `gather` meets its contract.
+use mathlib.Core.Path.{refl}
+use mathlib.Core.List.{[], _∷_}
+use Rattle.term.specs.Held.{held}
+use Rattle.walk.specs.Walk.{walk-at}
+use Rattle.walk.specs.Gather.{agent-row}
+use Rattle.walk.proofs.Steps.{runs-from}
+use Rattle.walk.proofs.Kept.{runs-agent, gathered, gathered-back}
+use borrow.Author.Needs.{needs}
+use Rattle.walk.proofs.gather.Statement.{statement}
+use Rattle.walk.proofs.gather.Tie as tie
+
+agent-at-requires : tie.Need-agent-at-requires
+agent-at-requires c κs = search needs
+
+permanent-requires : tie.Need-permanent-requires
+permanent-requires c κs = search needs
+
+walk-requires : tie.Need-walk-requires
+walk-requires c κs = search needs
+
+same-length : tie.Need-same-length
+same-length c = search needs
+
+same-length-2 : tie.Need-same-length-2
+same-length-2 c = search needs
+
+returns : tie.Need-returns
+returns c =
+    let a = c .before .before .before .before .before .before .before .before .before .before .before .before .before .before .args in
+    let m = a .image .now in
+    let B = held m in
+    let who = c .before .before .before .before .before .before .before .before .before .before .agent-at .result in
+    λ room. gathered B (a .contents .now) (a .bit) (a .agent) (c .before .before .before .before .before .before .walk .result) _ _ _
+    (runs-agent B (a .contents .now) (a .bit) _ _ _ (a .agent) (c .before .before .before .before .before .before .before .before .before .permanent .result) (agent-row who) (c .before .before .before .before .before .before .before .before .before .before .agent-at .ensures) (c .before .before .before .before .before .before .before .before .before .permanent .ensures)
+    (runs-from B (a .contents .now) (a .bit) (record { len = 0; label = c .before .before .before .before .before .before .before .before .before .permanent .result; refused = 0; node = 0 }) (a .list .now) refl (walk-at m (0 ∷ 0 ∷ 0 ∷ 0 ∷ 0 ∷ 0 ∷ 0 ∷ 0 ∷ who .element ∷ []) 32 (who .root)) _ _ _ (c .before .before .before .before .before .before .walk .ensures room)))
+    (c .if1 .taken)
+
+clear-requires : tie.Need-clear-requires
+clear-requires c κs = search needs
+
+same-length-3 : tie.Need-same-length-3
+same-length-3 c = search needs
+
+same-length-4 : tie.Need-same-length-4
+same-length-4 c = search needs
+
+returns-2 : tie.Need-returns-2
+returns-2 c =
+    let a = c .before .before .before .before .before .before .before .before .before .before .before .before .before .before .before .before .before .before .args in
+    let m = a .image .now in
+    let B = held m in
+    let who = c .before .before .before .before .before .before .before .before .before .before .before .before .before .before .agent-at .result in
+    λ room. gathered-back B (a .contents .now) (a .bit) (a .agent) (c .before .before .before .before .before .before .before .before .before .before .walk .result) _ _ _
+    (runs-agent B (a .contents .now) (a .bit) _ _ _ (a .agent) (c .before .before .before .before .before .before .before .before .before .before .before .before .before .permanent .result) (agent-row who) (c .before .before .before .before .before .before .before .before .before .before .before .before .before .before .agent-at .ensures) (c .before .before .before .before .before .before .before .before .before .before .before .before .before .permanent .ensures)
+    (runs-from B (a .contents .now) (a .bit) (record { len = 0; label = c .before .before .before .before .before .before .before .before .before .before .before .before .before .permanent .result; refused = 0; node = 0 }) (a .list .now) refl (walk-at m (0 ∷ 0 ∷ 0 ∷ 0 ∷ 0 ∷ 0 ∷ 0 ∷ 0 ∷ who .element ∷ []) 32 (who .root)) _ _ _ (c .before .before .before .before .before .before .before .before .before .before .walk .ensures room)))
+    _ (c .before .before .clear .ensures) (c .before .before .before .before .if1 .left)
+
+pub gather-spec : {M : Type 1} → statement M
+gather-spec =
+    tie.close
+    (tie.spec
+    agent-at-requires
+    permanent-requires
+    walk-requires
+    same-length
+    same-length-2
+    returns
+    clear-requires
+    same-length-3
+    same-length-4
+    returns-2)

@@ -1,0 +1,37 @@
+-- What a move's walk leaves: its outcome, and its marks, which a refused move does not leave.
+use mathlib.Core.Path.{_≡_}
+use mathlib.Core.List.{List, map}
+use Prim.Native.Nat.{ℕ, _-_, _^_, _<_}
+use lib.Bits.{bitAnd}
+use lib.Dec.{eqb}
+use lib.ListN.{getD}
+use Rattle.text.specs.Words.{if_then_else_}
+use Rattle.book.specs.declared.Agent.{Agent}
+use Rattle.book.specs.Book.{Book}
+use Rattle.engine.specs.Look.{gives}
+use Rattle.engine.specs.Rule.{Walk, Walked, going, met, agent-walk}
+use Rattle.engine.specs.Move.{looked}
+use Rattle.term.specs.Marks.{marked, Placed}
+use Rattle.walk.specs.declared.Actor.{Actor}
+
+abbrev pub agent-row : Actor → Agent
+agent-row r = record { root = r .root; element = r .element }
+
+-- the marks without the bits that this mask lacks
+abbrev pub masked : ℕ → List ℕ → List ℕ
+masked mask m = map (λ v. bitAnd v mask) m
+
+-- the marks without this bit and the higher ones
+abbrev pub cleared : ℕ → List ℕ → List ℕ
+cleared bit m = if eqb bit 0 then m else masked (bit - 1) m
+
+-- marks of moves with lower bits only
+abbrev pub Below : ℕ → List ℕ → Type 0
+Below bit m = (i : ℕ) → getD m i 0 < bit
+
+-- The walk of an agent's rule came to the outcome o, and the marks m became n.
+pub record Gathered (B : Book) (c : List ℕ) (bit agent : ℕ) (o : Walked) (m n : List ℕ) : Type 0 where
+  pub outcome : o ≡ gives c (agent-walk B agent)
+  pub fired : Placed B → (w : Walk) → o ≡ going w → n ≡ marked bit (looked B c (record { agent = agent })) m
+  pub refused : Placed B → (r q : ℕ) → o ≡ met r q → (k : ℕ) → bit ≡ 2 ^ k → Below bit m → n ≡ m
+  pub silent : Placed B → bit ≡ 0 → n ≡ m
