@@ -41,7 +41,7 @@ or-again =
     odd : (a b : ℕ) → max (bitOr a b % 2) (b % 2) ≡ max (a % 2) (b % 2)
     odd a b = omega (arith, or-step a b)
 
-mark-mark : (bit : ℕ) (s t : Bool) (m : ℕ) → mark bit s (mark bit t m) ≡ mark bit (s || t) m
+pub mark-mark : (bit : ℕ) (s t : Bool) (m : ℕ) → mark bit s (mark bit t m) ≡ mark bit (s || t) m
 mark-mark bit true true m = or-again m bit
 mark-mark bit true false m = refl
 mark-mark bit false t m = refl

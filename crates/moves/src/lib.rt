@@ -1,17 +1,134 @@
 // One move: fired and marked, or refused.
-ghost use mathlib.Core.List.{[]};
+use engine::Instruction;
+use firing::Outcome;
+ghost use mathlib.Core.Path.{_≡_};
+ghost use mathlib.Core.List.{List, []};
+ghost use Prim.Native.Nat.{ℕ, min};
 ghost use Rattle.book.specs.Image.{book-in};
+ghost use Rattle.engine.specs.Move.{label-of, released, is-some, if-releasing};
+ghost use Rattle.firing.specs.Code.{items};
+ghost use Rattle.firing.specs.Outcome.{Ready, move-by};
+ghost use Rattle.term.specs.Marks.{marked};
 ghost use Rattle.moves.specs.Effect.{Fit, Effect, tables};
+ghost use Rattle.moves.specs.Close.{verdict-of, closed, Finished};
 
 // A move's number, 0 if it fired, and its q.
-#[repr(C)]
 pub struct Verdict {
     pub number: u32,
     pub q: u32,
 }
 
-extern "C" {
-    // The move of an agent, marked as `bit`.
-    pub fn fire_move(image: &[u16; 4296], contents: &mut [u16], readers: &mut [u64], writers: &mut [u64], bit: u64, agent: u32) -> Verdict
-        ensures { λ r. ⌜ (Fit (book-in (now (image .entry)) []) agent bit (tables (now (contents .entry)) (now (readers .entry)) (now (writers .entry))) → Effect (book-in (now (image .entry)) []) agent bit (tables (now (contents .entry)) (now (readers .entry)) (now (writers .entry))) r (tables (now (contents .exit)) (now (readers .exit)) (now (writers .exit)))) ⌝ };
+fn smaller(a: usize, b: usize) -> usize
+    ensures { λ r. ⌜ r ≡ min a b ⌝ }
+{
+    if a < b { a } else { b }
+}
+
+fn is_release(what: Instruction) -> bool
+    ensures { λ r. ⌜ r ≡ is-some (label-of what []) ⌝ }
+{
+    match what {
+        Instruction::Update {
+            location: _,
+            value: _,
+        } => false,
+        Instruction::Release { label: _ } => true,
+    }
+}
+
+// An instruction of the list is one.
+fn has_release(list: &[u64], len: usize) -> bool
+    ensures { λ r. ⌜ r ≡ is-some (released (items (now (list .entry)) len)) ⌝ }
+{
+    let n = smaller(len, list.len());
+    let mut j: usize = 0;
+    while j < n {
+        let what = firing::decode(list[j]);
+        if is_release(what) {
+            return true;
+        }
+        j = j + 1;
+    }
+    false
+}
+
+// A move with a release reads every dynamic location.
+fn mark_rest(image: &[u16; 4296], readers: &mut [u64], bit: u64, list: &[u64], len: usize)
+    ensures { λ _. ⌜ now (readers .exit) ≡ marked bit (if-releasing (book-in (now (image .entry)) []) (released (items (now (list .entry)) len))) (now (readers .entry)) ⌝ }
+{
+    if has_release(list, len) {
+        walk::mark_all(image, readers, bit);
+    }
+}
+
+// A settled move's answer; a refused one's reader marks are taken back.
+fn close(
+    image: &[u16; 4296],
+    readers: &mut [u64],
+    bit: u64,
+    list: &[u64],
+    len: usize,
+    what: Outcome,
+) -> Verdict
+    ensures { λ r. ⌜ r ≡ verdict-of what ⌝ }
+    ensures { λ _. ⌜ now (readers .exit) ≡ closed (book-in (now (image .entry)) []) bit (items (now (list .entry)) len) what (now (readers .entry)) ⌝ }
+{
+    match what {
+        Outcome::Fired => {
+            mark_rest(image, readers, bit, list, len);
+            Verdict { number: 0, q: 0 }
+        }
+        Outcome::Clash { location } => {
+            walk::clear(readers, bit);
+            Verdict {
+                number: text::CLASH,
+                q: location,
+            }
+        }
+        Outcome::Idle => {
+            walk::clear(readers, bit);
+            Verdict {
+                number: text::IDLE_MOVE,
+                q: 0,
+            }
+        }
+    }
+}
+
+// What is left of a move whose walk gave the first len of the list.
+fn finish(
+    image: &[u16; 4296],
+    contents: &mut [u16],
+    readers: &mut [u64],
+    writers: &mut [u64],
+    bit: u64,
+    list: &[u64; 256],
+    len: usize,
+) -> Verdict
+    ensures { λ r. ⌜ (Ready (book-in (now (image .entry)) []) (now (contents .entry)) (items (now (list .entry)) len) → (ls : List ℕ) → Finished (book-in (now (image .entry)) []) (items (now (list .entry)) len) (move-by (now (image .entry)) (now (contents .entry)) (now (list .entry)) len ls) bit (now (contents .entry)) (now (readers .entry)) (now (writers .entry)) r (now (contents .exit)) (now (readers .exit)) (now (writers .exit))) ⌝ }
+{
+    let what = firing::settle(image, contents, writers, list, len, bit);
+    close(image, readers, bit, list, len, what)
+}
+
+// The move of an agent, marked as `bit`.
+pub fn fire_move(
+    image: &[u16; 4296],
+    contents: &mut [u16],
+    readers: &mut [u64],
+    writers: &mut [u64],
+    bit: u64,
+    agent: u32,
+) -> Verdict
+    ensures { λ r. ⌜ (Fit (book-in (now (image .entry)) []) agent bit (tables (now (contents .entry)) (now (readers .entry)) (now (writers .entry))) → Effect (book-in (now (image .entry)) []) agent bit (tables (now (contents .entry)) (now (readers .entry)) (now (writers .entry))) r (tables (now (contents .exit)) (now (readers .exit)) (now (writers .exit)))) ⌝ }
+{
+    let mut list = [0u64; 256];
+    let s = walk::gather(image, contents, readers, bit, &mut list, agent);
+    if s.refused != 0 {
+        return Verdict {
+            number: s.refused,
+            q: s.node as u32,
+        };
+    }
+    finish(image, contents, readers, writers, bit, &list, s.len)
 }

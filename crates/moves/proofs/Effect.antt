@@ -1,0 +1,121 @@
+-- A move's effect from what its walk gathered and how it was settled. Assumes nothing.
+use mathlib.Core.Path.{_≡_, refl, sym, ap, ap₂, _∙_}
+use mathlib.Core.List.{List, [], _∷_, _++_, map}
+use Prim.Native.Nat.{ℕ}
+use lib.ListN.{take}
+use Rattle.text.specs.Words.{has}
+use Rattle.text.specs.Refusals.{clash, idle-move}
+use Rattle.book.specs.Book.{Book}
+use Rattle.engine.specs.declared.Instruction.{Instruction}
+use Rattle.engine.specs.Rule.{Walk, Walked, going, met}
+use Rattle.engine.specs.Move.{Moved, fires, stopped, released, if-releasing, Input, walked, looked, fired-of, judged, settle, move}
+use Rattle.engine.specs.Move as moved
+use Rattle.firing.specs.declared.Outcome.{Outcome}
+use Rattle.firing.specs.declared.Outcome.the-variants.{Fired, Clash, Idle}
+use Rattle.firing.specs.Code as firing
+use Rattle.firing.specs.Outcome.{Ready, Settled, moved-by, contents-after, marks-after}
+use Rattle.firing.proofs.Ready.{walk-ready}
+use Rattle.term.specs.Marks.{marked}
+use Rattle.term.proofs.Marking.{marked-append}
+use Rattle.walk.specs.declared.State.{State}
+use Rattle.walk.specs.Walk as walk
+use Rattle.walk.specs.Gather.{cleared, Gathered}
+use Rattle.walk.proofs.Kept.{taken-back}
+use Rattle.walk.proofs.Steps.{outcome-going, outcome-met}
+use Rattle.moves.specs.declared.Verdict.{Verdict}
+use Rattle.moves.specs.Effect.{Tables, tables, joined, left, number-of, q-of, Fit, Effect}
+use Rattle.moves.specs.Close.{verdict-of, closed, Finished}
+use Rattle.moves.proofs.Marks.{placed, marked-joined}
+
+-- walk and firing read the list alike
+pub same-items : (list : List ℕ) → map walk.decode-of list ≡ map firing.decode-of list
+unfolding walk.decode-of firing.decode-of
+same-items [] = refl
+same-items (x ∷ xs) = ap (_∷_ (firing.decode-of x)) (same-items xs)
+
+module _ (B : Book) (k bit : ℕ) (c rs ws : List ℕ) (fit : Fit B k bit (tables c rs ws)) where
+  abbrev i : Input
+  i = record { agent = k }
+
+  effect : (r : Verdict) (u : Tables) (m : Moved) → move B c i ≡ m → r .number ≡ number-of m → r .q ≡ q-of m → u ≡ left bit (tables c rs ws) m
+      → Effect B k bit (tables c rs ws) r u
+  effect r u m e n q t = record { number = n ∙ ap number-of (sym e); q = q ∙ ap q-of (sym e); tables = t ∙ ap (left bit (tables c rs ws)) (sym e) }
+
+  module _ (o : Walked) (rs′ : List ℕ) (walks : Gathered B c bit k o rs rs′) where
+    -- a walk that is refused
+    pub refused-effect : (n q : ℕ) → o ≡ met n q → Effect B k bit (tables c rs ws) (record { number = n; q = q }) (tables c rs′ ws)
+    unfolding move settle
+    refused-effect n q e =
+        let p = fit .power in
+        let g : walked B c i ≡ met n q = sym (walks .outcome) ∙ e in
+        effect (record { number = n; q = q }) (tables c rs′ ws) (stopped n q) (rw g) refl refl
+        (ap (λ (x : List ℕ). tables c x ws) (walks .refused (placed B (fit .lawful)) n q e (p .0) (p .1) (fit .unmarked)))
+
+    -- a walk that came to its end
+    module _ (w : Walk) (e : o ≡ going w) where
+      went : walked B c i ≡ going w
+      went = sym (walks .outcome) ∙ e
+
+      pub ready : Ready B c (w .made)
+      ready = walk-ready B (fit .lawful) c (fit .sound) i w went
+
+      abbrev f : moved.Fired
+      f = fired-of B c (looked B c i) (w .made)
+
+      judged-move : move B c i ≡ judged c f
+      unfolding move settle
+      judged-move = rw went
+
+      -- the reader marks that it left
+      noted : rs′ ≡ marked bit (looked B c i) rs
+      noted = walks .fired (placed B (fit .lawful)) w e
+
+      back : cleared bit rs′ ≡ rs
+      back = let p = fit .power in ap (cleared bit) noted ∙ taken-back bit (p .0) (looked B c i) rs (p .1) (fit .unmarked)
+
+      rest : marked bit (if-releasing B (released (w .made))) rs′ ≡ joined bit (has (looked B c i ++ if-releasing B (released (w .made)))) rs
+      rest =
+          ap (marked bit (if-releasing B (released (w .made)))) noted
+          ∙ sym (marked-append bit (looked B c i) (if-releasing B (released (w .made))) rs)
+          ∙ marked-joined bit (looked B c i ++ if-releasing B (released (w .made))) rs
+
+      module _ (u : Outcome) (c″ ws″ : List ℕ) (s : Settled f bit c ws u c″ ws″) where
+        left-by : (m : Moved) → judged c f ≡ m → (c″ ≡ contents-after c m) × (ws″ ≡ marks-after bit ws m)
+        left-by m q = (s .contents ∙ ap (contents-after c) q, s .writers ∙ ap (marks-after bit ws) q)
+
+        abbrev Gives : Outcome → Type 0
+        Gives v = Effect B k bit (tables c rs ws) (verdict-of v) (tables c″ (closed B bit (w .made) v rs′) ws″)
+
+        pub settled-effect : Gives u
+        settled-effect = go u (s .outcome)
+          where
+            go : (v : Outcome) → judged c f ≡ moved-by f v → Gives v
+            go Fired q =
+                let g = left-by (fires f) q in
+                effect (verdict-of Fired) (tables c″ (closed B bit (w .made) Fired rs′) ws″) (fires f) (judged-move ∙ q) refl refl (rw (g .0, g .1, rest))
+            go (Clash l) q =
+                let g = left-by (stopped clash l) q in
+                effect (verdict-of (Clash l)) (tables c″ (closed B bit (w .made) (Clash l) rs′) ws″) (stopped clash l) (judged-move ∙ q) refl refl (rw (g .0, g .1, back))
+            go Idle q =
+                let g = left-by (stopped idle-move 0) q in
+                effect (verdict-of Idle) (tables c″ (closed B bit (w .made) Idle rs′) ws″) (stopped idle-move 0) (judged-move ∙ q) refl refl (rw (g .0, g .1, back))
+
+  -- as the code has it: the walk's state s and its list l
+  module _ (s : State) (l rs′ : List ℕ) (walks : Gathered B c bit k (walk.outcome s l) rs rs′) where
+    pub refused-state : ((s .refused ≡ 0) → ⊥) → Effect B k bit (tables c rs ws) (record { number = s .refused; q = s .node }) (tables c rs′ ws)
+    refused-state h = refused-effect (walk.outcome s l) rs′ walks (s .refused) (s .node) (outcome-met s l h)
+
+    module _ (h : s .refused ≡ 0) where
+      abbrev is : List Instruction
+      is = firing.items l (s .len)
+
+      ended : walk.outcome s l ≡ going (record { made = is; next = s .label })
+      ended = outcome-going s l h ∙ ap (λ (js : List Instruction). going (record { made = js; next = s .label })) (same-items (take (s .len) l))
+
+      pub finished-state : (r : Verdict) (c″ rs″ ws″ : List ℕ)
+          → (Ready B c is → (ls : List ℕ) → Finished B is (fired-of B c ls is) bit c rs′ ws r c″ rs″ ws″)
+          → Effect B k bit (tables c rs ws) r (tables c″ rs″ ws″)
+      finished-state r c″ rs″ ws″ g =
+          let w : Walk = record { made = is; next = s .label } in
+          let d = g (ready (walk.outcome s l) rs′ walks w ended) (looked B c i) in
+          rw (d .verdict, d .readers) (settled-effect (walk.outcome s l) rs′ walks w ended (d .outcome) c″ ws″ (d .settled))
