@@ -2,7 +2,8 @@
 use mathlib.Core.Path.{_≡_, refl, sym, ap, ap₂, _∙_}
 use mathlib.Core.List.{List, [], _∷_, _++_, map}
 use Prim.Native.Nat.{ℕ}
-use lib.ListN.{take}
+use native.Mathlib.Omega.{arith}
+use lib.ListN.{take, replicate, length-replicate}
 use Rattle.text.specs.Words.{has}
 use Rattle.text.specs.Refusals.{clash, idle-move}
 use Rattle.book.specs.Book.{Book}
@@ -26,6 +27,10 @@ use Rattle.moves.specs.declared.Verdict.{Verdict}
 use Rattle.moves.specs.Effect.{Tables, tables, joined, left, number-of, q-of, Fit, Effect}
 use Rattle.moves.specs.Close.{verdict-of, closed, Finished}
 use Rattle.moves.proofs.Marks.{placed, marked-joined}
+
+-- an empty list of the code has room
+pub room : walk.Room (replicate {A = ℕ} 256 0)
+room = omega (arith, length-replicate {A = ℕ} 256 0)
 
 -- walk and firing read the list alike
 pub same-items : (list : List ℕ) → map walk.decode-of list ≡ map firing.decode-of list

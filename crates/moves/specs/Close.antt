@@ -14,10 +14,13 @@ use Rattle.term.specs.Marks.{marked}
 use Rattle.walk.specs.Gather.{cleared}
 use Rattle.moves.specs.declared.Verdict.{Verdict}
 
+abbrev pub told : ℕ → ℕ → Verdict
+told n q = record { number = n; q = q }
+
 abbrev pub verdict-of : Outcome → Verdict
-verdict-of Fired = record { number = 0; q = 0 }
-verdict-of (Clash l) = record { number = clash; q = l }
-verdict-of Idle = record { number = idle-move; q = 0 }
+verdict-of Fired = told 0 0
+verdict-of (Clash l) = told clash l
+verdict-of Idle = told idle-move 0
 
 -- the marks m that the walk left: with every dynamic location if the instructions release and the move fires; taken back if it is refused
 abbrev pub closed : Book → ℕ → List Instruction → Outcome → List ℕ → List ℕ

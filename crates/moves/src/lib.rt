@@ -9,8 +9,9 @@ ghost use Rattle.engine.specs.Move.{label-of, released, is-some, if-releasing};
 ghost use Rattle.firing.specs.Code.{items};
 ghost use Rattle.firing.specs.Outcome.{Ready, move-by};
 ghost use Rattle.term.specs.Marks.{marked};
+ghost use Rattle.walk.specs.Gather.{cleared};
 ghost use Rattle.moves.specs.Effect.{Fit, Effect, tables};
-ghost use Rattle.moves.specs.Close.{verdict-of, closed, Finished};
+ghost use Rattle.moves.specs.Close.{told, verdict-of, closed, Finished};
 
 // A move's number, 0 if it fired, and its q.
 pub struct Verdict {
@@ -61,7 +62,19 @@ fn mark_rest(image: &[u16; 4296], readers: &mut [u64], bit: u64, list: &[u64], l
     }
 }
 
-// A settled move's answer; a refused one's reader marks are taken back.
+// A refused move's answer; its reader marks are taken back.
+fn refuse(readers: &mut [u64], bit: u64, number: u32, q: u32) -> Verdict
+    ensures { λ r. ⌜ r ≡ told number q ⌝ }
+    ensures { λ _. ⌜ now (readers .exit) ≡ cleared bit (now (readers .entry)) ⌝ }
+{
+    walk::clear(readers, bit);
+    Verdict {
+        number: number,
+        q: q,
+    }
+}
+
+// A settled move's answer, and its reader marks: all that it reads, or none.
 fn close(
     image: &[u16; 4296],
     readers: &mut [u64],
@@ -78,20 +91,8 @@ fn close(
             mark_rest(image, readers, bit, list, len);
             Verdict { number: 0, q: 0 }
         }
-        Outcome::Clash { location } => {
-            walk::clear(readers, bit);
-            Verdict {
-                number: text::CLASH,
-                q: location,
-            }
-        }
-        Outcome::Idle => {
-            walk::clear(readers, bit);
-            Verdict {
-                number: text::IDLE_MOVE,
-                q: 0,
-            }
-        }
+        Outcome::Clash { location } => refuse(readers, bit, text::CLASH, location),
+        Outcome::Idle => refuse(readers, bit, text::IDLE_MOVE, 0),
     }
 }
 

@@ -66,7 +66,7 @@ masked-below k (x ∷ xs) h =
     let e : bitAnd x (2 ^ k - 1) ≡ x = and-mask x k ∙ mod-eq-of-lt (h 0) in
     rw (e, masked-below k xs (λ i. h (suc i)))
 
-taken-back : (bit k : ℕ) (ls m : List ℕ) → bit ≡ 2 ^ k → Below bit m → cleared bit (marked bit ls m) ≡ m
+pub taken-back : (bit k : ℕ) (ls m : List ℕ) → bit ≡ 2 ^ k → Below bit m → cleared bit (marked bit ls m) ≡ m
 taken-back bit k ls m e h = go (eqb bit 0) refl
   where
     go : (b : Bool) → eqb bit 0 ≡ b → (if b then marked bit ls m else masked (bit - 1) (marked bit ls m)) ≡ m
