@@ -15,7 +15,7 @@ use Rattle.text.specs.Words.{table-from, table, least, good}
 use Rattle.text.specs.Text.{line, no-line}
 use Rattle.text.proofs.Words.{so-true, length-table-from, getD-table, getD-table-past, least-none, bind-good, found-good, test-good, good-same}
 use Rattle.book.specs.declared.Header.{Header}
-use Rattle.book.specs.Book.{Book, L, size, no-function, no-agent, node-at, agent-at}
+use Rattle.book.specs.Book.{Book, L, size, no-function, no-agent, function-at, node-at, agent-at}
 use Rattle.book.specs.Kinds.{is-rule}
 use Rattle.book.specs.Lines.{header-of, bad-field, most-locations, first-function, first-agent, lay-out, agent-of, book-of, bad-function, bad-node, bad-agent}
 use Rattle.book.specs.Use.{bad-use}
@@ -58,6 +58,16 @@ header-bounded text h e =
     let e3 = found-good _ _ _ _ (good (header-of k l)) h (e1 .1) in
     subst Bounded (good-same (header-of k l) h (e3 .1)) (header-good k l (e3 .0))
 
+-- it is what the two header lines say
+pub header-is : (text : List ℕ) (h : Header) → check-header text ≡ good h → header-of (line text 0) (line text 1) ≡ h
+unfolding check-header
+header-is text h e =
+    let k = line text 0 in
+    let l = line text 1 in
+    let e1 = found-good _ _ _ _ _ h e in
+    let e3 = found-good _ _ _ _ (good (header-of k l)) h (e1 .1) in
+    good-same (header-of k l) h (e3 .1)
+
 -- ---- functions
 
 laid-out : (E n : ℕ) (ls : List Line) → Laid E n (lay-out E n ls)
@@ -86,6 +96,10 @@ laid-kind E n (l ∷ ls) (suc f) = laid-kind E (n + size E (l .a)) ls f
 function-good : (l : Line) (f : ℕ) → bad-function l f ≡ false → l .a ≤ 2
 unfolding bad-function
 function-good l f h = leb-true (l .a) 2 (so-true (leb (l .a) 2) (bad-function l f) h (λ q. simp q))
+
+function-kind : (l : Line) (f : ℕ) → bad-function l f ≡ false → l .b ≤ 3
+unfolding bad-function
+function-kind l f h = leb-true (l .b) 3 (so-true (leb (l .b) 3) (bad-function l f) h (λ q. simp (q, and-false)))
 
 roll-good : (l : Line) → bad-function l 0 ≡ false → (l .a ≡ 1) × (l .b ≡ 3)
 unfolding bad-function
@@ -216,3 +230,18 @@ accepted-lines text B e =
 
 pub accepted : (text : List ℕ) (B : Book) → check-book text ≡ good B → Lawful B
 accepted text B e = let r = accepted-lines text B e in lines-lawful text (r .0) B (r .1) (r .2)
+
+-- its functions are of one of the four kinds
+pub accepted-kinds : (text : List ℕ) (B : Book) → check-book text ≡ good B → (f : ℕ) → function-at B f .kind ≤ 3
+unfolding book-of
+accepted-kinds text B e f =
+    let r = accepted-lines text B e in
+    let h = r .0 in
+    let p = passed h text B (r .2) in
+    let at : ℕ → Line = λ i. line text (first-function + i) in
+    let ls = table at (h .functions) in
+    subst (λ (X : Book). function-at X f .kind ≤ 3) (p .1)
+    (rw (laid-kind (h .elements) 0 ls f)
+    (dite (decLt f (h .functions))
+    (λ q. rw (getD-table at (h .functions) f no-line q) (function-kind (at f) f (p .0 .functions f q)))
+    (λ (q : ¬ (f < h .functions)). rw (getD-table-past at (h .functions) f no-line (omega arith)) (omega arith))))

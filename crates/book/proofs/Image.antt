@@ -21,7 +21,8 @@ use Rattle.book.specs.declared.Function.{Function}
 use Rattle.book.specs.declared.Entry.{Entry}
 use Rattle.book.specs.Book.{Book, L, total, size, function-at, node-at, agent-at, no-function, no-node, no-agent}
 use Rattle.book.specs.Lines.{lay-out, node-of, agent-of, entry-of, book-of, first-node, first-agent, first-entry}
-use Rattle.book.specs.Image.{image-length, word, row-in, capped, function-of, book-in, Holds, Room, stored, filled, first-of, laid-row}
+use Rattle.book.specs.Image.{image-length, word, row-in, capped, function-of, book-in, Holds, Counts, Room, stored, filled, first-of, laid-row}
+use Rattle.book.proofs.Accepted.{book-lengths}
 
 -- a count within its bound
 pub uncapped : (n most : ℕ) → n ≤ most → capped n most ≡ n
@@ -339,4 +340,15 @@ module _ (text : List ℕ) (h : Header) (m : List ℕ) (long : image-length ≤ 
             );
         contents = ap (λ (l : Line). l .b) row-tail;
         locations = ap (λ (l : Line). l .c) row-tail ∙ total-laid (λ i. line text (2 + i)) (h .elements) (h .functions);
+      }
+
+  pub decoded-counts : Counts (decoded text h m) (book-of h text)
+  unfolding book-of
+  decoded-counts =
+      let long = book-lengths h text in
+      record {
+        elements = word0;
+        functions = word2 ∙ sym (long .0);
+        nodes = word3 ∙ sym (long .1);
+        agents = word4 ∙ sym (long .2);
       }

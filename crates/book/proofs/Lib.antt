@@ -5,3 +5,4 @@ pub mod Table
 pub mod Depth
 pub mod Claims
 pub mod Image
+pub mod Bare

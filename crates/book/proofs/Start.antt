@@ -33,7 +33,7 @@ record InForm (B : Book) (i : ℕ) (e : Entry) : Type 0 where
   pub above : least-location B i ≤ entry-location B e
   pub clear : e .function ≢ 0 → (rolled B (e .arg1) i ≡ false) × (rolled B (e .arg2) i ≡ false) × (rolled B (e .value) i ≡ false)
 
-in-bounds-is : (B : Book) (e : Entry) → in-bounds B e ≡ true → (e .function < length (B .functions)) × (e .arg1 < B .E) × (e .arg2 < B .E) × (e .value < B .E)
+pub in-bounds-is : (B : Book) (e : Entry) → in-bounds B e ≡ true → (e .function < length (B .functions)) × (e .arg1 < B .E) × (e .arg2 < B .E) × (e .value < B .E)
 unfolding in-bounds
 in-bounds-is B e h = (
   ltb-true (e .function) (length (B .functions)) (so-true (ltb (e .function) (length (B .functions))) (in-bounds B e) h (λ q. simp q)),

@@ -4,7 +4,7 @@ use mathlib.Core.Path.{_≡_}
 use mathlib.Core.List.{List}
 use Prim.Native.Nat.{ℕ, zero, suc, _+_, _*_, _≤_}
 use lib.Dec.{ltb}
-use lib.ListN.{getD, set}
+use lib.ListN.{length, getD, set}
 use Rattle.text.specs.declared.Line.{Line}
 use Rattle.text.specs.Words.{if_then_else_, table}
 use Rattle.text.specs.Text.{line}
@@ -46,6 +46,13 @@ pub record Holds (m : List ℕ) (h : Header) (text : List ℕ) : Type 0 where
   pub book : book-in m (book-of h text .entries) ≡ book-of h text
   pub contents : word m 5 ≡ h .contents
   pub locations : word m 6 ≡ L (book-of h text)
+
+-- the counts of an image are the book's as they stand, none of them past its bound
+pub record Counts (m : List ℕ) (B : Book) : Type 0 where
+  pub elements : word m 0 ≡ B .E
+  pub functions : word m 2 ≡ length (B .functions)
+  pub nodes : word m 3 ≡ length (B .nodes)
+  pub agents : word m 4 ≡ length (B .agents)
 
 -- a header whose book has room in an image
 pub record Room (h : Header) : Type 0 where

@@ -1,4 +1,5 @@
 pub mod Book
+pub mod Bare
 pub mod Kinds
 pub mod Lines
 pub mod Use

@@ -6,7 +6,8 @@ ghost use lib.ListN.{length, getD, set};
 ghost use mathlib.Core.List.{[]};
 ghost use Rattle.text.specs.Text.{line};
 ghost use Rattle.book.specs.Book.{size, location, function-at, node-at, agent-at};
-ghost use Rattle.book.specs.Image.{image-length, word, row-in, capped, book-in, Holds, Room, stored, filled, first-of, laid-row};
+ghost use Rattle.book.specs.Lines.{book-of};
+ghost use Rattle.book.specs.Image.{image-length, word, row-in, capped, book-in, Holds, Counts, Room, stored, filled, first-of, laid-row};
 
 // Bounds of a book.
 pub const MOST_ELEMENTS: u32 = 10000;
@@ -281,7 +282,7 @@ fn decode_functions(text: &[u8], e: u32, n: u32, image: &mut [u32]) -> u32
 
 // The image of the book that a text with this header says.
 pub fn decode(text: &[u8], h: Header, image: &mut [u32])
-    ensures { λ _. ⌜ (image-length ≤ length (now (image .entry)) → Room h → Holds (now (image .exit)) h (now (text .entry))) ⌝ }
+    ensures { λ _. ⌜ (image-length ≤ length (now (image .entry)) → Room h → Holds (now (image .exit)) h (now (text .entry)) × Counts (now (image .exit)) (book-of h (now (text .entry)))) ⌝ }
 {
     let e = cap(h.elements, MOST_ELEMENTS);
     let f = cap(h.functions, MOST_FUNCTIONS);

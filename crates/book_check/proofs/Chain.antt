@@ -1,32 +1,32 @@
 -- The chain of checks, step by step, and that an image that holds the text's book gives its faults. Assumes nothing.
-use mathlib.Core.Path.{_≡_, refl, sym, _∙_, ap}
-use mathlib.Core.Bool.{Bool, true, false, not}
-use mathlib.Core.List.{List, []}
+use mathlib.Core.Path.{_≡_, refl, sym, _∙_, ap, subst}
+use mathlib.Core.Bool.{Bool, true, false}
+use mathlib.Core.List.{List, [], map}
 use Prim.Native.Nat.{ℕ, zero, suc, _+_, _-_, _<_, _≤_}
 use native.Mathlib.Nat.{zero-add}
 use native.Mathlib.Omega.{arith}
-use lib.Dec.{eqb, leb}
-use lib.ListN.{length, replicate}
+use lib.ListN.{length, length-map}
 use Rattle.text.specs.declared.Line.{Line}
 use Rattle.text.specs.declared.Answer.{Answer}
 use Rattle.text.specs.declared.Found.{Found}
 use Rattle.text.specs.declared.Found.the-variants.{Nowhere, Here}
-use Rattle.text.specs.Words.{one-if, least, Checked, good, refused, _>>=_, _>>_, none-at, must, answer-of}
+use Rattle.text.specs.Words.{least, Checked, good, refused, _>>=_, _>>_, none-at, must, answer-of}
 use Rattle.text.specs.Refusals.{ill-formed, book-text, header-bounds}
 use Rattle.text.specs.Text.{line, bad-line}
 use Rattle.text.proofs.Words.{length-table-from, least-here, least-same}
 use Rattle.book.specs.declared.Header.{Header}
 use Rattle.book.specs.declared.Entry.{Entry}
-use Rattle.book.specs.declared.Node.{Node}
-use Rattle.book.specs.Book.{Book, L, node-at}
+use Rattle.book.specs.Book.{Book, L}
 use Rattle.book.specs.Lines.{header-of, bad-field, first-entry, book-of, fits, bad-node, bad-agent}
-use Rattle.book.specs.Use.{is-root, places, uses, bad-use}
-use Rattle.book.specs.Around.{handed, deeper, as-it-is, forall-more, bound-more, depths, foralls, bounds, misplaced-by, bad-around}
+use Rattle.book.specs.Use.{bad-use}
+use Rattle.book.specs.Around.{bad-around}
 use Rattle.book.specs.Contents.{bad-entry}
 use Rattle.book.specs.Check.{check-header, check-present, check-surplus, check-lines, check-book}
-use Rattle.book.specs.Image.{book-in, Holds, Room}
-use Rattle.book.proofs.Accepted.{header-bounded}
+use Rattle.book.specs.Image.{book-in, Holds, Counts, Room}
+use Rattle.book.proofs.Accepted.{header-bounded, lines-book}
+use Rattle.book.proofs.Bare.{bare-image, bad-use-bare, bad-around-bare}
 use Rattle.contents.specs.Roll.{entries-from}
+use Rattle.book_check.specs.Opened.{Opened}
 use Rattle.book_check.specs.Chain.{refusal, from-contents, from-agents, from-around, from-use, from-nodes, from-locations, from-functions, from-surplus, from-present, from-header}
 
 -- ---- one check, and what follows
@@ -52,6 +52,38 @@ module _ (b : Bool) (n p : ℕ) (d : Checked Book) where
   pub unmet : b ≡ false → refusal n p ≡ answer-of (must b n p 0 >> d)
   unfolding must _>>_
   unmet e = rw e
+
+-- ---- what the checks leave in the image
+
+-- a refused book leaves nothing to show
+module _ (n : ℕ) (f : Found) (d : Checked Book) (m : List ℕ) where
+  pub opened-refused : (first p : ℕ) → f ≡ Here p → Opened m (none-at n first 0 f >> d)
+  unfolding none-at _>>_
+  opened-refused first p e = rw e (λ B q. let z : _≡_ {A = ℕ} 0 1 = cc in absurd (omega arith))
+
+  pub opened-passed : (first : ℕ) → f ≡ Nowhere → Opened m d → Opened m (none-at n first 0 f >> d)
+  unfolding none-at _>>_
+  opened-passed first e o = rw e o
+
+module _ (b : Bool) (n p : ℕ) (d : Checked Book) (m : List ℕ) where
+  pub opened-met : b ≡ true → Opened m d → Opened m (must b n p 0 >> d)
+  unfolding must _>>_
+  opened-met e o = rw e o
+
+  pub opened-unmet : b ≡ false → Opened m (must b n p 0 >> d)
+  unfolding must _>>_
+  opened-unmet e = rw e (λ B q. let z : _≡_ {A = ℕ} 0 1 = cc in absurd (omega arith))
+
+-- an image that holds the text's book holds the book accepted
+pub opened-lines :
+    (m : List ℕ) (h : Header) (text : List ℕ) → Holds m h text → Counts m (book-of h text) → Opened m (check-lines h text)
+opened-lines m h text holds counts B e =
+    let q = sym (lines-book text h B e) in
+    (subst (λ (X : Book). book-in m (X .entries) ≡ X) q (holds .book), holds .locations ∙ ap (λ (X : Book). L X) q, subst (Counts m) q counts)
+
+-- the length of an array that is lent
+pub unmapped : (A B : Type 0) (f : A → B) (l : List A) (n : ℕ) → length (map f l) ≡ n → length l ≡ n
+unmapped A B f l n e = sym (length-map l f) ∙ e
 
 -- ---- the chain is the whole check
 
@@ -96,33 +128,11 @@ header-room text p q =
 
 -- ---- the faults of an image that holds the text's book are those of the book
 
-uses-same : (m : List ℕ) (es : List Entry) (n k : ℕ) → uses (book-in m []) n k ≡ uses (book-in m es) n k
-unfolding uses book-in
-uses-same m es n zero = refl
-uses-same m es n (suc k) = ap (λ (u : ℕ). u + places (node-at (book-in m es) k) n) (uses-same m es n k)
-
-handed-same :
-    (m : List ℕ) (es : List Entry) (ab c : Node → ℕ → ℕ) (k : ℕ) (s : List ℕ) → handed (book-in m []) ab c k s ≡ handed (book-in m es) ab c k s
-unfolding handed book-in
-handed-same m es ab c zero s = refl
-handed-same m es ab c (suc k) s = rw (handed-same m es ab c k s)
-
 use-same : (m : List ℕ) (es : List Entry) (n : ℕ) → bad-use (book-in m []) n ≡ bad-use (book-in m es) n
-unfolding bad-use book-in
-use-same m es n =
-    ap (λ (u : ℕ). not (eqb (one-if (is-root (book-in m es) n) + u) 1)) (uses-same m es n (length (book-in m es .nodes)))
+use-same m es n = ap (λ (B : Book). bad-use B n) (sym (bare-image m es)) ∙ bad-use-bare (book-in m es) n
 
 around-same : (m : List ℕ) (es : List Entry) (n : ℕ) → bad-around (book-in m []) n ≡ bad-around (book-in m es) n
-unfolding book-in
-around-same m es n =
-    let B : Book = book-in m es in
-    let N : ℕ = length (B .nodes) in
-    let d = handed-same m es deeper deeper N (replicate N 1) in
-    let f = handed-same m es as-it-is forall-more N (replicate N 0) in
-    let b = handed-same m es as-it-is bound-more N (replicate N 0) in
-    ap (λ (x : List ℕ). misplaced-by B x (foralls (book-in m [])) (bounds (book-in m [])) n) d
-    ∙ ap (λ (x : List ℕ). misplaced-by B (depths B) x (bounds (book-in m [])) n) f
-    ∙ ap (λ (x : List ℕ). misplaced-by B (depths B) (foralls B) x n) b
+around-same m es n = ap (λ (B : Book). bad-around B n) (sym (bare-image m es)) ∙ bad-around-bare (book-in m es) n
 
 module _ (m : List ℕ) (h : Header) (text : List ℕ) (holds : Holds m h text) where
   nodes-count : length (book-of h text .nodes) ≡ h .nodes

@@ -13,6 +13,7 @@ ghost use Rattle.text.specs.Text.{line, bad-line};
 ghost use Rattle.book.specs.Lines.{bad-field, bad-function};
 ghost use Rattle.book.specs.Image.{Holds, Room};
 ghost use Rattle.book.specs.Check.{check-lines, check-book, packed};
+ghost use Rattle.book_check.specs.Opened.{Opened};
 ghost use Rattle.book_check.specs.Chain.{refusal, from-contents, from-agents, from-around, from-use, from-nodes, from-locations, from-functions, from-surplus, from-present, from-header};
 
 // The place of L among the fields of the header.
@@ -132,20 +133,19 @@ fn check_functions<'a>(text: &'a [u8], image: &'a [u32], h: Header) -> Answer
     }
 }
 
-// 4 to 8 on lines that are all in form.
-fn check_lines(text: &[u8], h: Header) -> Answer
+// 4 to 8 on lines that are all in form, read once into the image.
+fn check_lines(text: &[u8], h: Header, image: &mut [u32; 4296]) -> Answer
     requires { ⌜ Room h ⌝ }
-    ensures { λ r. ⌜ r ≡ answer-of (check-lines h (now (text .entry))) ⌝ }
+    ensures { λ r. ⌜ (r ≡ answer-of (check-lines h (now (text .entry)))) × Opened (now (image .exit)) (check-lines h (now (text .entry))) ⌝ }
 {
-    let mut image = [0u32; 4296];
-    book::decode(text, h, &mut image);
-    check_functions(text, &image, h)
+    book::decode(text, h, image);
+    check_functions(text, image, h)
 }
 
 // 1 on all lines that the header calls for, and on what comes after them.
-fn check_form(text: &[u8], h: Header) -> Answer
+fn check_form(text: &[u8], h: Header, image: &mut [u32; 4296]) -> Answer
     requires { ⌜ Room h ⌝ }
-    ensures { λ r. ⌜ r ≡ answer-of (from-present h (now (text .entry))) ⌝ }
+    ensures { λ r. ⌜ (r ≡ answer-of (from-present h (now (text .entry)))) × Opened (now (image .exit)) (from-present h (now (text .entry))) ⌝ }
 {
     let all = 2 + h.functions + h.nodes + h.agents + h.contents;
     let found = text::bad_line(text, all);
@@ -153,7 +153,7 @@ fn check_form(text: &[u8], h: Header) -> Answer
         Found::Here(i) => refuse(text::ILL_FORMED, i),
         Found::Nowhere => {
             if text.len() <= text::LINE * all as usize {
-                check_lines(text, h)
+                check_lines(text, h, image)
             } else {
                 refuse(text::ILL_FORMED, all)
             }
@@ -190,9 +190,9 @@ fn bad_header(k: Line, l: Line) -> Found
 }
 
 // 3 on header lines that are in form, and what follows.
-fn check_header(text: &[u8]) -> Answer
+fn check_header(text: &[u8], image: &mut [u32; 4296]) -> Answer
     requires { ⌜ least (bad-line (now text)) 2 ≡ Nowhere ⌝ }
-    ensures { λ r. ⌜ r ≡ answer-of (from-header (now (text .entry))) ⌝ }
+    ensures { λ r. ⌜ (r ≡ answer-of (from-header (now (text .entry)))) × Opened (now (image .exit)) (from-header (now (text .entry))) ⌝ }
 {
     let k = text::read_line(text, 0, 0);
     let l = text::read_line(text, 0, 1);
@@ -208,8 +208,19 @@ fn check_header(text: &[u8]) -> Answer
                 agents: l.a,
                 contents: l.b,
             };
-            check_form(text, h)
+            check_form(text, h, image)
         }
+    }
+}
+
+// The whole check of a book, which leaves the image of an accepted one.
+pub fn check_into(book: &[u8], image: &mut [u32; 4296]) -> Answer
+    ensures { λ r. ⌜ (r ≡ answer-of (check-book (now (book .entry)))) × Opened (now (image .exit)) (check-book (now (book .entry))) ⌝ }
+{
+    let found = text::bad_line(book, 2);
+    match found {
+        Found::Here(i) => refuse(text::ILL_FORMED, i),
+        Found::Nowhere => check_header(book, image),
     }
 }
 
@@ -217,11 +228,8 @@ fn check_header(text: &[u8]) -> Answer
 pub fn check_book(book: &[u8]) -> Answer
     ensures { λ r. ⌜ r ≡ answer-of (check-book (now (book .entry))) ⌝ }
 {
-    let found = text::bad_line(book, 2);
-    match found {
-        Found::Here(i) => refuse(text::ILL_FORMED, i),
-        Found::Nowhere => check_header(book),
-    }
+    let mut image = [0u32; 4296];
+    check_into(book, &mut image)
 }
 
 // The same for C: number × 2^32 + p. Each refusal of a book has q 0.

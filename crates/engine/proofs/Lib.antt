@@ -10,4 +10,5 @@ pub mod Clash
 pub mod Numbers
 pub mod Fuel
 pub mod Steps
+pub mod Entries
 pub mod Claims

@@ -1,4 +1,4 @@
-use Rattle.book.proofs.Image.{uncapped, decoded-holds}
+use Rattle.book.proofs.Image.{uncapped, decoded-holds, decoded-counts}
 use borrow.Author.Needs.{needs}
 use Rattle.book.proofs.decode.Statement.{statement}
 use Rattle.book.proofs.decode.Tie as tie
@@ -63,7 +63,7 @@ same-length c = search needs
 
 -- src/lib.rt:259:1
 returns : tie.Need-returns
-returns c = λ long room. let a = c .before .before .before .before .before .before .before .before .before .before .before .before .before .before .before .before .before .before .before .before .before .before .before .before .before .before .args in let h = a .h in rw (c .before .before .store2 .ensures, c .before .before .before .before .before .before .decode-functions .ensures .0, c .before .before .before .before .before .before .decode-functions .ensures .1, c .before .before .before .before .before .before .before .before .before .before .decode-lines2 .ensures, c .before .before .before .before .before .before .before .before .before .before .before .before .before .before .decode-lines .ensures, c .before .before .before .before .before .before .before .before .before .before .before .before .before .before .before .before .before .before .store .ensures, c .before .before .before .before .before .before .before .before .before .before .before .before .before .before .before .before .before .before .before .before .cap4 .ensures .0, c .before .before .before .before .before .before .before .before .before .before .before .before .before .before .before .before .before .before .before .before .before .cap3 .ensures .0, c .before .before .before .before .before .before .before .before .before .before .before .before .before .before .before .before .before .before .before .before .before .before .cap2 .ensures .0, c .before .before .before .before .before .before .before .before .before .before .before .before .before .before .before .before .before .before .before .before .before .before .before .cap .ensures .0, uncapped (h .elements) 10000 (room .elements), uncapped (h .functions) 32 (room .functions), uncapped (h .nodes) 1024 (room .nodes), uncapped (h .agents) 16 (room .agents)) (decoded-holds (a .text .now) h (a .image .now) long room)
+returns c = λ long room. let a = c .before .before .before .before .before .before .before .before .before .before .before .before .before .before .before .before .before .before .before .before .before .before .before .before .before .before .args in let h = a .h in rw (c .before .before .store2 .ensures, c .before .before .before .before .before .before .decode-functions .ensures .0, c .before .before .before .before .before .before .decode-functions .ensures .1, c .before .before .before .before .before .before .before .before .before .before .decode-lines2 .ensures, c .before .before .before .before .before .before .before .before .before .before .before .before .before .before .decode-lines .ensures, c .before .before .before .before .before .before .before .before .before .before .before .before .before .before .before .before .before .before .store .ensures, c .before .before .before .before .before .before .before .before .before .before .before .before .before .before .before .before .before .before .before .before .cap4 .ensures .0, c .before .before .before .before .before .before .before .before .before .before .before .before .before .before .before .before .before .before .before .before .before .cap3 .ensures .0, c .before .before .before .before .before .before .before .before .before .before .before .before .before .before .before .before .before .before .before .before .before .before .cap2 .ensures .0, c .before .before .before .before .before .before .before .before .before .before .before .before .before .before .before .before .before .before .before .before .before .before .before .cap .ensures .0, uncapped (h .elements) 10000 (room .elements), uncapped (h .functions) 32 (room .functions), uncapped (h .nodes) 1024 (room .nodes), uncapped (h .agents) 16 (room .agents)) (decoded-holds (a .text .now) h (a .image .now) long room, decoded-counts (a .text .now) h (a .image .now) long room)
 
 pub decode-spec : {M : Type 1} → statement M
 decode-spec =
