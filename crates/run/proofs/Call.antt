@@ -9,8 +9,10 @@ use lib.Seq.{length-take-le}
 use Rattle.text.specs.declared.Answer.{Answer}
 use Rattle.text.specs.Words.{Checked, good, refused, answer-of}
 use Rattle.book.specs.Book.{Book, L, start}
+use Rattle.book.specs.Bare.{bare}
 use Rattle.book.specs.Check.{check-book}
 use Rattle.book.specs.Image.{book-in}
+use Rattle.book.proofs.Bare.{bare-image}
 use Rattle.engine.specs.Single.{over}
 use Rattle.log.specs.declared.LogCheck.{LogCheck}
 use Rattle.log.specs.Checks.{Held, LogChecked}
@@ -23,7 +25,6 @@ use Rattle.order.proofs.Marks.{halted-number}
 use Rattle.order.proofs.Numbers.{Early, on, off, all-early}
 use Rattle.run.specs.Turns.{answered, Long}
 use Rattle.run.specs.Turns as turns
-use Rattle.run.proofs.Entries.{bare, bare-image}
 use Rattle.run.proofs.Checks.{book-stops, book-good, log-stops, log-good, lent-stops, lent-passes}
 
 -- a table that was lent in part, with its part put back

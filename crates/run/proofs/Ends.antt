@@ -10,12 +10,15 @@ use lib.Seq.{drop-length}
 use Rattle.text.specs.declared.Answer.{Answer}
 use Rattle.text.specs.Words.{good}
 use Rattle.book.specs.Book.{Book, L, start}
+use Rattle.book.specs.Bare.{bare}
 use Rattle.book.specs.Check.{check-book}
 use Rattle.book.specs.Image.{book-in}
 use Rattle.book.specs.Sound.{Lawful, Sound}
 use Rattle.book.proofs.Accepted.{accepted}
 use Rattle.book.proofs.Start.{start-sound}
+use Rattle.book.proofs.Bare.{bare-image, sound-bare, lawful-bare}
 use Rattle.engine.specs.Move.{Input, Moved, move}
+use Rattle.engine.proofs.Entries.{move-bare}
 use Rattle.order.specs.Pairs.{rows, TwoFound, no-two, two, least-two}
 use Rattle.order.specs.Log.{Log, move-at, check-log}
 use Rattle.order.specs.Run.{Run, Ran, ran, halted, next, run, touching, LogAnswer, order-checked, finish, run-from, run-log}
@@ -25,7 +28,6 @@ use Rattle.touch.specs.declared.Two.{Two}
 use Rattle.touch.specs.Marked.{unordered-marked, clipped, two-of}
 use Rattle.touch.proofs.Fired.{touching-fired}
 use Rattle.run.specs.Turns.{log-in, left-of, Begun, Holds, Done, answered, RowsOf, Passed, Long}
-use Rattle.run.proofs.Entries.{bare, bare-image, sound-bare, lawful-bare, move-bare}
 use Rattle.run.proofs.Checks.{agents-low}
 use Rattle.run.proofs.Marks.{length-readers, length-writers}
 

@@ -1,6 +1,5 @@
 pub mod Marks
 pub mod Turns
-pub mod Entries
 pub mod Checks
 pub mod Ends
 pub mod Call
