@@ -80,6 +80,6 @@ pub record Long (B : Book) (c rs ws : List ℕ) : Type 0 where
   pub readers : length rs ≡ L B
   pub writers : length ws ≡ L B
 
--- an answer in one number; p and q are below 2^24
+-- an answer in one number, for C; the bounds of 01 keep p and q below 2^24
 abbrev pub packed : Answer → ℕ
 packed a = a .number * 2 ^ 48 + a .p * 2 ^ 24 + a .q
