@@ -1,32 +1,47 @@
-// A book's checks, with its image.
+// A checked book as the engine holds it: its image in words of sixteen bits.
 use text::Answer;
 ghost use mathlib.Core.Path.{_≡_};
+ghost use mathlib.Core.List.{map};
+ghost use lib.ListN.{length};
 ghost use Rattle.text.specs.Words.{good, answer-of};
 ghost use Rattle.book.specs.Book.{Book};
 ghost use Rattle.book.specs.Image.{book-in};
 ghost use Rattle.book.specs.Check.{check-book};
+ghost use Rattle.open.specs.Narrow.{narrowed};
 
-#[repr(C)]
-pub struct Raw {
-    pub number: u32,
-    pub p: u32,
-    pub q: u32,
+// One word; 0 where it does not fit.
+pub fn narrow_word(x: u32) -> u16
+    ensures { λ r. ⌜ r ≡ narrowed x ⌝ }
+{
+    if x < 65536 { x as u16 } else { 0 }
 }
 
-extern "C" {
-    fn raw_open(book: &[u8], image: &mut [u16; 4296]) -> Raw
-        ensures { λ r. ⌜ record { number = r .number; p = r .p; q = r .q } ≡ answer-of (check-book (now (book .entry))) ⌝ }
-        ensures { λ r. ⌜ ((B : Book) → check-book (now (book .entry)) ≡ good B → book-in (now (image .exit)) (B .entries) ≡ B) ⌝ };
+// Each word in turn.
+fn narrow_words(words: &[u32], out: &mut [u16])
+    requires { ⌜ length (now out) ≡ length (now words) ⌝ }
+    ensures { λ _. ⌜ now (out .exit) ≡ map narrowed (now (words .entry)) ⌝ }
+{
+    let mut i: usize = 0;
+    while i < words.len() {
+        out[i] = narrow_word(words[i]);
+        i += 1;
+    }
 }
 
+// Every word of an image.
+pub fn narrow(image: &[u32; 4296], out: &mut [u16; 4296])
+    ensures { λ _. ⌜ now (out .exit) ≡ map narrowed (now (image .entry)) ⌝ }
+{
+    narrow_words(image, out);
+}
+
+// The whole check of a book, which leaves the engine's image of an accepted one. Of a refused book the image may hold anything.
 pub fn open(book: &[u8], image: &mut [u16; 4296]) -> Answer
     ensures { λ r. ⌜ r ≡ answer-of (check-book (now (book .entry))) ⌝ }
     ensures { λ r. ⌜ ((B : Book) → check-book (now (book .entry)) ≡ good B → book-in (now (image .exit)) (B .entries) ≡ B) ⌝ }
 {
-    let r = raw_open(book, image);
-    Answer {
-        number: r.number,
-        p: r.p,
-        q: r.q,
-    }
+    let mut words = [0u32; 4296];
+    let answer = book_check::check_into(book, &mut words);
+    narrow(&words, image);
+    answer
 }

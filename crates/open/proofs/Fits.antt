@@ -1,0 +1,176 @@
+-- The words of an accepted book's image fit in sixteen bits, so the narrow image holds the same book. Assumes nothing.
+use mathlib.Core.Path.{_≡_, refl, sym, ap, _∙_}
+use mathlib.Core.Bool.{Bool, true, false, and-false}
+use mathlib.Core.List.{List, [], _∷_, _++_, map}
+use Prim.Native.Nat.{ℕ, zero, suc, _+_, _*_, _≤_, _<_}
+use native.Mathlib.Numerals.{add-one}
+use native.Mathlib.Omega.{arith}
+use lib.Dec.{eqb, ltb}
+use lib.ListN.{length, getD, set, take, length-map, List·getD-eq-default}
+use lib.Seq.{take-suc, take-suc-set, take-all}
+use borrow.Author.Tests.{ltb-true, ltb-false, lt-ltb, le-ltb, ne-eqb}
+use Rattle.text.specs.Words.{table}
+use Rattle.text.proofs.Words.{so-true, table-ext}
+use Rattle.book.specs.declared.Function.{Function}
+use Rattle.book.specs.declared.Node.{Node}
+use Rattle.book.specs.declared.Agent.{Agent}
+use Rattle.book.specs.Book.{Book, L, function-at, node-at, agent-at, location}
+use Rattle.book.specs.Kinds.{sort, sort-table}
+use Rattle.book.specs.Lines.{node-of, agent-of, fits, bad-node}
+use Rattle.book.specs.Image.{word, row-in, capped, function-of, book-in, Counts}
+use Rattle.book.specs.Sound.{Lawful}
+use Rattle.book.proofs.Image.{functions-long, nodes-long, agents-long, functions-most, nodes-most, agents-most, function-inside, node-inside, agent-inside}
+use Rattle.book.proofs.Places.{spot}
+use Rattle.open.specs.Narrow.{narrowed}
+
+-- ---- a word that fits
+
+pub narrowed-same : (x : ℕ) → x < 65536 → narrowed x ≡ x
+narrowed-same x h = rw (lt-ltb x 65536 h)
+
+getD-narrowed : (m : List ℕ) (i : ℕ) → getD (map narrowed m) i 0 ≡ narrowed (getD m i 0)
+getD-narrowed [] i = refl
+getD-narrowed (x ∷ m) zero = refl
+getD-narrowed (x ∷ m) (suc i) = getD-narrowed m i
+
+-- ---- the loop
+
+module _ (image : List ℕ) where
+  pub narrow-step :
+      (out : List ℕ) (i : ℕ) → i < length image → i < length out → take i out ≡ take i (map narrowed image) →
+      take (i + 1) (set out i (narrowed (getD image i 0))) ≡ take (i + 1) (map narrowed image)
+  narrow-step out i h k e =
+      let l : i < length (map narrowed image) = rw (length-map image narrowed) h in
+      rw (add-one i) (take-suc-set out i (narrowed (getD image i 0)) k
+      ∙ ap (λ (s : List ℕ). s ++ (narrowed (getD image i 0) ∷ [])) e
+      ∙ ap (λ (x : ℕ). take i (map narrowed image) ++ (x ∷ [])) (sym (getD-narrowed image i))
+      ∙ sym (take-suc (map narrowed image) i 0 l))
+
+  pub narrow-end :
+      (out : List ℕ) (i : ℕ) → length image ≤ i → length out ≤ i → take i out ≡ take i (map narrowed image) → out ≡ map narrowed image
+  narrow-end out i h k e = sym (take-all i out k) ∙ e ∙ take-all i (map narrowed image) (rw (length-map image narrowed) h)
+
+-- ---- nodes
+
+-- an operand that fits is small
+fits-small : (B : Book) (n s x : ℕ) → B .P ≤ 10000 → length (B .functions) ≤ 32 → n ≤ 1024 → fits B n s x ≡ true → x < 65536
+unfolding fits
+fits-small B n s x p f k e =
+    ltb-true x 65536
+    (so-true (ltb x 65536) (fits B n s x) e
+    (λ q.
+    let h = ltb-false x 65536 q in
+    simp (
+      ne-eqb x 0 (λ z. omega arith),
+      le-ltb x (B .P) (omega arith),
+      le-ltb x 8 (omega arith),
+      le-ltb x (length (B .functions)) (omega arith),
+      le-ltb x n (omega arith),
+      and-false,
+    )))
+
+-- a node of no kind fits nothing
+kind-small : (B : Book) (n kind x : ℕ) → fits B n (sort kind 0) x ≡ true → kind < 28
+unfolding fits sort
+kind-small B n kind x e =
+    ltb-true kind 28
+    (so-true (ltb kind 28) (fits B n (sort kind 0) x) e
+    (λ q.
+    let h = ltb-false kind 28 q in
+    let l : length sort-table ≤ kind * 3 + 0 = omega arith in
+    rw (List·getD-eq-default sort-table 0 l)))
+
+record SmallNode (y : Node) : Type 0 where
+  pub kind : y .kind < 65536
+  pub a : y .a < 65536
+  pub b : y .b < 65536
+  pub c : y .c < 65536
+
+small-node : (B : Book) (n : ℕ) → B .P ≤ 10000 → length (B .functions) ≤ 32 → n ≤ 1024 → bad-node B n ≡ false → SmallNode (node-at B n)
+unfolding bad-node
+small-node B n p f k e =
+    let y = node-at B n in
+    let fa : fits B n (sort (y .kind) 0) (y .a) ≡ true = so-true (fits B n (sort (y .kind) 0) (y .a)) (bad-node B n) e (λ q. simp q) in
+    let fb : fits B n (sort (y .kind) 1) (y .b) ≡ true = so-true (fits B n (sort (y .kind) 1) (y .b)) (bad-node B n) e (λ q. simp (q, and-false)) in
+    let fc : fits B n (sort (y .kind) 2) (y .c) ≡ true = so-true (fits B n (sort (y .kind) 2) (y .c)) (bad-node B n) e (λ q. simp (q, and-false)) in
+    record {
+      kind = omega (arith, kind-small B n (y .kind) (y .a) fa);
+      a = fits-small B n (sort (y .kind) 0) (y .a) p f k fa;
+      b = fits-small B n (sort (y .kind) 1) (y .b) p f k fb;
+      c = fits-small B n (sort (y .kind) 2) (y .c) p f k fc;
+    }
+
+-- ---- the image of a lawful book
+
+module _ (m : List ℕ) (B : Book) (ok : Lawful B) (kinds : (f : ℕ) → function-at B f .kind ≤ 3) (counts : Counts m B)
+    (held : book-in m (B .entries) ≡ B) where
+  word-small : (i : ℕ) → word m i < 65536 → word (map narrowed m) i ≡ word m i
+  word-small i h = getD-narrowed m i ∙ narrowed-same (word m i) h
+
+  few-functions : length (B .functions) ≤ 32
+  few-functions = omega (arith, ap (λ (X : Book). length (X .functions)) held, functions-most m (B .entries))
+
+  few-nodes : length (B .nodes) ≤ 1024
+  few-nodes = omega (arith, ap (λ (X : Book). length (X .nodes)) held, nodes-most m (B .entries))
+
+  few-agents : length (B .agents) ≤ 16
+  few-agents = omega (arith, ap (λ (X : Book). length (X .agents)) held, agents-most m (B .entries))
+
+  permanent-is : word m 1 ≡ B .P
+  unfolding book-in
+  permanent-is = ap (λ (X : Book). X .P) held
+
+  few-permanent : B .P ≤ 10000
+  few-permanent = omega (arith, ok .high, ok .elements)
+
+  function-same : (f : ℕ) → f < capped (word m 2) 32 → function-of (row-in (map narrowed m) (2 + f)) ≡ function-of (row-in m (2 + f))
+  function-same f h =
+      let q : function-of (row-in m (2 + f)) ≡ function-at B f =
+      sym (function-inside m (B .entries) f h) ∙ ap (λ (X : Book). function-at X f) held in
+      let k : f < length (B .functions) =
+      omega (arith, ap (λ (X : Book). length (X .functions)) held, functions-long m (B .entries)) in
+      let s = spot B ok f 0 0 k (omega (arith, ok .low, ok .high)) (omega (arith, ok .low, ok .high)) .inside in
+      rw (
+        word-small ((2 + f) * 4) (omega (arith, ap (λ (x : Function). x .first) q, s, ok .locations)),
+        word-small ((2 + f) * 4 + 1) (omega (arith, ap (λ (x : Function). x .arity) q, ok .arities f)),
+        word-small ((2 + f) * 4 + 2) (omega (arith, ap (λ (x : Function). x .kind) q, kinds f)),
+      )
+
+  node-same : (n : ℕ) → n < capped (word m 3) 1024 → node-of (row-in (map narrowed m) (50 + n)) ≡ node-of (row-in m (50 + n))
+  node-same n h =
+      let q : node-of (row-in m (50 + n)) ≡ node-at B n =
+      sym (node-inside m (B .entries) n h) ∙ ap (λ (X : Book). node-at X n) held in
+      let k : n < length (B .nodes) =
+      omega (arith, ap (λ (X : Book). length (X .nodes)) held, nodes-long m (B .entries)) in
+      let s = small-node B n few-permanent few-functions (omega (arith, few-nodes)) (ok .nodes n k) in
+      rw (
+        word-small ((50 + n) * 4) (omega (arith, ap (λ (x : Node). x .kind) q, s .kind)),
+        word-small ((50 + n) * 4 + 1) (omega (arith, ap (λ (x : Node). x .a) q, s .a)),
+        word-small ((50 + n) * 4 + 2) (omega (arith, ap (λ (x : Node). x .b) q, s .b)),
+        word-small ((50 + n) * 4 + 3) (omega (arith, ap (λ (x : Node). x .c) q, s .c)),
+      )
+
+  agent-same : (i : ℕ) → i < capped (word m 4) 16 → agent-of (row-in (map narrowed m) (34 + i)) ≡ agent-of (row-in m (34 + i))
+  agent-same i h =
+      let q : agent-of (row-in m (34 + i)) ≡ agent-at B i =
+      sym (agent-inside m (B .entries) i h) ∙ ap (λ (X : Book). agent-at X i) held in
+      let k : i < length (B .agents) =
+      omega (arith, ap (λ (X : Book). length (X .agents)) held, agents-long m (B .entries)) in
+      rw (
+        word-small ((34 + i) * 4) (omega (arith, ap (λ (x : Agent). x .root) q, ok .roots i k .0, few-nodes)),
+        word-small ((34 + i) * 4 + 1) (omega (arith, ap (λ (x : Agent). x .element) q, ok .agents i, few-permanent)),
+      )
+
+  pub narrow-holds : book-in (map narrowed m) (B .entries) ≡ B
+  unfolding book-in
+  narrow-holds =
+      rw (
+        word-small 0 (omega (arith, counts .elements, ok .elements)),
+        word-small 1 (omega (arith, permanent-is, few-permanent)),
+        word-small 2 (omega (arith, counts .functions, few-functions)),
+        word-small 3 (omega (arith, counts .nodes, few-nodes)),
+        word-small 4 (omega (arith, counts .agents, few-agents)),
+        table-ext (λ f. function-of (row-in (map narrowed m) (2 + f))) (λ f. function-of (row-in m (2 + f))) (capped (word m 2) 32) function-same,
+        table-ext (λ n. node-of (row-in (map narrowed m) (50 + n))) (λ n. node-of (row-in m (50 + n))) (capped (word m 3) 1024) node-same,
+        table-ext (λ i. agent-of (row-in (map narrowed m) (34 + i))) (λ i. agent-of (row-in m (34 + i))) (capped (word m 4) 16) agent-same,
+      ) held
