@@ -1,0 +1,5 @@
+pub mod Marks
+pub mod Turns
+pub mod Checks
+pub mod Ends
+pub mod Call

@@ -1,0 +1,55 @@
+-- `run_checked` meets its contract.
+use mathlib.Core.Path.{_∙_}
+use Rattle.run.proofs.Ends.{begun, ends-halted, ends-ran}
+use borrow.Author.Needs.{needs}
+use Rattle.run.proofs.run_checked.Statement.{statement}
+use Rattle.run.proofs.run_checked.Tie as tie
+
+begin-requires : tie.Need-begin-requires
+begin-requires c κs = search needs
+
+run-moves-requires : tie.Need-run-moves-requires
+run-moves-requires c κs = search needs
+
+same-length : tie.Need-same-length
+same-length c = c .before .before .before .before .before .before .before .before .run-moves .kept .1 .1 .1 .0 ∙ c .before .before .before .before .before .before .before .before .before .before .before .before .before .before .before .before .before .before .begin .kept .1 .1 .0
+
+same-length-2 : tie.Need-same-length-2
+same-length-2 c = c .before .before .before .before .before .before .before .before .run-moves .kept .1 .1 .1 .1 .0 ∙ c .before .before .before .before .before .before .before .before .before .before .before .before .before .before .before .before .before .before .begin .kept .1 .1 .1 .0
+
+same-length-3 : tie.Need-same-length-3
+same-length-3 c = c .before .before .before .before .before .before .before .before .run-moves .kept .1 .1 .1 .1 .1 .0 ∙ c .before .before .before .before .before .before .before .before .before .before .before .before .before .before .before .before .before .before .begin .kept .1 .1 .1 .1 .0
+
+returns : tie.Need-returns
+returns c = let a = c .before .before .before .before .before .before .before .before .before .before .before .before .before .before .before .before .before .before .before .before .before .before .before .before .before .before .before .args in let b = c .before .before .before .before .before .before .before .before .before .before .before .before .before .before .before .before .before .before .begin in let m = c .before .before .before .before .before .before .before .before .run-moves in λ B g p l. let e = b .ensures .0 B (p .book) (p .image) (l .contents) in ends-halted (a .book .now) (a .log .now) (a .image .now) (a .moves) (a .rows .now) B g p (b .last .1 .1 .0) (m .result) (m .last .1 .1 .1 .0) (m .last .1 .1 .1 .1 .0) (m .last .1 .1 .1 .1 .1 .0) e (m .ensures (begun (a .book .now) (a .log .now) (a .image .now) (a .moves) (a .rows .now) B g p (b .last .1 .1 .0) (b .last .1 .1 .1 .0) (b .last .1 .1 .1 .1 .0) (a .readers .now) (a .writers .now) e (l .readers) (l .writers) (b .ensures .1 .0) (b .ensures .1 .1))) (c .if1 .taken)
+
+check-order-requires : tie.Need-check-order-requires
+check-order-requires c κs = search needs
+
+same-length-4 : tie.Need-same-length-4
+same-length-4 c = c .before .before .before .before .before .before .before .before .before .before .before .run-moves .kept .1 .1 .1 .0 ∙ c .before .before .before .before .before .before .before .before .before .before .before .before .before .before .before .before .before .before .before .before .before .begin .kept .1 .1 .0
+
+same-length-5 : tie.Need-same-length-5
+same-length-5 c = c .before .before .before .before .before .before .before .before .before .before .before .run-moves .kept .1 .1 .1 .1 .0 ∙ c .before .before .before .before .before .before .before .before .before .before .before .before .before .before .before .before .before .before .before .before .before .begin .kept .1 .1 .1 .0
+
+same-length-6 : tie.Need-same-length-6
+same-length-6 c = c .before .before .before .before .before .before .before .before .before .before .before .run-moves .kept .1 .1 .1 .1 .1 .0 ∙ c .before .before .before .before .before .before .before .before .before .before .before .before .before .before .before .before .before .before .before .before .before .begin .kept .1 .1 .1 .1 .0
+
+returns-2 : tie.Need-returns-2
+returns-2 c = let a = c .before .before .before .before .before .before .before .before .before .before .before .before .before .before .before .before .before .before .before .before .before .before .before .before .before .before .before .before .before .before .args in let b = c .before .before .before .before .before .before .before .before .before .before .before .before .before .before .before .before .before .before .before .before .before .begin in let m = c .before .before .before .before .before .before .before .before .before .before .before .run-moves in λ B g p l. let e = b .ensures .0 B (p .book) (p .image) (l .contents) in ends-ran (a .book .now) (a .log .now) (a .image .now) (a .moves) (a .rows .now) B g p (b .last .1 .1 .0) (m .result) (m .last .1 .1 .1 .0) (m .last .1 .1 .1 .1 .0) (m .last .1 .1 .1 .1 .1 .0) e (m .ensures (begun (a .book .now) (a .log .now) (a .image .now) (a .moves) (a .rows .now) B g p (b .last .1 .1 .0) (b .last .1 .1 .1 .0) (b .last .1 .1 .1 .1 .0) (a .readers .now) (a .writers .now) e (l .readers) (l .writers) (b .ensures .1 .0) (b .ensures .1 .1))) (c .before .before .before .if1 .left) (c .check-order .result) (λ s d h. c .check-order .ensures B g s d (p .moves) (p .rows) h)
+
+pub run-checked-spec : {M : Type 1} → statement M
+run-checked-spec =
+    tie.close
+    (tie.spec
+    begin-requires
+    run-moves-requires
+    same-length
+    same-length-2
+    same-length-3
+    returns
+    check-order-requires
+    same-length-4
+    same-length-5
+    same-length-6
+    returns-2)

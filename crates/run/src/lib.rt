@@ -1,0 +1,231 @@
+// A log's run: the checks, the start, the moves in turn, and 17.
+use moves::Verdict;
+use text::Answer;
+ghost use mathlib.Core.Path.{_≡_};
+ghost use mathlib.Core.List.{List, []};
+ghost use Prim.Native.Nat.{ℕ, _+_, _^_, _<_, _≤_};
+ghost use lib.ListN.{length, replicate};
+ghost use Rattle.text.specs.Text.{line};
+ghost use Rattle.text.specs.Words.{good, answer-of};
+ghost use Rattle.book.specs.Book.{Book, L, start};
+ghost use Rattle.book.specs.Check.{check-book};
+ghost use Rattle.book.specs.Image.{book-in};
+ghost use Rattle.moves.specs.Effect.{Fit, Effect};
+ghost use Rattle.moves.specs.Effect as effect;
+ghost use Rattle.order.specs.Log.{Log};
+ghost use Rattle.order.specs.Run.{Run, run, touching, order-checked, run-log};
+ghost use Rattle.order.specs.Call.{check-lent, log-call};
+ghost use Rattle.order.specs.Demand.{Demand3};
+ghost use Rattle.run.specs.Turns.{log-in, Begun, Holds, Done, RowsOf, Passed, Long, tables, tables-of, answered, packed};
+
+// The least number of instruction records lent.
+const MOST_INSTRUCTIONS: usize = 256;
+
+// The lent tables, as the q of a 2.
+const CONTENTS: u32 = 0;
+
+const READERS: u32 = 1;
+
+const WRITERS: u32 = 2;
+
+const INSTRUCTIONS: u32 = 3;
+
+// Number and place; 0 0 0 when accepted.
+fn triple(number: u32, p: u32, q: u32) -> Answer
+    ensures { λ r. ⌜ r ≡ record { number = number; p = p; q = q } ⌝ }
+{
+    Answer { number, p, q }
+}
+
+// ---- the moves in turn
+
+// Move i of the log, marked as bit i.
+fn step(
+    image: &[u16; 4296],
+    log: &[u8],
+    i: u32,
+    contents: &mut [u16],
+    readers: &mut [u64],
+    writers: &mut [u64],
+) -> Verdict
+    requires { ⌜ i < 64 ⌝ }
+    ensures { λ r. ⌜ (Fit (book-in (now (image .entry)) []) (line (now (log .entry)) (1 + i) .a) (2 ^ i) (effect.tables (now (contents .entry)) (now (readers .entry)) (now (writers .entry))) → Effect (book-in (now (image .entry)) []) (line (now (log .entry)) (1 + i) .a) (2 ^ i) (effect.tables (now (contents .entry)) (now (readers .entry)) (now (writers .entry))) r (effect.tables (now (contents .exit)) (now (readers .exit)) (now (writers .exit)))) ⌝ }
+{
+    let agent = log::agent_of(log, i);
+    let bit = 1u64 << i;
+    moves::fire_move(image, contents, readers, writers, bit, agent)
+}
+
+// The moves in turn, up to one that is refused.
+fn run_moves(
+    image: &[u16; 4296],
+    log: &[u8],
+    moves: u32,
+    contents: &mut [u16],
+    readers: &mut [u64],
+    writers: &mut [u64],
+) -> Answer
+    requires { ⌜ moves ≤ 64 ⌝ }
+    ensures { λ r. ⌜ (Begun (book-in (now (image .entry)) []) (log-in (now (log .entry))) moves (now (contents .entry)) (now (readers .entry)) (now (writers .entry)) → Done (book-in (now (image .entry)) []) (run (book-in (now (image .entry)) []) (log-in (now (log .entry))) (now (contents .entry)) moves) r (now (contents .exit)) (now (readers .exit)) (now (writers .exit))) ⌝ }
+{
+    let mut i: u32 = 0;
+    while i < moves {
+        let v = step(image, log, i, contents, readers, writers);
+        if v.number != 0 {
+            return triple(v.number, i, v.q);
+        }
+        i += 1;
+    }
+    triple(0, 0, 0)
+}
+
+// ---- before and after them
+
+// How many agents there are.
+fn agents(image: &[u16; 4296]) -> u32
+    ensures { λ r. ⌜ r ≡ length (book-in (now (image .entry)) [] .agents) ⌝ }
+{
+    let n = table::word(image, 4);
+    if n < 16 { n as u32 } else { 16 }
+}
+
+// 2, lowest table first.
+fn check_lent(all: u32, contents: usize, readers: usize, writers: usize, lent: usize) -> Answer
+    ensures { λ r. ⌜ ((B : Book) → L B ≡ all → r ≡ answer-of (check-lent B (record { contents = contents; readers = readers; writers = writers; instructions = lent }))) ⌝ }
+    ensures { λ r. ⌜ (r .number ≡ 0 → (all ≤ contents) × (all ≤ readers) × (all ≤ writers)) ⌝ }
+{
+    if contents < all as usize {
+        return triple(text::LENT_SHORT, all, CONTENTS);
+    }
+    if readers < all as usize {
+        return triple(text::LENT_SHORT, all, READERS);
+    }
+    if writers < all as usize {
+        return triple(text::LENT_SHORT, all, WRITERS);
+    }
+    if lent < MOST_INSTRUCTIONS {
+        return triple(text::LENT_SHORT, 256, INSTRUCTIONS);
+    }
+    triple(0, 0, 0)
+}
+
+// No location has a mark.
+fn clear(marks: &mut [u64])
+    ensures { λ _. ⌜ now (marks .exit) ≡ replicate (length (now (marks .entry))) 0 ⌝ }
+{
+    let mut i: usize = 0;
+    while i < marks.len() {
+        marks[i] = 0;
+        i += 1;
+    }
+}
+
+// The start of a run, with no marks.
+fn begin(
+    book: &[u8],
+    image: &[u16; 4296],
+    contents: &mut [u16],
+    readers: &mut [u64],
+    writers: &mut [u64],
+)
+    ensures { λ _. ⌜ ((B : Book) → check-book (now (book .entry)) ≡ good B → book-in (now (image .entry)) (B .entries) ≡ B → length (now (contents .entry)) ≡ L B → now (contents .exit) ≡ start B) ⌝ }
+    ensures { λ _. ⌜ (now (readers .exit) ≡ replicate (length (now (readers .entry))) 0) × (now (writers .exit) ≡ replicate (length (now (writers .entry))) 0) ⌝ }
+{
+    start::write_start(book, image, contents);
+    clear(readers);
+    clear(writers);
+}
+
+// 17.
+fn check_order(readers: &[u64], writers: &[u64], rows: &[u64; 64], moves: u32) -> Answer
+    ensures { λ r. ⌜ ((B : Book) (g : Log) (s : Run) (c : List ℕ) → moves ≡ length (g .moves) → RowsOf g (now (rows .entry)) → Holds B s c (now (readers .entry)) (now (writers .entry)) → r ≡ order-checked B s (touching B g (s .fired)) .answer) ⌝ }
+{
+    let pair = touch::touching(readers, writers, rows, moves, readers.len());
+    if !pair.found {
+        return triple(0, 0, 0);
+    }
+    triple(text::UNORDERED_TOUCH, pair.first, pair.second)
+}
+
+// ---- the call
+
+// The run of texts that passed their checks, on tables of just the records needed.
+fn run_checked(
+    book: &[u8],
+    log: &[u8],
+    image: &[u16; 4296],
+    rows: &[u64; 64],
+    moves: u32,
+    contents: &mut [u16],
+    readers: &mut [u64],
+    writers: &mut [u64],
+) -> Answer
+    requires { ⌜ moves ≤ 64 ⌝ }
+    ensures { λ r. ⌜ ((B : Book) (g : Log) → Passed (now (book .entry)) (now (log .entry)) (now (image .entry)) moves (now (rows .entry)) B g → Long B (now (contents .entry)) (now (readers .entry)) (now (writers .entry)) → answered r (now (contents .exit)) (now (readers .exit)) (now (writers .exit)) ≡ run-log B g) ⌝ }
+{
+    begin(book, image, contents, readers, writers);
+    let halt = run_moves(image, log, moves, contents, readers, writers);
+    if halt.number != 0 {
+        return halt;
+    }
+    check_order(readers, writers, rows, moves)
+}
+
+// A log's run from the bytes of a book and a log, with tables that the caller lends; `lent` is how
+// many instruction records there are. What it answers and leaves is that of the definition, for all
+// inputs; of an accepted log every order that keeps its pairs does the same.
+pub fn run_core(
+    book: &[u8],
+    log: &[u8],
+    contents: &mut [u16],
+    readers: &mut [u64],
+    writers: &mut [u64],
+    lent: usize,
+) -> Answer
+    ensures { λ r. ⌜ answered r (now (contents .exit)) (now (readers .exit)) (now (writers .exit)) ≡ log-call (now (book .entry)) (now (log .entry)) (tables (now (contents .entry)) (now (readers .entry)) (now (writers .entry))) lent ⌝ }
+    ensures { λ r. ⌜ Demand3 (now (book .entry)) (now (log .entry)) (tables (now (contents .entry)) (now (readers .entry)) (now (writers .entry))) lent ⌝ }
+{
+    let mut image = [0u16; 4296];
+    let opened = open::open(book, &mut image);
+    if opened.number != 0 {
+        return opened;
+    }
+    let checked = log::check_log(log, agents(&image));
+    let listed = checked.answer;
+    if listed.number != 0 {
+        return listed;
+    }
+    let all = table::total(&image);
+    let short = check_lent(all, contents.len(), readers.len(), writers.len(), lent);
+    if short.number != 0 {
+        return short;
+    }
+    let n = all as usize;
+    let rows = checked.rows;
+    run_checked(
+        book,
+        log,
+        &image,
+        &rows,
+        checked.moves,
+        &mut contents[0..n],
+        &mut readers[0..n],
+        &mut writers[0..n],
+    )
+}
+
+// The same for C: number × 2^48 + p × 2^24 + q.
+#[no_mangle]
+pub extern "C" fn rental_run(
+    book: &[u8],
+    log: &[u8],
+    contents: &mut [u16],
+    readers: &mut [u64],
+    writers: &mut [u64],
+    lent: usize,
+) -> u64
+    ensures { λ r. ⌜ (r ≡ packed (log-call (now (book .entry)) (now (log .entry)) (tables (now (contents .entry)) (now (readers .entry)) (now (writers .entry))) lent .answer)) × (tables (now (contents .exit)) (now (readers .exit)) (now (writers .exit)) ≡ tables-of (log-call (now (book .entry)) (now (log .entry)) (tables (now (contents .entry)) (now (readers .entry)) (now (writers .entry))) lent)) ⌝ }
+{
+    let a = run_core(book, log, contents, readers, writers, lent);
+    a.number as u64 * 281474976710656 + a.p as u64 * 16777216 + a.q as u64
+}
