@@ -10,5 +10,4 @@ pub mod Clash
 pub mod Numbers
 pub mod Fuel
 pub mod Steps
-pub mod Marking
 pub mod Claims

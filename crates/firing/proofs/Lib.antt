@@ -5,3 +5,4 @@ pub mod Sweep
 pub mod Runs
 pub mod Fires
 pub mod Judged
+pub mod Ready

@@ -16,7 +16,7 @@ ghost use Rattle.engine.specs.Move.{label-of, released, other, idle, fire};
 ghost use Rattle.table.specs.Part.{arguments-by};
 ghost use Rattle.firing.specs.Code.{decode-of, items};
 ghost use Rattle.firing.specs.Outcome.{updates-by, clash-by, move-by, mark, marked, OffRoll, Ready, Settled};
-ghost use Rattle.firing.specs.Steps.{own, gets, any, trace-by, trace-in, spot, gives, doomed, better, change, wiped-in, part-cleared, part-marked, run-cleared, run-marked, cleared, clear-marked, clear-of, clear-marks-of, clears, clear-marks, puts, put-marks};
+ghost use Rattle.firing.specs.Steps.{own, gets, any, trace-by, trace-in, spot, gives, doomed, better, best, change, wiped-in, part-cleared, part-marked, run-cleared, run-marked, cleared, clear-marked, clear-of, clear-marks-of, clears, clear-marks, puts, put-marks};
 
 // What becomes of a move.
 pub enum Outcome {
@@ -26,11 +26,11 @@ pub enum Outcome {
 }
 
 // A location, its function and its number within it, and what it holds.
-pub struct Spot {
-    pub location: u32,
-    pub function: Function,
-    pub index: usize,
-    pub held: u16,
+struct Spot {
+    location: u32,
+    function: Function,
+    index: usize,
+    held: u16,
 }
 
 // ---- the list
@@ -248,21 +248,28 @@ fn better_of(
     best
 }
 
+// The least location that clashes, or L.
+fn first_clash(image: &[u16; 4296], contents: &[u16], list: &[u64], len: usize) -> u32
+    ensures { λ r. ⌜ r ≡ best (book-in (now (image .entry)) []) (now (contents .entry)) (items (now (list .entry)) len) (items (now (list .entry)) len) (L (book-in (now (image .entry)) [])) ⌝ }
+{
+    let n = smaller(len, list.len());
+    let mut least = table::total(image);
+    let mut j: usize = 0;
+    while j < n {
+        let what = decode(list[j]);
+        least = better_of(image, contents, list, len, what, least);
+        j = j + 1;
+    }
+    least
+}
+
 // The least location that clashes.
 pub fn clash(image: &[u16; 4296], contents: &[u16], list: &[u64], len: usize) -> Found
     ensures { λ r. ⌜ r ≡ clash-by (now (image .entry)) (now (contents .entry)) (now (list .entry)) len ⌝ }
 {
-    let all = table::total(image);
-    let n = smaller(len, list.len());
-    let mut best = all;
-    let mut j: usize = 0;
-    while j < n {
-        let what = decode(list[j]);
-        best = better_of(image, contents, list, len, what, best);
-        j = j + 1;
-    }
-    if best < all {
-        return Found::Here(best);
+    let at = first_clash(image, contents, list, len);
+    if at < table::total(image) {
+        return Found::Here(at);
     }
     Found::Nowhere
 }
@@ -509,11 +516,13 @@ pub fn settle(
 ) -> Outcome
     ensures { λ r. ⌜ (Ready (book-in (now (image .entry)) []) (now (contents .entry)) (items (now (list .entry)) len) → (ls : List ℕ) → Settled (move-by (now (image .entry)) (now (contents .entry)) (now (list .entry)) len ls) bit (now (contents .entry)) (now (writers .entry)) r (now (contents .exit)) (now (writers .exit))) ⌝ }
 {
-    let found = clash(image, contents, list, len);
-    if let Found::Here(l) = found {
-        return Outcome::Clash { location: l };
+    let all = table::total(image);
+    let at = first_clash(image, contents, list, len);
+    let idle = is_idle(image, contents, list, len);
+    if at < all {
+        return Outcome::Clash { location: at };
     }
-    if is_idle(image, contents, list, len) {
+    if idle {
         return Outcome::Idle;
     }
     fire(image, contents, writers, list, len, bit);

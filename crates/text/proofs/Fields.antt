@@ -68,7 +68,7 @@ scan-field (c ∷ cs) = go (eqb c blank) (eqb c zero-digit) refl (digit c) refl 
 -- ---- parts of a text
 
 -- a part of the first n bytes is a part of the whole
-part-of-front : (k m n : ℕ) (l : List ℕ) → k + m ≤ n → take m (drop k (take n l)) ≡ take m (drop k l)
+pub part-of-front : (k m n : ℕ) (l : List ℕ) → k + m ≤ n → take m (drop k (take n l)) ≡ take m (drop k l)
 part-of-front zero m n l h = take-take m n l (omega arith)
 part-of-front (suc k) m zero l h = absurd (omega arith)
 part-of-front (suc k) m (suc n) [] h = refl

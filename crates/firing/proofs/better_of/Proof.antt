@@ -29,7 +29,7 @@ own-location-requires c κs = search needs
 
 -- src/lib.rt:238:9
 returns : tie.Need-returns
-returns c = rw (← (c .before .own-location .ensures), le-ltb _ _ (c .if1 .taken))
+returns c = let h : c .before .before .before .before .args .best ≤ c .before .own-location .result = omega (arith, c .if1 .taken) in rw (← (c .before .own-location .ensures), le-ltb _ _ h)
 
 -- src/lib.rt:240:9
 elements-requires : tie.Need-elements-requires
@@ -49,7 +49,7 @@ other-at-requires c κs = search needs
 
 -- src/lib.rt:243:9
 returns-2 : tie.Need-returns-2
-returns-2 c = let a = c .before .before .before .before .before .before .before .before .before .args in let B = book-in (a .image .now) [] in let w = c .before .before .own-value .result in let is = items (a .list .now) (a .len) in let at = c .before .before .before .before .before .before .own-location in let h : other (gets (a .what)) (values B (a .contents .now) (own (a .what)) is) ≡ c .before .other-at .result = rw (← c .before .before .own-value .ensures, ← at .ensures) (other-any w B (a .contents .now) (at .result) is ∙ sym (c .before .other-at .ensures ∙ rw (c .before .before .before .spot-of .ensures, c .before .before .before .before .elements .ensures .0))) in rw (h, ← (at .ensures), lt-ltb _ _ (c .before .before .before .before .before .if1 .left), c .if2 .taken)
+returns-2 c = let a = c .before .before .before .before .before .before .before .before .before .args in let B = book-in (a .image .now) [] in let w = c .before .before .own-value .result in let is = items (a .list .now) (a .len) in let at = c .before .before .before .before .before .before .own-location in let h : other (gets (a .what)) (values B (a .contents .now) (own (a .what)) is) ≡ c .before .other-at .result = rw (← c .before .before .own-value .ensures, ← at .ensures) (other-any w B (a .contents .now) (at .result) is ∙ sym (c .before .other-at .ensures ∙ rw (c .before .before .before .spot-of .ensures, c .before .before .before .before .elements .ensures .0))) in let below : at .result < a .best = omega (arith, c .before .before .before .before .before .if1 .left) in rw (h, ← (at .ensures), lt-ltb _ _ below, c .if2 .taken)
 
 -- src/lib.rt:245:8
 is-doomed-requires : tie.Need-is-doomed-requires
@@ -57,11 +57,11 @@ is-doomed-requires c κs = search needs
 
 -- src/lib.rt:246:9
 returns-3 : tie.Need-returns-3
-returns-3 c = let a = c .before .before .before .before .before .before .before .before .before .before .before .args in let B = book-in (a .image .now) [] in let w = c .before .before .before .before .own-value .result in let is = items (a .list .now) (a .len) in let at = c .before .before .before .before .before .before .before .before .own-location in let h : other (gets (a .what)) (values B (a .contents .now) (own (a .what)) is) ≡ c .before .before .before .other-at .result = rw (← c .before .before .before .before .own-value .ensures, ← at .ensures) (other-any w B (a .contents .now) (at .result) is ∙ sym (c .before .before .before .other-at .ensures ∙ rw (c .before .before .before .before .before .spot-of .ensures, c .before .before .before .before .before .before .elements .ensures .0))) in rw (h, ← (at .ensures), lt-ltb _ _ (c .before .before .before .before .before .before .before .if1 .left), c .before .before .if2 .left, ← (c .before .is-doomed .ensures), c .if3 .taken)
+returns-3 c = let a = c .before .before .before .before .before .before .before .before .before .before .before .args in let B = book-in (a .image .now) [] in let w = c .before .before .before .before .own-value .result in let is = items (a .list .now) (a .len) in let at = c .before .before .before .before .before .before .before .before .own-location in let h : other (gets (a .what)) (values B (a .contents .now) (own (a .what)) is) ≡ c .before .before .before .other-at .result = rw (← c .before .before .before .before .own-value .ensures, ← at .ensures) (other-any w B (a .contents .now) (at .result) is ∙ sym (c .before .before .before .other-at .ensures ∙ rw (c .before .before .before .before .before .spot-of .ensures, c .before .before .before .before .before .before .elements .ensures .0))) in let below : at .result < a .best = omega (arith, c .before .before .before .before .before .before .before .if1 .left) in rw (h, ← (at .ensures), lt-ltb _ _ below, c .before .before .if2 .left, ← (c .before .is-doomed .ensures), c .if3 .taken)
 
 -- src/lib.rt:226:1
 returns-4 : tie.Need-returns-4
-returns-4 c = let a = c .before .before .before .before .before .before .before .before .before .before .before .args in let B = book-in (a .image .now) [] in let w = c .before .before .before .before .own-value .result in let is = items (a .list .now) (a .len) in let at = c .before .before .before .before .before .before .before .before .own-location in let h : other (gets (a .what)) (values B (a .contents .now) (own (a .what)) is) ≡ c .before .before .before .other-at .result = rw (← c .before .before .before .before .own-value .ensures, ← at .ensures) (other-any w B (a .contents .now) (at .result) is ∙ sym (c .before .before .before .other-at .ensures ∙ rw (c .before .before .before .before .before .spot-of .ensures, c .before .before .before .before .before .before .elements .ensures .0))) in rw (h, ← (at .ensures), lt-ltb _ _ (c .before .before .before .before .before .before .before .if1 .left), c .before .before .if2 .left, ← (c .before .is-doomed .ensures), c .if3 .left)
+returns-4 c = let a = c .before .before .before .before .before .before .before .before .before .before .before .args in let B = book-in (a .image .now) [] in let w = c .before .before .before .before .own-value .result in let is = items (a .list .now) (a .len) in let at = c .before .before .before .before .before .before .before .before .own-location in let h : other (gets (a .what)) (values B (a .contents .now) (own (a .what)) is) ≡ c .before .before .before .other-at .result = rw (← c .before .before .before .before .own-value .ensures, ← at .ensures) (other-any w B (a .contents .now) (at .result) is ∙ sym (c .before .before .before .other-at .ensures ∙ rw (c .before .before .before .before .before .spot-of .ensures, c .before .before .before .before .before .before .elements .ensures .0))) in let below : at .result < a .best = omega (arith, c .before .before .before .before .before .before .before .if1 .left) in rw (h, ← (at .ensures), lt-ltb _ _ below, c .before .before .if2 .left, ← (c .before .is-doomed .ensures), c .if3 .left)
 
 pub better-of-spec : {M : Type 1} → statement M
 better-of-spec =

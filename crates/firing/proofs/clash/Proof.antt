@@ -1,102 +1,30 @@
-use mathlib.Core.Path.{_≡_, refl, sym, ap, ap₂, _∙_}
-use mathlib.Core.Bool.{Bool, true, false, _&&_, _||_, not}
+use mathlib.Core.Path.{_≡_, refl, sym, ap, _∙_}
 use mathlib.Core.List.{List, []}
-use Prim.Native.Nat.{ℕ, _+_, _≤_, _<_, _-_, _/_, _%_, min}
+use Prim.Native.Nat.{ℕ, _<_, _≤_}
 use native.Mathlib.Omega.{arith}
 use borrow.Author.Needs.{needs}
-use borrow.Author.Tests.{le-ltb, lt-ltb, lt-leb, le-leb, eq-eqb, ne-eqb}
-use lib.Dec.{eqb, ltb, leb}
-use lib.ListN.{length, getD, take, drop, set, length-set}
+use Rattle.text.specs.declared.Found.the-variants.{Nowhere, Here}
 use Rattle.book.specs.Book.{L}
 use Rattle.book.specs.Image.{book-in}
-use Rattle.engine.specs.declared.Instruction.{Instruction}
-use Rattle.firing.specs.Code.{decode-of, items}
-use Rattle.firing.specs.Steps.{better}
-use Rattle.firing.specs.Steps as steps
-use Rattle.firing.proofs.Laws.{items-cons, items-end}
+use Rattle.firing.specs.Code.{items}
+use Rattle.firing.specs.Outcome.{clash-by}
 use Rattle.firing.proofs.Best.{best-least, best-none}
 use Rattle.firing.proofs.clash.Statement.{statement}
 use Rattle.firing.proofs.clash.Tie as tie
 use Rattle.firing.proofs.clash.Reads as reads
 use Rattle.firing.proofs.clash.Lts as lts
-use Rattle.firing.proofs.better_of.Reads as better-of-reads
-use Rattle.firing.proofs.decode.Reads as decode-reads
-use Rattle.firing.proofs.smaller.Reads as smaller-reads
-use Rattle.table.proofs.total.Reads as total-reads
 
-abbrev Inv-loop : tie.InvT-loop
-Inv-loop image contents list len all n best₀ j₀ best j =
-    steps.best (book-in image []) contents (items list len) (drop j (items list len)) best ≡ steps.best (book-in image []) contents (items list len) (items list len) all
+first-clash-requires : tie.Need-first-clash-requires
+first-clash-requires c κs = search needs
 
-abbrev μ-loop : tie.MeasureT-loop
-μ-loop image contents list len all n best₀ j₀ best j = n - j
-
--- src/lib.rt:255:9
-total-requires : tie.Need-total-requires Inv-loop μ-loop
+total-requires : tie.Need-total-requires
 total-requires c κs = search needs
 
--- src/lib.rt:256:9
-smaller-requires : tie.Need-smaller-requires Inv-loop μ-loop
-smaller-requires c κs = search needs
+returns : tie.Need-returns
+returns c = let a = c .before .before .before .before .before .args in let B = book-in (a .image .now) [] in let is = items (a .list .now) (a .len) in let r = c .before .before .first-clash in let t = c .before .total .ensures in rw (r .ensures) (best-least B (a .contents .now) is (omega (arith, r .ensures, t, c .if1 .taken)))
 
--- src/lib.rt:259:5
-loop-holds : tie.Need-loop-holds Inv-loop μ-loop
-loop-holds c = refl
-
--- src/lib.rt:260:27
-mul-decode : tie.Need-mul-decode Inv-loop μ-loop
-mul-decode c = search needs
-
--- src/lib.rt:260:27
-shared-slice-read-decode : tie.Need-shared-slice-read-decode Inv-loop μ-loop
-shared-slice-read-decode c = search needs
-
--- src/lib.rt:260:13
-decode-requires : tie.Need-decode-requires Inv-loop μ-loop
-decode-requires c κs = search needs
-
--- src/lib.rt:261:9
-better-of-requires : tie.Need-better-of-requires Inv-loop μ-loop
-better-of-requires c κs = search needs
-
--- src/lib.rt:262:13
-add-j : tie.Need-add-j Inv-loop μ-loop
-add-j c = search needs
-
--- src/lib.rt:259:5
-loop-less : tie.Need-loop-less Inv-loop μ-loop
-loop-less c = search needs
-
--- src/lib.rt:259:5
-loop-again : tie.Need-loop-again Inv-loop μ-loop
-unfolding steps.best
-loop-again c = let a = c .before .before .before .before .before .before .before .before .before .args in let B = book-in (a .image .now) [] in let n = c .before .before .before .before .before .smaller in let l = c .before .before .before .before .loop in let is = items (a .list .now) (a .len) in let d = items-cons (a .list .now) (a .len) (n .result) (n .ensures) (l .j) (c .before .before .before .loop-test .taken) in let q : c .better-of .result ≡ better B (a .contents .now) is (decode-of (getD (a .list .now) (l .j) 0)) (l .best) = c .better-of .ensures ∙ rw (c .before .decode .ensures) in ap (steps.best B (a .contents .now) is (drop (l .j + 1) is)) q ∙ sym (ap (λ (xs : List Instruction). steps.best B (a .contents .now) is xs (l .best)) d) ∙ l .inv
-
--- src/lib.rt:265:9
-returns : tie.Need-returns Inv-loop μ-loop
-unfolding steps.best
-returns c = let a = c .before .before .before .before .before .before .before .args in let B = book-in (a .image .now) [] in let n = c .before .before .before .smaller in let l = c .before .before .loop in let is = items (a .list .now) (a .len) in let d = items-end (a .list .now) (a .len) (n .result) (n .ensures) (l .j) (c .before .loop-test .left) in let q : l .best ≡ steps.best B (a .contents .now) is is (L B) = sym (ap (λ (xs : List Instruction). steps.best B (a .contents .now) is xs (l .best)) d) ∙ l .inv ∙ rw (c .before .before .before .before .total .ensures) in rw q (best-least B (a .contents .now) is (omega (arith, q, c .if1 .taken, c .before .before .before .before .total .ensures)))
-
--- src/lib.rt:252:1
-returns-2 : tie.Need-returns-2 Inv-loop μ-loop
-unfolding steps.best
-returns-2 c = let a = c .before .before .before .before .before .before .before .args in let B = book-in (a .image .now) [] in let n = c .before .before .before .smaller in let l = c .before .before .loop in let is = items (a .list .now) (a .len) in let d = items-end (a .list .now) (a .len) (n .result) (n .ensures) (l .j) (c .before .loop-test .left) in let q : l .best ≡ steps.best B (a .contents .now) is is (L B) = sym (ap (λ (xs : List Instruction). steps.best B (a .contents .now) is xs (l .best)) d) ∙ l .inv ∙ rw (c .before .before .before .before .total .ensures) in best-none B (a .contents .now) is (omega (arith, q, c .if1 .left, c .before .before .before .before .total .ensures))
+returns-2 : tie.Need-returns-2
+returns-2 c = let a = c .before .before .before .before .before .args in let B = book-in (a .image .now) [] in let is = items (a .list .now) (a .len) in let r = c .before .before .first-clash in let t = c .before .total .ensures in best-none B (a .contents .now) is (omega (arith, r .ensures, t, c .if1 .left))
 
 pub clash-spec : {M : Type 1} → statement M
-clash-spec =
-    tie.close
-    (tie.spec
-    Inv-loop
-    μ-loop
-    total-requires
-    smaller-requires
-    loop-holds
-    mul-decode
-    shared-slice-read-decode
-    decode-requires
-    better-of-requires
-    add-j
-    loop-less
-    loop-again
-    returns
-    returns-2)
+clash-spec = tie.close (tie.spec first-clash-requires total-requires returns returns-2)

@@ -1,0 +1,138 @@
+-- Laws of the book that an image holds: its rows, the scan for a location's function, and that a lawful book has its locations placed.
+use mathlib.Core.Path.{_≡_, refl, ap, _∙_}
+use mathlib.Core.Logic.{dite}
+use mathlib.Core.Bool.{Bool, true, false}
+use mathlib.Core.List.{List, [], _∷_}
+use Prim.Native.Nat.{ℕ, suc, _+_, _-_, _*_, _≤_, _<_}
+use native.Mathlib.Numerals.{add-one}
+use native.Mathlib.Omega.{arith}
+use native.Mathlib.Decide.{decLt}
+use lib.Dec.{ltb}
+use lib.ListN.{length, getD, drop, take, length-take, List·getD-eq-default, drop-of-length-le}
+use lib.Seq.{drop-cons, getD-take}
+use borrow.Author.Tests.{ltb-true, lt-ltb, le-ltb}
+use Rattle.text.specs.Words.{if_then_else_, table}
+use Rattle.text.proofs.Words.{length-table-from, getD-table, getD-table-past}
+use Rattle.book.specs.declared.Function.{Function}
+use Rattle.book.specs.declared.Node.{Node}
+use Rattle.book.specs.declared.Entry.{Entry}
+use Rattle.book.specs.declared.Agent.{Agent}
+use Rattle.book.specs.Book.{undef, Book, Place, dynamic, no-function, no-node, no-agent, function-at, node-at, agent-at, size, place-in, place, location, dynamic-at}
+use Rattle.book.specs.Lines.{node-of, agent-of}
+use Rattle.book.specs.Image.{word, row-in, capped, function-of, book-in}
+use Rattle.book.specs.Sound.{Lawful}
+use Rattle.book.proofs.Places.{spot, roll-place}
+use Rattle.term.specs.Held.{held, variables-of}
+use Rattle.term.specs.Marks.{Placed}
+
+module _ (m : List ℕ) where
+  pub held-elements : capped (word m 0) 10000 ≡ held m .E
+  unfolding book-in
+  held-elements = refl
+
+  pub held-permanent : word m 1 ≡ held m .P
+  unfolding book-in
+  held-permanent = refl
+
+  pub held-count : capped (word m 2) 32 ≡ length (held m .functions)
+  unfolding book-in
+  held-count = let e = length-table-from (λ f. function-of (row-in m (2 + f))) 0 (capped (word m 2) 32) in rw e
+
+  -- ---- rows
+
+  pub node-in : (n : ℕ) → n < capped (word m 3) 1024
+      → record { kind = word m (n * 4 + 200); a = word m (n * 4 + 200 + 1); b = word m (n * 4 + 200 + 2); c = word m (n * 4 + 200 + 3) } ≡ node-at (held m) n
+  unfolding book-in
+  node-in n h =
+      let e : n * 4 + 200 ≡ (50 + n) * 4 = omega arith in
+      let g : node-at (held m) n ≡ node-of (row-in m (50 + n)) = getD-table (λ i. node-of (row-in m (50 + i))) (capped (word m 3) 1024) n no-node h in
+      let s : record { kind = word m (n * 4 + 200); a = word m (n * 4 + 200 + 1); b = word m (n * 4 + 200 + 2); c = word m (n * 4 + 200 + 3) } ≡ node-of (row-in m (50 + n)) =
+      ap (λ (k : ℕ). record { kind = word m k; a = word m (k + 1); b = word m (k + 2); c = word m (k + 3) }) e in
+      cc
+
+  pub node-past : (n : ℕ) → capped (word m 3) 1024 ≤ n → no-node ≡ node-at (held m) n
+  unfolding book-in
+  node-past n h =
+      let g : node-at (held m) n ≡ no-node = getD-table-past (λ i. node-of (row-in m (50 + i))) (capped (word m 3) 1024) n no-node h in cc
+
+  pub function-in : (f : ℕ) → f < capped (word m 2) 32
+      → record { first = word m (f * 4 + 8); arity = word m (f * 4 + 8 + 1); kind = word m (f * 4 + 8 + 2) } ≡ function-at (held m) f
+  unfolding book-in
+  function-in f h =
+      let e : f * 4 + 8 ≡ (2 + f) * 4 = omega arith in
+      let g : function-at (held m) f ≡ function-of (row-in m (2 + f)) = getD-table (λ i. function-of (row-in m (2 + i))) (capped (word m 2) 32) f no-function h in
+      let s : record { first = word m (f * 4 + 8); arity = word m (f * 4 + 8 + 1); kind = word m (f * 4 + 8 + 2) } ≡ function-of (row-in m (2 + f)) =
+      ap (λ (k : ℕ). record { first = word m k; arity = word m (k + 1); kind = word m (k + 2) }) e in
+      cc
+
+  pub function-past : (f : ℕ) → capped (word m 2) 32 ≤ f → no-function ≡ function-at (held m) f
+  unfolding book-in
+  function-past f h =
+      let g : function-at (held m) f ≡ no-function = getD-table-past (λ i. function-of (row-in m (2 + i))) (capped (word m 2) 32) f no-function h in cc
+
+  pub agent-in : (i : ℕ) → i < capped (word m 4) 16
+      → record { root = word m (i * 4 + 136); element = word m (i * 4 + 136 + 1) } ≡ agent-at (held m) i
+  unfolding book-in
+  agent-in i h =
+      let e : i * 4 + 136 ≡ (34 + i) * 4 = omega arith in
+      let g : agent-at (held m) i ≡ agent-of (row-in m (34 + i)) = getD-table (λ k. agent-of (row-in m (34 + k))) (capped (word m 4) 16) i no-agent h in
+      let s : record { root = word m (i * 4 + 136); element = word m (i * 4 + 136 + 1) } ≡ agent-of (row-in m (34 + i)) =
+      ap (λ (k : ℕ). record { root = word m k; element = word m (k + 1) }) e in
+      cc
+
+  pub agent-past : (i : ℕ) → capped (word m 4) 16 ≤ i → no-agent ≡ agent-at (held m) i
+  unfolding book-in
+  agent-past i h =
+      let g : agent-at (held m) i ≡ no-agent = getD-table-past (λ k. agent-of (row-in m (34 + k))) (capped (word m 4) 16) i no-agent h in cc
+
+  -- ---- a lawful book has its locations placed
+
+  pub placed : (es : List Entry) → Lawful (book-in m es) → Placed (held m)
+  unfolding book-in
+  placed es ok =
+      record {
+        own = λ f x y h a b. ap (λ (p : Place). dynamic (p .function)) (spot (book-in m es) ok f x y h a b .where-at);
+        roll = λ x h. ap (λ (p : Place). dynamic (p .function)) (roll-place (book-in m es) ok x h) ∙ ap dynamic (ok .reserve);
+      }
+
+-- ---- the scan of the functions for a location's
+
+module _ (E : ℕ) (fs : List Function) (f l : ℕ) where
+  pub scan-pass : f < length fs → size E (getD fs f no-function .arity) ≤ l
+      → place-in E (drop (f + 1) fs) (l - size E (getD fs f no-function .arity)) ≡ place-in E (drop f fs) l
+  unfolding place-in
+  scan-pass h k = rw (add-one f, drop-cons fs f no-function h, le-ltb l (size E (getD fs f no-function .arity)) k)
+
+  pub scan-stop : f < length fs → l < size E (getD fs f no-function .arity) → place-in E (drop f fs) l .function ≡ getD fs f no-function
+  unfolding place-in
+  scan-stop h k = rw (drop-cons fs f no-function h, lt-ltb l (size E (getD fs f no-function .arity)) k)
+
+  pub scan-end : length fs ≤ f → place-in E (drop f fs) l .function ≡ no-function
+  unfolding place-in
+  scan-end h = rw (drop-of-length-le fs {i = f} h)
+
+-- ---- a function's locations at the elements are all dynamic or all static
+
+pub one-kind : (B : Book) → Placed B → (u y : ℕ) → y < B .E → dynamic-at B (location B u y 0) ≡ dynamic-at B (location B u 0 0)
+one-kind B ok u y h = dite (decLt u (length (B .functions))) inside past
+  where
+    inside : u < length (B .functions) → dynamic-at B (location B u y 0) ≡ dynamic-at B (location B u 0 0)
+    inside k = let p = ok .own u y 0 k h (omega arith) in let q = ok .own u 0 0 k (omega arith) (omega arith) in cc
+
+    past : ¬ (u < length (B .functions)) → dynamic-at B (location B u y 0) ≡ dynamic-at B (location B u 0 0)
+    past k = let e : function-at B u ≡ no-function = List·getD-eq-default (B .functions) no-function {n = u} (omega arith) in rw e
+
+-- ---- the scope
+
+pub variable-in : (s : List ℕ) (a : ℕ) → a < 8 → getD s a 0 ≡ getD (variables-of s) a undef
+variable-in s a h = let e = getD-take 8 s a 0 h in cc
+
+pub variable-past : (s : List ℕ) (a : ℕ) → 8 ≤ a → 0 ≡ getD (variables-of s) a undef
+variable-past s a h = let e = List·getD-eq-default (take 8 s) 0 {n = a} (rw (length-take 8 s) (omega arith)) in cc
+
+pub capped-most : (n most : ℕ) → capped n most ≤ most
+capped-most n most = go (ltb n most) refl
+  where
+    go : (b : Bool) → ltb n most ≡ b → (if b then n else most) ≤ most
+    go true e = omega (arith, ltb-true n most e)
+    go false e = omega arith

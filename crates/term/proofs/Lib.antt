@@ -1,0 +1,3 @@
+pub mod Leaves
+pub mod Marking
+pub mod Values

@@ -1,0 +1,20 @@
+-- `location` meets its contract.
+use mathlib.Core.Path.{_∙_}
+use borrow.Author.Needs.{needs}
+use Rattle.term.proofs.location.Statement.{statement}
+use Rattle.term.proofs.location.Tie as tie
+
+function-requires : tie.Need-function-requires
+function-requires c κs = search needs
+
+elements-requires : tie.Need-elements-requires
+elements-requires c κs = search needs
+
+locate-requires : tie.Need-locate-requires
+locate-requires c κs = search needs
+
+returns : tie.Need-returns
+returns c = c .locate .ensures ∙ rw (← c .before .before .function .ensures, ← c .before .elements .ensures)
+
+pub location-spec : {M : Type 1} → statement M
+location-spec = tie.close (tie.spec function-requires elements-requires locate-requires returns)

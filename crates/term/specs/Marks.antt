@@ -1,0 +1,34 @@
+-- Reader marks: each location has the set of the moves that read it, a move being one bit of a number (01, "What a move does").
+use mathlib.Core.Path.{_≡_}
+use mathlib.Core.Bool.{true}
+use mathlib.Core.List.{List, [], _∷_}
+use Prim.Native.Nat.{ℕ, _<_}
+use lib.Bits.{bitOr}
+use lib.ListN.{length, getD, set}
+use Rattle.text.specs.Words.{if_then_else_}
+use Rattle.book.specs.Book.{Book, dynamic, dynamic-at, function-at, location}
+use Rattle.engine.specs.Look.{Look, gives, seen}
+use Rattle.engine.specs.Move.{dynamic-among}
+
+-- the marks m with this bit put in at location l; past their end there is none
+abbrev pub mark-one : ℕ → ℕ → List ℕ → List ℕ
+mark-one bit l m = set m l (bitOr (getD m l 0) bit)
+
+-- at each of these locations
+unfoldable pub marked : ℕ → List ℕ → List ℕ → List ℕ
+marked bit [] m = m
+marked bit (l ∷ ls) m = marked bit ls (mark-one bit l m)
+
+-- at l if it is dynamic
+abbrev pub noted : Book → ℕ → ℕ → List ℕ → List ℕ
+noted B bit l m = if dynamic-at B l then mark-one bit l m else m
+
+-- Each function's locations lie where its row says, and the first E are Reserve's. Every lawful book has this: see `placed`.
+pub record Placed (B : Book) : Type 0 where
+  pub own : (f x y : ℕ) → f < length (B .functions) → x < B .E → y < B .E → dynamic-at B (location B f x y) ≡ dynamic (function-at B f)
+  pub roll : (x : ℕ) → x < B .E → dynamic-at B x ≡ true
+
+-- On the contents c the look w gives a, and the marks m become n: each dynamic location that it sees has the bit.
+pub record Runs {A : Type 0} (B : Book) (c : List ℕ) (bit : ℕ) (w : Look A) (a : A) (m n : List ℕ) : Type 0 where
+  pub value : a ≡ gives c w
+  pub marks : Placed B → n ≡ marked bit (dynamic-among B (seen c w)) m

@@ -1,0 +1,406 @@
+// Terms: their values in the book that an image holds, and the marks of what they read.
+ghost use mathlib.Core.Path.{_≡_};
+ghost use Prim.Native.Nat.{_+_};
+ghost use lib.ListN.{length, getD};
+ghost use Rattle.book.specs.Book.{undef, boolean, truth, size, offset, node-at, function-at, location, dynamic-at};
+ghost use Rattle.book.specs.Image.{capped};
+ghost use Rattle.engine.specs.Look.{read};
+ghost use Rattle.engine.specs.Term.{both, either, plus, minus, less, number, negate, apply, shapes, no-term};
+ghost use Rattle.term.specs.Held.{held, node-row, function-run, variables-of, value-at, aim-at, operated};
+ghost use Rattle.term.specs.Marks.{mark-one, noted, Placed, Runs};
+
+// A node as the image has it.
+pub struct Row {
+    pub kind: u16,
+    pub a: u16,
+    pub b: u16,
+    pub c: u16,
+}
+
+// A function as the image has it: its first location, its arity and its kind.
+pub struct Run {
+    pub first: u16,
+    pub arity: u16,
+    pub kind: u16,
+}
+
+// The number at an index, 0 past the end.
+pub fn fetch(s: &[u16], i: usize) -> u16
+    ensures { λ r. ⌜ r ≡ getD (now (s .entry)) i 0 ⌝ }
+{
+    if i < s.len() { s[i] } else { 0 }
+}
+
+// A count, or the most that it may be.
+pub fn capped(n: u16, most: u16) -> u16
+    ensures { λ r. ⌜ r ≡ capped n most ⌝ }
+{
+    if n < most { n } else { most }
+}
+
+// E, the number of elements.
+pub fn elements(image: &[u16; 4296]) -> u16
+    ensures { λ r. ⌜ r ≡ held (now (image .entry)) .E ⌝ }
+{
+    capped(image[0], 10000)
+}
+
+// P, the number of permanent elements.
+pub fn permanent(image: &[u16; 4296]) -> u16
+    ensures { λ r. ⌜ r ≡ held (now (image .entry)) .P ⌝ }
+{
+    image[1]
+}
+
+// F, the number of functions.
+pub fn functions(image: &[u16; 4296]) -> u16
+    ensures { λ r. ⌜ r ≡ length (held (now (image .entry)) .functions) ⌝ }
+{
+    capped(image[2], 32)
+}
+
+// Node n; past the last all 0.
+pub fn node(image: &[u16; 4296], n: u16) -> Row
+    ensures { λ r. ⌜ node-row r ≡ node-at (held (now (image .entry))) n ⌝ }
+{
+    if n < capped(image[3], 1024) {
+        let at = n as usize * 4 + 200;
+        Row {
+            kind: image[at],
+            a: image[at + 1],
+            b: image[at + 2],
+            c: image[at + 3],
+        }
+    } else {
+        Row {
+            kind: 0,
+            a: 0,
+            b: 0,
+            c: 0,
+        }
+    }
+}
+
+// Function f; past the last all 0.
+pub fn function(image: &[u16; 4296], f: u16) -> Run
+    ensures { λ r. ⌜ function-run r ≡ function-at (held (now (image .entry))) f ⌝ }
+{
+    if f < capped(image[2], 32) {
+        let at = f as usize * 4 + 8;
+        Run {
+            first: image[at],
+            arity: image[at + 1],
+            kind: image[at + 2],
+        }
+    } else {
+        Run {
+            first: 0,
+            arity: 0,
+            kind: 0,
+        }
+    }
+}
+
+// How many locations a function of that arity has.
+pub fn size(e: u16, arity: u16) -> u32
+    ensures { λ r. ⌜ r ≡ size e arity ⌝ }
+{
+    match arity {
+        0 => 1,
+        1 => e as u32,
+        _ => e as u32 * e as u32,
+    }
+}
+
+// The location of a function at x and y: counted from its first, the argument, or first × E + second.
+pub fn locate(run: Run, e: u16, x: u16, y: u16) -> u32
+    ensures { λ r. ⌜ r ≡ run .first + offset e (run .arity) x y ⌝ }
+{
+    let arity = run.arity;
+    let first = run.first as u32;
+    match arity {
+        0 => first,
+        1 => first + x as u32,
+        _ => first + (x as u32 * e as u32 + y as u32),
+    }
+}
+
+// The location of function f at x and y.
+pub fn location(image: &[u16; 4296], f: u16, x: u16, y: u16) -> u32
+    ensures { λ r. ⌜ r ≡ location (held (now (image .entry))) f x y ⌝ }
+{
+    locate(function(image, f), elements(image), x, y)
+}
+
+// Whether a location is dynamic, by the sizes of the functions from the first on.
+pub fn dynamic_at(image: &[u16; 4296], l: u32) -> bool
+    ensures { λ r. ⌜ r ≡ dynamic-at (held (now (image .entry))) l ⌝ }
+{
+    let e = elements(image);
+    let count = functions(image);
+    let mut left = l;
+    let mut f: u16 = 0;
+    while f < count {
+        let run = function(image, f);
+        let many = size(e, run.arity);
+        if left < many {
+            return 2 <= run.kind;
+        }
+        left -= many;
+        f += 1;
+    }
+    false
+}
+
+// The same of function f's location at x and y, which its kind tells if they are elements.
+pub fn dynamic(image: &[u16; 4296], f: u16, x: u16, y: u16, at: u32) -> bool
+    ensures { λ r. ⌜ (Placed (held (now (image .entry))) → at ≡ location (held (now (image .entry))) f x y → r ≡ dynamic-at (held (now (image .entry))) at) ⌝ }
+{
+    if functions(image) <= f {
+        return dynamic_at(image, at);
+    }
+    let e = elements(image);
+    if e <= x {
+        return dynamic_at(image, at);
+    }
+    if e <= y {
+        return dynamic_at(image, at);
+    }
+    let run = function(image, f);
+    2 <= run.kind
+}
+
+// Puts a bit into the mark of a location, if there is one.
+pub fn mark(readers: &mut [u64], bit: u64, at: usize)
+    ensures { λ _. ⌜ now (readers .exit) ≡ mark-one bit at (now (readers .entry)) ⌝ }
+{
+    if at < readers.len() {
+        readers[at] = readers[at] | bit;
+    }
+}
+
+// Marks function f's location at x and y if it is dynamic.
+pub fn note(image: &[u16; 4296], readers: &mut [u64], bit: u64, f: u16, x: u16, y: u16, at: u32)
+    ensures { λ _. ⌜ (Placed (held (now (image .entry))) → at ≡ location (held (now (image .entry))) f x y → now (readers .exit) ≡ noted (held (now (image .entry))) bit at (now (readers .entry))) ⌝ }
+{
+    if dynamic(image, f, x, y, at) {
+        mark(readers, bit, at as usize);
+    }
+}
+
+// The value of function f at x and y.
+pub fn read(
+    image: &[u16; 4296],
+    contents: &[u16],
+    readers: &mut [u64],
+    bit: u64,
+    f: u16,
+    x: u16,
+    y: u16,
+) -> u16
+    ensures { λ r. ⌜ Runs (held (now (image .entry))) (now (contents .entry)) bit (read (location (held (now (image .entry))) f x y)) r (now (readers .entry)) (now (readers .exit)) ⌝ }
+{
+    let at = location(image, f, x, y);
+    note(image, readers, bit, f, x, y, at);
+    fetch(contents, at as usize)
+}
+
+pub fn truth(t: bool) -> u16
+    ensures { λ r. ⌜ r ≡ truth t ⌝ }
+{
+    if t { 2 } else { 1 }
+}
+
+// Whether x is false or true.
+pub fn boolean(x: u16) -> bool
+    ensures { λ r. ⌜ r ≡ boolean x ⌝ }
+{
+    match x {
+        1 => true,
+        2 => true,
+        _ => false,
+    }
+}
+
+// Whether x is a number of the book.
+pub fn number(p: u16, x: u16) -> bool
+    ensures { λ r. ⌜ r ≡ number p x ⌝ }
+{
+    if 3 <= x { x < p } else { false }
+}
+
+pub fn not(x: u16) -> u16
+    ensures { λ r. ⌜ r ≡ negate x ⌝ }
+{
+    match x {
+        1 => 2,
+        2 => 1,
+        _ => 0,
+    }
+}
+
+pub fn and(x: u16, y: u16) -> u16
+    ensures { λ r. ⌜ r ≡ apply 0 both x y ⌝ }
+{
+    if boolean(x) {
+        if boolean(y) {
+            if x == 2 { y } else { 1 }
+        } else {
+            0
+        }
+    } else {
+        0
+    }
+}
+
+pub fn or(x: u16, y: u16) -> u16
+    ensures { λ r. ⌜ r ≡ apply 0 either x y ⌝ }
+{
+    if boolean(x) {
+        if boolean(y) {
+            if x == 2 { 2 } else { y }
+        } else {
+            0
+        }
+    } else {
+        0
+    }
+}
+
+pub fn plus(p: u16, x: u16, y: u16) -> u16
+    ensures { λ r. ⌜ r ≡ apply p plus x y ⌝ }
+{
+    if number(p, x) {
+        if number(p, y) {
+            let sum = x as u32 + y as u32 - 3;
+            if sum < p as u32 { sum as u16 } else { 0 }
+        } else {
+            0
+        }
+    } else {
+        0
+    }
+}
+
+pub fn minus(p: u16, x: u16, y: u16) -> u16
+    ensures { λ r. ⌜ r ≡ apply p minus x y ⌝ }
+{
+    if number(p, x) {
+        if number(p, y) {
+            if y <= x { 3 + (x - y) } else { 0 }
+        } else {
+            0
+        }
+    } else {
+        0
+    }
+}
+
+pub fn less(p: u16, x: u16, y: u16) -> u16
+    ensures { λ r. ⌜ r ≡ apply p less x y ⌝ }
+{
+    if number(p, x) {
+        if number(p, y) { truth(x < y) } else { 0 }
+    } else {
+        0
+    }
+}
+
+// The value of a term of two operands from theirs.
+pub fn operate(p: u16, k: u16, x: u16, y: u16) -> u16
+    ensures { λ r. ⌜ r ≡ operated p (getD shapes k no-term) x y ⌝ }
+{
+    match k {
+        7 => truth(x == y),
+        9 => and(x, y),
+        10 => or(x, y),
+        11 => plus(p, x, y),
+        12 => minus(p, x, y),
+        13 => less(p, x, y),
+        _ => 0,
+    }
+}
+
+// The value of variable a; a scope has the eight variables and then the agent's element.
+pub fn variable(scope: &[u16; 9], a: u16) -> u16
+    ensures { λ r. ⌜ r ≡ getD (variables-of (now (scope .entry))) a undef ⌝ }
+{
+    if a < 8 { scope[a as usize] } else { 0 }
+}
+
+// The value of the term at node n, looking at most `depth` nodes down; what it reads is marked.
+pub fn eval(
+    image: &[u16; 4296],
+    contents: &[u16],
+    readers: &mut [u64],
+    bit: u64,
+    scope: &[u16; 9],
+    depth: usize,
+    n: u16,
+) -> u16
+    ensures { λ r. ⌜ Runs (held (now (image .entry))) (now (contents .entry)) bit (value-at (now (image .entry)) (now (scope .entry)) depth n) r (now (readers .entry)) (now (readers .exit)) ⌝ }
+{
+    if depth == 0 {
+        return 0;
+    }
+    let less = depth - 1;
+    let row = node(image, n);
+    let k = row.kind;
+    match k {
+        1..=13 => match k {
+            1 => row.a,
+            2 => variable(scope, row.a),
+            3 => scope[8],
+            4 => read(image, contents, readers, bit, row.a, 0, 0),
+            5 => {
+                let x = eval(image, contents, readers, bit, scope, less, row.b);
+                read(image, contents, readers, bit, row.a, x, 0)
+            }
+            6 => {
+                let x = eval(image, contents, readers, bit, scope, less, row.b);
+                let y = eval(image, contents, readers, bit, scope, less, row.c);
+                read(image, contents, readers, bit, row.a, x, y)
+            }
+            8 => not(eval(image, contents, readers, bit, scope, less, row.a)),
+            _ => {
+                let x = eval(image, contents, readers, bit, scope, less, row.a);
+                let y = eval(image, contents, readers, bit, scope, less, row.b);
+                operate(permanent(image), k, x, y)
+            }
+        },
+        _ => 0,
+    }
+}
+
+// The location that the term at node n names; its arguments are read.
+pub fn aim(
+    image: &[u16; 4296],
+    contents: &[u16],
+    readers: &mut [u64],
+    bit: u64,
+    scope: &[u16; 9],
+    depth: usize,
+    n: u16,
+) -> u32
+    ensures { λ r. ⌜ Runs (held (now (image .entry))) (now (contents .entry)) bit (aim-at (now (image .entry)) (now (scope .entry)) depth n) r (now (readers .entry)) (now (readers .exit)) ⌝ }
+{
+    if depth == 0 {
+        return 0;
+    }
+    let less = depth - 1;
+    let row = node(image, n);
+    let k = row.kind;
+    match k {
+        4 => location(image, row.a, 0, 0),
+        5 => {
+            let x = eval(image, contents, readers, bit, scope, less, row.b);
+            location(image, row.a, x, 0)
+        }
+        6 => {
+            let x = eval(image, contents, readers, bit, scope, less, row.b);
+            let y = eval(image, contents, readers, bit, scope, less, row.c);
+            location(image, row.a, x, y)
+        }
+        _ => 0,
+    }
+}
