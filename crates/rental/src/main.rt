@@ -9,11 +9,16 @@ fn write_front(bytes: &[u8], n: usize) {
     }
 }
 
+// The same of an output, whose length its type says.
+fn write_output(output: &[u8; 51225], n: usize) {
+    write_front(output, n);
+}
+
 // Reads one byte more than it takes, so that a longer input shows.
 fn main() {
     let mut input = [0u8; 60001];
     let n = io::read_full(STDIN_FILENO, &mut input);
     let mut output = [0u8; 51225];
     let written = reporting::report(&input[..n], &mut output);
-    write_front(&output, written);
+    write_output(&output, written);
 }
