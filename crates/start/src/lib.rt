@@ -1,14 +1,118 @@
-// The start of a run, written into a contents table.
+// The start of a run, written into a contents table: each location's default, then the book's entries.
+use text::Line;
 ghost use mathlib.Core.Path.{_≡_};
-ghost use mathlib.Core.List.{_++_};
-ghost use Prim.Native.Nat.{_≤_};
-ghost use lib.ListN.{length, drop};
+ghost use mathlib.Core.List.{[], _++_};
+ghost use Prim.Native.Nat.{_+_, _<_, _≤_};
+ghost use lib.ListN.{length, set, drop, replicate};
 ghost use Rattle.text.specs.Words.{good};
-ghost use Rattle.book.specs.Book.{Book, L, start};
+ghost use Rattle.book.specs.Book.{Book, L, offset, location, defaults, start};
 ghost use Rattle.book.specs.Image.{book-in};
 ghost use Rattle.book.specs.Check.{check-book};
+ghost use Rattle.start.specs.Written.{run-filled, line-put, lines-put, contents-lines};
 
-extern "C" {
-    pub fn write_start(book: &[u8], image: &[u16; 4296], contents: &mut [u16])
-        ensures { λ _. ⌜ ((B : Book) → check-book (now (book .entry)) ≡ good B → book-in (now (image .entry)) (B .entries) ≡ B → L B ≤ length (now (contents .entry)) → now (contents .exit) ≡ start B ++ drop (L B) (now (contents .entry))) ⌝ };
+// Every place of a part gets v.
+fn fill(part: &mut [u16], v: u16)
+    ensures { λ _. ⌜ now (part .exit) ≡ replicate (length (now (part .entry))) v ⌝ }
+{
+    let mut i: usize = 0;
+    while i < part.len() {
+        part[i] = v;
+        i += 1;
+    }
+}
+
+// The locations from `first` to `end` get v, if the table has as many.
+fn fill_run(contents: &mut [u16], first: usize, end: usize, v: u16)
+    requires { ⌜ first ≤ end ⌝ }
+    ensures { λ _. ⌜ now (contents .exit) ≡ run-filled first end v (now (contents .entry)) ⌝ }
+{
+    if end <= contents.len() {
+        fill(&mut contents[first..end], v);
+    }
+}
+
+// Every location gets its default, function by function.
+fn write_defaults(image: &[u16; 4296], contents: &mut [u16])
+    ensures { λ _. ⌜ (L (book-in (now (image .entry)) []) ≤ length (now (contents .entry)) → now (contents .exit) ≡ defaults (book-in (now (image .entry)) []) ++ drop (L (book-in (now (image .entry)) [])) (now (contents .entry))) ⌝ }
+{
+    let e = table::elements(image);
+    let n = table::functions(image);
+    let mut first: usize = 0;
+    let mut f: u16 = 0;
+    while f < n {
+        let g = table::function_at(image, f);
+        let end = first + table::size(e, g.arity) as usize;
+        fill_run(contents, first, end, table::default_of(g));
+        first = end;
+        f += 1;
+    }
+}
+
+// A location's number within its function.
+fn offset(e: u16, arity: u32, x: u16, y: u16) -> usize
+    ensures { λ r. ⌜ (r ≡ offset e arity x y) × (r < 10000000000) ⌝ }
+{
+    if arity == 0 {
+        0
+    } else if arity == 1 {
+        x as usize
+    } else {
+        x as usize * e as usize + y as usize
+    }
+}
+
+// The location of function f at the arguments x and y.
+fn locate(image: &[u16; 4296], f: u16, x: u16, y: u16) -> usize
+    ensures { λ r. ⌜ r ≡ location (book-in (now (image .entry)) []) f x y ⌝ }
+{
+    let e = table::elements(image);
+    let g = table::function_at(image, f);
+    g.first as usize + offset(e, g.arity, x, y)
+}
+
+// Past the end nothing is put.
+fn put(contents: &mut [u16], at: usize, v: u16)
+    ensures { λ _. ⌜ now (contents .exit) ≡ set (now (contents .entry)) at v ⌝ }
+{
+    if at < contents.len() {
+        contents[at] = v;
+    }
+}
+
+// A contents line's value is put at its location.
+fn write_line(image: &[u16; 4296], contents: &mut [u16], l: Line)
+    ensures { λ _. ⌜ now (contents .exit) ≡ line-put (book-in (now (image .entry)) []) l (now (contents .entry)) ⌝ }
+{
+    let f = open::narrow_word(l.a);
+    let x = open::narrow_word(l.b);
+    let y = open::narrow_word(l.c);
+    let at = locate(image, f, x, y);
+    put(contents, at, open::narrow_word(l.d));
+}
+
+// All contents lines, one by one; the header says where they start and how many there are.
+fn write_entries(book: &[u8], image: &[u16; 4296], contents: &mut [u16])
+    ensures { λ _. ⌜ now (contents .exit) ≡ lines-put (book-in (now (image .entry)) []) (contents-lines (now (book .entry))) (now (contents .entry)) ⌝ }
+{
+    let k = text::read_line(book, 0, 0);
+    let l = text::read_line(book, 0, 1);
+    let f = open::narrow_word(k.c);
+    let n = open::narrow_word(k.d);
+    let a = open::narrow_word(l.a);
+    let first = 2 + f as u32 + n as u32 + a as u32;
+    let count = l.b;
+    let mut i: u32 = 0;
+    while i < count {
+        let entry = text::read_line(book, first, i);
+        write_line(image, contents, entry);
+        i += 1;
+    }
+}
+
+// The start of a run of an accepted book, whose image it is; nothing past the last location is touched.
+pub fn write_start(book: &[u8], image: &[u16; 4296], contents: &mut [u16])
+    ensures { λ _. ⌜ ((B : Book) → check-book (now (book .entry)) ≡ good B → book-in (now (image .entry)) (B .entries) ≡ B → L B ≤ length (now (contents .entry)) → now (contents .exit) ≡ start B ++ drop (L B) (now (contents .entry))) ⌝ }
+{
+    write_defaults(image, contents);
+    write_entries(book, image, contents);
 }

@@ -1,0 +1,30 @@
+use mathlib.Core.Path.{sym}
+use lib.Seq.{set-out}
+use borrow.Author.Needs.{needs}
+use Rattle.start.proofs.put.Statement.{statement}
+use Rattle.start.proofs.put.Tie as tie
+use Rattle.start.proofs.put.Reads as reads
+use Rattle.start.proofs.put.Lts as lts
+
+-- src/lib.rt:78:9
+mul-contents : tie.Need-mul-contents
+mul-contents c = search needs
+
+-- src/lib.rt:78:9
+slice-write-contents : tie.Need-slice-write-contents
+slice-write-contents c = search needs
+
+-- src/lib.rt:74:1
+same-length : tie.Need-same-length
+same-length c = search needs
+
+-- src/lib.rt:74:1
+returns : tie.Need-returns
+returns c = search needs
+
+-- src/lib.rt:74:1
+returns-2 : tie.Need-returns-2
+returns-2 c = let a = c .before .args in sym (set-out (a .contents .now) (a .at) (a .v) (c .if1 .left))
+
+pub put-spec : {M : Type 1} → statement M
+put-spec = tie.close (tie.spec mul-contents slice-write-contents same-length returns returns-2)

@@ -1,0 +1,30 @@
+-- What the code writes, step by step: one function's locations, then one line of the book after the other.
+use mathlib.Core.List.{List, [], _∷_, _++_}
+use Prim.Native.Nat.{ℕ, _+_, _-_}
+use lib.Dec.{leb}
+use lib.ListN.{length, set, take, drop, replicate}
+use Rattle.text.specs.declared.Line.{Line}
+use Rattle.text.specs.Words.{if_then_else_, table}
+use Rattle.text.specs.Text.{line}
+use Rattle.book.specs.Book.{Book, location}
+use Rattle.open.specs.Narrow.{narrowed}
+
+-- the places from `first` to `end` hold v, if there are as many
+abbrev pub run-filled : ℕ → ℕ → ℕ → List ℕ → List ℕ
+run-filled first end v c =
+    if leb end (length c) then take first c ++ (replicate (end - first) v ++ drop (end - first) (drop first c)) else c
+
+-- a contents line put at its location: in an accepted book each of its numbers fits in sixteen bits
+abbrev pub line-put : Book → Line → List ℕ → List ℕ
+line-put B l c = set c (location B (narrowed (l .a)) (narrowed (l .b)) (narrowed (l .c))) (narrowed (l .d))
+
+unfoldable pub lines-put : Book → List Line → List ℕ → List ℕ
+lines-put B [] c = c
+lines-put B (l ∷ ls) c = lines-put B ls (line-put B l c)
+
+-- where the contents lines of a book's text start, and those lines
+abbrev pub first-line : List ℕ → ℕ
+first-line text = 2 + narrowed (line text 0 .c) + narrowed (line text 0 .d) + narrowed (line text 1 .a)
+
+abbrev pub contents-lines : List ℕ → List Line
+contents-lines text = table (λ i. line text (first-line text + i)) (line text 1 .b)
