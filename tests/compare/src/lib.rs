@@ -37,6 +37,22 @@ extern "C" {
     ) -> u64;
 }
 
+extern "C" {
+    fn rental_run(
+        book: *const u8,
+        book_length: usize,
+        log: *const u8,
+        log_length: usize,
+        contents: *mut u16,
+        contents_length: usize,
+        readers: *mut u64,
+        readers_length: usize,
+        writers: *mut u64,
+        writers_length: usize,
+        lent: usize,
+    ) -> u64;
+}
+
 // An answer as the exported functions give it: number × 2^48 + p × 2^24 + q.
 fn unpacked(answer: u64) -> Answer {
     Answer {
@@ -51,5 +67,32 @@ pub fn step(book: &[u8], contents: &mut [u16], agent: usize, lent: usize) -> Ans
     // The exported function reads the bytes and reads and writes the records that it is given, and nothing else.
     unpacked(unsafe {
         rental_step(book.as_ptr(), book.len(), contents.as_mut_ptr(), contents.len(), agent, lent)
+    })
+}
+
+// The proved run of a log.
+pub fn run(
+    book: &[u8],
+    log: &[u8],
+    contents: &mut [u16],
+    readers: &mut [u64],
+    writers: &mut [u64],
+    lent: usize,
+) -> Answer {
+    // As above.
+    unpacked(unsafe {
+        rental_run(
+            book.as_ptr(),
+            book.len(),
+            log.as_ptr(),
+            log.len(),
+            contents.as_mut_ptr(),
+            contents.len(),
+            readers.as_mut_ptr(),
+            readers.len(),
+            writers.as_mut_ptr(),
+            writers.len(),
+            lent,
+        )
     })
 }
