@@ -53,6 +53,10 @@ extern "C" {
     ) -> u64;
 }
 
+extern "C" {
+    fn rental_report(input: *const u8, length: usize, output: *mut u8, output_length: usize) -> usize;
+}
+
 // An answer as the exported functions give it: number × 2^48 + p × 2^24 + q.
 fn unpacked(answer: u64) -> Answer {
     Answer {
@@ -95,4 +99,17 @@ pub fn run(
             lent,
         )
     })
+}
+
+// The most bytes that `rental` prints.
+const MOST_OUTPUT: usize = 51_225;
+
+// What the proved code prints for an input; it fails if bytes past the text were touched.
+pub fn report(input: &[u8]) -> Vec<u8> {
+    let mut output = vec![0xa5; MOST_OUTPUT];
+    // As above.
+    let written = unsafe { rental_report(input.as_ptr(), input.len(), output.as_mut_ptr(), output.len()) };
+    assert!(output[written..].iter().all(|&byte| byte == 0xa5), "bytes past the text were touched");
+    output.truncate(written);
+    output
 }
