@@ -15,5 +15,5 @@ pub mod tables;
 
 pub use cases::{book_input, report_input, run_input, step_input, RunInput, StepInput};
 pub use draft::{text_of, Draft};
-pub use logs::{random_order, DraftLog};
+pub use logs::{fitting_pairs, random_order, DraftLog};
 pub use rng::Rng;
