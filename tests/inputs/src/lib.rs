@@ -11,9 +11,11 @@ mod flavours;
 pub mod logs;
 mod rng;
 mod rules;
+mod small;
 pub mod tables;
 
 pub use cases::{book_input, report_input, run_input, step_input, RunInput, StepInput};
 pub use draft::{text_of, Draft};
 pub use logs::{fitting_pairs, random_order, DraftLog};
 pub use rng::Rng;
+pub use small::{small_input, small_inputs, Small};
