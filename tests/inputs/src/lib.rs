@@ -9,6 +9,7 @@ mod draft;
 mod faults;
 mod flavours;
 pub mod logs;
+pub mod marked;
 mod rng;
 mod rules;
 mod small;
