@@ -3,6 +3,7 @@ use paper::Answer;
 
 pub mod asked;
 pub mod loads;
+pub mod machine;
 pub mod pen;
 pub mod rows;
 pub mod session;

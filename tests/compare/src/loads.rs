@@ -25,6 +25,13 @@ pub struct Logged {
     pub log: Vec<u8>,
 }
 
+impl Single {
+    // The same move as a log of one.
+    pub fn logged(self) -> Logged {
+        Logged { book: self.book, log: padded("1 0 0 0 / 0 0 0 0") }
+    }
+}
+
 // ---- books for the book check
 
 // 1,024 nodes under one root: a guard with two skips, and skips joined two by two.

@@ -21,6 +21,16 @@ impl Row {
         self.proved / self.independent
     }
 
+    // The first bar: 2.0 for a node, 2.5 for the rest. The aim is 1.0.
+    pub fn is_above_bar(&self) -> bool {
+        let bar = if self.what.contains("each term node") || self.what.contains("each rule node") {
+            2.0
+        } else {
+            2.5
+        };
+        self.ratio() > bar
+    }
+
     pub fn plain(&self) -> String {
         let Row { what, proved, independent } = self;
         format!("{what:<66} {:>10} {:>12} {:>7.2}", shown(*proved), shown(*independent), self.ratio())
@@ -145,7 +155,13 @@ pub fn run_row(what: &str, logged: &Logged) -> Row {
     Row::new(what, best_rounds([&mut ours, &mut theirs]))
 }
 
-// The time by which one run is longer than another, which ends with a refusal of this number.
+// The time of each of `units` by which the larger run is larger.
+pub fn run_slope_row(what: &str, small: &Logged, large: &Logged, units: u32) -> Row {
+    let Row { proved, independent, .. } = beyond_row(what, large, small, 0);
+    Row::new(what, [proved, independent].map(|seconds| seconds / f64::from(units)))
+}
+
+// The time by which one run is longer than another, which is answered with this number.
 pub fn beyond_row(what: &str, whole: &Logged, less: &Logged, number: u32) -> Row {
     assert_runs_alike(what, whole, 0);
     assert_runs_alike(what, less, number);

@@ -18,13 +18,15 @@ pub struct Session {
     pub tallies: [Tally; 4],
     pub compared: u64,
     pub differences: u64,
+    // The folders of the differences that were kept.
+    pub kept: Vec<PathBuf>,
 }
 
 impl Session {
     // The first side is the proved code's, the second the independent one's.
     pub fn new(seed: u64, sides: [Side; 2], folder: PathBuf) -> Session {
         let tallies = [(); 4].map(|_| Tally::new());
-        Session { seed, sides, folder, tallies, compared: 0, differences: 0 }
+        Session { seed, sides, folder, tallies, compared: 0, differences: 0, kept: Vec::new() }
     }
 
     // Asks both sides; a difference is kept under a name.
@@ -39,13 +41,18 @@ impl Session {
         if self.differences > MOST_KEPT {
             return Ok(());
         }
-        let folder = self.folder.join(format!("{}-{name}", KINDS[asked.kind()]));
-        fs::create_dir_all(&folder)?;
         let answers = [("proved", proved.text()), ("independent", independent.text())];
-        for (file, bytes) in asked.files().into_iter().chain(answers) {
+        self.keep(&format!("{}-{name}", KINDS[asked.kind()]), asked.files().into_iter().chain(answers))
+    }
+
+    // Writes the files of a difference into a folder of its own.
+    fn keep(&mut self, name: &str, files: impl Iterator<Item = (&'static str, Vec<u8>)>) -> io::Result<()> {
+        let folder = self.folder.join(name);
+        fs::create_dir_all(&folder)?;
+        for (file, bytes) in files {
             fs::write(folder.join(format!("{file}.txt")), bytes)?;
         }
-        println!("a difference: {}", folder.display());
+        self.kept.push(folder);
         Ok(())
     }
 

@@ -22,8 +22,7 @@ fn the_shop() {
     let book = shop();
     let checked = check_book(&book).expect("a sound book");
     assert_eq!(checked.agents.len(), 16);
-    assert!((300..=1_000).contains(&checked.nodes.len()), "{} nodes", checked.nodes.len());
-    assert!(checked.locations <= 2_048);
+    assert_eq!((checked.nodes.len(), checked.start.len(), checked.locations), (606, 255, 1_081));
     let log = shop_log(&book);
     let checked = paper::check_log(&checked, &log).expect("a sound log");
     assert_eq!(checked.agents.len(), 64);

@@ -31,7 +31,7 @@ fn file(folder: &Path, name: &str) -> Vec<u8> {
 fn a_planted_difference_is_kept() {
     let folder = folder("planted");
     let mut session = Session::new(1, [planted, independent], folder.clone());
-    // A log of one move that is idle: number 0 of the small inputs sets a relation to false.
+    // A log of one move that is idle.
     let idle = (0..100).find(|&i| {
         let small = small_input(i);
         paper::report(&[small.book, small.log].concat()).starts_with(b"    16")
@@ -40,6 +40,7 @@ fn a_planted_difference_is_kept() {
     session.ask_small(idle).expect("a folder that can be written");
     assert_eq!((session.compared, session.differences), (4, 1));
     let kept = folder.join(format!("log-small-{idle}"));
+    assert_eq!(session.kept, [kept.clone()]);
     assert_eq!(file(&kept, "book.txt"), small_input(idle).book);
     assert_eq!(file(&kept, "log.txt"), small_input(idle).log);
     assert!(file(&kept, "proved.txt").starts_with(b"0 0 0\n"));

@@ -27,9 +27,3 @@ fn numbered() {
     assert_ne!(small_input(5), small_input(6));
     assert_ne!(small_input(small_inputs() - 2), small_input(small_inputs() - 1));
 }
-
-#[test]
-#[should_panic(expected = "small inputs")]
-fn no_more() {
-    small_input(small_inputs());
-}

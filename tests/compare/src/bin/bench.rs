@@ -1,34 +1,24 @@
-// Benchmarks: the proved code against the independent one in one run, as ratios.
+// Benchmarks: the proved code against the independent one in one run, as ratios. Tables are lent once and used again, caches are warm.
 // Usage: bench [--markdown] [WORD]; with a word, only the rows whose name has it.
 use compare::loads::{self, Logged};
+use compare::machine::machine;
 use compare::rows::*;
 use compare::shops::{paper_book, paper_log, shop, shop_log};
 
-// Which rows are wanted, and how they are printed.
+// Which rows are wanted, how they are printed, and those that were measured.
 struct Bench {
     markdown: bool,
     word: String,
-    // Whole runs, for their number in a second.
-    whole: Vec<Row>,
+    rows: Vec<Row>,
 }
 
 impl Bench {
-    fn wants(&self, what: &str) -> bool {
-        what.contains(&self.word)
-    }
-
-    fn print(&self, row: &Row) {
-        println!("{}", if self.markdown { row.markdown() } else { row.plain() });
-    }
-
     // Measures and prints a row, if it is wanted.
     fn row(&mut self, what: &str, measure: impl FnOnce(&str) -> Row) {
-        if self.wants(what) {
+        if what.contains(&self.word) {
             let row = measure(what);
-            self.print(&row);
-            if what.starts_with("rental") {
-                self.whole.push(row);
-            }
+            println!("{}", if self.markdown { row.markdown() } else { row.plain() });
+            self.rows.push(row);
         }
     }
 }
@@ -46,6 +36,10 @@ fn slopes(bench: &mut Bench) {
     bench.row("single move: each term node", |what| {
         let nodes = loads::term_nodes(16) - loads::term_nodes(1);
         slope_row(what, &loads::guards(1), &loads::guards(16), turns * nodes)
+    });
+    bench.row("log: each term node, its reads marked", |what| {
+        let nodes = loads::term_nodes(16) - loads::term_nodes(1);
+        run_slope_row(what, &loads::guards(1).logged(), &loads::guards(16).logged(), turns * nodes)
     });
     bench.row("single move: each rule node (both, skip)", |what| {
         let nodes = loads::skip_nodes(65) - loads::skip_nodes(1);
@@ -95,6 +89,8 @@ fn order_checks(bench: &mut Bench) {
     });
 }
 
+const WHOLE: &str = "rental:";
+
 fn whole_runs(bench: &mut Bench) {
     bench.row("rental: 01's book and log", |what| report_row(what, &[paper_book(), paper_log()].concat()));
     bench.row("rental: the shop's book, 64 moves of 16 agents", |what| {
@@ -104,10 +100,14 @@ fn whole_runs(bench: &mut Bench) {
     });
 }
 
-fn runs_per_second(bench: &Bench) {
-    for row in &bench.whole {
+// The whole runs by their number in a second, and the rows above the bar.
+fn summary(bench: &Bench) {
+    for row in bench.rows.iter().filter(|row| row.what.starts_with(WHOLE)) {
         let [proved, independent] = [row.proved, row.independent].map(|seconds| 1.0 / seconds);
-        println!("{}: {proved:.0} runs a second proved, {independent:.0} independent", row.what);
+        println!("- {}: {proved:.0} runs a second proved, {independent:.0} independent", row.what);
+    }
+    for row in bench.rows.iter().filter(|row| row.is_above_bar()) {
+        println!("- above the bar: {}, {:.2}", row.what, row.ratio());
     }
 }
 
@@ -115,8 +115,8 @@ fn main() {
     let words: Vec<String> = std::env::args().skip(1).collect();
     let (options, rest): (Vec<_>, Vec<_>) = words.into_iter().partition(|word| word.starts_with("--"));
     let markdown = options.iter().any(|option| option == "--markdown");
-    let mut bench = Bench { markdown, word: rest.join(" "), whole: Vec::new() };
-    println!("{}", if markdown { markdown_heading() } else { plain_heading() });
+    let mut bench = Bench { markdown, word: rest.join(" "), rows: Vec::new() };
+    println!("{}\n\n{}", machine(), if markdown { markdown_heading() } else { plain_heading() });
     book_checks(&mut bench);
     slopes(&mut bench);
     single_moves(&mut bench);
@@ -124,5 +124,5 @@ fn main() {
     order_checks(&mut bench);
     whole_runs(&mut bench);
     println!();
-    runs_per_second(&bench);
+    summary(&bench);
 }

@@ -57,6 +57,7 @@ fn main() -> ExitCode {
         }
     };
     print!("{}", session.counts());
+    session.kept.iter().for_each(|folder| println!("a difference: {}", folder.display()));
     println!("{seen} of {} small inputs", small_inputs());
     println!("{} compared, {} differences", session.compared, session.differences);
     if session.differences == 0 {
