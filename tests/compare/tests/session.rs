@@ -40,7 +40,7 @@ fn a_planted_difference_is_kept() {
     session.ask_small(idle).expect("a folder that can be written");
     assert_eq!((session.compared, session.differences), (4, 1));
     let kept = folder.join(format!("log-small-{idle}"));
-    assert_eq!(session.kept, [kept.clone()]);
+    assert_eq!(session.kept, std::slice::from_ref(&kept));
     assert_eq!(file(&kept, "book.txt"), small_input(idle).book);
     assert_eq!(file(&kept, "log.txt"), small_input(idle).log);
     assert!(file(&kept, "proved.txt").starts_with(b"0 0 0\n"));

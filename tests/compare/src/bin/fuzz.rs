@@ -4,7 +4,7 @@ use compare::asked::{independent, proved};
 use compare::session::Session;
 use inputs::small_inputs;
 use std::io;
-use std::path::PathBuf;
+use std::path::{Path, PathBuf};
 use std::process::ExitCode;
 use std::time::{Duration, Instant, SystemTime, UNIX_EPOCH};
 
@@ -14,13 +14,17 @@ struct Options {
     folder: PathBuf,
 }
 
+// The folder `differences` beside this package.
+fn differences() -> PathBuf {
+    Path::new(env!("CARGO_MANIFEST_DIR")).with_file_name("differences")
+}
+
 fn options() -> Option<Options> {
     let mut words = std::env::args().skip(1);
     let seconds = words.next()?.parse().ok()?;
     let now = || SystemTime::now().duration_since(UNIX_EPOCH).map_or(1, |time| time.as_secs());
     let seed = words.next().map_or(Some(now()), |word| word.parse().ok())?;
-    let folder =
-        words.next().map_or(concat!(env!("CARGO_MANIFEST_DIR"), "/../differences").into(), PathBuf::from);
+    let folder = words.next().map_or_else(differences, PathBuf::from);
     words.next().is_none().then_some(Options { seconds, seed, folder })
 }
 
