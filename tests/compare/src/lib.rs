@@ -2,11 +2,11 @@
 use paper::Answer;
 
 pub mod asked;
+pub mod comparison;
 pub mod loads;
 pub mod machine;
 pub mod pen;
 pub mod rows;
-pub mod session;
 pub mod shops;
 mod tally;
 pub mod timing;

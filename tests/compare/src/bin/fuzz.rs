@@ -1,7 +1,7 @@
 // Compares random, damaged and small inputs of every entry for some time, and keeps those that are answered differently.
 // Usage: fuzz SECONDS [SEED] [FOLDER]; the seed is the time of day and the folder tests/differences where none is given.
 use compare::asked::{independent, proved};
-use compare::session::Session;
+use compare::comparison::Comparison;
 use inputs::small_inputs;
 use std::io;
 use std::path::{Path, PathBuf};
@@ -29,16 +29,16 @@ fn options() -> Option<Options> {
 }
 
 // Random inputs and small ones in turn; how many of the small ones were seen.
-fn compare_for(session: &mut Session, time: Duration) -> io::Result<u64> {
+fn compare_for(comparison: &mut Comparison, time: Duration) -> io::Result<u64> {
     let (began, small) = (Instant::now(), small_inputs());
     // Another part of the small inputs comes first for each seed.
-    let first = session.seed.wrapping_mul(0x9E37_79B9_7F4A_7C15) % small;
+    let first = comparison.seed.wrapping_mul(0x9E37_79B9_7F4A_7C15) % small;
     let mut number = 0;
     while began.elapsed() < time {
-        session.ask_random(number)?;
+        comparison.ask_random(number)?;
         for i in 8 * number..8 * (number + 1) {
             if i < small {
-                session.ask_small((first + i) % small)?;
+                comparison.ask_small((first + i) % small)?;
             }
         }
         number += 1;
@@ -52,19 +52,19 @@ fn main() -> ExitCode {
         return ExitCode::from(2);
     };
     println!("seed {seed}; differences are kept in {}", folder.display());
-    let mut session = Session::new(seed, [proved, independent], folder);
-    let seen = match compare_for(&mut session, Duration::from_secs(seconds)) {
+    let mut comparison = Comparison::new(seed, [proved, independent], folder);
+    let seen = match compare_for(&mut comparison, Duration::from_secs(seconds)) {
         Ok(seen) => seen,
         Err(error) => {
             eprintln!("fuzz: a difference could not be kept: {error}");
             return ExitCode::FAILURE;
         }
     };
-    print!("{}", session.counts());
-    session.kept.iter().for_each(|folder| println!("a difference: {}", folder.display()));
+    print!("{}", comparison.counts());
+    comparison.kept.iter().for_each(|folder| println!("a difference: {}", folder.display()));
     println!("{seen} of {} small inputs", small_inputs());
-    println!("{} compared, {} differences", session.compared, session.differences);
-    if session.differences == 0 {
+    println!("{} compared, {} differences", comparison.compared, comparison.differences);
+    if comparison.differences == 0 {
         ExitCode::SUCCESS
     } else {
         ExitCode::FAILURE

@@ -1,4 +1,4 @@
-// A session of comparisons: counts the answers, and keeps each question that the two sides answer differently.
+// Comparisons one after another: counts the answers, and keeps each question that the two sides answer differently.
 use crate::asked::{Asked, Side, KINDS};
 use crate::Tally;
 use inputs::{book_input, report_input, run_input, small_input, step_input, Rng, RunInput, Small, StepInput};
@@ -10,7 +10,7 @@ use std::path::PathBuf;
 // Differences kept as files; more are only counted.
 const MOST_KEPT: u64 = 100;
 
-pub struct Session {
+pub struct Comparison {
     pub seed: u64,
     sides: [Side; 2],
     folder: PathBuf,
@@ -22,11 +22,11 @@ pub struct Session {
     pub kept: Vec<PathBuf>,
 }
 
-impl Session {
+impl Comparison {
     // The first side is the proved code's, the second the independent one's.
-    pub fn new(seed: u64, sides: [Side; 2], folder: PathBuf) -> Session {
+    pub fn new(seed: u64, sides: [Side; 2], folder: PathBuf) -> Comparison {
         let tallies = [(); 4].map(|_| Tally::new());
-        Session { seed, sides, folder, tallies, compared: 0, differences: 0, kept: Vec::new() }
+        Comparison { seed, sides, folder, tallies, compared: 0, differences: 0, kept: Vec::new() }
     }
 
     // Asks both sides; a difference is kept under a name.

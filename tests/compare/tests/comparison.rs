@@ -1,6 +1,6 @@
-// A session keeps what is answered differently, and only that; the proved code answers every small input as the independent one.
+// A comparison keeps what is answered differently, and only that; the proved code answers every small input as the independent one.
 use compare::asked::{independent, proved, Asked, Told};
-use compare::session::Session;
+use compare::comparison::Comparison;
 use inputs::{small_input, small_inputs};
 use paper::Answer;
 use std::fs;
@@ -30,17 +30,17 @@ fn file(folder: &Path, name: &str) -> Vec<u8> {
 #[test]
 fn a_planted_difference_is_kept() {
     let folder = folder("planted");
-    let mut session = Session::new(1, [planted, independent], folder.clone());
+    let mut comparison = Comparison::new(1, [planted, independent], folder.clone());
     // A log of one move that is idle.
     let idle = (0..100).find(|&i| {
         let small = small_input(i);
         paper::report(&[small.book, small.log].concat()).starts_with(b"    16")
     });
     let idle = idle.expect("an idle one among the first");
-    session.ask_small(idle).expect("a folder that can be written");
-    assert_eq!((session.compared, session.differences), (4, 1));
+    comparison.ask_small(idle).expect("a folder that can be written");
+    assert_eq!((comparison.compared, comparison.differences), (4, 1));
     let kept = folder.join(format!("log-small-{idle}"));
-    assert_eq!(session.kept, std::slice::from_ref(&kept));
+    assert_eq!(comparison.kept, std::slice::from_ref(&kept));
     assert_eq!(file(&kept, "book.txt"), small_input(idle).book);
     assert_eq!(file(&kept, "log.txt"), small_input(idle).log);
     assert!(file(&kept, "proved.txt").starts_with(b"0 0 0\n"));
@@ -52,17 +52,18 @@ fn a_planted_difference_is_kept() {
 #[test]
 fn answers_alike_leave_nothing() {
     let folder = folder("alike");
-    let mut session = Session::new(1, [proved, independent], folder.clone());
-    (0..50).for_each(|number| session.ask_random(number).expect("nothing to write"));
-    assert_eq!((session.compared, session.differences), (200, 0));
+    let mut comparison = Comparison::new(1, [proved, independent], folder.clone());
+    (0..50).for_each(|number| comparison.ask_random(number).expect("nothing to write"));
+    assert_eq!((comparison.compared, comparison.differences), (200, 0));
     assert!(!folder.exists());
 }
 
 #[test]
 fn every_small_input() {
     let folder = folder("small");
-    let mut session = Session::new(1, [proved, independent], folder);
-    (0..small_inputs()).for_each(|number| session.ask_small(number).expect("a folder that can be written"));
-    println!("small inputs:\n{}", session.counts());
-    assert_eq!(session.differences, 0);
+    let mut comparison = Comparison::new(1, [proved, independent], folder);
+    (0..small_inputs())
+        .for_each(|number| comparison.ask_small(number).expect("a folder that can be written"));
+    println!("small inputs:\n{}", comparison.counts());
+    assert_eq!(comparison.differences, 0);
 }
