@@ -1,6 +1,12 @@
 // The proved code's exported functions, and what the comparisons share.
 use paper::Answer;
 
+pub mod asked;
+pub mod comparison;
+pub mod loads;
+pub mod machine;
+pub mod pen;
+pub mod rows;
 pub mod shops;
 mod tally;
 pub mod timing;
@@ -102,13 +108,18 @@ pub fn run(
 }
 
 // The most bytes that `rental` prints.
-const MOST_OUTPUT: usize = 51_225;
+pub const MOST_OUTPUT: usize = 51_225;
+
+// What the proved code prints for an input, into an output that is lent; gives its length.
+pub fn report_into(input: &[u8], output: &mut [u8]) -> usize {
+    // As above.
+    unsafe { rental_report(input.as_ptr(), input.len(), output.as_mut_ptr(), output.len()) }
+}
 
 // What the proved code prints for an input; it fails if bytes past the text were touched.
 pub fn report(input: &[u8]) -> Vec<u8> {
     let mut output = vec![0xa5; MOST_OUTPUT];
-    // As above.
-    let written = unsafe { rental_report(input.as_ptr(), input.len(), output.as_mut_ptr(), output.len()) };
+    let written = report_into(input, &mut output);
     assert!(output[written..].iter().all(|&byte| byte == 0xa5), "bytes past the text were touched");
     output.truncate(written);
     output

@@ -9,11 +9,14 @@ mod draft;
 mod faults;
 mod flavours;
 pub mod logs;
+pub mod marked;
 mod rng;
 mod rules;
+mod small;
 pub mod tables;
 
 pub use cases::{book_input, report_input, run_input, step_input, RunInput, StepInput};
 pub use draft::{text_of, Draft};
-pub use logs::{random_order, DraftLog};
+pub use logs::{fitting_pairs, random_order, DraftLog};
 pub use rng::Rng;
+pub use small::{small_input, small_inputs, Small};

@@ -132,6 +132,11 @@ fn needed_pairs(agents: &[u32], readers: &[u64], writers: &[u64]) -> Vec<(u32, u
         .collect()
 }
 
+/// The least pairs with which a log of such moves is accepted.
+pub fn fitting_pairs(agents: &[u32], readers: &[u64], writers: &[u64]) -> Vec<(u32, u32)> {
+    reduced(&needed_pairs(agents, readers, writers))
+}
+
 /// The needed pairs, without those that follow, with more, or with some left out.
 fn choose_pairs(rng: &mut Rng, needed: Vec<(u32, u32)>, agents: &[u32]) -> Vec<(u32, u32)> {
     match rng.weighted(&[14, 32, 12, 12, 14, 10, 3, 3]) {

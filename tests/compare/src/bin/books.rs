@@ -1,4 +1,4 @@
-// A longer comparison of the book check: `books SEED COUNT`. A difference is printed with its number and ends the run.
+// A longer comparison of the book check; a difference is printed with its number and ends the run. Usage: books SEED COUNT.
 use compare::{check_book, paper_check_book, Tally};
 use inputs::{book_input, Rng};
 use std::process::ExitCode;

@@ -1,4 +1,4 @@
-// Prints, for each entry, how many of a seed's inputs get each answer number.
+// Prints, for each entry, how many of a seed's inputs get each answer number. Usage: counts SEED COUNT.
 
 use inputs::{book_input, report_input, run_input, step_input, Rng};
 use paper::{check_book, report, run, step};

@@ -1,0 +1,161 @@
+// The cases of paper 01 as inputs of `rental`, with all that it prints: the marked ones, the limits, and the examples of the refusals.
+
+use paper::{padded, LINE_BYTES};
+
+/// An input and what `rental` prints for it.
+#[derive(Debug, Clone, PartialEq, Eq)]
+pub struct Case {
+    pub name: String,
+    pub input: Vec<u8>,
+    pub output: Vec<u8>,
+}
+
+impl Case {
+    fn new(name: &str, input: Vec<u8>, output: &str) -> Case {
+        Case { name: name.to_string(), input, output: padded(output) }
+    }
+}
+
+/// The book shown in the paper: function 1 is Pair, 2 is Wear.
+const BOOK: &str = "8 6 3 13 / 2 3 0 0 / 1 3 0 0 / 1 3 0 0 / 1 2 0 0 / 2 0 0 0 / 5 2 0 0 / 1 3 0 0 / 21 1 2 0 / \
+    26 0 1 3 / 2 0 0 0 / 5 2 5 0 / 2 0 0 0 / 5 2 7 0 / 1 4 0 0 / 11 8 9 0 / 21 6 10 0 / 25 0 1 11 / 4 4 0 0 / \
+    12 5 0 0 / 0 7 0 2 / 1 6 0 2 / 2 6 0 4";
+
+/// Its log.
+const LOG: &str = "2 1 0 0 / 0 0 0 0 / 1 0 0 0 / 0 1 0 0";
+
+const ONE_MOVE: &str = "1 0 0 0 / 0 0 0 0";
+
+fn with_log(log: &str) -> Vec<u8> {
+    padded(&format!("{BOOK} / {log}"))
+}
+
+/// The shown book with one line changed, and the shown log.
+fn with_line(line: usize, new: &str) -> Vec<u8> {
+    let mut input = with_log(LOG);
+    input[line * LINE_BYTES..(line + 1) * LINE_BYTES].copy_from_slice(&padded(new));
+    input
+}
+
+/// A book of one agent, whose root is the last node, and one move; function lines leave out Reserve.
+fn one_rule(functions: &str, nodes: &str, contents: &str) -> Vec<u8> {
+    let count = |lines: &str| lines.split('/').filter(|line| !line.trim().is_empty()).count();
+    let (f, n, c) = (1 + count(functions), count(nodes), count(contents));
+    let head = format!("8 6 {f} {n} / 1 {c} 0 0 / 1 3 0 0");
+    padded(&format!("{head} / {functions} / {nodes} / {} 3 0 0 / {contents} / {ONE_MOVE}", n - 1))
+}
+
+/// f := a ∘ b of two elements; where f is to become undef it held number 0, so that the move is not idle.
+fn value(operator: u32, a: u32, b: u32, held: bool) -> Vec<u8> {
+    let nodes = format!("4 1 0 0 / 1 {a} 0 0 / 1 {b} 0 0 / {operator} 1 2 0 / 21 0 3 0");
+    one_rule("0 2 0 0", &nodes, if held { "1 0 0 3" } else { "" })
+}
+
+/// (a) to (l).
+pub fn marked() -> Vec<Case> {
+    let swap = "6 6 3 7 / 1 2 0 0 / 1 3 0 0 / 0 2 0 0 / 0 2 0 0 / 4 1 0 0 / 4 2 0 0 / 21 0 1 0 / 4 2 0 0 / 4 1 0 0 / \
+        21 3 4 0 / 22 2 5 0 / 6 3 0 0 / 1 0 0 3 / 2 0 0 4 / 1 0 0 0 / 0 0 0 0";
+    let release = "2 0 0 0 / 27 0 0 0 / 25 0 1 1";
+    vec![
+        Case::new("(a)", with_log(LOG), "0 0 0 4 / 1 6 0 2 / 1 7 0 2 / 2 6 0 5 / 2 7 0 4"),
+        Case::new("(b) k 0", with_log("2 0 0 0 / 0 0 0 0 / 1 0 0 0"), "17 0 1 0"),
+        Case::new("(c) m 0", with_log("0 0 0 0"), "0 0 0 3 / 0 7 0 2 / 1 6 0 2 / 2 6 0 4"),
+        Case::new("(d) agent 0 twice", with_log("2 1 0 0 / 0 0 0 0 / 0 0 0 0 / 0 1 0 0"), "13 1 4 0"),
+        Case::new(
+            "(e) agent 1 three times",
+            with_log("3 2 0 0 / 1 0 0 0 / 1 0 0 0 / 1 0 0 0 / 0 1 0 0 / 1 2 0 0"),
+            "16 2 0 0",
+        ),
+        Case::new("(f) 1 plus 1", value(11, 4, 4, false), "0 0 0 1 / 1 0 0 5"),
+        Case::new("(g) 2 plus 1", value(11, 5, 4, true), "0 0 0 0"),
+        Case::new("(h) 0 minus 1", value(12, 3, 4, true), "0 0 0 0"),
+        Case::new("(i) undef equal undef", value(7, 0, 0, false), "0 0 0 1 / 1 0 0 2"),
+        Case::new("(j) false and undef", value(9, 1, 0, true), "0 0 0 0"),
+        Case::new("(k) a swap", padded(swap), "0 0 0 2 / 1 0 0 4 / 2 0 0 3"),
+        Case::new(
+            "(l) release 6",
+            one_rule("1 3 0 0 / 1 2 0 0", release, "0 7 0 2 / 1 6 0 2 / 2 6 0 4"),
+            "0 0 0 2 / 0 6 0 2 / 0 7 0 2",
+        ),
+    ]
+}
+
+/// A counter and so many moves that add one to it, each after the one before.
+fn counted(moves: usize) -> Vec<u8> {
+    let mut input = padded(
+        "80 80 2 5 / 1 1 0 0 / 1 3 0 0 / 0 2 0 0 / 4 1 0 0 / 4 1 0 0 / 1 4 0 0 / 11 1 2 0 / 21 0 3 0 / 4 3 0 0 / 1 0 0 3",
+    );
+    input.extend(padded(&format!("{moves} {} 0 0", moves - 1)));
+    (0..moves).for_each(|_| input.extend(padded("0 0 0 0")));
+    (1..moves).for_each(|later| input.extend(padded(&format!("{} {later} 0 0", later - 1))));
+    input
+}
+
+/// For all x of so many members: f(x) := number 0.
+fn members(count: usize) -> Vec<u8> {
+    let nodes = "2 0 0 0 / 5 2 0 0 / 1 3 0 0 / 21 1 2 0 / 25 0 1 3";
+    let mut input =
+        padded(&format!("300 300 3 5 / 1 {count} 0 0 / 1 3 0 0 / 1 1 0 0 / 1 2 0 0 / {nodes} / 4 3 0 0"));
+    (0..count).for_each(|member| input.extend(padded(&format!("1 {member} 0 2"))));
+    input.extend(padded(ONE_MOVE));
+    input
+}
+
+/// What is printed when 256 members were set.
+fn all_set() -> String {
+    let universe = (0..256).map(|member| format!("1 {member} 0 2"));
+    let set = (0..256).map(|member| format!("2 {member} 0 3"));
+    let lines: Vec<String> = universe.chain(set).collect();
+    format!("0 0 0 512 / {}", lines.join(" / "))
+}
+
+/// The limits of moves, instructions and bytes.
+pub fn limits() -> Vec<Case> {
+    let blanks = |count: usize| vec![b' '; count];
+    vec![
+        Case::new("64 moves", counted(64), "0 0 0 1 / 1 0 0 67"),
+        Case::new("65 moves", counted(65), "9 0 0 0"),
+        Case::new("256 instructions", members(256), &all_set()),
+        Case::new("257 instructions", members(257), "14 0 3 0"),
+        Case::new("no byte", Vec::new(), "1 0 0 0"),
+        Case::new("60,000 bytes", blanks(60_000), "1 0 0 0"),
+        Case::new("60,001 bytes", blanks(60_001), "2 60000 4 0"),
+        Case::new("a million bytes", blanks(1_000_000), "2 60000 4 0"),
+        Case::new("60,001 bytes that start well", [with_log(LOG), blanks(59_326)].concat(), "2 60000 4 0"),
+    ]
+}
+
+/// One input for each row of the table of refusals, with the row's own example as far as `rental` can show it.
+pub fn refusals() -> Vec<Case> {
+    let mut leading_zero = with_log(LOG);
+    leading_zero[6..12].copy_from_slice(b"    07");
+    let two_values = "4 1 0 0 / 1 3 0 0 / 21 0 1 0 / 4 1 0 0 / 1 4 0 0 / 21 3 4 0 / 22 2 5 0";
+    let to_a_number = "2 0 0 0 / 5 1 0 0 / 1 3 0 0 / 21 1 2 0 / 25 0 1 3";
+    vec![
+        Case::new("1: field 07", leading_zero, "1 0 0 0"),
+        Case::new(
+            "2: tables of 2,048 records, L 2,050",
+            padded("1025 6 2 1 / 1 0 0 0 / 1 3 0 0 / 1 2 0 0 / 20 0 0 0 / 0 3 0 0 / 0 0 0 0"),
+            "2 2050 0 0",
+        ),
+        Case::new("3: E 10001", with_line(0, "10001 6 3 13"), "3 0 0 0"),
+        Case::new("4: arity 3", with_line(3, "3 3 0 0"), "4 1 0 0"),
+        Case::new("5: kind 14", with_line(5, "14 0 0 0"), "5 0 0 0"),
+        Case::new("6: a variable alone", one_rule("", "2 0 0 0", ""), "6 0 0 0"),
+        Case::new("7: element 6, P being 6", with_line(19, "12 6 0 0"), "7 1 0 0"),
+        Case::new("8: a label as static value", one_rule("1 0 0 0", "20 0 0 0", "1 3 0 6"), "8 6 0 0"),
+        Case::new("9: pair 1 1", with_log("2 1 0 0 / 0 0 0 0 / 1 0 0 0 / 1 1 0 0"), "9 3 0 0"),
+        Case::new("10: agents 0, 0, k 0", with_log("2 0 0 0 / 0 0 0 0 / 0 0 0 0"), "10 0 1 0"),
+        Case::new("11: Pair(6) := number 0", one_rule("1 3 0 0", to_a_number, "1 6 0 2"), "11 0 3 0"),
+        Case::new("12: release undef", one_rule("", "1 0 0 0 / 27 0 0 0", ""), "12 0 1 0"),
+        Case::new("13: second import", with_log("2 1 0 0 / 0 0 0 0 / 0 0 0 0 / 0 1 0 0"), "13 1 4 0"),
+        Case::new("14: forall over 257", members(257), "14 0 3 0"),
+        Case::new("15: set 3 and 4", one_rule("0 2 0 0", two_values, ""), "15 0 8 0"),
+        Case::new(
+            "16: set to its own value",
+            one_rule("0 2 0 0", "4 1 0 0 / 4 1 0 0 / 21 0 1 0", "1 0 0 4"),
+            "16 0 0 0",
+        ),
+        Case::new("17: k 0", with_log("2 0 0 0 / 0 0 0 0 / 1 0 0 0"), "17 0 1 0"),
+    ]
+}

@@ -1,0 +1,257 @@
+// Every input of some small kinds, by number: a book and a log each.
+
+use crate::draft::{text_of, Draft, RESERVE};
+use crate::logs::DraftLog;
+use paper::{padded, Line};
+
+/// A book and a log; `rental` reads one after the other.
+#[derive(Debug, Clone, PartialEq, Eq)]
+pub struct Small {
+    pub book: Vec<u8>,
+    pub log: Vec<u8>,
+}
+
+/// A kind of small inputs: how many there are, and each by its number.
+struct Kind {
+    count: fn() -> u64,
+    nth: fn(u64) -> Small,
+}
+
+const KINDS: [Kind; 7] = [
+    Kind { count: terms, nth: term },
+    Kind { count: logs, nth: log },
+    Kind { count: headers, nth: header },
+    Kind { count: bytes, nth: byte },
+    Kind { count: cuts, nth: cut },
+    Kind { count: roots, nth: root },
+    Kind { count: pairs_of_nodes, nth: two_nodes },
+];
+
+/// How many small inputs there are.
+pub fn small_inputs() -> u64 {
+    KINDS.iter().map(|kind| (kind.count)()).sum()
+}
+
+/// The small input with this number, which is below their count.
+pub fn small_input(number: u64) -> Small {
+    let mut left = number;
+    for kind in &KINDS {
+        let count = (kind.count)();
+        if left < count {
+            return (kind.nth)(left);
+        }
+        left -= count;
+    }
+    panic!("there are only {} small inputs", small_inputs())
+}
+
+/// The next digit of a number to this base; the number keeps the rest.
+fn digit(number: &mut u64, base: u64) -> u32 {
+    let digit = *number % base;
+    *number /= base;
+    digit as u32
+}
+
+fn one_move() -> Vec<u8> {
+    padded("1 0 0 0 / 0 0 0 0")
+}
+
+/// The book shown in the paper, and its log.
+fn shown() -> Small {
+    let book = "8 6 3 13 / 2 3 0 0 / 1 3 0 0 / 1 3 0 0 / 1 2 0 0 / 2 0 0 0 / 5 2 0 0 / 1 3 0 0 / 21 1 2 0 / \
+        26 0 1 3 / 2 0 0 0 / 5 2 5 0 / 2 0 0 0 / 5 2 7 0 / 1 4 0 0 / 11 8 9 0 / 21 6 10 0 / 25 0 1 11 / \
+        4 4 0 0 / 12 5 0 0 / 0 7 0 2 / 1 6 0 2 / 2 6 0 4";
+    Small { book: padded(book), log: padded("2 1 0 0 / 0 0 0 0 / 1 0 0 0 / 0 1 0 0") }
+}
+
+// ---- terms: f := a ∘ b for every operator and every two elements, f a function or a relation
+
+const OPERATORS: u64 = 7;
+const OPERANDS: u64 = 8;
+
+fn terms() -> u64 {
+    2 * OPERATORS * OPERANDS * OPERANDS
+}
+
+fn term(mut number: u64) -> Small {
+    let kind = 2 + digit(&mut number, 2);
+    let operator = 7 + digit(&mut number, OPERATORS);
+    let operands = [digit(&mut number, OPERANDS), digit(&mut number, OPERANDS)];
+    let second = if operator == 8 { 0 } else { 2 };
+    // Both operands are read from constants, so that they may be labels too.
+    let mut nodes: Vec<Line> = vec![[4, 1, 0, 0], [4, 2, 0, 0], [4, 3, 0, 0], [operator, 1, second, 0]];
+    if operator == 8 {
+        nodes = vec![[4, 1, 0, 0], [4, 2, 0, 0], [operator, 1, 0, 0]];
+    }
+    let value = nodes.len() as u32 - 1;
+    nodes.push([21, 0, value, 0]);
+    let held = |function: u32, value: u32| (value != 0).then_some([function, 0, 0, value]);
+    let contents = [held(2, operands[0]), held(3, operands[1])].into_iter().flatten().collect();
+    let book = Draft {
+        elements: 8,
+        permanent: 6,
+        functions: vec![RESERVE, [0, kind, 0, 0], [0, 2, 0, 0], [0, 2, 0, 0]],
+        agents: vec![[nodes.len() as u32 - 1, 3, 0, 0]],
+        nodes,
+        contents,
+    };
+    Small { book: book.text(), log: one_move() }
+}
+
+// ---- logs: up to four moves of three desks, with every set of pairs
+
+const DESKS: u64 = 3;
+const MOST_MOVES: u64 = 4;
+
+/// How many logs of m moves there are.
+fn logs_of(m: u64) -> u64 {
+    DESKS.pow(m as u32) * (1 << (m * m.saturating_sub(1) / 2))
+}
+
+fn logs() -> u64 {
+    2 * (0..=MOST_MOVES).map(logs_of).sum::<u64>()
+}
+
+/// Desks 0 and 1 toggle a flag each; desk 2 copies the flag of desk 0 to its own.
+fn desks() -> Vec<u8> {
+    padded(
+        "4 4 4 11 / 3 0 0 0 / 1 3 0 0 / 0 3 0 0 / 0 3 0 0 / 0 2 0 0 / 4 1 0 0 / 4 1 0 0 / 8 1 0 0 / 21 0 2 0 / \
+         4 2 0 0 / 4 2 0 0 / 8 5 0 0 / 21 4 6 0 / 4 3 0 0 / 4 1 0 0 / 21 8 9 0 / 3 0 0 0 / 7 1 0 0 / 10 2 0 0",
+    )
+}
+
+fn log(mut number: u64) -> Small {
+    let paper_book = digit(&mut number, 2) == 1;
+    let mut m = 0;
+    while number >= logs_of(m) {
+        number -= logs_of(m);
+        m += 1;
+    }
+    let agents = (0..m).map(|_| digit(&mut number, DESKS)).collect();
+    let all = (1..m as u32).flat_map(|later| (0..later).map(move |earlier| (earlier, later)));
+    let pairs = all.filter(|_| digit(&mut number, 2) == 1).collect();
+    let book = if paper_book { shown().book } else { desks() };
+    Small { book, log: DraftLog { agents, pairs }.text() }
+}
+
+// ---- headers: every field of both header lines and of the log's at its bounds
+
+const AT_BOUNDS: [u32; 24] = [
+    0, 1, 2, 3, 4, 5, 6, 7, 8, 9, 13, 14, 16, 17, 32, 33, 64, 65, 1_024, 1_025, 10_000, 10_001, 65_537,
+    999_999,
+];
+
+fn headers() -> u64 {
+    12 * AT_BOUNDS.len() as u64
+}
+
+fn header(mut number: u64) -> Small {
+    let field = digit(&mut number, 12) as usize;
+    let Small { mut book, mut log } = shown();
+    let (text, at) =
+        if field < 8 { (&mut book, field / 4 * 25 + field % 4 * 6) } else { (&mut log, field % 4 * 6) };
+    let value = format!("{:6}", AT_BOUNDS[number as usize]);
+    text[at..at + 6].copy_from_slice(value.as_bytes());
+    Small { book, log }
+}
+
+// ---- bytes: each byte of the shown input changed to some others
+
+const OTHERS: &[u8; 16] = b" \n0123456789-a\0\xff";
+
+fn bytes() -> u64 {
+    let Small { book, log } = shown();
+    OTHERS.len() as u64 * (book.len() + log.len()) as u64
+}
+
+fn byte(mut number: u64) -> Small {
+    let other = OTHERS[digit(&mut number, OTHERS.len() as u64) as usize];
+    let mut small = shown();
+    let at = number as usize;
+    let split = small.book.len();
+    *(if at < split { &mut small.book[at] } else { &mut small.log[at - split] }) = other;
+    small
+}
+
+// ---- cuts: the shown input cut at each length, and without each of its bytes
+
+fn cuts() -> u64 {
+    let Small { book, log } = shown();
+    2 * (book.len() + log.len()) as u64
+}
+
+fn cut(mut number: u64) -> Small {
+    let to_the_end = digit(&mut number, 2) == 1;
+    let Small { book, log } = shown();
+    let at = number as usize;
+    let without = |text: &[u8], at: usize| {
+        let rest = if to_the_end { &[] } else { &text[at + 1..] };
+        [&text[..at], rest].concat()
+    };
+    if at >= book.len() {
+        let log = without(&log, at - book.len());
+        return Small { book, log };
+    }
+    let book = without(&book, at);
+    Small { book, log: if to_the_end { Vec::new() } else { log } }
+}
+
+// ---- roots: every line of kind 0 to 28 with fields to 6 over a term, a location and two skips
+
+const KINDS_OF_NODES: u64 = 29;
+const FIELDS: u64 = 7;
+
+fn roots() -> u64 {
+    KINDS_OF_NODES * FIELDS.pow(3)
+}
+
+fn root(mut number: u64) -> Small {
+    let kind = digit(&mut number, KINDS_OF_NODES);
+    let root = [kind, digit(&mut number, FIELDS), digit(&mut number, FIELDS), digit(&mut number, FIELDS)];
+    let under: [Line; 4] = [[1, 3, 0, 0], [4, 3, 0, 0], [20, 0, 0, 0], [20, 0, 0, 0]];
+    let functions = [[1, 1, 0, 0], [1, 3, 0, 0], [0, 2, 0, 0], [2, 2, 0, 0], [0, 0, 0, 0]];
+    let book = Draft {
+        elements: 8,
+        permanent: 6,
+        functions: [&[RESERVE], &functions[..]].concat(),
+        nodes: used_by(root, &under),
+        agents: Vec::new(),
+        contents: vec![[0, 7, 0, 2], [1, 4, 0, 2], [2, 5, 0, 2]],
+    };
+    let last = book.nodes.len() as u32 - 1;
+    let book = Draft { agents: vec![[last, 3, 0, 0]], ..book };
+    Small { book: book.text(), log: one_move() }
+}
+
+/// The nodes that a root names among those given, renumbered, then the root; a number past them stays one past all.
+fn used_by(root: Line, under: &[Line]) -> Vec<Line> {
+    let fields: Vec<usize> = crate::draft::operand_fields(root[0]).iter().map(|&(field, _)| field).collect();
+    let mut nodes = Vec::new();
+    let mut renumbered = root;
+    for field in fields {
+        if let Some(&node) = under.get(root[field] as usize) {
+            renumbered[field] = nodes.len() as u32;
+            nodes.push(node);
+        } else {
+            renumbered[field] = under.len() as u32 + root[field];
+        }
+    }
+    nodes.push(renumbered);
+    nodes
+}
+
+// ---- two nodes: every two lines, the first with fields to 1 and the second, the root, with fields to 2
+
+fn pairs_of_nodes() -> u64 {
+    (KINDS_OF_NODES * 2u64.pow(3)) * (KINDS_OF_NODES * 3u64.pow(3))
+}
+
+fn two_nodes(mut number: u64) -> Small {
+    let mut node = |fields| {
+        let kind = digit(&mut number, KINDS_OF_NODES);
+        [kind, digit(&mut number, fields), digit(&mut number, fields), digit(&mut number, fields)]
+    };
+    let lines = [[5, 4, 3, 2], [1, 1, 0, 0], RESERVE, [1, 3, 0, 0], [0, 2, 0, 0], node(2), node(3)];
+    let book = text_of(&[&lines[..], &[[1, 3, 0, 0], [1, 3, 0, 2]]].concat());
+    Small { book, log: one_move() }
+}

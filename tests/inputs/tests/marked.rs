@@ -1,0 +1,57 @@
+// The cases of paper 01 print what the independent implementation prints, and the proved table of the definitions has the same ones.
+
+use inputs::marked::{limits, marked, refusals, Case};
+use paper::padded;
+use std::fs;
+
+#[test]
+fn printed_by_the_independent_implementation() {
+    let cases = [marked(), limits(), refusals()].concat();
+    assert_eq!(cases.len(), 12 + 9 + 17);
+    for case in cases {
+        assert_eq!(paper::report(&case.input), case.output, "{}", case.name);
+    }
+}
+
+#[test]
+fn one_for_each_refusal() {
+    for (number, case) in (1..).zip(refusals()) {
+        assert!(case.name.starts_with(&format!("{number}:")), "{}", case.name);
+        assert!(case.output.starts_with(format!("{number:6}").as_bytes()), "{}", case.name);
+    }
+}
+
+/// The quoted texts of a part of a definition, escapes resolved.
+fn quoted(part: &str) -> Vec<String> {
+    part.split('"').skip(1).step_by(2).map(|text| text.replace("\\n", "\n")).collect()
+}
+
+/// The inputs and outputs in the definitions' table, where both are printed text: (a) to (e), (k) and (l).
+fn defined() -> Vec<(Vec<u8>, Vec<u8>)> {
+    let path = concat!(env!("CARGO_MANIFEST_DIR"), "/../../crates/report/specs/Cases.antt");
+    let file = fs::read_to_string(path).expect("the definitions");
+    let lines: Vec<&str> = file.lines().filter(|line| !line.trim_start().starts_with("--")).collect();
+    let code = lines.join("\n");
+    let (head, table) = code.split_once("\ntable =").expect("a table");
+    let book = padded(quoted(head).first().expect("the book"));
+    let text = |text: &str| if text.contains('\n') { text.as_bytes().to_vec() } else { padded(text) };
+    let case = |part: &str| {
+        let before = if part.contains("book ++") { &book[..] } else { &[] };
+        let [input, output] = quoted(part).try_into().ok()?;
+        Some(([before, &text(&input)].concat(), text(&output)))
+    };
+    table.split("case").filter_map(case).collect()
+}
+
+#[test]
+fn proved_of_the_definitions() {
+    let letters = ["(a)", "(b)", "(c)", "(d)", "(e)", "(k)", "(l)"];
+    let defined = defined();
+    assert_eq!(defined.len(), letters.len());
+    let named =
+        |letter: &str| marked().into_iter().find(|case| case.name.starts_with(letter)).expect("a case");
+    for (letter, (input, output)) in letters.iter().zip(defined) {
+        let Case { input: ours, output: printed, .. } = named(letter);
+        assert_eq!((input, output), (ours, printed), "{letter}");
+    }
+}
