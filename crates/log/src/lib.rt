@@ -80,12 +80,14 @@ fn bad_pair(log: &[u8], m: u32, n: u32) -> Found
     requires { ⌜ m ≤ 64 ⌝ }
     ensures { λ r. ⌜ r ≡ least (bad-pair-at m (now (log .entry))) n ⌝ }
 {
+    let mut before = text::read_line(log, m, 0);
     let mut i: u32 = 0;
     while i < n {
-        let before = text::read_line(log, m, i);
-        if pair_fault(m, before, text::read_line(log, 1 + m, i), i) {
+        let pair = text::read_line(log, 1 + m, i);
+        if pair_fault(m, before, pair, i) {
             return Found::Here(i);
         }
+        before = pair;
         i += 1;
     }
     Found::Nowhere

@@ -1,14 +1,13 @@
 -- The words of an accepted book's image fit in sixteen bits, so the narrow image holds the same book. Assumes nothing.
 use mathlib.Core.Path.{_≡_, refl, sym, ap, _∙_}
 use mathlib.Core.Bool.{Bool, true, false, and-false}
-use mathlib.Core.List.{List, [], _∷_, _++_, map}
+use mathlib.Core.List.{List}
 use Prim.Native.Nat.{ℕ, zero, suc, _+_, _*_, _≤_, _<_}
-use native.Mathlib.Numerals.{add-one}
 use native.Mathlib.Omega.{arith}
 use lib.Dec.{eqb, ltb}
-use lib.ListN.{length, getD, set, take, length-map, List·getD-eq-default}
-use lib.Seq.{take-suc, take-suc-set, take-all}
-use borrow.Author.Tests.{ltb-true, ltb-false, lt-ltb, le-ltb, ne-eqb}
+use lib.ListN.{length, getD, set, List·getD-eq-default}
+use lib.Seq.{getD-set-same, getD-set-other}
+use borrow.Author.Tests.{eqb-true, eqb-false, ltb-true, ltb-false, lt-ltb, le-ltb, ne-eqb}
 use Rattle.text.specs.Words.{table}
 use Rattle.text.proofs.Words.{so-true, table-ext}
 use Rattle.book.specs.declared.Function.{Function}
@@ -21,34 +20,27 @@ use Rattle.book.specs.Image.{word, row-in, capped, function-of, book-in, Counts
 use Rattle.book.specs.Sound.{Lawful}
 use Rattle.book.proofs.Image.{functions-long, nodes-long, agents-long, functions-most, nodes-most, agents-most, function-inside, node-inside, agent-inside}
 use Rattle.book.proofs.Places.{spot}
-use Rattle.open.specs.Narrow.{narrowed}
+use Rattle.open.specs.Narrow.{narrowed, used, Narrowed}
 
 -- ---- a word that fits
 
 pub narrowed-same : (x : ℕ) → x < 65536 → narrowed x ≡ x
 narrowed-same x h = rw (lt-ltb x 65536 h)
 
-getD-narrowed : (m : List ℕ) (i : ℕ) → getD (map narrowed m) i 0 ≡ narrowed (getD m i 0)
-getD-narrowed [] i = refl
-getD-narrowed (x ∷ m) zero = refl
-getD-narrowed (x ∷ m) (suc i) = getD-narrowed m i
-
 -- ---- the loop
 
-module _ (image : List ℕ) where
-  pub narrow-step :
-      (out : List ℕ) (i : ℕ) → i < length image → i < length out → take i out ≡ take i (map narrowed image) →
-      take (i + 1) (set out i (narrowed (getD image i 0))) ≡ take (i + 1) (map narrowed image)
-  narrow-step out i h k e =
-      let l : i < length (map narrowed image) = rw (length-map image narrowed) h in
-      rw (add-one i) (take-suc-set out i (narrowed (getD image i 0)) k
-      ∙ ap (λ (s : List ℕ). s ++ (narrowed (getD image i 0) ∷ [])) e
-      ∙ ap (λ (x : ℕ). take i (map narrowed image) ++ (x ∷ [])) (sym (getD-narrowed image i))
-      ∙ sym (take-suc (map narrowed image) i 0 l))
+pub narrow-step :
+    (m o : List ℕ) (i : ℕ) → i < length o → Narrowed i m o → Narrowed (i + 1) m (set o i (narrowed (getD m i 0)))
+narrow-step m o i h e j k = go (eqb j i) refl
+  where
+    v : ℕ
+    v = narrowed (getD m i 0)
 
-  pub narrow-end :
-      (out : List ℕ) (i : ℕ) → length image ≤ i → length out ≤ i → take i out ≡ take i (map narrowed image) → out ≡ map narrowed image
-  narrow-end out i h k e = sym (take-all i out k) ∙ e ∙ take-all i (map narrowed image) (rw (length-map image narrowed) h)
+    go : (b : Bool) → eqb j i ≡ b → word (set o i v) j ≡ narrowed (word m j)
+    go true q = rw (eqb-true j i q) (getD-set-same o i v 0 h)
+    go false q =
+        let other = eqb-false j i q in
+        getD-set-other o i j v 0 other ∙ e j (omega (arith, k, other))
 
 -- ---- nodes
 
@@ -102,10 +94,10 @@ small-node B n p f k e =
 
 -- ---- the image of a lawful book
 
-module _ (m : List ℕ) (B : Book) (ok : Lawful B) (kinds : (f : ℕ) → function-at B f .kind ≤ 3) (counts : Counts m B)
-    (held : book-in m (B .entries) ≡ B) where
-  word-small : (i : ℕ) → word m i < 65536 → word (map narrowed m) i ≡ word m i
-  word-small i h = getD-narrowed m i ∙ narrowed-same (word m i) h
+module _ (m o : List ℕ) (B : Book) (ok : Lawful B) (kinds : (f : ℕ) → function-at B f .kind ≤ 3) (counts : Counts m B)
+    (held : book-in m (B .entries) ≡ B) (narrow : Narrowed (used m) m o) where
+  word-small : (i : ℕ) → i < used m → word m i < 65536 → word o i ≡ word m i
+  word-small i k h = narrow i k ∙ narrowed-same (word m i) h
 
   few-functions : length (B .functions) ≤ 32
   few-functions = omega (arith, ap (λ (X : Book). length (X .functions)) held, functions-most m (B .entries))
@@ -123,7 +115,7 @@ module _ (m : List ℕ) (B : Book) (ok : Lawful B) (kinds : (f : ℕ) → functi
   few-permanent : B .P ≤ 10000
   few-permanent = omega (arith, ok .high, ok .elements)
 
-  function-same : (f : ℕ) → f < capped (word m 2) 32 → function-of (row-in (map narrowed m) (2 + f)) ≡ function-of (row-in m (2 + f))
+  function-same : (f : ℕ) → f < capped (word m 2) 32 → function-of (row-in o (2 + f)) ≡ function-of (row-in m (2 + f))
   function-same f h =
       let q : function-of (row-in m (2 + f)) ≡ function-at B f =
       sym (function-inside m (B .entries) f h) ∙ ap (λ (X : Book). function-at X f) held in
@@ -131,12 +123,12 @@ module _ (m : List ℕ) (B : Book) (ok : Lawful B) (kinds : (f : ℕ) → functi
       omega (arith, ap (λ (X : Book). length (X .functions)) held, functions-long m (B .entries)) in
       let s = spot B ok f 0 0 k (omega (arith, ok .low, ok .high)) (omega (arith, ok .low, ok .high)) .inside in
       rw (
-        word-small ((2 + f) * 4) (omega (arith, ap (λ (x : Function). x .first) q, s, ok .locations)),
-        word-small ((2 + f) * 4 + 1) (omega (arith, ap (λ (x : Function). x .arity) q, ok .arities f)),
-        word-small ((2 + f) * 4 + 2) (omega (arith, ap (λ (x : Function). x .kind) q, kinds f)),
+        word-small ((2 + f) * 4) (omega (arith, k, few-functions)) (omega (arith, ap (λ (x : Function). x .first) q, s, ok .locations)),
+        word-small ((2 + f) * 4 + 1) (omega (arith, k, few-functions)) (omega (arith, ap (λ (x : Function). x .arity) q, ok .arities f)),
+        word-small ((2 + f) * 4 + 2) (omega (arith, k, few-functions)) (omega (arith, ap (λ (x : Function). x .kind) q, kinds f)),
       )
 
-  node-same : (n : ℕ) → n < capped (word m 3) 1024 → node-of (row-in (map narrowed m) (50 + n)) ≡ node-of (row-in m (50 + n))
+  node-same : (n : ℕ) → n < capped (word m 3) 1024 → node-of (row-in o (50 + n)) ≡ node-of (row-in m (50 + n))
   node-same n h =
       let q : node-of (row-in m (50 + n)) ≡ node-at B n =
       sym (node-inside m (B .entries) n h) ∙ ap (λ (X : Book). node-at X n) held in
@@ -144,33 +136,33 @@ module _ (m : List ℕ) (B : Book) (ok : Lawful B) (kinds : (f : ℕ) → functi
       omega (arith, ap (λ (X : Book). length (X .nodes)) held, nodes-long m (B .entries)) in
       let s = small-node B n few-permanent few-functions (omega (arith, few-nodes)) (ok .nodes n k) in
       rw (
-        word-small ((50 + n) * 4) (omega (arith, ap (λ (x : Node). x .kind) q, s .kind)),
-        word-small ((50 + n) * 4 + 1) (omega (arith, ap (λ (x : Node). x .a) q, s .a)),
-        word-small ((50 + n) * 4 + 2) (omega (arith, ap (λ (x : Node). x .b) q, s .b)),
-        word-small ((50 + n) * 4 + 3) (omega (arith, ap (λ (x : Node). x .c) q, s .c)),
+        word-small ((50 + n) * 4) (omega (arith, h)) (omega (arith, ap (λ (x : Node). x .kind) q, s .kind)),
+        word-small ((50 + n) * 4 + 1) (omega (arith, h)) (omega (arith, ap (λ (x : Node). x .a) q, s .a)),
+        word-small ((50 + n) * 4 + 2) (omega (arith, h)) (omega (arith, ap (λ (x : Node). x .b) q, s .b)),
+        word-small ((50 + n) * 4 + 3) (omega (arith, h)) (omega (arith, ap (λ (x : Node). x .c) q, s .c)),
       )
 
-  agent-same : (i : ℕ) → i < capped (word m 4) 16 → agent-of (row-in (map narrowed m) (34 + i)) ≡ agent-of (row-in m (34 + i))
+  agent-same : (i : ℕ) → i < capped (word m 4) 16 → agent-of (row-in o (34 + i)) ≡ agent-of (row-in m (34 + i))
   agent-same i h =
       let q : agent-of (row-in m (34 + i)) ≡ agent-at B i =
       sym (agent-inside m (B .entries) i h) ∙ ap (λ (X : Book). agent-at X i) held in
       let k : i < length (B .agents) =
       omega (arith, ap (λ (X : Book). length (X .agents)) held, agents-long m (B .entries)) in
       rw (
-        word-small ((34 + i) * 4) (omega (arith, ap (λ (x : Agent). x .root) q, ok .roots i k .0, few-nodes)),
-        word-small ((34 + i) * 4 + 1) (omega (arith, ap (λ (x : Agent). x .element) q, ok .agents i, few-permanent)),
+        word-small ((34 + i) * 4) (omega (arith, k, few-agents)) (omega (arith, ap (λ (x : Agent). x .root) q, ok .roots i k .0, few-nodes)),
+        word-small ((34 + i) * 4 + 1) (omega (arith, k, few-agents)) (omega (arith, ap (λ (x : Agent). x .element) q, ok .agents i, few-permanent)),
       )
 
-  pub narrow-holds : book-in (map narrowed m) (B .entries) ≡ B
+  pub narrow-holds : book-in o (B .entries) ≡ B
   unfolding book-in
   narrow-holds =
       rw (
-        word-small 0 (omega (arith, counts .elements, ok .elements)),
-        word-small 1 (omega (arith, permanent-is, few-permanent)),
-        word-small 2 (omega (arith, counts .functions, few-functions)),
-        word-small 3 (omega (arith, counts .nodes, few-nodes)),
-        word-small 4 (omega (arith, counts .agents, few-agents)),
-        table-ext (λ f. function-of (row-in (map narrowed m) (2 + f))) (λ f. function-of (row-in m (2 + f))) (capped (word m 2) 32) function-same,
-        table-ext (λ n. node-of (row-in (map narrowed m) (50 + n))) (λ n. node-of (row-in m (50 + n))) (capped (word m 3) 1024) node-same,
-        table-ext (λ i. agent-of (row-in (map narrowed m) (34 + i))) (λ i. agent-of (row-in m (34 + i))) (capped (word m 4) 16) agent-same,
+        word-small 0 (omega arith) (omega (arith, counts .elements, ok .elements)),
+        word-small 1 (omega arith) (omega (arith, permanent-is, few-permanent)),
+        word-small 2 (omega arith) (omega (arith, counts .functions, few-functions)),
+        word-small 3 (omega arith) (omega (arith, counts .nodes, few-nodes)),
+        word-small 4 (omega arith) (omega (arith, counts .agents, few-agents)),
+        table-ext (λ f. function-of (row-in o (2 + f))) (λ f. function-of (row-in m (2 + f))) (capped (word m 2) 32) function-same,
+        table-ext (λ n. node-of (row-in o (50 + n))) (λ n. node-of (row-in m (50 + n))) (capped (word m 3) 1024) node-same,
+        table-ext (λ i. agent-of (row-in o (34 + i))) (λ i. agent-of (row-in m (34 + i))) (capped (word m 4) 16) agent-same,
       ) held

@@ -135,6 +135,13 @@ sofar-end r w t u left n e z s = record {
         let none : left ≡ 0 = ones-none left (sym e ∙ z) in
         rw (none, bit-empty j, bit-or r w j, others-bit r w j i) (touch-bool (bit r i) (bit w i) (bit r j) (bit w j))
 
+-- where nothing is written nothing touches
+pub met-unwritten : (r w : ℕ) (t : List ℕ) → w ≡ 0 → Met r w t t
+met-unwritten r w t z = record {
+  long = refl;
+  bits = λ j i. sym (rw (z, bit-empty i, bit-empty j) (or-false (bit (getD t j 0) i)));
+}
+
 -- ---- all locations
 
 module _ (rs ws : List ℕ) where

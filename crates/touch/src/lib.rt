@@ -41,6 +41,16 @@ fn meet(readers: u64, writers: u64, met: &mut [u64; 64])
     }
 }
 
+// The same, passing over a location that no move writes: nothing touches there.
+fn meet_written(readers: u64, writers: u64, met: &mut [u64; 64])
+    requires { ⌜ length (now met) ≡ 64 ⌝ }
+    ensures { λ _. ⌜ Met readers writers (now (met .entry)) (now (met .exit)) ⌝ }
+{
+    if writers != 0 {
+        meet(readers, writers, met);
+    }
+}
+
 // For each move those that touch it at one of the first n locations.
 fn met_of(readers: &[u64], writers: &[u64], n: usize) -> [u64; 64]
     requires { ⌜ (n ≤ length (now readers)) × (n ≤ length (now writers)) ⌝ }
@@ -49,7 +59,7 @@ fn met_of(readers: &[u64], writers: &[u64], n: usize) -> [u64; 64]
     let mut met: [u64; 64] = [0; 64];
     let mut l: usize = 0;
     while l < n {
-        meet(readers[l], writers[l], &mut met);
+        meet_written(readers[l], writers[l], &mut met);
         l += 1;
     }
     met

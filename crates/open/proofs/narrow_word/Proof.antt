@@ -1,9 +1,8 @@
+-- `narrow_word` meets its contract.
 use borrow.Author.Tests.{lt-ltb, le-ltb}
 use borrow.Author.Needs.{needs}
 use Rattle.open.proofs.narrow_word.Statement.{statement}
 use Rattle.open.proofs.narrow_word.Tie as tie
-use Rattle.open.proofs.narrow_word.Reads as reads
-use Rattle.open.proofs.narrow_word.Lts as lts
 
 -- src/lib.rt:15:20
 cast-result : tie.Need-cast-result

@@ -1,28 +1,24 @@
+-- `open` meets its contract.
 use Rattle.book.proofs.Accepted.{accepted, accepted-kinds}
 use Rattle.open.proofs.Fits.{narrow-holds}
 use borrow.Author.Needs.{needs}
 use Rattle.open.proofs.open.Statement.{statement}
 use Rattle.open.proofs.open.Tie as tie
-use Rattle.open.proofs.open.Reads as reads
-use Rattle.open.proofs.open.Lts as lts
 use Rattle.book_check.proofs.check_into.Reads as check-into-reads
 use Rattle.open.proofs.narrow.Reads as narrow-reads
 
--- src/lib.rt:35:9
 check-into-requires : tie.Need-check-into-requires
 check-into-requires c κs = search needs
 
--- src/lib.rt:36:5
 narrow-requires : tie.Need-narrow-requires
 narrow-requires c κs = search needs
 
--- src/lib.rt:30:1
 returns : tie.Need-returns
 returns c =
     let t = c .before .before .before .before .before .before .args .book .now in
     let k = c .before .before .before .check-into .ensures in (
       k .0,
-      λ B e. rw (c .narrow .ensures) (narrow-holds _ B (accepted t B e) (accepted-kinds t B e) (k .1 B e .2) (k .1 B e .0)),
+      λ B e. narrow-holds _ _ B (accepted t B e) (accepted-kinds t B e) (k .1 B e .2) (k .1 B e .0) (c .narrow .ensures),
     )
 
 pub open-spec : {M : Type 1} → statement M
