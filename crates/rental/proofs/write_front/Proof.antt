@@ -7,13 +7,13 @@ use Rattle.rental.proofs.write_front.Statement.{statement}
 use Rattle.rental.proofs.write_front.Tie as tie
 use Rattle.rental.proofs.write_front.Reads as reads
 use Rattle.rental.proofs.write_front.Lts as lts
-use Rattle.io.proofs.write_all.Reads as write-all-reads
+use Rattle.rental.proofs.write_out.Reads as write-out-reads
 
-slice-aggregate-write-all : tie.Need-slice-aggregate-write-all
-slice-aggregate-write-all c = let a = c .before .before .before .args in sym (length-take-le (a .n) (a .bytes .now) (omega arith))
+slice-aggregate-write-out : tie.Need-slice-aggregate-write-out
+slice-aggregate-write-out c = let a = c .before .before .before .args in sym (length-take-le (a .n) (a .bytes .now) (omega arith))
 
-write-all-requires : tie.Need-write-all-requires
-write-all-requires c κs = search needs
+write-out-requires : tie.Need-write-out-requires
+write-out-requires c κs = search needs
 
 returns : tie.Need-returns
 returns c = search needs
@@ -23,4 +23,4 @@ returns-2 c = search needs
 
 pub write-front-spec : {M : Type 1} → statement M
 write-front-spec =
-    tie.close (tie.spec slice-aggregate-write-all write-all-requires returns returns-2)
+    tie.close (tie.spec slice-aggregate-write-out write-out-requires returns returns-2)

@@ -34,7 +34,7 @@ impl Trial {
 
     /// The program prints this for the input, says nothing else, and ends with status 0.
     fn prints(&mut self, name: &str, input: &[u8], output: &[u8]) {
-        let holds = fed(&self.program, input, input.len()).is_ok_and(|end| said(&end, output));
+        let holds = fed(&self.program, input, input.len()).is_ok_and(|end| said(&end, output, ""));
         self.count(name, holds);
     }
 
@@ -51,7 +51,7 @@ impl Trial {
             let first = |end: &Output| {
                 String::from_utf8_lossy(&end.stdout).lines().next().map(|line| numbers(line) == case.answer)
             };
-            let holds = end.is_ok_and(|end| said(&end, &output) && first(&end) == Some(true));
+            let holds = end.is_ok_and(|end| said(&end, &output, "") && first(&end) == Some(true));
             self.count(&format!("{name}: {}", case.text), holds);
         }
         self.count(&format!("{name}: its inputs"), !shown.is_empty());
@@ -82,7 +82,7 @@ impl Trial {
     fn pieces(&mut self) {
         let case = &marked()[0];
         for piece in [1, 7, 25, 4_096] {
-            let holds = fed(&self.program, &case.input, piece).is_ok_and(|end| said(&end, &case.output));
+            let holds = fed(&self.program, &case.input, piece).is_ok_and(|end| said(&end, &case.output, ""));
             self.count(&format!("(a) in pieces of {piece}"), holds);
         }
     }
@@ -90,16 +90,17 @@ impl Trial {
     /// What the program does when a shell gives it such streams.
     fn streams(&mut self) {
         let nothing = paper::padded("1 0 0 0");
-        for (name, redirected, output) in [
-            ("no input", "<&-", &nothing[..]),
-            ("a folder as input", "</", &nothing),
-            ("nothing as input", "</dev/null", &nothing),
-            ("no output", "</dev/null >&-", b""),
-            ("a full device", "</dev/null >/dev/full", b""),
+        let (unread, unwritten) = ("rental: the input cannot be read\n", "rental: the output cannot be written\n");
+        for (name, redirected, output, message) in [
+            ("no input", "<&-", &b""[..], unread),
+            ("a folder as input", "</", b"", unread),
+            ("nothing as input", "</dev/null", &nothing, ""),
+            ("no output", "</dev/null >&-", b"", unwritten),
+            ("a full device", "</dev/null >/dev/full", b"", unwritten),
         ] {
             let script = format!("exec \"$0\" {redirected}");
             let end = Command::new("sh").arg("-c").arg(script).arg(&self.program).output();
-            self.count(name, end.is_ok_and(|end| said(&end, output)));
+            self.count(name, end.is_ok_and(|end| said(&end, output, message)));
         }
         let gone = reader_gone(&self.program, &marked()[0].input);
         self.count("a reader that is gone", gone.is_ok_and(|end| end));
@@ -129,9 +130,9 @@ fn fed(program: &Path, input: &[u8], piece: usize) -> io::Result<Output> {
     child.wait_with_output()
 }
 
-/// It ended with status 0, printed this and had no message.
-fn said(end: &Output, output: &[u8]) -> bool {
-    end.status.code() == Some(0) && end.stdout == output && end.stderr.is_empty()
+/// It ended with status 0 and printed this, with this message.
+fn said(end: &Output, output: &[u8], message: &str) -> bool {
+    end.status.code() == Some(0) && end.stdout == output && end.stderr == message.as_bytes()
 }
 
 /// With no reader of its output the program ends, by itself or as programs do that write to nobody.
