@@ -74,3 +74,11 @@ one-read zero c (y ∷ ys) (z ∷ zs) hy hz e s = ap (λ (k : Instruction). k �
 one-read (suc i) c (y ∷ ys) (z ∷ zs) hy hz e s =
     ap (λ (k : Instruction). k ∷ items (set zs i c) (suc i)) (ap head-of s)
     ∙ ap (λ (ks : List Instruction). y .what ∷ ks) (one-read i c ys zs (le-of-suc-le-suc hy) (le-of-suc-le-suc hz) e (ap tail-of s))
+
+-- what was written is read back
+pub read-back : (n : ℕ) (xs : List ℕ) (ys : List Record) → n ≤ length xs → n ≤ length ys → map what-of (take n (written (items xs n) ys)) ≡ items xs n
+unfolding written
+read-back zero xs ys hx hy = refl
+read-back (suc n) [] ys hx hy = absurd (not-suc-le-zero hx)
+read-back (suc n) (x ∷ xs) [] hx hy = absurd (not-suc-le-zero hy)
+read-back (suc n) (x ∷ xs) (y ∷ ys) hx hy = ap (λ (ks : List Instruction). decode-of x ∷ ks) (read-back n xs ys (le-of-suc-le-suc hx) (le-of-suc-le-suc hy))

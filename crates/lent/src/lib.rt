@@ -61,3 +61,11 @@ pub fn load(list: &[Record], to: &mut [u64], n: usize)
         i = i + 1;
     }
 }
+
+// The first n numbers go through the list: they are filled in, and scanned again.
+pub fn pass(list: &mut [Record], work: &mut [u64], n: usize)
+    ensures { λ _. ⌜ (now (list .exit) ≡ written (items (now (work .entry)) n) (now (list .entry))) × (n ≤ length (now (list .entry)) → n ≤ length (now (work .entry)) → items (now (work .exit)) n ≡ items (now (work .entry)) n) ⌝ }
+{
+    fill(list, work, n);
+    load(list, work, n);
+}
