@@ -1,9 +1,9 @@
 -- A move's effect from what its walk gathered and how it was settled. Assumes nothing.
 use mathlib.Core.Path.{_≡_, refl, sym, ap, _∙_}
-use mathlib.Core.List.{List, [], _∷_, _++_, map}
+use mathlib.Core.List.{List, _++_}
 use Prim.Native.Nat.{ℕ}
 use native.Mathlib.Omega.{arith}
-use lib.ListN.{take, replicate, length-replicate}
+use lib.ListN.{replicate, length-replicate}
 use Rattle.text.specs.Words.{has}
 use Rattle.text.specs.Refusals.{clash, idle-move}
 use Rattle.book.specs.Book.{Book}
@@ -11,9 +11,9 @@ use Rattle.engine.specs.declared.Instruction.{Instruction}
 use Rattle.engine.specs.Rule.{Walk, Walked, going, met}
 use Rattle.engine.specs.Move.{Moved, fires, stopped, released, if-releasing, Input, walked, looked, fired-of, judged, settle, move}
 use Rattle.engine.specs.Move as moved
+use Rattle.records.specs.Code.{items}
 use Rattle.firing.specs.declared.Outcome.{Outcome}
 use Rattle.firing.specs.declared.Outcome.the-variants.{Fired, Clash, Idle}
-use Rattle.firing.specs.Code as firing
 use Rattle.firing.specs.Outcome.{Ready, Settled, moved-by, contents-after, marks-after}
 use Rattle.firing.proofs.Ready.{walk-ready}
 use Rattle.term.specs.Marks.{marked}
@@ -31,12 +31,6 @@ use Rattle.moves.proofs.Marks.{placed, marked-joined}
 -- an empty list of the code has room
 pub room : walk.Room (replicate {A = ℕ} 256 0)
 room = omega (arith, length-replicate {A = ℕ} 256 0)
-
--- walk and firing read the list alike
-pub same-items : (list : List ℕ) → map walk.decode-of list ≡ map firing.decode-of list
-unfolding walk.decode-of firing.decode-of
-same-items [] = refl
-same-items (x ∷ xs) = ap (_∷_ (firing.decode-of x)) (same-items xs)
 
 module _ (B : Book) (k bit : ℕ) (c rs ws : List ℕ) (fit : Fit B k bit (tables c rs ws)) where
   abbrev i : Input
@@ -112,10 +106,10 @@ module _ (B : Book) (k bit : ℕ) (c rs ws : List ℕ) (fit : Fit B k bit (table
 
     module _ (h : s .refused ≡ 0) where
       abbrev is : List Instruction
-      is = firing.items l (s .len)
+      is = items l (s .len)
 
       ended : walk.outcome s l ≡ going (record { made = is; next = s .label })
-      ended = outcome-going s l h ∙ ap (λ (js : List Instruction). going (record { made = js; next = s .label })) (same-items (take (s .len) l))
+      ended = outcome-going s l h
 
       pub finished-state : (r : Verdict) (c″ rs″ ws″ : List ℕ)
           → (Ready B c is → (ls : List ℕ) → Finished B is (fired-of B c ls is) bit c rs′ ws r c″ rs″ ws″)

@@ -6,7 +6,7 @@ ghost use mathlib.Core.List.{List, []};
 ghost use Prim.Native.Nat.{ℕ, min};
 ghost use Rattle.book.specs.Image.{book-in};
 ghost use Rattle.engine.specs.Move.{label-of, released, is-some, if-releasing};
-ghost use Rattle.firing.specs.Code.{items};
+ghost use Rattle.records.specs.Code.{items};
 ghost use Rattle.firing.specs.Outcome.{Ready, move-by};
 ghost use Rattle.term.specs.Marks.{marked};
 ghost use Rattle.walk.specs.Gather.{cleared};
@@ -44,7 +44,7 @@ fn has_release(list: &[u64], len: usize) -> bool
     let n = smaller(len, list.len());
     let mut j: usize = 0;
     while j < n {
-        let what = firing::decode(list[j]);
+        let what = records::decode(list[j]);
         if is_release(what) {
             return true;
         }

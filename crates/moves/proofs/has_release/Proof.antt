@@ -2,7 +2,7 @@ use mathlib.Core.Path.{_≡_, refl, sym, ap, _∙_}
 use Prim.Native.Nat.{_-_}
 use borrow.Author.Needs.{needs}
 use lib.ListN.{drop}
-use Rattle.firing.specs.Code.{items}
+use Rattle.records.specs.Code.{items}
 use Rattle.firing.specs.Steps.{any}
 use Rattle.firing.proofs.Laws.{next, found, ended}
 use Rattle.moves.proofs.Releases.{release, released-any}
@@ -10,7 +10,7 @@ use Rattle.moves.proofs.has_release.Statement.{statement}
 use Rattle.moves.proofs.has_release.Tie as tie
 use Rattle.moves.proofs.has_release.Reads as reads
 use Rattle.moves.proofs.has_release.Lts as lts
-use Rattle.firing.proofs.decode.Reads as decode-reads
+use Rattle.records.proofs.decode.Reads as decode-reads
 use Rattle.moves.proofs.is_release.Reads as is-release-reads
 use Rattle.moves.proofs.smaller.Reads as smaller-reads
 
