@@ -3,15 +3,17 @@ use records::Outcome;
 use records::Told;
 use text::Answer;
 use text::Found;
+use walk::State;
 ghost use mathlib.Core.Path.{_≡_};
-ghost use mathlib.Core.List.{[]};
-ghost use Prim.Native.Nat.{_<_, _≤_};
+ghost use mathlib.Core.List.{List, []};
+ghost use Prim.Native.Nat.{ℕ, _<_, _≤_, min};
 ghost use lib.ListN.{length, take};
 ghost use Rattle.text.specs.Words.{answer-of};
 ghost use Rattle.book.specs.Book.{L};
 ghost use Rattle.book.specs.Image.{book-in};
 ghost use Rattle.engine.specs.Single.{check-agent, check-lent-step, check-contents, step-move, step-call};
 ghost use Rattle.records.specs.Items.{listed};
+ghost use Rattle.step.specs.Halves.{given-of, On, Halfway};
 ghost use Rattle.step.specs.Stages.{check-call, first-of, Ready, Moves, Tells, packed};
 
 // Records in a list of instructions.
@@ -176,6 +178,121 @@ pub fn step_core(book: &[u8], contents: &mut [u16], agent: usize, lent: usize) -
     let mut list = [0u64; 256];
     let t = step_into(book, contents, agent, lent, &mut list);
     records::with_list(t, &list)
+}
+
+// ---- the same in two halves, between which the instructions go through a lent list
+
+// A call up to the list: its answer if it is refused before the move, else how the move's walk
+// ended; and how many instructions there are.
+pub struct Paused {
+    pub answer: Answer,
+    pub walk: State,
+    pub count: usize,
+}
+
+// How many instructions a walk gave: none if it was refused.
+fn given(s: State) -> usize
+    ensures { λ r. ⌜ r ≡ given-of s ⌝ }
+{
+    if s.refused != 0 {
+        return 0;
+    }
+    if s.len < MOST_INSTRUCTIONS {
+        return s.len;
+    }
+    MOST_INSTRUCTIONS
+}
+
+fn held_back(a: Answer) -> Paused
+    ensures { λ r. ⌜ (r .answer ≡ a) × (r .count ≡ 0) ⌝ }
+{
+    let none = State {
+        len: 0,
+        label: 0,
+        refused: 0,
+        node: 0,
+    };
+    Paused {
+        answer: a,
+        walk: none,
+        count: 0,
+    }
+}
+
+// The walk of the move, on the first L records of a lent table.
+fn walk_first(image: &[u16; 4296], contents: &[u16], agent: u32, work: &mut [u64; 256]) -> Paused
+    requires { ⌜ (L (book-in (now image) []) ≤ length (now contents)) × (Ready (book-in (now image) []) (take (L (book-in (now image) [])) (now contents)) agent) ⌝ }
+    ensures { λ r. ⌜ (r .answer .number ≡ 0) × (r .count ≡ given-of (r .walk)) ⌝ }
+    ensures { λ r. ⌜ On (book-in (now (image .entry)) []) (now (contents .entry)) agent (now (work .exit)) (r .walk) ⌝ }
+{
+    let all = table::total(image) as usize;
+    let mut readers = [0u64; 1];
+    let s = walk::gather(image, &contents[..all], &mut readers[..0], 1, work, agent);
+    let none = answer(0, 0, 0);
+    let count = given(s);
+    Paused {
+        answer: none,
+        walk: s,
+        count: count,
+    }
+}
+
+// The checks, and the walk of the move.
+pub fn first_half(
+    book: &[u8],
+    contents: &[u16],
+    agent: usize,
+    lent: usize,
+    image: &mut [u16; 4296],
+    work: &mut [u64; 256],
+) -> Paused
+    ensures { λ r. ⌜ Halfway (now (book .entry)) (now (contents .entry)) agent lent (now (image .exit)) (now (work .exit)) r ⌝ }
+{
+    let a = open::open(book, image);
+    if a.number != 0 {
+        return held_back(a);
+    }
+    let b = check_call(image, contents, agent, lent);
+    if b.number != 0 {
+        return held_back(b);
+    }
+    walk_first(image, contents, agent as u32, work)
+}
+
+fn smaller(a: usize, b: usize) -> usize
+    ensures { λ r. ⌜ r ≡ min a b ⌝ }
+{
+    if a < b { a } else { b }
+}
+
+// The rest of the move, by the instructions that came back from the list.
+pub fn second_half(
+    contents: &mut [u16],
+    image: &[u16; 4296],
+    work: &[u64; 256],
+    p: Paused,
+) -> Answer
+    ensures { λ r. ⌜ ((text : List ℕ) (k n : ℕ) → Halfway text (now (contents .entry)) k n (now (image .entry)) (now (work .entry)) p → (r ≡ step-call text (now (contents .entry)) k n .answer) × (now (contents .exit) ≡ step-call text (now (contents .entry)) k n .contents)) ⌝ }
+{
+    let a = p.answer;
+    if a.number != 0 {
+        return a;
+    }
+    let all = table::total(image) as usize;
+    let n = smaller(all, contents.len());
+    let s = p.walk;
+    let mut readers = [0u64; 1];
+    let mut writers = [0u64; 1];
+    let v = moves::settle_move(
+        image,
+        &mut contents[..n],
+        &mut readers[..0],
+        &mut writers[..0],
+        1,
+        work,
+        s,
+    );
+    answer(v.number, 0, v.q)
 }
 
 // The answer for C: number × 2^48 + p × 2^24 + q.
