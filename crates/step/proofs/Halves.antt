@@ -50,9 +50,9 @@ made-of s l e = dite (ℕ-discrete (s .refused) 0)
 same-outcome : (s : State) (l l′ : List ℕ) → length l ≡ 256 → length l′ ≡ 256 → items l′ (given-of s) ≡ items l (given-of s) → outcome s l′ ≡ outcome s l
 same-outcome s l l′ e e′ q = dite (ℕ-discrete (s .refused) 0)
     (λ (h : s .refused ≡ 0).
-      let i : items l′ (s .len) ≡ items l (s .len) =
-      sym (clipped l′ (s .len) (min (s .len) 256) (omega arith)) ∙ (rw (eq-eqb (s .refused) 0 h) at q) ∙ clipped l (s .len) (min (s .len) 256) (omega arith) in
-      outcome-going s l′ h ∙ ap (λ (is : List Instruction). going (record { made = is; next = s .label })) i ∙ sym (outcome-going s l h))
+    let i : items l′ (s .len) ≡ items l (s .len) =
+    sym (clipped l′ (s .len) (min (s .len) 256) (omega arith)) ∙ (rw (eq-eqb (s .refused) 0 h) at q) ∙ clipped l (s .len) (min (s .len) 256) (omega arith) in
+    outcome-going s l′ h ∙ ap (λ (is : List Instruction). going (record { made = is; next = s .label })) i ∙ sym (outcome-going s l h))
     (λ (h : s .refused ≢ 0). outcome-met s l′ h ∙ sym (outcome-met s l h))
 
 -- ---- the first half
@@ -101,9 +101,9 @@ module _ (text c : List ℕ) (k n : ℕ) (m l : List ℕ) (p : Paused) (h : Half
   pub half-made : length l ≡ 256 → items l (p .count) ≡ step-call text c k n .instructions
   half-made e = dite (ℕ-discrete (p .answer .number) 0)
       (λ (z : p .answer .number ≡ 0).
-        let w = h .walks z in
-        let o = w .1 .on in
-        ap (items l) (w .0) ∙ made-of (p .walk) l e ∙ ap made-by (o .after .readers .outcome) ∙ sym (step-instructions A c k) ∙ ap (λ (s : Stepped). s .instructions) (w .1 .whole))
+      let w = h .walks z in
+      let o = w .1 .on in
+      ap (items l) (w .0) ∙ made-of (p .walk) l e ∙ ap made-by (o .after .readers .outcome) ∙ sym (step-instructions A c k) ∙ ap (λ (s : Stepped). s .instructions) (w .1 .whole))
       (λ (z : p .answer .number ≢ 0). ap (items l) (h .stops z .0) ∙ h .stops z .1 .instructions)
 
   pub half-few : (p .count ≤ 256) × (p .count ≤ n)
@@ -118,20 +118,22 @@ module _ (text c : List ℕ) (k n : ℕ) (m l : List ℕ) (p : Paused) (h : Half
     walks = λ z.
         let w = h .walks z in
         let o = w .1 .on in
-        let i : outcome (p .walk) l′ ≡ outcome (p .walk) l = same-outcome (p .walk) l l′ e e′ (rw (w .0) at q) in
-        (w .0, record {
-          lent = w .1 .lent;
-          on = record {
-            long = o .long;
-            after = record {
-              fit = o .after .fit;
-              contents = o .after .contents;
-              readers = rw i (o .after .readers);
-              writers = o .after .writers;
+        let i : outcome (p .walk) l′ ≡ outcome (p .walk) l = same-outcome (p .walk) l l′ e e′ (rw (w .0) at q) in (
+          w .0,
+          record {
+            lent = w .1 .lent;
+            on = record {
+              long = o .long;
+              after = record {
+                fit = o .after .fit;
+                contents = o .after .contents;
+                readers = rw i (o .after .readers);
+                writers = o .after .writers;
+              };
             };
-          };
-          whole = w .1 .whole;
-        });
+            whole = w .1 .whole;
+          },
+        );
   }
 
   -- ---- the second half

@@ -1,4 +1,5 @@
 // The single-move entry: a book's checks, then 9, 2 and 8, then an agent's move as move 0.
+use engine::Record;
 use records::Outcome;
 use records::Told;
 use text::Answer;
@@ -13,6 +14,7 @@ ghost use Rattle.book.specs.Book.{L};
 ghost use Rattle.book.specs.Image.{book-in};
 ghost use Rattle.engine.specs.Single.{check-agent, check-lent-step, check-contents, step-move, step-call};
 ghost use Rattle.records.specs.Items.{listed};
+ghost use Rattle.lent.specs.Written.{written};
 ghost use Rattle.step.specs.Halves.{given-of, On, Halfway};
 ghost use Rattle.step.specs.Stages.{check-call, first-of, Ready, Moves, Tells, packed};
 
@@ -293,6 +295,20 @@ pub fn second_half(
         s,
     );
     answer(v.number, 0, v.q)
+}
+
+// The single-move entry: a book, a contents table, an agent, and a list of instruction records. The
+// move's instructions are written into the list, and the move is fired by what is read from there.
+pub fn step(book: &[u8], contents: &mut [u16], agent: usize, instructions: &mut [Record]) -> Answer
+    ensures { λ r. ⌜ (r ≡ step-call (now (book .entry)) (now (contents .entry)) agent (length (now (instructions .entry))) .answer) × (now (contents .exit) ≡ step-call (now (book .entry)) (now (contents .entry)) agent (length (now (instructions .entry))) .contents) × (now (instructions .exit) ≡ written (step-call (now (book .entry)) (now (contents .entry)) agent (length (now (instructions .entry))) .instructions) (now (instructions .entry))) ⌝ }
+{
+    let lent = instructions.len();
+    let mut image = [0u16; 4296];
+    let mut work = [0u64; 256];
+    let p = first_half(book, contents, agent, lent, &mut image, &mut work);
+    let count = p.count;
+    lent::pass(instructions, &mut work, count);
+    second_half(contents, &image, &work, p)
 }
 
 // The answer for C: number × 2^48 + p × 2^24 + q.
