@@ -120,7 +120,7 @@ looked-bare B c i =
     dynamic-among-bare B (seen c (agent-walk (bare B) (i .agent)))
     ∙ ap (λ (w : Look Walked). dynamic-among B (seen c w)) (agent-walk-bare B (i .agent))
 
-walked-bare : (B : Book) (c : List ℕ) (i : Input) → walked (bare B) c i ≡ walked B c i
+pub walked-bare : (B : Book) (c : List ℕ) (i : Input) → walked (bare B) c i ≡ walked B c i
 walked-bare B c i = ap (gives c) (agent-walk-bare B (i .agent))
 
 pub move-bare : (B : Book) (c : List ℕ) (i : Input) → move (bare B) c i ≡ move B c i

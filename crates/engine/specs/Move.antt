@@ -141,6 +141,11 @@ unless-idle true m = stopped idle-move 0
 abbrev pub walked : Book → List ℕ → Input → Walked
 walked B c i = gives c (agent-walk B (i .agent))
 
+-- the instructions of a walk that came to its end; none of one that was refused on the way
+abbrev pub made-by : Walked → List Instruction
+made-by (met n q) = []
+made-by (going w) = w .made
+
 abbrev pub looked : Book → List ℕ → Input → List ℕ
 looked B c i = dynamic-among B (seen c (agent-walk B (i .agent)))
 

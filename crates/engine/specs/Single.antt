@@ -11,7 +11,7 @@ use Rattle.book.specs.Contents.{bad-value}
 use Rattle.book.specs.Check.{check-book}
 use Rattle.engine.specs.declared.Instruction.{Instruction}
 use Rattle.engine.specs.Rule.{most-instructions}
-use Rattle.engine.specs.Move.{Input, Fired, Moved, fires, stopped, move, fire}
+use Rattle.engine.specs.Move.{Input, Fired, Moved, fires, stopped, walked, made-by, move, fire}
 
 -- a table's first records, and those past them as they were
 abbrev pub over : List ℕ → List ℕ → List ℕ
@@ -39,20 +39,28 @@ check-step book c k n = do
   check-contents B (take (L B) c)
   good B
 
--- what it answers: number and place, the contents table, and the instructions of a move that fires
+-- What it answers: number and place, the contents table, and the instructions of the move if its walk came to its end, so that a clash can be looked
+-- into; none of a call that is refused before the move. 01 leaves them free
 pub record Stepped : Type 0 where
   pub answer : Answer
   pub contents : List ℕ
   pub instructions : List Instruction
 
-abbrev pub stepped : List ℕ → List ℕ → Moved → Stepped
-stepped c d (fires f) = record { answer = record { number = 0; p = 0; q = 0 }; contents = over (fire (f .updates) d) c; instructions = f .instructions }
-stepped c d (stopped n q) = record { answer = record { number = n; p = 0; q = q }; contents = c; instructions = [] }
+-- the table c, whose first records d are the contents that the move is made on; its walk gave the instructions is
+abbrev pub stepped : List ℕ → List ℕ → List Instruction → Moved → Stepped
+stepped c d is (fires f) = record { answer = record { number = 0; p = 0; q = 0 }; contents = over (fire (f .updates) d) c; instructions = is }
+stepped c d is (stopped n q) = record { answer = record { number = n; p = 0; q = q }; contents = c; instructions = is }
+
+abbrev pub step-move : Book → List ℕ → ℕ → Stepped
+step-move B c k =
+    let d = take (L B) c in
+    let i : Input = record { agent = k } in
+    stepped c d (made-by (walked B d i)) (move B d i)
 
 -- a refused call leaves the table as it was
 abbrev pub step-answer : List ℕ → ℕ → Checked Book → Stepped
 step-answer c k (refused n p q) = record { answer = record { number = n; p = p; q = q }; contents = c; instructions = [] }
-step-answer c k (good B) = stepped c (take (L B) c) (move B (take (L B) c) (record { agent = k }))
+step-answer c k (good B) = step-move B c k
 
 unfoldable pub step-call : List ℕ → List ℕ → ℕ → ℕ → Stepped
 step-call book c k n = step-answer c k (check-step book c k n)

@@ -15,8 +15,8 @@ use Rattle.book.specs.Book.{Book, place}
 use Rattle.engine.specs.declared.Instruction.{Instruction}
 use Rattle.engine.specs.declared.Instruction.the-variants.{Update, Release}
 use Rattle.engine.specs.Move.{given, values, label-of, released, other}
+use Rattle.records.specs.Code.{decode-of, items}
 use Rattle.firing.specs.declared.Spot.{Spot}
-use Rattle.firing.specs.Code.{decode-of, items}
 use Rattle.firing.specs.Steps.{any, gives, spot}
 
 pub or-assoc : (a b c : Bool) → (a || b) || c ≡ a || (b || c)

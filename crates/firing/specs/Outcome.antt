@@ -14,9 +14,9 @@ use Rattle.book.specs.Image.{book-in}
 use Rattle.engine.specs.declared.Instruction.{Instruction}
 use Rattle.engine.specs.Move.{Moved, fires, stopped, updates, released, clashes, fire, writes, fired-of, judged}
 use Rattle.engine.specs.Move as move
+use Rattle.records.specs.Code.{items}
 use Rattle.firing.specs.declared.Outcome.{Outcome}
 use Rattle.firing.specs.declared.Outcome.the-variants.{Fired, Clash, Idle}
-use Rattle.firing.specs.Code.{items}
 
 -- ---- what the first n instructions of a list give, in the contents c of the book that an image holds
 

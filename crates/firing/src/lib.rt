@@ -13,8 +13,8 @@ ghost use Rattle.text.specs.Words.{has};
 ghost use Rattle.book.specs.Book.{L};
 ghost use Rattle.book.specs.Image.{book-in};
 ghost use Rattle.engine.specs.Move.{label-of, released, other, idle, fire};
+ghost use Rattle.records.specs.Code.{items};
 ghost use Rattle.table.specs.Part.{arguments-by};
-ghost use Rattle.firing.specs.Code.{decode-of, items};
 ghost use Rattle.firing.specs.Outcome.{updates-by, clash-by, move-by, mark, marked, OffRoll, Ready, Settled};
 ghost use Rattle.firing.specs.Steps.{own, gets, any, trace-by, trace-in, spot, gives, doomed, better, best, change, wiped-in, part-cleared, part-marked, run-cleared, run-marked, cleared, clear-marked, clear-of, clear-marks-of, clears, clear-marks, puts, put-marks};
 
@@ -34,21 +34,6 @@ struct Spot {
 }
 
 // ---- the list
-
-pub fn decode(c: u64) -> Instruction
-    ensures { λ r. ⌜ r ≡ decode-of c ⌝ }
-{
-    if c < 281474976710656 {
-        Instruction::Update {
-            location: (c / 65536) as u32,
-            value: (c % 65536) as u16,
-        }
-    } else {
-        Instruction::Release {
-            label: (c % 65536) as u16,
-        }
-    }
-}
 
 fn smaller(a: usize, b: usize) -> usize
     ensures { λ r. ⌜ r ≡ min a b ⌝ }
@@ -172,7 +157,7 @@ fn other_at(e: u16, list: &[u64], len: usize, s: Spot, w: u16) -> bool
     let n = smaller(len, list.len());
     let mut j: usize = 0;
     while j < n {
-        let what = decode(list[j]);
+        let what = records::decode(list[j]);
         if against(e, s, w, what) {
             return true;
         }
@@ -201,7 +186,7 @@ fn is_released(list: &[u64], len: usize, x: u16) -> bool
     let n = smaller(len, list.len());
     let mut j: usize = 0;
     while j < n {
-        let what = decode(list[j]);
+        let what = records::decode(list[j]);
         if releases(what, x) {
             return true;
         }
@@ -256,7 +241,7 @@ fn first_clash(image: &[u16; 4296], contents: &[u16], list: &[u64], len: usize) 
     let mut least = table::total(image);
     let mut j: usize = 0;
     while j < n {
-        let what = decode(list[j]);
+        let what = records::decode(list[j]);
         least = better_of(image, contents, list, len, what, least);
         j = j + 1;
     }
@@ -291,7 +276,7 @@ fn has_change(n: u32, contents: &[u16], list: &[u64], len: usize) -> bool
     let m = smaller(len, list.len());
     let mut j: usize = 0;
     while j < m {
-        let what = decode(list[j]);
+        let what = records::decode(list[j]);
         if changes_own(n, contents, what) {
             return true;
         }
@@ -450,7 +435,7 @@ fn clear_all(
     let n = smaller(len, list.len());
     let mut j: usize = 0;
     while j < n {
-        let what = decode(list[j]);
+        let what = records::decode(list[j]);
         clear_for(image, contents, writers, what, bit);
         j = j + 1;
     }
@@ -475,7 +460,7 @@ fn put_all(contents: &mut [u16], writers: &mut [u64], list: &[u64], len: usize, 
     let n = smaller(len, list.len());
     let mut j: usize = 0;
     while j < n {
-        let what = decode(list[j]);
+        let what = records::decode(list[j]);
         put(
             contents,
             writers,

@@ -1,19 +1,19 @@
 -- A move's effect from what its walk gathered and how it was settled. Assumes nothing.
-use mathlib.Core.Path.{_≡_, refl, sym, ap, _∙_}
-use mathlib.Core.List.{List, [], _∷_, _++_, map}
-use Prim.Native.Nat.{ℕ}
-use native.Mathlib.Omega.{arith}
-use lib.ListN.{take, replicate, length-replicate}
+use mathlib.Core.Path.{_≡_, refl, sym, ap, subst, _∙_}
+use mathlib.Core.List.{List, _++_}
+use Prim.Native.Nat.{ℕ, min}
+use lib.ListN.{length}
 use Rattle.text.specs.Words.{has}
 use Rattle.text.specs.Refusals.{clash, idle-move}
 use Rattle.book.specs.Book.{Book}
 use Rattle.engine.specs.declared.Instruction.{Instruction}
 use Rattle.engine.specs.Rule.{Walk, Walked, going, met}
-use Rattle.engine.specs.Move.{Moved, fires, stopped, released, if-releasing, Input, walked, looked, fired-of, judged, settle, move}
+use Rattle.engine.specs.Move.{Moved, fires, stopped, released, if-releasing, Input, walked, made-by, looked, fired-of, judged, settle, move}
 use Rattle.engine.specs.Move as moved
+use Rattle.records.specs.Code.{items}
+use Rattle.records.proofs.Lists.{clipped}
 use Rattle.firing.specs.declared.Outcome.{Outcome}
 use Rattle.firing.specs.declared.Outcome.the-variants.{Fired, Clash, Idle}
-use Rattle.firing.specs.Code as firing
 use Rattle.firing.specs.Outcome.{Ready, Settled, moved-by, contents-after, marks-after}
 use Rattle.firing.proofs.Ready.{walk-ready}
 use Rattle.term.specs.Marks.{marked}
@@ -24,40 +24,41 @@ use Rattle.walk.specs.Gather.{cleared, Gathered}
 use Rattle.walk.proofs.Kept.{taken-back}
 use Rattle.walk.proofs.Steps.{outcome-going, outcome-met}
 use Rattle.moves.specs.declared.Verdict.{Verdict}
-use Rattle.moves.specs.Effect.{Tables, tables, joined, left, number-of, q-of, Fit, Effect}
-use Rattle.moves.specs.Close.{verdict-of, closed, Finished}
+use Rattle.moves.specs.Effect.{Tables, tables, joined, left, number-of, q-of, Fit, Effect, After}
+use Rattle.moves.specs.Close.{told, verdict-of, closed, Finished}
 use Rattle.moves.proofs.Marks.{placed, marked-joined}
 
--- an empty list of the code has room
-pub room : walk.Room (replicate {A = ℕ} 256 0)
-room = omega (arith, length-replicate {A = ℕ} 256 0)
+pub verdict-len : (n : ℕ) (o : Outcome) → verdict-of n o .len ≡ n
+verdict-len n Fired = refl
+verdict-len n (Clash l) = refl
+verdict-len n Idle = refl
 
--- walk and firing read the list alike
-pub same-items : (list : List ℕ) → map walk.decode-of list ≡ map firing.decode-of list
-unfolding walk.decode-of firing.decode-of
-same-items [] = refl
-same-items (x ∷ xs) = ap (_∷_ (firing.decode-of x)) (same-items xs)
-
-module _ (B : Book) (k bit : ℕ) (c rs ws : List ℕ) (fit : Fit B k bit (tables c rs ws)) where
+module _ (B : Book) (k bit : ℕ) (c rs ws : List ℕ) (fit : Fit B k bit (tables c rs ws)) (l : List ℕ) where
   abbrev i : Input
   i = record { agent = k }
 
-  effect : (r : Verdict) (u : Tables) (m : Moved) → move B c i ≡ m → r .number ≡ number-of m → r .q ≡ q-of m → u ≡ left bit (tables c rs ws) m
-      → Effect B k bit (tables c rs ws) r u
-  effect r u m e n q t = record { number = n ∙ ap number-of (sym e); q = q ∙ ap q-of (sym e); tables = t ∙ ap (left bit (tables c rs ws)) (sym e) }
+  effect : (r : Verdict) (u : Tables) (m : Moved) (o : Walked) → move B c i ≡ m → walked B c i ≡ o → r .number ≡ number-of m → r .q ≡ q-of m
+      → items l (r .len) ≡ made-by o → u ≡ left bit (tables c rs ws) m → Effect B k bit (tables c rs ws) r l u
+  effect r u m o e g n q is t =
+      record {
+        number = n ∙ ap number-of (sym e);
+        q = q ∙ ap q-of (sym e);
+        made = is ∙ ap made-by (sym g);
+        tables = t ∙ ap (left bit (tables c rs ws)) (sym e);
+      }
 
   module _ (o : Walked) (rs′ : List ℕ) (walks : Gathered B c bit k o rs rs′) where
     -- a walk that is refused
-    pub refused-effect : (n q : ℕ) → o ≡ met n q → Effect B k bit (tables c rs ws) (record { number = n; q = q }) (tables c rs′ ws)
+    pub refused-effect : (n q : ℕ) → o ≡ met n q → Effect B k bit (tables c rs ws) (told n q 0) l (tables c rs′ ws)
     unfolding move settle
     refused-effect n q e =
         let p = fit .power in
         let g : walked B c i ≡ met n q = sym (walks .outcome) ∙ e in
-        effect (record { number = n; q = q }) (tables c rs′ ws) (stopped n q) (rw g) refl refl
+        effect (told n q 0) (tables c rs′ ws) (stopped n q) (met n q) (rw g) g refl refl refl
         (ap (λ (x : List ℕ). tables c x ws) (walks .refused (placed B (fit .lawful)) n q e (p .0) (p .1) (fit .unmarked)))
 
     -- a walk that came to its end
-    module _ (w : Walk) (e : o ≡ going w) where
+    module _ (w : Walk) (e : o ≡ going w) (n : ℕ) (holds : items l n ≡ w .made) where
       went : walked B c i ≡ going w
       went = sym (walks .outcome) ∙ e
 
@@ -89,7 +90,7 @@ module _ (B : Book) (k bit : ℕ) (c rs ws : List ℕ) (fit : Fit B k bit (table
         left-by m q = (s .contents ∙ ap (contents-after c) q, s .writers ∙ ap (marks-after bit ws) q)
 
         abbrev Gives : Outcome → Type 0
-        Gives v = Effect B k bit (tables c rs ws) (verdict-of v) (tables c″ (closed B bit (w .made) v rs′) ws″)
+        Gives v = Effect B k bit (tables c rs ws) (verdict-of n v) l (tables c″ (closed B bit (w .made) v rs′) ws″)
 
         pub settled-effect : Gives u
         settled-effect = go u (s .outcome)
@@ -97,30 +98,49 @@ module _ (B : Book) (k bit : ℕ) (c rs ws : List ℕ) (fit : Fit B k bit (table
             go : (v : Outcome) → judged c f ≡ moved-by f v → Gives v
             go Fired q =
                 let g = left-by (fires f) q in
-                effect (verdict-of Fired) (tables c″ (closed B bit (w .made) Fired rs′) ws″) (fires f) (judged-move ∙ q) refl refl (rw (g .0, g .1, rest))
-            go (Clash l) q =
-                let g = left-by (stopped clash l) q in
-                effect (verdict-of (Clash l)) (tables c″ (closed B bit (w .made) (Clash l) rs′) ws″) (stopped clash l) (judged-move ∙ q) refl refl (rw (g .0, g .1, back))
+                effect (verdict-of n Fired) (tables c″ (closed B bit (w .made) Fired rs′) ws″) (fires f) (going w) (judged-move ∙ q) went refl refl holds (rw (g .0, g .1, rest))
+            go (Clash x) q =
+                let g = left-by (stopped clash x) q in
+                effect (verdict-of n (Clash x)) (tables c″ (closed B bit (w .made) (Clash x) rs′) ws″) (stopped clash x) (going w) (judged-move ∙ q) went refl refl holds (rw (g .0, g .1, back))
             go Idle q =
                 let g = left-by (stopped idle-move 0) q in
-                effect (verdict-of Idle) (tables c″ (closed B bit (w .made) Idle rs′) ws″) (stopped idle-move 0) (judged-move ∙ q) refl refl (rw (g .0, g .1, back))
+                effect (verdict-of n Idle) (tables c″ (closed B bit (w .made) Idle rs′) ws″) (stopped idle-move 0) (going w) (judged-move ∙ q) went refl refl holds (rw (g .0, g .1, back))
 
-  -- as the code has it: the walk's state s and its list l
-  module _ (s : State) (l rs′ : List ℕ) (walks : Gathered B c bit k (walk.outcome s l) rs rs′) where
-    pub refused-state : ((s .refused ≡ 0) → ⊥) → Effect B k bit (tables c rs ws) (record { number = s .refused; q = s .node }) (tables c rs′ ws)
-    refused-state h = refused-effect (walk.outcome s l) rs′ walks (s .refused) (s .node) (outcome-met s l h)
+-- as the code has it: the tables c, rs and ws that the walk, begun on t, left with its state s and the list l
+module _ (B : Book) (k bit : ℕ) (t : Tables) (s : State) (l c rs ws : List ℕ) (after : After B k bit t s l (tables c rs ws)) where
+  abbrev old : Tables
+  old = tables c (t .readers) ws
 
-    module _ (h : s .refused ≡ 0) where
-      abbrev is : List Instruction
-      is = firing.items l (s .len)
+  begun : old ≡ t
+  begun = rw (after .contents, after .writers)
 
-      ended : walk.outcome s l ≡ going (record { made = is; next = s .label })
-      ended = outcome-going s l h ∙ ap (λ (js : List Instruction). going (record { made = js; next = s .label })) (same-items (take (s .len) l))
+  fit : Fit B k bit old
+  fit = subst (Fit B k bit) (sym begun) (after .fit)
 
-      pub finished-state : (r : Verdict) (c″ rs″ ws″ : List ℕ)
-          → (Ready B c is → (ls : List ℕ) → Finished B is (fired-of B c ls is) bit c rs′ ws r c″ rs″ ws″)
-          → Effect B k bit (tables c rs ws) r (tables c″ rs″ ws″)
-      finished-state r c″ rs″ ws″ g =
-          let w : Walk = record { made = is; next = s .label } in
-          let d = g (ready (walk.outcome s l) rs′ walks w ended) (looked B c i) in
-          rw (d .verdict, d .readers) (settled-effect (walk.outcome s l) rs′ walks w ended (d .outcome) c″ ws″ (d .settled))
+  walks : Gathered B c bit k (walk.outcome s l) (t .readers) rs
+  walks = subst (λ (x : List ℕ). Gathered B x bit k (walk.outcome s l) (t .readers) rs) (sym (after .contents)) (after .readers)
+
+  as-begun : (r : Verdict) (u : Tables) → Effect B k bit old r l u → Effect B k bit t r l u
+  as-begun r u e = subst (λ (x : Tables). Effect B k bit x r l u) begun e
+
+  pub refused-state : ((s .refused ≡ 0) → ⊥) → Effect B k bit t (told (s .refused) (s .node) 0) l (tables c rs ws)
+  refused-state h =
+      as-begun _ _ (refused-effect B k bit c (t .readers) ws fit l (walk.outcome s l) rs walks (s .refused) (s .node) (outcome-met s l h))
+
+  -- the list is settled by its first n
+  module _ (h : s .refused ≡ 0) (n : ℕ) (clips : n ≡ min (s .len) (length l)) where
+    abbrev is : List Instruction
+    is = items l n
+
+    abbrev w : Walk
+    w = record { made = is; next = s .label }
+
+    ended : walk.outcome s l ≡ going w
+    ended = outcome-going s l h ∙ rw (clipped l (s .len) n clips)
+
+    pub finished-state : (r : Verdict) (c″ rs″ ws″ : List ℕ)
+        → (Ready B c is → (ls : List ℕ) → Finished B is n (fired-of B c ls is) bit c rs ws r c″ rs″ ws″)
+        → Effect B k bit t r l (tables c″ rs″ ws″)
+    finished-state r c″ rs″ ws″ g =
+        let d = g (ready B k bit c (t .readers) ws fit l (walk.outcome s l) rs walks w ended n refl) (looked B c (record { agent = k })) in
+        as-begun _ _ (rw (d .verdict, d .readers) (settled-effect B k bit c (t .readers) ws fit l (walk.outcome s l) rs walks w ended n refl (d .outcome) c″ ws″ (d .settled)))

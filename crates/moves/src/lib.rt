@@ -1,28 +1,24 @@
 // One move: fired and marked, or refused.
 use engine::Instruction;
 use firing::Outcome;
+use walk::State;
 ghost use mathlib.Core.Path.{_≡_};
 ghost use mathlib.Core.List.{List, []};
-ghost use Prim.Native.Nat.{ℕ, min};
+ghost use Prim.Native.Nat.{ℕ, _≤_};
 ghost use Rattle.book.specs.Image.{book-in};
 ghost use Rattle.engine.specs.Move.{label-of, released, is-some, if-releasing};
-ghost use Rattle.firing.specs.Code.{items};
+ghost use Rattle.records.specs.Code.{items};
 ghost use Rattle.firing.specs.Outcome.{Ready, move-by};
 ghost use Rattle.term.specs.Marks.{marked};
 ghost use Rattle.walk.specs.Gather.{cleared};
-ghost use Rattle.moves.specs.Effect.{Fit, Effect, tables};
+ghost use Rattle.moves.specs.Effect.{Fit, Effect, Tables, tables, After};
 ghost use Rattle.moves.specs.Close.{told, verdict-of, closed, Finished};
 
-// A move's number, 0 if it fired, and its q.
+// A move's number, 0 if it fired, its q, and how many instructions the list holds: those of a walk that came to its end.
 pub struct Verdict {
     pub number: u32,
     pub q: u32,
-}
-
-fn smaller(a: usize, b: usize) -> usize
-    ensures { λ r. ⌜ r ≡ min a b ⌝ }
-{
-    if a < b { a } else { b }
+    pub len: usize,
 }
 
 fn is_release(what: Instruction) -> bool
@@ -41,10 +37,10 @@ fn is_release(what: Instruction) -> bool
 fn has_release(list: &[u64], len: usize) -> bool
     ensures { λ r. ⌜ r ≡ is-some (released (items (now (list .entry)) len)) ⌝ }
 {
-    let n = smaller(len, list.len());
+    let n = records::within(list, len);
     let mut j: usize = 0;
     while j < n {
-        let what = firing::decode(list[j]);
+        let what = records::decode(list[j]);
         if is_release(what) {
             return true;
         }
@@ -63,14 +59,15 @@ fn mark_rest(image: &[u16; 4296], readers: &mut [u64], bit: u64, list: &[u64], l
 }
 
 // A refused move's answer; its reader marks are taken back.
-fn refuse(readers: &mut [u64], bit: u64, number: u32, q: u32) -> Verdict
-    ensures { λ r. ⌜ r ≡ told number q ⌝ }
+fn refuse(readers: &mut [u64], bit: u64, number: u32, q: u32, len: usize) -> Verdict
+    ensures { λ r. ⌜ r ≡ told number q len ⌝ }
     ensures { λ _. ⌜ now (readers .exit) ≡ cleared bit (now (readers .entry)) ⌝ }
 {
     walk::clear(readers, bit);
     Verdict {
         number: number,
         q: q,
+        len: len,
     }
 }
 
@@ -83,16 +80,20 @@ fn close(
     len: usize,
     what: Outcome,
 ) -> Verdict
-    ensures { λ r. ⌜ r ≡ verdict-of what ⌝ }
+    ensures { λ r. ⌜ r ≡ verdict-of len what ⌝ }
     ensures { λ _. ⌜ now (readers .exit) ≡ closed (book-in (now (image .entry)) []) bit (items (now (list .entry)) len) what (now (readers .entry)) ⌝ }
 {
     match what {
         Outcome::Fired => {
             mark_rest(image, readers, bit, list, len);
-            Verdict { number: 0, q: 0 }
+            Verdict {
+                number: 0,
+                q: 0,
+                len: len,
+            }
         }
-        Outcome::Clash { location } => refuse(readers, bit, text::CLASH, location),
-        Outcome::Idle => refuse(readers, bit, text::IDLE_MOVE, 0),
+        Outcome::Clash { location } => refuse(readers, bit, text::CLASH, location, len),
+        Outcome::Idle => refuse(readers, bit, text::IDLE_MOVE, 0, len),
     }
 }
 
@@ -106,13 +107,38 @@ fn finish(
     list: &[u64; 256],
     len: usize,
 ) -> Verdict
-    ensures { λ r. ⌜ (Ready (book-in (now (image .entry)) []) (now (contents .entry)) (items (now (list .entry)) len) → (ls : List ℕ) → Finished (book-in (now (image .entry)) []) (items (now (list .entry)) len) (move-by (now (image .entry)) (now (contents .entry)) (now (list .entry)) len ls) bit (now (contents .entry)) (now (readers .entry)) (now (writers .entry)) r (now (contents .exit)) (now (readers .exit)) (now (writers .exit))) ⌝ }
+    ensures { λ r. ⌜ (Ready (book-in (now (image .entry)) []) (now (contents .entry)) (items (now (list .entry)) len) → (ls : List ℕ) → Finished (book-in (now (image .entry)) []) (items (now (list .entry)) len) len (move-by (now (image .entry)) (now (contents .entry)) (now (list .entry)) len ls) bit (now (contents .entry)) (now (readers .entry)) (now (writers .entry)) r (now (contents .exit)) (now (readers .exit)) (now (writers .exit))) ⌝ }
+    ensures { λ r. ⌜ r .len ≡ len ⌝ }
 {
     let what = firing::settle(image, contents, writers, list, len, bit);
     close(image, readers, bit, list, len, what)
 }
 
-// The move of an agent, marked as `bit`.
+// The rest of a move whose walk came to the state s: refused as the walk was, or settled by the first s.len of the list.
+pub fn settle_move(
+    image: &[u16; 4296],
+    contents: &mut [u16],
+    readers: &mut [u64],
+    writers: &mut [u64],
+    bit: u64,
+    list: &[u64; 256],
+    s: State,
+) -> Verdict
+    ensures { λ r. ⌜ ((k : ℕ) (t : Tables) → After (book-in (now (image .entry)) []) k bit t s (now (list .entry)) (tables (now (contents .entry)) (now (readers .entry)) (now (writers .entry))) → Effect (book-in (now (image .entry)) []) k bit t r (now (list .entry)) (tables (now (contents .exit)) (now (readers .exit)) (now (writers .exit)))) ⌝ }
+    ensures { λ r. ⌜ r .len ≤ 256 ⌝ }
+{
+    if s.refused != 0 {
+        return Verdict {
+            number: s.refused,
+            q: s.node as u32,
+            len: 0,
+        };
+    }
+    let len = records::within(list, s.len);
+    finish(image, contents, readers, writers, bit, list, len)
+}
+
+// The move of an agent, marked as `bit`; its instructions are left in the list.
 pub fn fire_move(
     image: &[u16; 4296],
     contents: &mut [u16],
@@ -120,16 +146,11 @@ pub fn fire_move(
     writers: &mut [u64],
     bit: u64,
     agent: u32,
+    list: &mut [u64; 256],
 ) -> Verdict
-    ensures { λ r. ⌜ (Fit (book-in (now (image .entry)) []) agent bit (tables (now (contents .entry)) (now (readers .entry)) (now (writers .entry))) → Effect (book-in (now (image .entry)) []) agent bit (tables (now (contents .entry)) (now (readers .entry)) (now (writers .entry))) r (tables (now (contents .exit)) (now (readers .exit)) (now (writers .exit)))) ⌝ }
+    ensures { λ r. ⌜ (Fit (book-in (now (image .entry)) []) agent bit (tables (now (contents .entry)) (now (readers .entry)) (now (writers .entry))) → Effect (book-in (now (image .entry)) []) agent bit (tables (now (contents .entry)) (now (readers .entry)) (now (writers .entry))) r (now (list .exit)) (tables (now (contents .exit)) (now (readers .exit)) (now (writers .exit)))) ⌝ }
+    ensures { λ r. ⌜ r .len ≤ 256 ⌝ }
 {
-    let mut list = [0u64; 256];
-    let s = walk::gather(image, contents, readers, bit, &mut list, agent);
-    if s.refused != 0 {
-        return Verdict {
-            number: s.refused,
-            q: s.node as u32,
-        };
-    }
-    finish(image, contents, readers, writers, bit, &list, s.len)
+    let s = walk::gather(image, contents, readers, bit, list, agent);
+    settle_move(image, contents, readers, writers, bit, list, s)
 }

@@ -1,5 +1,5 @@
 -- The checks 9, 2 and 8: what each answers, that the earlier of two answers is that of both in turn, and what they show when all pass.
-use mathlib.Core.Path.{_≡_, refl, _∙_}
+use mathlib.Core.Path.{_≡_, refl, ap, _∙_}
 use mathlib.Core.Bool.{Bool, true, false}
 use mathlib.Core.List.{List, []}
 use Prim.Native.Nat.{ℕ, _≤_, _<_}
@@ -99,10 +99,11 @@ all-three B c k n r s nine two eight er es e9 e2 e8 = rw (er, es, e9, e2, e8) (i
 pub record Passed (B : Book) (c : List ℕ) (k n : ℕ) : Type 0 where
   pub agent : k < length (B .agents)
   pub long : L B ≤ length c
+  pub records : 256 ≤ n
   pub fine : least (bad-value B (take (L B) c)) (L B) ≡ Nowhere
 
 pub call-passed : (B : Book) (c : List ℕ) (k n : ℕ) (u : Unit {0}) → check-call B c k n ≡ good u → Passed B c k n
-unfolding check-call check-agent check-lent-step check-contents
+unfolding check-call check-agent check-lent-step check-contents _>>_
 call-passed B c k n u e =
     let e9 = test-good _ _ _ _ _ u e in
     let e2 = then-good _ _ u (e9 .1) in
@@ -110,5 +111,6 @@ call-passed B c k n u e =
     record {
       agent = ltb-true k (length (B .agents)) (e9 .0);
       long = leb-true (L B) (length c) (e0 .0);
+      records = leb-true 256 n (test-good (leb 256 n) 2 256 3 (good u) u (ap (λ (x : Checked (Unit {0})). x >> good u) (e0 .1)) .0);
       fine = none-good 8 0 0 (least (bad-value B (take (L B) c)) (L B)) u (e2 .2);
     }

@@ -3,3 +3,4 @@ pub mod Checks
 pub mod Fired
 pub mod Same
 pub mod Whole
+pub mod Halves

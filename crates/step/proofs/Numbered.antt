@@ -12,7 +12,8 @@ use Rattle.text.specs.declared.Found.the-variants.{Nowhere, Here}
 use Rattle.text.specs.Words.{Checked, good, refused, _>>=_, _>>_, none-at, must, answer-of}
 use Rattle.book.specs.Book.{Book, L}
 use Rattle.book.specs.Check.{check-header, check-present, check-surplus, check-lines, check-book}
-use Rattle.engine.specs.Move.{Input, Moved, fires, stopped, move}
+use Rattle.engine.specs.declared.Instruction.{Instruction}
+use Rattle.engine.specs.Move.{Input, Moved, fires, stopped, walked, made-by, move}
 use Rattle.engine.specs.Single.{check-agent, check-lent-step, check-contents, check-step, stepped, step-answer, step-call}
 use Rattle.engine.proofs.Numbers.{move-number}
 use Rattle.step.specs.Stages.{check-call}
@@ -104,16 +105,16 @@ step-low : (text c : List ℕ) (k n : ℕ) → step-call text c k n .answer .num
 unfolding step-call
 step-low text c k n = go (check-step text c k n) (step-numbered text c k n)
   where
-    moved : (d : List ℕ) (o : Moved) → ((m q : ℕ) → o ≡ stopped m q → (11 ≤ m) × (m ≤ 16)) → stepped c d o .answer .number ≤ 16
-    moved d (fires f) h = omega arith
-    moved d (stopped m q) h = h m q refl .1
+    moved : (d : List ℕ) (is : List Instruction) (o : Moved) → ((m q : ℕ) → o ≡ stopped m q → (11 ≤ m) × (m ≤ 16)) → stepped c d is o .answer .number ≤ 16
+    moved d is (fires f) h = omega arith
+    moved d is (stopped m q) h = h m q refl .1
 
     go : (x : Checked Book) → Numbered x → step-answer c k x .answer .number ≤ 16
     go (refused m p q) h = omega (arith, h .range)
     go (good B) h =
         let d = take (L B) c in
         let i : Input = record { agent = k } in
-        moved d (move B d i) (move-number B d i)
+        moved d (made-by (walked B d i)) (move B d i) (move-number B d i)
 
 pub low : (text c : List ℕ) (k n : ℕ) (a : Answer) → a ≡ step-call text c k n .answer → a .number ≤ 16
 low text c k n a e = rw e (step-low text c k n)

@@ -11,9 +11,9 @@ use Rattle.book.specs.Contents.{bad-value}
 use Rattle.book.specs.Sound.{Lawful}
 use Rattle.book.specs.Image.{book-in}
 use Rattle.book.proofs.Bare.{bare-image, bad-value-bare, lawful-bare}
-use Rattle.engine.specs.Move.{Input, move}
+use Rattle.engine.specs.Move.{Input, walked, move}
 use Rattle.engine.specs.Single.{check-agent, check-lent-step, check-contents}
-use Rattle.engine.proofs.Entries.{move-bare}
+use Rattle.engine.proofs.Entries.{walked-bare, move-bare}
 use Rattle.step.specs.Stages.{check-call}
 
 module _ (m : List ℕ) (es : List Entry) where
@@ -25,6 +25,9 @@ module _ (m : List ℕ) (es : List Entry) where
 
   pub move-same : (c : List ℕ) (i : Input) → move (book-in m []) c i ≡ move (book-in m es) c i
   move-same c i = ap (λ (B : Book). move B c i) (sym (bare-image m es)) ∙ move-bare (book-in m es) c i
+
+  pub walked-same : (c : List ℕ) (i : Input) → walked (book-in m []) c i ≡ walked (book-in m es) c i
+  walked-same c i = ap (λ (B : Book). walked B c i) (sym (bare-image m es)) ∙ walked-bare (book-in m es) c i
 
   pub L-same : L (book-in m []) ≡ L (book-in m es)
   unfolding book-in

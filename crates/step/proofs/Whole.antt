@@ -15,38 +15,38 @@ use Rattle.book.specs.Image.{book-in}
 use Rattle.book.specs.Sound.{Lawful}
 use Rattle.book.proofs.Accepted.{accepted}
 use Rattle.book.proofs.Claims.{accepted-table}
-use Rattle.engine.specs.Move.{Input, move}
-use Rattle.engine.specs.Single.{check-agent, check-lent-step, check-contents, check-step, Stepped, stepped, step-answer, step-call}
-use Rattle.step.specs.Stages.{check-call, Ready}
+use Rattle.engine.specs.Move.{Input}
+use Rattle.engine.specs.Single.{check-agent, check-lent-step, check-contents, check-step, step-move, step-answer, step-call}
+use Rattle.records.specs.declared.Told.{Told}
+use Rattle.step.specs.Stages.{check-call, Ready, Tells}
 use Rattle.step.proofs.Numbered.{book-numbered, call-numbered, accepts}
 use Rattle.step.proofs.Checks.{Passed, call-passed}
-use Rattle.step.proofs.Same.{lawful-same, move-same, L-same, call-same}
+use Rattle.step.proofs.Same.{lawful-same, walked-same, move-same, L-same, call-same}
 
--- an answer and contents are those of a call
-abbrev pub Tells : Answer → List ℕ → Stepped → Type 0
-Tells a d s = (a ≡ s .answer) × (d ≡ s .contents)
+-- a refusal before the move: no instruction, and the contents as they were
+abbrev none : Answer → Told
+none a = record { answer = a; len = 0 }
 
-module _ (c : List ℕ) (k : ℕ) where
-  book-stops : (x : Checked Book) (f : Book → Checked Book) → answer-of x .number ≢ 0 → Tells (answer-of x) c (step-answer c k (x >>= f))
+module _ (c l : List ℕ) (k : ℕ) where
+  book-stops : (x : Checked Book) (f : Book → Checked Book) → answer-of x .number ≢ 0 → Tells (none (answer-of x)) l c (step-answer c k (x >>= f))
   unfolding _>>=_
   book-stops (good B) f h = absurd (h refl)
-  book-stops (refused n p q) f h = (refl, refl)
+  book-stops (refused n p q) f h = record { answer = refl; instructions = refl; room = omega arith; contents = refl }
 
-  call-stops : (x : Checked (Unit {0})) (B : Book) → answer-of x .number ≢ 0 → Tells (answer-of x) c (step-answer c k (x >> good B))
+  call-stops : (x : Checked (Unit {0})) (B : Book) → answer-of x .number ≢ 0 → Tells (none (answer-of x)) l c (step-answer c k (x >> good B))
   unfolding _>>_
   call-stops (good u) B h = absurd (h refl)
-  call-stops (refused n p q) B h = (refl, refl)
+  call-stops (refused n p q) B h = record { answer = refl; instructions = refl; room = omega arith; contents = refl }
 
-  call-goes : (x : Checked (Unit {0})) (u : Unit {0}) (B : Book) → x ≡ good u
-      → step-answer c k (x >> good B) ≡ stepped c (take (L B) c) (move B (take (L B) c) (record { agent = k }))
+  call-goes : (x : Checked (Unit {0})) (u : Unit {0}) (B : Book) → x ≡ good u → step-answer c k (x >> good B) ≡ step-move B c k
   unfolding _>>_
   call-goes x u B e = rw e
 
-  stepped-same : (m : List ℕ) (es : List Entry)
-      → stepped c (take (L (book-in m [])) c) (move (book-in m []) (take (L (book-in m [])) c) (record { agent = k }))
-      ≡ stepped c (take (L (book-in m es)) c) (move (book-in m es) (take (L (book-in m es)) c) (record { agent = k }))
-  stepped-same m es =
-      rw (L-same m es) (ap (stepped c (take (L (book-in m es)) c)) (move-same m es (take (L (book-in m es)) c) (record { agent = k })))
+  step-same : (m : List ℕ) (es : List Entry) → step-move (book-in m []) c k ≡ step-move (book-in m es) c k
+  step-same m es =
+      let d = take (L (book-in m es)) c in
+      let i : Input = record { agent = k } in
+      rw (L-same m es, walked-same m es d i, move-same m es d i)
 
 joined : {A : Type 0} (x y z : Checked (Unit {0})) (w : Checked A) → (x >> (y >> (z >> w))) ≡ ((x >> (y >> z)) >> w)
 unfolding _>>_
@@ -54,12 +54,12 @@ joined (good u) (good v) z w = refl
 joined (good u) (refused n p q) z w = refl
 joined (refused n p q) y z w = refl
 
-module _ (text c : List ℕ) (k n : ℕ) where
+module _ (text c l : List ℕ) (k n : ℕ) where
   -- ---- the book is refused
 
-  pub refused-book : (a : Answer) → a ≡ answer-of (check-book text) → a .number ≢ 0 → Tells a c (step-call text c k n)
+  pub refused-book : (a : Answer) → a ≡ answer-of (check-book text) → a .number ≢ 0 → Tells (none a) l c (step-call text c k n)
   unfolding step-call check-step
-  refused-book a e h = rw e (book-stops c k (check-book text) _ (rw e at h))
+  refused-book a e h = rw e (book-stops c l k (check-book text) _ (rw e at h))
 
   -- ---- the book is accepted, and m is its image
 
@@ -84,12 +84,10 @@ module _ (text c : List ℕ) (k n : ℕ) where
     call-held : check-call (book-in m []) c k n ≡ check-call B c k n
     call-held = call-same m (B .entries) c k n ∙ ap (λ (A : Book). check-call A c k n) held
 
-    pub refused-call : b .number ≢ 0 → Tells b c (step-call text c k n)
+    pub refused-call : b .number ≢ 0 → Tells (none b) l c (step-call text c k n)
     refused-call h =
         let e : b ≡ answer-of (check-call B c k n) = call ∙ ap (λ (x : Checked (Unit {0})). answer-of x) call-held in
-        let t = call-stops c k (check-call B c k n) B (λ z. h (ap (λ (r : Answer). r .number) e ∙ z)) in
-        let s = sym (step-good B (accepted-as .1)) in
-        (e ∙ t .0 ∙ ap (λ (x : Stepped). x .answer) s, t .1 ∙ ap (λ (x : Stepped). x .contents) s)
+        rw (e, step-good B (accepted-as .1)) (call-stops c l k (check-call B c k n) B (λ z. h (ap (λ (r : Answer). r .number) e ∙ z)))
 
     module _ (zero-b : b .number ≡ 0) where
       passed : (u : Unit {0}) × (check-call (book-in m []) c k n ≡ good u)
@@ -108,9 +106,9 @@ module _ (text c : List ℕ) (k n : ℕ) where
         agent = shown .agent;
       }
 
-      pub moved : stepped c (take (L (book-in m [])) c) (move (book-in m []) (take (L (book-in m [])) c) (record { agent = k })) ≡ step-call text c k n
+      pub moved : step-move (book-in m []) c k ≡ step-call text c k n
       moved =
-          stepped-same c k m (B .entries)
-          ∙ ap (λ (A : Book). stepped c (take (L A) c) (move A (take (L A) c) (record { agent = k }))) held
-          ∙ sym (call-goes c k (check-call B c k n) (passed .0) B (sym call-held ∙ passed .1))
+          step-same c l k m (B .entries)
+          ∙ ap (λ (A : Book). step-move A c k) held
+          ∙ sym (call-goes c l k (check-call B c k n) (passed .0) B (sym call-held ∙ passed .1))
           ∙ sym (step-good B (accepted-as .1))

@@ -8,8 +8,11 @@ use Rattle.text.specs.declared.Answer.{Answer}
 use Rattle.text.specs.Words.{if_then_else_, Checked, _>>_}
 use Rattle.book.specs.Book.{Book, L}
 use Rattle.book.specs.Sound.{Lawful, Sound}
-use Rattle.engine.specs.Move.{Moved, fires, stopped, fire}
-use Rattle.engine.specs.Single.{check-agent, check-lent-step, check-contents}
+use Rattle.engine.specs.Rule.{most-instructions}
+use Rattle.engine.specs.Move.{Moved, fires, stopped, walked, made-by, move, fire}
+use Rattle.engine.specs.Single.{check-agent, check-lent-step, check-contents, Stepped}
+use Rattle.records.specs.declared.Told.{Told}
+use Rattle.records.specs.Code.{items}
 
 -- 9, 2 and 8 of an accepted book
 unfoldable pub check-call : Book → List ℕ → ℕ → ℕ → Checked (Unit {0})
@@ -33,6 +36,20 @@ pub record Ready (B : Book) (c : List ℕ) (k : ℕ) : Type 0 where
   pub lawful : Lawful B
   pub sound : Sound B c
   pub agent : k < length (B .agents)
+
+-- the move of agent k in the contents c: its answer and length r, the list l of its instructions, and the contents d that it leaves
+pub record Moves (B : Book) (c : List ℕ) (k : ℕ) (r : Told) (l d : List ℕ) : Type 0 where
+  pub answer : r .answer ≡ told (move B c (record { agent = k }))
+  pub made : items l (r .len) ≡ made-by (walked B c (record { agent = k }))
+  pub room : r .len ≤ most-instructions
+  pub contents : d ≡ left-of c (move B c (record { agent = k }))
+
+-- the answer and length r, the list l of numbers and the contents d are those of a call
+pub record Tells (r : Told) (l d : List ℕ) (s : Stepped) : Type 0 where
+  pub answer : r .answer ≡ s .answer
+  pub instructions : items l (r .len) ≡ s .instructions
+  pub room : r .len ≤ most-instructions
+  pub contents : d ≡ s .contents
 
 -- for C: number × 2^48 + p × 2^24 + q; the places of 01 are below 2^24
 abbrev pub packed : Answer → ℕ

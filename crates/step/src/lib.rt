@@ -1,16 +1,22 @@
 // The single-move entry: a book's checks, then 9, 2 and 8, then an agent's move as move 0.
+use engine::Record;
+use records::Outcome;
+use records::Told;
 use text::Answer;
 use text::Found;
+use walk::State;
 ghost use mathlib.Core.Path.{_≡_};
-ghost use mathlib.Core.List.{[]};
-ghost use Prim.Native.Nat.{_<_, _≤_};
+ghost use mathlib.Core.List.{List, []};
+ghost use Prim.Native.Nat.{ℕ, _<_, _≤_, min};
 ghost use lib.ListN.{length, take};
 ghost use Rattle.text.specs.Words.{answer-of};
 ghost use Rattle.book.specs.Book.{L};
 ghost use Rattle.book.specs.Image.{book-in};
-ghost use Rattle.engine.specs.Move.{move};
-ghost use Rattle.engine.specs.Single.{check-agent, check-lent-step, check-contents, stepped, step-call};
-ghost use Rattle.step.specs.Stages.{check-call, first-of, told, left-of, Ready, packed};
+ghost use Rattle.engine.specs.Single.{check-agent, check-lent-step, check-contents, step-move, step-call};
+ghost use Rattle.records.specs.Items.{listed};
+ghost use Rattle.lent.specs.Written.{written};
+ghost use Rattle.step.specs.Halves.{given-of, On, Halfway};
+ghost use Rattle.step.specs.Stages.{check-call, first-of, Ready, Moves, Tells, packed};
 
 // Records in a list of instructions.
 pub const MOST_INSTRUCTIONS: usize = 256;
@@ -100,11 +106,17 @@ fn check_call(image: &[u16; 4296], contents: &[u16], agent: usize, lent: usize) 
 
 // ---- the move
 
-// The move, with no marks, on a table of exactly L records.
-fn fire(image: &[u16; 4296], contents: &mut [u16], agent: u32) -> Answer
+// An answer with no instruction.
+fn refused(a: Answer) -> Told
+    ensures { λ r. ⌜ r ≡ record { answer = a; len = 0 } ⌝ }
+{
+    Told { answer: a, len: 0 }
+}
+
+// The move, with no marks, on a table of exactly L records; its instructions are left in the list.
+fn fire(image: &[u16; 4296], contents: &mut [u16], agent: u32, list: &mut [u64; 256]) -> Told
     requires { ⌜ Ready (book-in (now image) []) (now contents) agent ⌝ }
-    ensures { λ r. ⌜ r ≡ told (move (book-in (now (image .entry)) []) (now (contents .entry)) (record { agent = agent })) ⌝ }
-    ensures { λ _. ⌜ now (contents .exit) ≡ left-of (now (contents .entry)) (move (book-in (now (image .entry)) []) (now (contents .entry)) (record { agent = agent })) ⌝ }
+    ensures { λ r. ⌜ Moves (book-in (now (image .entry)) []) (now (contents .entry)) agent r (now (list .exit)) (now (contents .exit)) ⌝ }
 {
     let mut readers = [0u64; 1];
     let mut writers = [0u64; 1];
@@ -115,45 +127,198 @@ fn fire(image: &[u16; 4296], contents: &mut [u16], agent: u32) -> Answer
         &mut writers[..0],
         1,
         agent,
+        list,
     );
-    answer(v.number, 0, v.q)
+    let a = answer(v.number, 0, v.q);
+    Told {
+        answer: a,
+        len: v.len,
+    }
 }
 
 // The move on the first L records of a lent table.
-fn fire_first(image: &[u16; 4296], contents: &mut [u16], agent: u32) -> Answer
+fn fire_first(image: &[u16; 4296], contents: &mut [u16], agent: u32, list: &mut [u64; 256]) -> Told
     requires { ⌜ (L (book-in (now image) []) ≤ length (now contents)) × (Ready (book-in (now image) []) (take (L (book-in (now image) [])) (now contents)) agent) ⌝ }
-    ensures { λ r. ⌜ r ≡ stepped (now (contents .entry)) (take (L (book-in (now (image .entry)) [])) (now (contents .entry))) (move (book-in (now (image .entry)) []) (take (L (book-in (now (image .entry)) [])) (now (contents .entry))) (record { agent = agent })) .answer ⌝ }
-    ensures { λ _. ⌜ now (contents .exit) ≡ stepped (now (contents .entry)) (take (L (book-in (now (image .entry)) [])) (now (contents .entry))) (move (book-in (now (image .entry)) []) (take (L (book-in (now (image .entry)) [])) (now (contents .entry))) (record { agent = agent })) .contents ⌝ }
+    ensures { λ r. ⌜ Tells r (now (list .exit)) (now (contents .exit)) (step-move (book-in (now (image .entry)) []) (now (contents .entry)) agent) ⌝ }
 {
     let all = table::total(image) as usize;
-    fire(image, &mut contents[..all], agent)
+    fire(image, &mut contents[..all], agent, list)
 }
 
 // ---- the entry
 
-// A book, a contents table, an agent, and how many instruction records are lent.
-pub fn step_core(book: &[u8], contents: &mut [u16], agent: usize, lent: usize) -> Answer
-    ensures { λ r. ⌜ r ≡ step-call (now (book .entry)) (now (contents .entry)) agent lent .answer ⌝ }
-    ensures { λ _. ⌜ now (contents .exit) ≡ step-call (now (book .entry)) (now (contents .entry)) agent lent .contents ⌝ }
+// The call, its instructions left in the list as numbers.
+fn step_into(
+    book: &[u8],
+    contents: &mut [u16],
+    agent: usize,
+    lent: usize,
+    list: &mut [u64; 256],
+) -> Told
+    ensures { λ r. ⌜ Tells r (now (list .exit)) (now (contents .exit)) (step-call (now (book .entry)) (now (contents .entry)) agent lent) ⌝ }
+    ensures { λ r. ⌜ r .len ≤ lent ⌝ }
 {
     let mut image = [0u16; 4296];
     let a = open::open(book, &mut image);
     if a.number != 0 {
-        return a;
+        return refused(a);
     }
     let b = check_call(&image, contents, agent, lent);
     if b.number != 0 {
-        return b;
+        return refused(b);
     }
-    fire_first(&image, contents, agent as u32)
+    fire_first(&image, contents, agent as u32, list)
 }
 
-// The same for C: number × 2^48 + p × 2^24 + q.
+// A book, a contents table, an agent, and how many instruction records are lent; the list fits those.
+pub fn step_core(book: &[u8], contents: &mut [u16], agent: usize, lent: usize) -> Outcome
+    ensures { λ r. ⌜ r .answer ≡ step-call (now (book .entry)) (now (contents .entry)) agent lent .answer ⌝ }
+    ensures { λ r. ⌜ listed (r .list) ≡ step-call (now (book .entry)) (now (contents .entry)) agent lent .instructions ⌝ }
+    ensures { λ r. ⌜ (r .list .len ≤ lent) × (r .list .len ≤ 256) ⌝ }
+    ensures { λ _. ⌜ now (contents .exit) ≡ step-call (now (book .entry)) (now (contents .entry)) agent lent .contents ⌝ }
+{
+    let mut list = [0u64; 256];
+    let t = step_into(book, contents, agent, lent, &mut list);
+    records::with_list(t, &list)
+}
+
+// ---- the same in two halves, between which the instructions go through a lent list
+
+// A call up to the list: its answer if it is refused before the move, else how the move's walk
+// ended; and how many instructions there are.
+pub struct Paused {
+    pub answer: Answer,
+    pub walk: State,
+    pub count: usize,
+}
+
+// How many instructions a walk gave: none if it was refused.
+fn given(s: State) -> usize
+    ensures { λ r. ⌜ r ≡ given-of s ⌝ }
+{
+    if s.refused != 0 {
+        return 0;
+    }
+    if s.len < MOST_INSTRUCTIONS {
+        return s.len;
+    }
+    MOST_INSTRUCTIONS
+}
+
+fn held_back(a: Answer) -> Paused
+    ensures { λ r. ⌜ (r .answer ≡ a) × (r .count ≡ 0) ⌝ }
+{
+    let none = State {
+        len: 0,
+        label: 0,
+        refused: 0,
+        node: 0,
+    };
+    Paused {
+        answer: a,
+        walk: none,
+        count: 0,
+    }
+}
+
+// The walk of the move, on the first L records of a lent table.
+fn walk_first(image: &[u16; 4296], contents: &[u16], agent: u32, work: &mut [u64; 256]) -> Paused
+    requires { ⌜ (L (book-in (now image) []) ≤ length (now contents)) × (Ready (book-in (now image) []) (take (L (book-in (now image) [])) (now contents)) agent) ⌝ }
+    ensures { λ r. ⌜ (r .answer .number ≡ 0) × (r .count ≡ given-of (r .walk)) ⌝ }
+    ensures { λ r. ⌜ On (book-in (now (image .entry)) []) (now (contents .entry)) agent (now (work .exit)) (r .walk) ⌝ }
+{
+    let all = table::total(image) as usize;
+    let mut readers = [0u64; 1];
+    let s = walk::gather(image, &contents[..all], &mut readers[..0], 1, work, agent);
+    let none = answer(0, 0, 0);
+    let count = given(s);
+    Paused {
+        answer: none,
+        walk: s,
+        count: count,
+    }
+}
+
+// The checks, and the walk of the move.
+pub fn first_half(
+    book: &[u8],
+    contents: &[u16],
+    agent: usize,
+    lent: usize,
+    image: &mut [u16; 4296],
+    work: &mut [u64; 256],
+) -> Paused
+    ensures { λ r. ⌜ Halfway (now (book .entry)) (now (contents .entry)) agent lent (now (image .exit)) (now (work .exit)) r ⌝ }
+{
+    let a = open::open(book, image);
+    if a.number != 0 {
+        return held_back(a);
+    }
+    let b = check_call(image, contents, agent, lent);
+    if b.number != 0 {
+        return held_back(b);
+    }
+    walk_first(image, contents, agent as u32, work)
+}
+
+fn smaller(a: usize, b: usize) -> usize
+    ensures { λ r. ⌜ r ≡ min a b ⌝ }
+{
+    if a < b { a } else { b }
+}
+
+// The rest of the move, by the instructions that came back from the list.
+pub fn second_half(
+    contents: &mut [u16],
+    image: &[u16; 4296],
+    work: &[u64; 256],
+    p: Paused,
+) -> Answer
+    ensures { λ r. ⌜ ((text : List ℕ) (k n : ℕ) → Halfway text (now (contents .entry)) k n (now (image .entry)) (now (work .entry)) p → (r ≡ step-call text (now (contents .entry)) k n .answer) × (now (contents .exit) ≡ step-call text (now (contents .entry)) k n .contents)) ⌝ }
+{
+    let a = p.answer;
+    if a.number != 0 {
+        return a;
+    }
+    let all = table::total(image) as usize;
+    let n = smaller(all, contents.len());
+    let s = p.walk;
+    let mut readers = [0u64; 1];
+    let mut writers = [0u64; 1];
+    let v = moves::settle_move(
+        image,
+        &mut contents[..n],
+        &mut readers[..0],
+        &mut writers[..0],
+        1,
+        work,
+        s,
+    );
+    answer(v.number, 0, v.q)
+}
+
+// The single-move entry: a book, a contents table, an agent, and a list of instruction records. The
+// move's instructions are written into the list, and the move is fired by what is read from there.
+pub fn step(book: &[u8], contents: &mut [u16], agent: usize, instructions: &mut [Record]) -> Answer
+    ensures { λ r. ⌜ (r ≡ step-call (now (book .entry)) (now (contents .entry)) agent (length (now (instructions .entry))) .answer) × (now (contents .exit) ≡ step-call (now (book .entry)) (now (contents .entry)) agent (length (now (instructions .entry))) .contents) × (now (instructions .exit) ≡ written (step-call (now (book .entry)) (now (contents .entry)) agent (length (now (instructions .entry))) .instructions) (now (instructions .entry))) ⌝ }
+{
+    let lent = instructions.len();
+    let mut image = [0u16; 4296];
+    let mut work = [0u64; 256];
+    let p = first_half(book, contents, agent, lent, &mut image, &mut work);
+    let count = p.count;
+    lent::pass(instructions, &mut work, count);
+    second_half(contents, &image, &work, p)
+}
+
+// The answer for C: number × 2^48 + p × 2^24 + q.
 #[no_mangle]
 pub extern "C" fn rental_step(book: &[u8], contents: &mut [u16], agent: usize, lent: usize) -> u64
     ensures { λ r. ⌜ r ≡ packed (step-call (now (book .entry)) (now (contents .entry)) agent lent .answer) ⌝ }
     ensures { λ _. ⌜ now (contents .exit) ≡ step-call (now (book .entry)) (now (contents .entry)) agent lent .contents ⌝ }
 {
-    let a = step_core(book, contents, agent, lent);
+    let mut list = [0u64; 256];
+    let t = step_into(book, contents, agent, lent, &mut list);
+    let a = t.answer;
     a.number as u64 * 281474976710656 + a.p as u64 * 16777216 + a.q as u64
 }

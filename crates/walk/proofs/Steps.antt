@@ -1,10 +1,9 @@
--- Laws of the walk's steps: instructions as numbers, states and their outcomes, scopes, the search for a label.
+-- Laws of the walk's steps: states and their outcomes, scopes, the search for a label.
 use mathlib.Core.Path.{_≡_, refl, ap, sym, _∙_}
 use mathlib.Core.Bool.{Bool, true, false, _&&_, not}
 use mathlib.Core.List.{List, [], _∷_, _++_, map, map-append}
-use Prim.Native.Nat.{ℕ, zero, suc, _+_, _-_, _*_, _/_, _%_, _≤_, _<_}
+use Prim.Native.Nat.{ℕ, zero, suc, _+_, _-_, _≤_, _<_}
 use native.Mathlib.Numerals.{add-one}
-use native.Mathlib.Nat.{mul-add-div-right, mul-add-mod-self-right, div-eq-of-lt, mod-eq-of-lt}
 use native.Mathlib.Omega.{arith}
 use lib.Dec.{eqb, ltb}
 use lib.ListN.{length, getD, set, take, length-map, length-take}
@@ -21,27 +20,12 @@ use Rattle.engine.specs.declared.Instruction.the-variants.{Update, Release}
 use Rattle.engine.specs.Look.{Look, done, read, gives, seen, _>>=_}
 use Rattle.engine.specs.Move.{dynamic-among}
 use Rattle.engine.specs.Rule.{Rule, skip, Walk, Walked, going, met, _then_, after, give, lowest, import-of, not-free, walk}
+use Rattle.records.specs.Code.{decode-of, items}
 use Rattle.term.specs.Held.{variables-of, agent-of}
 use Rattle.term.specs.Marks.{mark-one, marked, Placed, Runs}
 use Rattle.term.proofs.Marking.{runs-done}
 use Rattle.walk.specs.declared.State.{State}
-use Rattle.walk.specs.Walk.{decode-of, walk-of, outcome, refused-by, setting, freeing, taking, found-below, rule-from}
-
--- ---- instructions
-
-pub decode-update : (l v : ℕ) → l < 4294967296 → v < 65536 → decode-of (l * 65536 + v) ≡ Update l v
-unfolding decode-of
-decode-update l v h k =
-    let d : (l * 65536 + v) / 65536 ≡ l = mul-add-div-right {m = 65536} (omega arith) l v ∙ rw (div-eq-of-lt k) (omega arith) in
-    let e : (l * 65536 + v) % 65536 ≡ v = mul-add-mod-self-right l 65536 v ∙ mod-eq-of-lt k in
-    rw (lt-ltb (l * 65536 + v) 281474976710656 (omega arith), d, e)
-
-pub decode-release : (x : ℕ) → x < 65536 → decode-of (281474976710656 + x) ≡ Release x
-unfolding decode-of
-decode-release x h =
-    let q : 281474976710656 + x ≡ 4294967296 * 65536 + x = omega arith in
-    let e : (281474976710656 + x) % 65536 ≡ x = rw q (mul-add-mod-self-right 4294967296 65536 x ∙ mod-eq-of-lt h) in
-    rw (le-ltb (281474976710656 + x) 281474976710656 (omega arith), e)
+use Rattle.walk.specs.Walk.{walk-of, outcome, refused-by, setting, freeing, taking, found-below, rule-from}
 
 -- ---- outcomes
 
@@ -56,15 +40,15 @@ outcome-met s l e = rw (ne-eqb (s .refused) 0 e)
 -- one instruction more, or 14
 module _ (s : State) (l : List ℕ) (i : Instruction) (n : ℕ) where
   pub give-room : (v : ℕ) → s .len < 256 → s .len < length l → decode-of v ≡ i
-      → going (record { made = map decode-of (take (s .len + 1) (set l (s .len) v)); next = s .label }) ≡ give n i (walk-of s l)
+      → going (record { made = items (set l (s .len) v) (s .len + 1); next = s .label }) ≡ give n i (walk-of s l)
   give-room v h j e =
-      let k : length (map decode-of (take (s .len) l)) < 256 = rw (length-map, length-take) (omega arith) in
-      rw (lt-ltb (length (map decode-of (take (s .len) l))) 256 k, add-one, take-suc-set l (s .len) v j, map-append, e)
+      let k : length (items l (s .len)) < 256 = rw (length-map, length-take) (omega arith) in
+      rw (lt-ltb (length (items l (s .len))) 256 k, add-one, take-suc-set l (s .len) v j, map-append, e)
 
   pub give-full : 256 ≤ length l → 256 ≤ s .len → met list-full n ≡ give n i (walk-of s l)
   give-full long h =
-      let k : 256 ≤ length (map decode-of (take (s .len) l)) = rw (length-map, length-take) (omega arith) in
-      rw (le-ltb (length (map decode-of (take (s .len) l))) 256 k)
+      let k : 256 ≤ length (items l (s .len)) = rw (length-map, length-take) (omega arith) in
+      rw (le-ltb (length (items l (s .len))) 256 k)
 
 -- ---- scopes
 

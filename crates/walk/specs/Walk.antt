@@ -1,31 +1,26 @@
 -- What the walk's code holds: its state, the list of instructions as numbers, and the outcome that they stand for.
 use mathlib.Core.Bool.{Bool, _&&_, not}
-use mathlib.Core.List.{List, map}
-use Prim.Native.Nat.{ℕ, _/_, _%_, _≤_}
+use mathlib.Core.List.{List}
+use Prim.Native.Nat.{ℕ, _≤_}
 use lib.Dec.{eqb, ltb}
-use lib.ListN.{length, getD, take, set}
+use lib.ListN.{length, getD, set}
 use Rattle.text.specs.Words.{if_then_else_}
 use Rattle.text.specs.Refusals.{non-boolean, not-releasable}
 use Rattle.text.specs.declared.Found.{Found}
 use Rattle.text.specs.declared.Found.the-variants.{Nowhere, Here}
 use Rattle.book.specs.declared.Node.{Node}
 use Rattle.book.specs.Book.{true-element, false-element, boolean, relation, Book, function-at, node-at, location, reserve}
-use Rattle.engine.specs.declared.Instruction.{Instruction}
 use Rattle.engine.specs.declared.Instruction.the-variants.{Update, Release}
 use Rattle.engine.specs.Look.{Look, done, gives}
 use Rattle.engine.specs.Rule.{Rule, rule-shape, rule-tree, Walk, Walked, going, met, _then_, most-instructions, give, take-label, refuse-if, not-free, members, each, walk}
+use Rattle.records.specs.Code.{items}
 use Rattle.term.specs.Held.{held, variables-of, agent-of}
 use Rattle.walk.specs.declared.State.{State}
-
--- ---- an instruction as a number: below 2 ^ 48 an update, its location before its value; from there on a release
-
-unfoldable pub decode-of : ℕ → Instruction
-decode-of c = if ltb c 281474976710656 then Update (c / 65536) (c % 65536) else Release (c % 65536)
 
 -- ---- a state and the list that goes with it
 
 abbrev pub walk-of : State → List ℕ → Walk
-walk-of s l = record { made = map decode-of (take (s .len) l); next = s .label }
+walk-of s l = record { made = items l (s .len); next = s .label }
 
 -- the list has room for all instructions of a move
 abbrev pub Room : List ℕ → Type 0

@@ -17,7 +17,7 @@ ghost use Rattle.engine.specs.Rule.{assign, import, _then_, after, give, member
 ghost use Rattle.term.specs.Held.{held, variables-of, agent-of};
 ghost use Rattle.term.specs.Marks.{noted, marked, Placed, Runs};
 ghost use Rattle.walk.specs.Gather.{agent-row, masked, cleared, Gathered};
-ghost use Rattle.walk.specs.Walk.{Room, decode-of, walk-of, outcome, refused-by, setting, freeing, taking, found-below, rule-from, walk-at, member-at, sweep-at};
+ghost use Rattle.walk.specs.Walk.{Room, walk-of, outcome, refused-by, setting, freeing, taking, found-below, rule-from, walk-at, member-at, sweep-at};
 
 // How far a walk is: how many instructions it has given, the label from which the next import looks,
 // its refusal (0 for none) and the refusal's node.
@@ -26,31 +26,6 @@ pub struct State {
     pub label: u16,
     pub refused: u32,
     pub node: u16,
-}
-
-// An instruction as a number, and back.
-pub fn code(i: Instruction) -> u64
-    ensures { λ r. ⌜ decode-of r ≡ i ⌝ }
-{
-    match i {
-        Instruction::Update { location, value } => location as u64 * 65536 + value as u64,
-        Instruction::Release { label } => 281474976710656 + label as u64,
-    }
-}
-
-pub fn decode(c: u64) -> Instruction
-    ensures { λ r. ⌜ r ≡ decode-of c ⌝ }
-{
-    if c < 281474976710656 {
-        Instruction::Update {
-            location: (c / 65536) as u32,
-            value: (c % 65536) as u16,
-        }
-    } else {
-        Instruction::Release {
-            label: (c % 65536) as u16,
-        }
-    }
 }
 
 // The smaller of two.
@@ -85,7 +60,7 @@ pub fn give(list: &mut [u64], s: State, i: Instruction, n: u16) -> State
     let at = s.len;
     let room = smaller(256, list.len());
     if at < room {
-        list[at] = code(i);
+        list[at] = records::code(i);
         State {
             len: at + 1,
             label: s.label,

@@ -8,7 +8,7 @@ use lib.Dec.{eqb, ltb, leb}
 use lib.ListN.{length, getD, take, drop, set, length-set}
 use Rattle.book.specs.Image.{book-in}
 use Rattle.engine.specs.Move.{other, values}
-use Rattle.firing.specs.Code.{items}
+use Rattle.records.specs.Code.{items}
 use Rattle.firing.specs.Steps.{own, gets, any, gives, spot}
 use Rattle.firing.proofs.Laws.{other-any}
 use borrow.Author.Needs.{needs}

@@ -6,7 +6,7 @@ use borrow.Author.Needs.{needs}
 use Rattle.text.specs.declared.Found.the-variants.{Nowhere, Here}
 use Rattle.book.specs.Book.{L}
 use Rattle.book.specs.Image.{book-in}
-use Rattle.firing.specs.Code.{items}
+use Rattle.records.specs.Code.{items}
 use Rattle.firing.specs.Outcome.{clash-by}
 use Rattle.firing.proofs.Best.{best-least, best-none}
 use Rattle.firing.proofs.clash.Statement.{statement}

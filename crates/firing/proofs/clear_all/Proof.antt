@@ -9,7 +9,7 @@ use lib.Dec.{eqb, ltb, leb}
 use lib.ListN.{length, getD, take, drop, set, length-set}
 use Rattle.book.specs.Image.{book-in}
 use Rattle.engine.specs.declared.Instruction.{Instruction}
-use Rattle.firing.specs.Code.{decode-of, items}
+use Rattle.records.specs.Code.{decode-of, items}
 use Rattle.firing.specs.Steps.{clear-of, clear-marks-of, clears, clear-marks}
 use Rattle.firing.proofs.Laws.{items-cons, items-end}
 use Rattle.firing.proofs.clear_all.Statement.{statement}
@@ -17,7 +17,7 @@ use Rattle.firing.proofs.clear_all.Tie as tie
 use Rattle.firing.proofs.clear_all.Reads as reads
 use Rattle.firing.proofs.clear_all.Lts as lts
 use Rattle.firing.proofs.clear_for.Reads as clear-for-reads
-use Rattle.firing.proofs.decode.Reads as decode-reads
+use Rattle.records.proofs.decode.Reads as decode-reads
 use Rattle.firing.proofs.smaller.Reads as smaller-reads
 
 abbrev Inv-loop : tie.InvT-loop

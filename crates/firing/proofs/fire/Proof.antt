@@ -7,7 +7,7 @@ use borrow.Author.Tests.{le-ltb, lt-ltb, lt-leb, le-leb, eq-eqb, ne-eqb}
 use lib.Dec.{eqb, ltb, leb}
 use lib.ListN.{length, getD, take, drop, set, length-set}
 use Rattle.book.specs.Image.{book-in}
-use Rattle.firing.specs.Code.{items}
+use Rattle.records.specs.Code.{items}
 use Rattle.firing.specs.Steps.{puts, put-marks}
 use Rattle.firing.proofs.Fires.{fired-is, marked-is}
 use borrow.Author.Needs.{needs}

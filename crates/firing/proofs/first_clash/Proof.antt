@@ -10,7 +10,7 @@ use lib.ListN.{length, getD, take, drop, set, length-set}
 use Rattle.book.specs.Book.{L}
 use Rattle.book.specs.Image.{book-in}
 use Rattle.engine.specs.declared.Instruction.{Instruction}
-use Rattle.firing.specs.Code.{decode-of, items}
+use Rattle.records.specs.Code.{decode-of, items}
 use Rattle.firing.specs.Steps.{better, best}
 use Rattle.firing.proofs.Laws.{items-cons, items-end}
 use Rattle.firing.proofs.first_clash.Statement.{statement}
@@ -18,7 +18,7 @@ use Rattle.firing.proofs.first_clash.Tie as tie
 use Rattle.firing.proofs.first_clash.Reads as reads
 use Rattle.firing.proofs.first_clash.Lts as lts
 use Rattle.firing.proofs.better_of.Reads as better-of-reads
-use Rattle.firing.proofs.decode.Reads as decode-reads
+use Rattle.records.proofs.decode.Reads as decode-reads
 use Rattle.firing.proofs.smaller.Reads as smaller-reads
 use Rattle.table.proofs.total.Reads as total-reads
 

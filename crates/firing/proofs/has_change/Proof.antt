@@ -8,7 +8,7 @@ use borrow.Author.Tests.{le-ltb, lt-ltb, lt-leb, le-leb, eq-eqb, ne-eqb}
 use lib.Dec.{eqb, ltb, leb}
 use lib.ListN.{length, getD, take, drop, set, length-set}
 use Rattle.engine.specs.declared.Instruction.{Instruction}
-use Rattle.firing.specs.Code.{items}
+use Rattle.records.specs.Code.{items}
 use Rattle.firing.specs.Steps.{any}
 use Rattle.firing.proofs.Laws.{next, found, ended}
 use Rattle.firing.specs.Steps.{change}
@@ -17,7 +17,7 @@ use Rattle.firing.proofs.has_change.Tie as tie
 use Rattle.firing.proofs.has_change.Reads as reads
 use Rattle.firing.proofs.has_change.Lts as lts
 use Rattle.firing.proofs.changes_own.Reads as changes-own-reads
-use Rattle.firing.proofs.decode.Reads as decode-reads
+use Rattle.records.proofs.decode.Reads as decode-reads
 use Rattle.firing.proofs.smaller.Reads as smaller-reads
 
 abbrev Inv-loop : tie.InvT-loop

@@ -1,4 +1,5 @@
 use Rattle.book.specs.Book.{L}
+use Rattle.records.specs.Code.{items}
 use Rattle.firing.specs.Steps.{any, change}
 use mathlib.Core.Path.{_≡_, refl, sym, ap, ap₂, _∙_}
 use mathlib.Core.Bool.{Bool, true, false, _&&_, _||_, not}
@@ -9,7 +10,6 @@ use borrow.Author.Tests.{le-ltb, lt-ltb, lt-leb, le-leb, eq-eqb, ne-eqb}
 use lib.Dec.{eqb, ltb, leb}
 use lib.ListN.{length, getD, take, drop, set, length-set}
 use Rattle.book.specs.Image.{book-in}
-use Rattle.firing.specs.Code.{items}
 use Rattle.firing.proofs.Idle.{idle-is}
 use borrow.Author.Needs.{needs}
 use Rattle.firing.proofs.is_idle.Statement.{statement}

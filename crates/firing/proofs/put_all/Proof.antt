@@ -8,7 +8,7 @@ use borrow.Author.Tests.{le-ltb, lt-ltb, lt-leb, le-leb, eq-eqb, ne-eqb}
 use lib.Dec.{eqb, ltb, leb}
 use lib.ListN.{length, getD, take, drop, set, length-set}
 use Rattle.engine.specs.declared.Instruction.{Instruction}
-use Rattle.firing.specs.Code.{decode-of, items}
+use Rattle.records.specs.Code.{decode-of, items}
 use Rattle.firing.specs.Outcome.{mark}
 use Rattle.firing.specs.Steps.{own, gets, puts, put-marks}
 use Rattle.firing.proofs.Laws.{items-cons, items-end}
@@ -16,7 +16,7 @@ use Rattle.firing.proofs.put_all.Statement.{statement}
 use Rattle.firing.proofs.put_all.Tie as tie
 use Rattle.firing.proofs.put_all.Reads as reads
 use Rattle.firing.proofs.put_all.Lts as lts
-use Rattle.firing.proofs.decode.Reads as decode-reads
+use Rattle.records.proofs.decode.Reads as decode-reads
 use Rattle.firing.proofs.own_location.Reads as own-location-reads
 use Rattle.firing.proofs.own_value.Reads as own-value-reads
 use Rattle.firing.proofs.put.Reads as put-reads

@@ -1,70 +1,46 @@
-use mathlib.Core.List.{[]}
-use Rattle.book.specs.Image.{book-in}
-use Rattle.moves.proofs.Effect.{room, refused-state, finished-state}
+-- `fire_move` meets its contract.
+use mathlib.Core.Path.{_≡_, refl}
+use native.Mathlib.Omega.{arith}
+use lib.ListN.{length}
 use borrow.Author.Needs.{needs}
+use Rattle.moves.specs.Effect.{tables}
 use Rattle.moves.proofs.fire_move.Statement.{statement}
 use Rattle.moves.proofs.fire_move.Tie as tie
 use Rattle.moves.proofs.fire_move.Reads as reads
 use Rattle.moves.proofs.fire_move.Lts as lts
-use Rattle.moves.proofs.finish.Reads as finish-reads
+use Rattle.moves.proofs.settle_move.Reads as settle-move-reads
 use Rattle.walk.proofs.gather.Reads as gather-reads
 
--- src/lib.rt:127:57
-slice-aggregate-gather : tie.Need-slice-aggregate-gather
-slice-aggregate-gather c = search needs
-
--- src/lib.rt:127:9
+-- src/lib.rt:159:9
 gather-requires : tie.Need-gather-requires
 gather-requires c κs = search needs
 
--- src/lib.rt:131:16
-cast-t16 : tie.Need-cast-t16
-cast-t16 c = search needs
+-- src/lib.rt:160:5
+settle-move-requires : tie.Need-settle-move-requires
+settle-move-requires c κs = search needs
 
--- src/lib.rt:129:9
+-- src/lib.rt:147:1
 same-length : tie.Need-same-length
 same-length c = search needs
 
--- src/lib.rt:129:9
+-- src/lib.rt:147:1
 same-length-2 : tie.Need-same-length-2
 same-length-2 c = search needs
 
--- src/lib.rt:129:9
-returns : tie.Need-returns
-returns c = let a = c .before .before .before .before .before .before .before .before .before .before .before .before .before .args in λ fit. refused-state (book-in (a .image .now) []) (a .agent) (a .bit) (a .contents .now) (a .readers .now) (a .writers .now) fit (c .before .before .before .before .before .before .gather .result) (c .before .before .before .before .before .before .gather .last .1 .1 .1 .1 .0) (c .before .before .before .before .before .before .gather .last .1 .1 .0) (c .before .before .before .before .before .before .gather .ensures room) (c .before .if1 .taken)
-
--- src/lib.rt:134:5
-finish-requires : tie.Need-finish-requires
-finish-requires c κs = search needs
-
--- src/lib.rt:116:1
+-- src/lib.rt:147:1
 same-length-3 : tie.Need-same-length-3
 same-length-3 c = search needs
 
--- src/lib.rt:116:1
-same-length-4 : tie.Need-same-length-4
-same-length-4 c = search needs
-
--- src/lib.rt:116:1
-same-length-5 : tie.Need-same-length-5
-same-length-5 c = search needs
-
--- src/lib.rt:116:1
-returns-2 : tie.Need-returns-2
-returns-2 c = let a = c .before .before .before .before .before .before .before .before .before .before .before .before .before .before .before .before .before .before .before .before .before .before .before .args in λ fit. finished-state (book-in (a .image .now) []) (a .agent) (a .bit) (a .contents .now) (a .readers .now) (a .writers .now) fit (c .before .before .before .before .before .before .before .before .before .before .before .before .before .before .before .before .gather .result) (c .before .before .before .before .before .before .before .before .before .before .before .before .before .before .before .before .gather .last .1 .1 .1 .1 .0) (c .before .before .before .before .before .before .before .before .before .before .before .before .before .before .before .before .gather .last .1 .1 .0) (c .before .before .before .before .before .before .before .before .before .before .before .before .before .before .before .before .gather .ensures room) (c .before .before .before .before .before .before .before .before .before .before .before .if1 .left) (c .before .before .before .before .before .before .finish .result) (c .before .before .before .before .before .before .finish .last .1 .0) (c .before .before .before .before .before .before .finish .last .1 .1 .0) (c .before .before .before .before .before .before .finish .last .1 .1 .1 .0) (c .before .before .before .before .before .before .finish .ensures)
+-- src/lib.rt:147:1
+returns : tie.Need-returns
+returns c =
+    let a = c .before .before .before .before .before .before .before .before .before .before .before .before .before .before .before .before .before .before .before .before .args in
+    let g = c .before .before .before .before .before .before .before .before .before .before .before .before .before .gather in
+    let s = c .before .before .before .before .before .before .settle-move in
+    let long : length (a .list .now) ≡ 256 = let h = c .before .before .before .before .before .before .before .before .before .before .before .before .before .before .gather-arg3 .given in search needs in
+    (λ fit. s .ensures .0 (a .agent) (tables (a .contents .now) (a .readers .now) (a .writers .now)) (record { fit = fit; contents = refl; readers = g .ensures (omega arith); writers = refl }), s .ensures .1)
 
 pub fire-move-spec : {M : Type 1} → statement M
 fire-move-spec =
     tie.close
-    (tie.spec
-    slice-aggregate-gather
-    gather-requires
-    cast-t16
-    same-length
-    same-length-2
-    returns
-    finish-requires
-    same-length-3
-    same-length-4
-    same-length-5
-    returns-2)
+    (tie.spec gather-requires settle-move-requires same-length same-length-2 same-length-3 returns)

@@ -2,7 +2,7 @@ use mathlib.Core.Path.{sym, _∙_}
 use mathlib.Core.List.{[]}
 use Rattle.book.specs.Image.{book-in}
 use Rattle.engine.specs.Move.{released}
-use Rattle.firing.specs.Code.{items}
+use Rattle.records.specs.Code.{items}
 use Rattle.moves.proofs.Releases.{rest-some, rest-none}
 use borrow.Author.Needs.{needs}
 use Rattle.moves.proofs.mark_rest.Statement.{statement}

@@ -1,0 +1,71 @@
+// The instruction list that a caller lends: filled from the numbers that a walk gives, and scanned
+// into numbers again.
+use engine::Record;
+ghost use mathlib.Core.Path.{_≡_};
+ghost use mathlib.Core.List.{map};
+ghost use Prim.Native.Nat.{ℕ, _≤_, min};
+ghost use lib.ListN.{length, take};
+ghost use Rattle.records.specs.Code.{decode-of, items};
+ghost use Rattle.lent.specs.Written.{what-of, written};
+
+// The record that a number stands for, and a number that stands for a record.
+pub fn record_of(c: u64) -> Record
+    ensures { λ r. ⌜ r ≡ record { what = decode-of c } ⌝ }
+{
+    Record {
+        what: records::decode(c),
+    }
+}
+
+pub fn number_of(r: Record) -> u64
+    ensures { λ c. ⌜ decode-of c ≡ r .what ⌝ }
+{
+    let what = r.what;
+    records::code(what)
+}
+
+fn smaller(a: usize, b: usize) -> usize
+    ensures { λ r. ⌜ r ≡ min a b ⌝ }
+{
+    if a < b { a } else { b }
+}
+
+// The least of three.
+pub fn least(a: usize, b: usize, c: usize) -> usize
+    ensures { λ r. ⌜ r ≡ min a (min b c) ⌝ }
+{
+    smaller(a, smaller(b, c))
+}
+
+// The first n records of the list are those that the first n numbers stand for; every other is as
+// it was.
+pub fn fill(list: &mut [Record], from: &[u64], n: usize)
+    ensures { λ _. ⌜ now (list .exit) ≡ written (items (now (from .entry)) n) (now (list .entry)) ⌝ }
+{
+    let m = least(n, list.len(), from.len());
+    let mut i: usize = 0;
+    while i < m {
+        list[i] = record_of(from[i]);
+        i = i + 1;
+    }
+}
+
+// The first n numbers stand for the first n records of the list.
+pub fn load(list: &[Record], to: &mut [u64], n: usize)
+    ensures { λ _. ⌜ (n ≤ length (now (list .entry)) → n ≤ length (now (to .entry)) → items (now (to .exit)) n ≡ map what-of (take n (now (list .entry)))) ⌝ }
+{
+    let m = least(n, list.len(), to.len());
+    let mut i: usize = 0;
+    while i < m {
+        to[i] = number_of(list[i]);
+        i = i + 1;
+    }
+}
+
+// The first n numbers go through the list: they are filled in, and scanned again.
+pub fn pass(list: &mut [Record], work: &mut [u64], n: usize)
+    ensures { λ _. ⌜ (now (list .exit) ≡ written (items (now (work .entry)) n) (now (list .entry))) × (n ≤ length (now (list .entry)) → n ≤ length (now (work .entry)) → items (now (work .exit)) n ≡ items (now (work .entry)) n) ⌝ }
+{
+    fill(list, work, n);
+    load(list, work, n);
+}

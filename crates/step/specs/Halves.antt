@@ -1,0 +1,36 @@
+-- The single-move entry in two halves, between which the move's instructions go through the lent list.
+use mathlib.Core.Path.{_≡_}
+use mathlib.Core.Logic.{_≢_}
+use mathlib.Core.List.{List, []}
+use Prim.Native.Nat.{ℕ, _≤_, min}
+use lib.Dec.{eqb}
+use lib.ListN.{length, take}
+use Rattle.text.specs.Words.{if_then_else_}
+use Rattle.book.specs.Book.{Book, L}
+use Rattle.book.specs.Image.{book-in}
+use Rattle.engine.specs.Rule.{most-instructions}
+use Rattle.engine.specs.Single.{step-move, step-call}
+use Rattle.walk.specs.declared.State.{State}
+use Rattle.moves.specs.Effect.{tables, After}
+use Rattle.step.specs.declared.Paused.{Paused}
+use Rattle.step.specs.Stages.{Tells}
+
+-- how many instructions a walk gave: none if it was refused
+abbrev pub given-of : State → ℕ
+given-of s = if eqb (s .refused) 0 then min (s .len) most-instructions else 0
+
+-- agent k's walk in the first records of the table c came to the state s with the list l
+pub record On (B : Book) (c : List ℕ) (k : ℕ) (l : List ℕ) (s : State) : Type 0 where
+  pub long : L B ≤ length c
+  pub after : After B k 1 (tables (take (L B) c) [] []) s l (tables (take (L B) c) [] [])
+
+-- the call that was not refused before its move, whose image is m
+pub record Walks (text c : List ℕ) (k n : ℕ) (m l : List ℕ) (s : State) : Type 0 where
+  pub lent : most-instructions ≤ n
+  pub on : On (book-in m []) c k l s
+  pub whole : step-move (book-in m []) c k ≡ step-call text c k n
+
+-- a call up to the list
+pub record Halfway (text c : List ℕ) (k n : ℕ) (m l : List ℕ) (p : Paused) : Type 0 where
+  pub stops : p .answer .number ≢ 0 → (p .count ≡ 0) × Tells (record { answer = p .answer; len = 0 }) l c (step-call text c k n)
+  pub walks : p .answer .number ≡ 0 → (p .count ≡ given-of (p .walk)) × Walks text c k n m l (p .walk)
