@@ -2,21 +2,22 @@
 use mathlib.Core.Path.{_≡_, refl, sym, _∙_, ap}
 use mathlib.Core.Bool.{Bool, true, false, not, _&&_, _||_}
 use mathlib.Core.List.{List}
-use Prim.Native.Nat.{ℕ, zero, suc, _+_, _-_, _*_, _<_, _≤_}
+use Prim.Native.Nat.{ℕ, zero, suc, _+_, _-_, _*_, _/_, _%_, _^_, _<_, _≤_}
 use native.Mathlib.Numerals.{add-one}
 use native.Mathlib.Omega.{arith}
 use native.Mathlib.Decide.{decLt}
 use borrow.Author.Tests.{lt-ltb, le-ltb, le-leb, ne-eqb, eqb-true, eqb-false}
+use lib.Bits.{bitOr, or-block, or-lt, or-zero-r}
 use lib.Dec.{eqb, ltb, leb}
 use lib.ListN.{length, getD, set, replicate, length-set, length-replicate, getD-replicate}
 use lib.Seq.{getD-set-same, getD-set-other}
 use Rattle.text.specs.Words.{if_then_else_, one-if, some-below}
 use Rattle.book.specs.declared.Node.{Node}
 use Rattle.book.specs.Book.{Book, node-at, agent-at}
-use Rattle.book.specs.Kinds.{is-node, forall-kind}
+use Rattle.book.specs.Kinds.{is-node, is-binder, forall-kind}
 use Rattle.book.specs.Use.{is-root, places, uses, bad-use}
-use Rattle.book.specs.Around.{put-if, hand, handed, deeper, as-it-is, forall-more, bound-more, depths, foralls, bounds, misplaced, misplaced-by, bad-around}
-use Rattle.around.specs.Tables.{one-more, bumped, counted, rooted, tallied, up-to-33, deeper-33, forall-33, depths-to, foralls-to, bounds-to}
+use Rattle.book.specs.Around.{bit-of, put-if, hand, handed, deeper, as-it-is, forall-more, bound-more, depths, foralls, bounds, misplaced, bad-around}
+use Rattle.around.specs.Tables.{one-more, bumped, counted, rooted, tallied, depth-of, foralls-of, bound-of, below, in-forall, in-binder, to-ab, to-c, misplaced-at}
 
 -- ---- one step of each loop
 
@@ -165,7 +166,7 @@ used-once B n s h p =
       cap-one (one-if r + uses B n (length (B .nodes))),
     )
 
--- ---- two tables handed down side by side: the one by ab and c, the other what g makes of it
+-- ---- two tables handed down side by side: the one by ab and c, the other by ab′ and c′, with R between what they say of a node
 
 length-put-if : (on : Bool) (x v : ℕ) (s : List ℕ) → length (put-if on x v s) ≡ length s
 length-put-if true x v s = length-set s x v
@@ -180,21 +181,21 @@ unfolding handed
 length-handed B ab c zero s = refl
 length-handed B ab c (suc k) s = length-hand _ _ _ _ ∙ length-handed B ab c k s
 
-module _ (g : ℕ → ℕ) (N : ℕ) where
+module _ (R : ℕ → ℕ → Type 0) (N : ℕ) where
   abbrev Beside : List ℕ → List ℕ → Type 0
-  Beside s t = (n : ℕ) → n < N → getD t n 0 ≡ g (getD s n 0)
+  Beside s t = (n : ℕ) → n < N → R (getD s n 0) (getD t n 0)
 
   put-beside :
-      (on : Bool) (x v v′ : ℕ) (s t : List ℕ) → N ≤ length s → N ≤ length t → v′ ≡ g v → Beside s t → Beside (put-if on x v s) (put-if on x v′ t)
+      (on : Bool) (x v v′ : ℕ) (s t : List ℕ) → N ≤ length s → N ≤ length t → R v v′ → Beside s t → Beside (put-if on x v s) (put-if on x v′ t)
   put-beside false x v v′ s t hs ht e b n h = b n h
   put-beside true x v v′ s t hs ht e b n h = rw (set-at s x n v (omega arith), set-at t x n v′ (omega arith)) (go (eqb x n))
     where
-      go : (d : Bool) → (if d then v′ else getD t n 0) ≡ g (if d then v else getD s n 0)
+      go : (d : Bool) → R (if d then v else getD s n 0) (if d then v′ else getD t n 0)
       go true = e
       go false = b n h
 
   hand-beside :
-      (y : Node) (v w v′ w′ : ℕ) (s t : List ℕ) → N ≤ length s → N ≤ length t → v′ ≡ g v → w′ ≡ g w → Beside s t → Beside (hand y v w s) (hand y v′ w′ t)
+      (y : Node) (v w v′ w′ : ℕ) (s t : List ℕ) → N ≤ length s → N ≤ length t → R v v′ → R w w′ → Beside s t → Beside (hand y v w s) (hand y v′ w′ t)
   unfolding hand
   hand-beside y v w v′ w′ s t hs ht e f b =
       let s1 : List ℕ = put-if (is-node (y .kind) 0) (y .a) v s in
@@ -210,7 +211,7 @@ module _ (g : ℕ → ℕ) (N : ℕ) where
       put-beside (is-node (y .kind) 2) (y .c) w w′ s2 t2 (omega arith) (omega arith) f b2
 
   module _ (B : Book) (is : N ≡ length (B .nodes)) (ab c ab′ c′ : Node → ℕ → ℕ)
-      (eab : (y : Node) (v : ℕ) → ab′ y (g v) ≡ g (ab y v)) (ec : (y : Node) (v : ℕ) → c′ y (g v) ≡ g (c y v)) where
+      (eab : (y : Node) (x v : ℕ) → R x v → R (ab y x) (ab′ y v)) (ec : (y : Node) (x v : ℕ) → R x v → R (c y x) (c′ y v)) where
     handed-beside :
         (k : ℕ) (s t : List ℕ) → k ≤ N → N ≤ length s → N ≤ length t → Beside s t → Beside (handed B ab c k s) (handed B ab′ c′ k t)
     unfolding handed
@@ -221,14 +222,16 @@ module _ (g : ℕ → ℕ) (N : ℕ) where
         let m : ℕ = length (B .nodes) - suc k in
         let y : Node = node-at B m in
         let r : Beside s1 t1 = handed-beside k s t (omega arith) hs ht b in
-        let e : getD t1 m 0 ≡ g (getD s1 m 0) = r m (omega arith) in
+        let e : R (getD s1 m 0) (getD t1 m 0) = r m (omega arith) in
         let p : length s1 ≡ length s = length-handed B ab c k s in
         let q : length t1 ≡ length t = length-handed B ab′ c′ k t in
         hand-beside y (ab y (getD s1 m 0)) (c y (getD s1 m 0)) (ab′ y (getD t1 m 0)) (c′ y (getD t1 m 0)) s1 t1 (omega arith) (omega arith)
-        (ap (ab′ y) e ∙ eab y (getD s1 m 0)) (ap (c′ y) e ∙ ec y (getD s1 m 0)) r
+        (eab y (getD s1 m 0) (getD t1 m 0) e) (ec y (getD s1 m 0) (getD t1 m 0) e) r
 
--- 33 stands for all above 32
-abbrev pub low-33 : ℕ → ℕ
+-- ---- what one number says of depth, foralls and bound variables
+
+-- 33 stands for all depths above 32
+abbrev low-33 : ℕ → ℕ
 low-33 d = if ltb d 33 then d else 33
 
 low33 : (d : ℕ) → d < 33 → low-33 d ≡ d
@@ -237,13 +240,149 @@ low33 d h = simp (lt-ltb d 33 h)
 high33 : (d : ℕ) → 33 ≤ d → low-33 d ≡ 33
 high33 d h = simp (le-ltb d 33 h)
 
-deeper33 : (d : ℕ) → up-to-33 (low-33 d) ≡ low-33 (d + 1)
-deeper33 d = go (decLt d 33) (decLt d 32)
+pub bit-small : (v : ℕ) → bit-of v < 256
+unfolding bit-of
+bit-small zero = omega arith
+bit-small (suc zero) = omega arith
+bit-small (suc (suc zero)) = omega arith
+bit-small (suc (suc (suc zero))) = omega arith
+bit-small (suc (suc (suc (suc zero)))) = omega arith
+bit-small (suc (suc (suc (suc (suc zero))))) = omega arith
+bit-small (suc (suc (suc (suc (suc (suc zero)))))) = omega arith
+bit-small (suc (suc (suc (suc (suc (suc (suc zero))))))) = omega arith
+bit-small (suc (suc (suc (suc (suc (suc (suc (suc v)))))))) = omega arith
+
+pub bit-shift : (v : ℕ) → v < 8 → (1 * 2 ^ v) % 4294967296 ≡ bit-of v
+unfolding bit-of
+bit-shift zero h = refl
+bit-shift (suc zero) h = refl
+bit-shift (suc (suc zero)) h = refl
+bit-shift (suc (suc (suc zero))) h = refl
+bit-shift (suc (suc (suc (suc zero)))) h = refl
+bit-shift (suc (suc (suc (suc (suc zero))))) h = refl
+bit-shift (suc (suc (suc (suc (suc (suc zero)))))) h = refl
+bit-shift (suc (suc (suc (suc (suc (suc (suc zero))))))) h = refl
+bit-shift (suc (suc (suc (suc (suc (suc (suc (suc v)))))))) h = absurd (omega arith)
+
+-- below: one deeper, and the rest as it was
+module _ (v : ℕ) where
+  below-low : v / 1024 < 32 → below v ≡ v + 1024
+  below-low h = simp (lt-ltb (v / 1024) 32 h)
+
+  below-high : 32 ≤ v / 1024 → below v ≡ v
+  below-high h = simp (le-ltb (v / 1024) 32 h)
+
+  foralls-below : foralls-of (below v) ≡ foralls-of v
+  foralls-below = go (decLt (v / 1024) 32)
+    where
+      go : Dec (v / 1024 < 32) → foralls-of (below v) ≡ foralls-of v
+      go (yes h) = rw (below-low h) (omega arith)
+      go (no h) = rw (below-high (omega arith))
+
+  bound-below : bound-of (below v) ≡ bound-of v
+  bound-below = go (decLt (v / 1024) 32)
+    where
+      go : Dec (v / 1024 < 32) → bound-of (below v) ≡ bound-of v
+      go (yes h) = rw (below-low h) (omega arith)
+      go (no h) = rw (below-high (omega arith))
+
+depth-step : (d v : ℕ) → depth-of v ≡ low-33 d → depth-of (below v) ≡ low-33 (d + 1)
+depth-step d v e = go (decLt d 33) (decLt d 32)
   where
-    go : Dec (d < 33) → Dec (d < 32) → up-to-33 (low-33 d) ≡ low-33 (d + 1)
-    go (no h) x = rw (high33 d (omega arith), high33 (d + 1) (omega arith))
-    go (yes h) (yes k) = rw (low33 d h, low33 (d + 1) (omega arith)) (simp (lt-ltb d 33 h))
-    go (yes h) (no k) = let e : d ≡ 32 = omega arith in rw e
+    go : Dec (d < 33) → Dec (d < 32) → depth-of (below v) ≡ low-33 (d + 1)
+    go (no h) x = let p : depth-of v ≡ 33 = e ∙ high33 d (omega arith) in rw (below-high v (omega arith), high33 (d + 1) (omega arith)) p
+    go (yes h) (yes k) = let p : depth-of v ≡ d = e ∙ low33 d h in rw (below-low v (omega arith), low33 (d + 1) (omega arith)) (omega arith)
+    go (yes h) (no k) = let p : depth-of v ≡ d = e ∙ low33 d h in rw (below-low v (omega arith), high33 (d + 1) (omega arith)) (omega arith)
+
+-- in-forall: one forall more, and the rest as it was
+module _ (y : Node) (v : ℕ) where
+  abbrev in-it : Bool → ℕ
+  in-it b = if b then (if ltb (foralls-of v) 2 then v + 256 else v) else v
+
+  depth-forall : depth-of (in-forall y v) ≡ depth-of v
+  depth-forall = go (eqb (y .kind) forall-kind) (decLt (foralls-of v) 2)
+    where
+      go : (b : Bool) → Dec (foralls-of v < 2) → depth-of (in-it b) ≡ depth-of v
+      go false d = refl
+      go true (yes h) = rw (lt-ltb (foralls-of v) 2 h) (omega arith)
+      go true (no h) = rw (le-ltb (foralls-of v) 2 (omega arith))
+
+  foralls-forall : foralls-of (in-forall y v) ≡ (if eqb (y .kind) forall-kind then one-more (foralls-of v) else foralls-of v)
+  foralls-forall = go (eqb (y .kind) forall-kind) (decLt (foralls-of v) 2)
+    where
+      go : (b : Bool) → Dec (foralls-of v < 2) → foralls-of (in-it b) ≡ (if b then one-more (foralls-of v) else foralls-of v)
+      go false d = refl
+      go true (yes h) = rw (lt-ltb (foralls-of v) 2 h) (omega arith)
+      go true (no h) = rw (le-ltb (foralls-of v) 2 (omega arith))
+
+  bound-forall : bound-of (in-forall y v) ≡ bound-of v
+  bound-forall = go (eqb (y .kind) forall-kind) (decLt (foralls-of v) 2)
+    where
+      go : (b : Bool) → Dec (foralls-of v < 2) → bound-of (in-it b) ≡ bound-of v
+      go false d = refl
+      go true (yes h) = rw (lt-ltb (foralls-of v) 2 h) (omega arith)
+      go true (no h) = rw (le-ltb (foralls-of v) 2 (omega arith))
+
+-- in-binder: one variable more, and the rest as it was
+or-low : (v b : ℕ) → b < 256 → bitOr v b ≡ v / 256 * 256 + bitOr (v % 256) b
+or-low v b h =
+    let e : v / 256 * 256 + v % 256 ≡ v = omega arith in
+    let r : bitOr (v / 256 * 256 + v % 256) (0 * 256 + b) ≡ bitOr (v / 256) 0 * 256 + bitOr (v % 256) b = or-block 8 (v / 256) 0 (v % 256) b (omega arith) h in
+    let z : 0 * 256 + b ≡ b = omega arith in
+    ap (λ (x : ℕ). bitOr x b) (sym e) ∙ ap (λ (x : ℕ). bitOr (v / 256 * 256 + v % 256) x) (sym z) ∙ r ∙ ap (λ (x : ℕ). x * 256 + bitOr (v % 256) b) (or-zero-r (v / 256))
+
+module _ (y : Node) (v : ℕ) where
+  low : bitOr (v % 256) (bit-of (y .a)) < 256
+  low = or-lt 8 (v % 256) (bit-of (y .a)) (omega arith) (bit-small (y .a))
+
+  depth-binder : depth-of (in-binder y v) ≡ depth-of v
+  depth-binder = go (is-binder (y .kind))
+    where
+      go : (b : Bool) → depth-of (if b then bitOr v (bit-of (y .a)) else v) ≡ depth-of v
+      go true = rw (or-low v (bit-of (y .a)) (bit-small (y .a))) (omega (arith, low))
+      go false = refl
+
+  foralls-binder : foralls-of (in-binder y v) ≡ foralls-of v
+  foralls-binder = go (is-binder (y .kind))
+    where
+      go : (b : Bool) → foralls-of (if b then bitOr v (bit-of (y .a)) else v) ≡ foralls-of v
+      go true = rw (or-low v (bit-of (y .a)) (bit-small (y .a))) (omega (arith, low))
+      go false = refl
+
+  bound-binder : bound-of (in-binder y v) ≡ bound-more y (bound-of v)
+  unfolding bound-more
+  bound-binder = go (is-binder (y .kind))
+    where
+      go : (b : Bool) → bound-of (if b then bitOr v (bit-of (y .a)) else v) ≡ (if b then bitOr (bound-of v) (bit-of (y .a)) else bound-of v)
+      go true = rw (or-low v (bit-of (y .a)) (bit-small (y .a))) (omega (arith, low))
+      go false = refl
+
+-- ---- what a node hands down says what the definitions hand down
+
+abbrev Depth : ℕ → ℕ → Type 0
+Depth d v = depth-of v ≡ low-33 d
+
+abbrev Foralls : ℕ → ℕ → Type 0
+Foralls f v = foralls-of v ≡ cap f
+
+abbrev Bound : ℕ → ℕ → Type 0
+Bound b v = bound-of v ≡ b
+
+depth-c : (y : Node) (d v : ℕ) → Depth d v → Depth (d + 1) (to-c y v)
+depth-c y d v e = depth-binder y (in-forall y (below v)) ∙ depth-forall y (below v) ∙ depth-step d v e
+
+foralls-c : (y : Node) (f v : ℕ) → Foralls f v → Foralls (forall-more y f) (to-c y v)
+foralls-c y f v e =
+    foralls-binder y (in-forall y (below v)) ∙ foralls-forall y (below v)
+    ∙ rw (foralls-below v, e) (go (eqb (y .kind) forall-kind))
+  where
+    go : (b : Bool) → (if b then one-more (cap f) else cap f) ≡ cap (if b then f + 1 else f)
+    go true = more-cap f
+    go false = refl
+
+bound-c : (y : Node) (b v : ℕ) → Bound b v → Bound (bound-more y b) (to-c y v)
+bound-c y b v e =
+    bound-binder y (in-forall y (below v)) ∙ ap (bound-more y) (bound-forall y (below v) ∙ bound-below v ∙ e)
 
 deep33 : (d : ℕ) → ltb 32 (low-33 d) ≡ ltb 32 d
 deep33 d = go (decLt d 33)
@@ -252,46 +391,34 @@ deep33 d = go (decLt d 33)
     go (yes h) = rw (low33 d h)
     go (no h) = rw (high33 d (omega arith), lt-ltb 32 d (omega arith))
 
-two33 : (f : ℕ) → leb 2 (low-33 f) ≡ leb 2 f
-two33 f = go (decLt f 33)
+cap-two : (f : ℕ) → leb 2 (cap f) ≡ leb 2 f
+cap-two f = go (decLt f 2)
   where
-    go : Dec (f < 33) → leb 2 (low-33 f) ≡ leb 2 f
-    go (yes h) = rw (low33 f h)
-    go (no h) = rw (high33 f (omega arith), le-leb 2 f (omega arith))
-
-foralls33 : (y : Node) (v : ℕ) → forall-33 y (low-33 v) ≡ low-33 (forall-more y v)
-unfolding forall-33
-foralls33 y v = go (eqb (y .kind) forall-kind)
-  where
-    go : (b : Bool) → (if b then up-to-33 (low-33 v) else low-33 v) ≡ low-33 (if b then v + 1 else v)
-    go true = deeper33 v
-    go false = refl
+    go : Dec (f < 2) → leb 2 (cap f) ≡ leb 2 f
+    go (yes h) = rw (cap-low f h)
+    go (no h) = rw (cap-high f (omega arith), le-leb 2 f (omega arith))
 
 module _ (B : Book) (hN : length (B .nodes) ≤ 1024) where
   full : (r : ℕ) → length (B .nodes) ≤ length (replicate (length (B .nodes)) r)
   full r = rw (length-replicate {A = ℕ} (length (B .nodes)) r) (omega arith)
 
-  wide : (r : ℕ) → length (B .nodes) ≤ length (replicate 1024 r)
-  wide r = rw (length-replicate {A = ℕ} 1024 r) hN
+  wide : length (B .nodes) ≤ length {A = ℕ} (replicate 1024 0)
+  wide = rw (length-replicate {A = ℕ} 1024 0) hN
 
-  roots : (g : ℕ → ℕ) (r : ℕ) → r ≡ g r → Beside g (length (B .nodes)) (replicate (length (B .nodes)) r) (replicate 1024 r)
-  roots g r e n h = rw (getD-replicate {A = ℕ} (length (B .nodes)) n r 0 h, getD-replicate {A = ℕ} 1024 n r 0 (omega arith)) e
+  roots : (R : ℕ → ℕ → Type 0) (r : ℕ) → R r 0 → Beside R (length (B .nodes)) (replicate (length (B .nodes)) r) (replicate 1024 0)
+  roots R r e n h = rw (getD-replicate {A = ℕ} (length (B .nodes)) n r 0 h, getD-replicate {A = ℕ} 1024 n 0 0 (omega arith)) e
 
-  -- the code's tables say of each node what the definition's do
+  -- the code's table says of each node what the definition's three say
   pub misplaced-same :
-      (n : ℕ) → n < length (B .nodes) →
-      misplaced-by B (depths-to B (length (B .nodes)) (replicate 1024 1)) (foralls-to B (length (B .nodes)) (replicate 1024 0))
-      (bounds-to B (length (B .nodes)) (replicate 1024 0))
-      n
-      ≡ bad-around B n
+      (n : ℕ) → n < length (B .nodes) → misplaced-at B (handed B to-ab to-c (length (B .nodes)) (replicate 1024 0)) n ≡ bad-around B n
   unfolding misplaced
   misplaced-same n h =
       let N : ℕ = length (B .nodes) in
       let nn : N ≤ N = omega arith in
-      let d = handed-beside low-33 N B refl deeper deeper deeper-33 deeper-33 (λ y v. deeper33 v) (λ y v. deeper33 v) N (replicate N 1) (replicate 1024 1) nn
-      (full 1) (wide 1) (roots low-33 1 refl) n h in
-      let f = handed-beside low-33 N B refl as-it-is forall-more as-it-is forall-33 (λ y v. refl) foralls33 N (replicate N 0) (replicate 1024 0) nn (full 0)
-      (wide 0) (roots low-33 0 refl) n h in
-      let b = handed-beside (λ v. v) N B refl as-it-is bound-more as-it-is bound-more (λ y v. refl) (λ y v. refl) N (replicate N 0) (replicate 1024 0) nn
-      (full 0) (wide 0) (roots (λ v. v) 0 refl) n h in
-      rw (d, f, b, deep33 (getD (depths B) n 0), two33 (getD (foralls B) n 0))
+      let d = handed-beside Depth N B refl deeper deeper to-ab to-c (λ y x v e. depth-step x v e) depth-c N (replicate N 1) (replicate 1024 0) nn
+      (full 1) wide (roots Depth 1 refl) n h in
+      let f = handed-beside Foralls N B refl as-it-is forall-more to-ab to-c (λ y x v e. foralls-below v ∙ e) foralls-c N (replicate N 0) (replicate 1024 0) nn
+      (full 0) wide (roots Foralls 0 refl) n h in
+      let b = handed-beside Bound N B refl as-it-is bound-more to-ab to-c (λ y x v e. bound-below v ∙ e) bound-c N (replicate N 0) (replicate 1024 0) nn
+      (full 0) wide (roots Bound 0 refl) n h in
+      rw (d, f, b, deep33 (getD (depths B) n 0), cap-two (getD (foralls B) n 0))

@@ -1,14 +1,15 @@
--- The tables that the code fills for 6: how often each node is used, counted to 2, and what stands around it, depths and foralls counted to 33.
+-- The tables that the code fills for 6: how often each node is used, counted to 2, and what stands around it.
 use mathlib.Core.Bool.{Bool, true, false}
 use mathlib.Core.List.{List}
-use Prim.Native.Nat.{ℕ, zero, suc, _+_}
+use Prim.Native.Nat.{ℕ, zero, suc, _+_, _/_, _%_}
+use lib.Bits.{bitOr}
 use lib.Dec.{eqb, ltb}
-use lib.ListN.{length, getD, set}
+use lib.ListN.{getD, set}
 use Rattle.text.specs.Words.{if_then_else_}
 use Rattle.book.specs.declared.Node.{Node}
 use Rattle.book.specs.Book.{Book, node-at, agent-at}
-use Rattle.book.specs.Kinds.{is-node, forall-kind}
-use Rattle.book.specs.Around.{handed, as-it-is, bound-more}
+use Rattle.book.specs.Kinds.{is-node, is-binder, forall-kind}
+use Rattle.book.specs.Around.{bit-of, misplaced}
 
 -- ---- use
 
@@ -33,22 +34,37 @@ unfoldable pub tallied : Book → ℕ → List ℕ → List ℕ
 tallied B zero s = s
 tallied B (suc m) s = counted (node-at B m) (tallied B m s)
 
--- ---- what stands around
+-- ---- what stands around a node, as one number: a bit for each variable bound there, 256 for each forall, which are counted to 2, and 1024 for each
+-- node above it, which are counted to 32. A root has 0
 
-abbrev pub up-to-33 : ℕ → ℕ
-up-to-33 d = if ltb d 33 then d + 1 else d
+abbrev pub depth-of : ℕ → ℕ
+depth-of v = v / 1024 + 1
 
-abbrev pub deeper-33 : Node → ℕ → ℕ
-deeper-33 y v = up-to-33 v
+abbrev pub foralls-of : ℕ → ℕ
+foralls-of v = v / 256 % 4
 
-unfoldable pub forall-33 : Node → ℕ → ℕ
-forall-33 y v = if eqb (y .kind) forall-kind then up-to-33 v else v
+abbrev pub bound-of : ℕ → ℕ
+bound-of v = v % 256
 
-abbrev pub depths-to : Book → ℕ → List ℕ → List ℕ
-depths-to B = handed B deeper-33 deeper-33
+-- around the operands of a node that has v around it
+abbrev pub below : ℕ → ℕ
+below v = if ltb (v / 1024) 32 then v + 1024 else v
 
-abbrev pub foralls-to : Book → ℕ → List ℕ → List ℕ
-foralls-to B = handed B as-it-is forall-33
+-- one forall more in the c of a forall
+abbrev pub in-forall : Node → ℕ → ℕ
+in-forall y v = if eqb (y .kind) forall-kind then (if ltb (foralls-of v) 2 then v + 256 else v) else v
 
-abbrev pub bounds-to : Book → ℕ → List ℕ → List ℕ
-bounds-to B = handed B as-it-is bound-more
+-- one variable more in the c of a binder
+abbrev pub in-binder : Node → ℕ → ℕ
+in-binder y v = if is-binder (y .kind) then bitOr v (bit-of (y .a)) else v
+
+-- what a node hands to its operands a and b, and to its c
+abbrev pub to-ab : Node → ℕ → ℕ
+to-ab y v = below v
+
+abbrev pub to-c : Node → ℕ → ℕ
+to-c y v = in-binder y (in-forall y (below v))
+
+-- node n is misplaced by the table s
+abbrev pub misplaced-at : Book → List ℕ → ℕ → Bool
+misplaced-at B s n = misplaced (node-at B n) (depth-of (getD s n 0)) (foralls-of (getD s n 0)) (bound-of (getD s n 0))

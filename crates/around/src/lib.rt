@@ -7,74 +7,71 @@ ghost use mathlib.Core.List.{[]};
 ghost use lib.Dec.{eqb};
 ghost use lib.ListN.{length, getD};
 ghost use Rattle.text.specs.Words.{least};
-ghost use Rattle.book.specs.Kinds.{is-node};
+ghost use Rattle.book.specs.Kinds.{sort-table};
 ghost use Rattle.book.specs.Use.{bad-use};
-ghost use Rattle.book.specs.Around.{bit-of, bound-more, put-if, hand, misplaced, misplaced-by, bad-around};
+ghost use Rattle.book.specs.Around.{bit-of, put-if, hand, handed, misplaced, bad-around};
 ghost use Rattle.book.specs.Image.{book-in};
-ghost use Rattle.around.specs.Tables.{one-more, bumped, counted, rooted, tallied, up-to-33, forall-33, depths-to, foralls-to, bounds-to};
-
-// Operand j of a node of that kind is a node.
-fn is_node(kind: u32, j: u8) -> bool
-    ensures { λ r. ⌜ r ≡ is-node kind j ⌝ }
-{
-    9 <= nodes::sort(kind, j)
-}
+ghost use Rattle.around.specs.Tables.{one-more, bumped, counted, rooted, tallied, below, in-forall, in-binder, to-ab, to-c, misplaced-at};
 
 // A count stops at 2, which is already too many.
-fn one_more(k: u32) -> u32
+fn one_more(k: u8) -> u8
     ensures { λ r. ⌜ r ≡ one-more k ⌝ }
 {
     if k < 2 { k + 1 } else { k }
 }
 
 // One use more of x.
-fn bump(s: &mut [u32], on: bool, x: u32)
+fn bump(s: &mut [u8], on: bool, x: u32)
     ensures { λ _. ⌜ now (s .exit) ≡ bumped on x (now (s .entry)) ⌝ }
 {
     if on {
-        let k = book::fetch(s, x as usize);
-        book::put(s, x as usize, one_more(k));
+        let k = book::fetch_byte(s, x as usize);
+        book::put_byte(s, x as usize, one_more(k));
     }
 }
 
-fn count(s: &mut [u32], y: Node)
+// The operand places of node y. From sort 9 on an operand is a node.
+fn count(table: &[u8; 84], s: &mut [u8], y: Node)
+    requires { ⌜ now table ≡ sort-table ⌝ }
     ensures { λ _. ⌜ now (s .exit) ≡ counted y (now (s .entry)) ⌝ }
 {
-    bump(s, is_node(y.kind, 0), y.a);
-    bump(s, is_node(y.kind, 1), y.b);
-    bump(s, is_node(y.kind, 2), y.c);
+    let o = nodes::sorts_of(table, y.kind);
+    bump(s, 9 <= o.a, y.a);
+    bump(s, 9 <= o.b, y.b);
+    bump(s, 9 <= o.c, y.c);
 }
 
 // Marks the roots of the first n agents. Agents may share one.
-fn mark_roots(image: &[u32], n: u32, s: &mut [u32])
+fn mark_roots(image: &[u32], n: u32, s: &mut [u8])
     ensures { λ _. ⌜ now (s .exit) ≡ rooted (book-in (now (image .entry)) []) n (now (s .entry)) ⌝ }
 {
     let mut i: u32 = 0;
     while i < n {
         let a = book::agent_at(image, i);
-        book::put(s, a.root as usize, 1);
+        book::put_byte(s, a.root as usize, 1);
         i += 1;
     }
 }
 
 // Counts the operand places of the first n nodes.
-fn tally(image: &[u32], n: u32, s: &mut [u32])
+fn tally(image: &[u32], n: u32, s: &mut [u8])
     ensures { λ _. ⌜ now (s .exit) ≡ tallied (book-in (now (image .entry)) []) n (now (s .entry)) ⌝ }
 {
+    let table = nodes::SORTS;
     let mut i: u32 = 0;
     while i < n {
         let y = book::node_at(image, i);
-        count(s, y);
+        count(&table, s, y);
         i += 1;
     }
 }
 
-fn not_once(s: &[u32], n: u32) -> Found
+fn not_once(s: &[u8], n: u32) -> Found
     ensures { λ r. ⌜ r ≡ least (λ i. not (eqb (getD (now (s .entry)) i 0) 1)) n ⌝ }
 {
     let mut i: u32 = 0;
     while i < n {
-        if !(book::fetch(s, i as usize) == 1) {
+        if !(book::fetch_byte(s, i as usize) == 1) {
             return Found::Here(i);
         }
         i += 1;
@@ -86,7 +83,7 @@ fn not_once(s: &[u32], n: u32) -> Found
 pub fn bad_use(image: &[u32]) -> Found
     ensures { λ r. ⌜ r ≡ least (bad-use (book-in (now (image .entry)) [])) (length (book-in (now (image .entry)) [] .nodes)) ⌝ }
 {
-    let mut counts = [0u32; 1024];
+    let mut counts = [0u8; 1024];
     let a = book::agents(image);
     let n = book::nodes(image);
     mark_roots(image, a, &mut counts);
@@ -94,36 +91,41 @@ pub fn bad_use(image: &[u32]) -> Found
     not_once(&counts, n)
 }
 
-// A depth stops at 33, which is already too deep.
-fn one_deeper(d: u32) -> u32
-    ensures { λ r. ⌜ r ≡ up-to-33 d ⌝ }
-{
-    if d < 33 { d + 1 } else { d }
-}
-
-const BITS: [u32; 8] = [1, 2, 4, 8, 16, 32, 64, 128];
-
 fn bit(v: u32) -> u32
     ensures { λ r. ⌜ r ≡ bit-of v ⌝ }
 {
-    if v < 8 { BITS[v as usize] } else { 0 }
+    if v < 8 { 1u32 << v } else { 0 }
 }
 
-// The foralls around the c of a node that has v around it.
-fn foralls_in(y: Node, v: u32) -> u32
-    ensures { λ r. ⌜ r ≡ forall-33 y v ⌝ }
+// What stands around a node is one number: a bit for each variable bound there, 256 for each forall, which are counted
+// to 2, and 1024 for each node above it, which are counted to 32. A root has 0.
+
+// Around the operands of a node that has v around it.
+fn below(v: u32) -> u32
+    ensures { λ r. ⌜ r ≡ below v ⌝ }
 {
-    if y.kind == 25 { one_deeper(v) } else { v }
+    if v / 1024 < 32 { v + 1024 } else { v }
 }
 
-// The variables bound in the c of a node around which s are bound.
-fn bound_in(y: Node, s: u32) -> u32
-    ensures { λ r. ⌜ r ≡ bound-more y s ⌝ }
+// One forall more in the c of a forall.
+fn in_forall(y: Node, v: u32) -> u32
+    ensures { λ r. ⌜ r ≡ in-forall y v ⌝ }
+{
+    if y.kind == 25 {
+        if v / 256 % 4 < 2 { v + 256 } else { v }
+    } else {
+        v
+    }
+}
+
+// One variable more in the c of a binder.
+fn in_binder(y: Node, v: u32) -> u32
+    ensures { λ r. ⌜ r ≡ in-binder y v ⌝ }
 {
     let kind = y.kind;
     match kind {
-        24..=26 => s | bit(y.a),
-        _ => s,
+        24..=26 => v | bit(y.a),
+        _ => v,
     }
 }
 
@@ -136,57 +138,29 @@ fn put_if(s: &mut [u32], on: bool, x: u32, v: u32)
 }
 
 // Node y hands v to its operands a and b, and w to its operand c.
-fn hand(s: &mut [u32], y: Node, v: u32, w: u32)
+fn hand(table: &[u8; 84], s: &mut [u32], y: Node, v: u32, w: u32)
+    requires { ⌜ now table ≡ sort-table ⌝ }
     ensures { λ _. ⌜ now (s .exit) ≡ hand y v w (now (s .entry)) ⌝ }
 {
-    put_if(s, is_node(y.kind, 0), y.a, v);
-    put_if(s, is_node(y.kind, 1), y.b, v);
-    put_if(s, is_node(y.kind, 2), y.c, w);
+    let o = nodes::sorts_of(table, y.kind);
+    put_if(s, 9 <= o.a, y.a, v);
+    put_if(s, 9 <= o.b, y.b, v);
+    put_if(s, 9 <= o.c, y.c, w);
 }
 
-// Each node, from the highest on, hands its depth down.
-fn hand_depths(image: &[u32], s: &mut [u32])
-    ensures { λ _. ⌜ now (s .exit) ≡ depths-to (book-in (now (image .entry)) []) (length (book-in (now (image .entry)) [] .nodes)) (now (s .entry)) ⌝ }
+// Each node, from the highest on, hands down what stands around it.
+fn hand_down(image: &[u32], s: &mut [u32])
+    ensures { λ _. ⌜ now (s .exit) ≡ handed (book-in (now (image .entry)) []) to-ab to-c (length (book-in (now (image .entry)) [] .nodes)) (now (s .entry)) ⌝ }
 {
+    let table = nodes::SORTS;
     let n = book::nodes(image);
     let mut k: u32 = 0;
     while k < n {
         let m = n - (k + 1);
         let y = book::node_at(image, m);
-        let v = one_deeper(book::fetch(s, m as usize));
-        hand(s, y, v, v);
-        k += 1;
-    }
-}
-
-// The same for the foralls around it.
-fn hand_foralls(image: &[u32], s: &mut [u32])
-    ensures { λ _. ⌜ now (s .exit) ≡ foralls-to (book-in (now (image .entry)) []) (length (book-in (now (image .entry)) [] .nodes)) (now (s .entry)) ⌝ }
-{
-    let n = book::nodes(image);
-    let mut k: u32 = 0;
-    while k < n {
-        let m = n - (k + 1);
-        let y = book::node_at(image, m);
-        let v = book::fetch(s, m as usize);
-        let w = foralls_in(y, v);
-        hand(s, y, v, w);
-        k += 1;
-    }
-}
-
-// The same for the variables bound around it.
-fn hand_bounds(image: &[u32], s: &mut [u32])
-    ensures { λ _. ⌜ now (s .exit) ≡ bounds-to (book-in (now (image .entry)) []) (length (book-in (now (image .entry)) [] .nodes)) (now (s .entry)) ⌝ }
-{
-    let n = book::nodes(image);
-    let mut k: u32 = 0;
-    while k < n {
-        let m = n - (k + 1);
-        let y = book::node_at(image, m);
-        let v = book::fetch(s, m as usize);
-        let w = bound_in(y, v);
-        hand(s, y, v, w);
+        let v = below(book::fetch(s, m as usize));
+        let w = in_binder(y, in_forall(y, v));
+        hand(&table, s, y, v, w);
         k += 1;
     }
 }
@@ -203,22 +177,20 @@ fn is_misplaced(y: Node, depth: u32, foralls: u32, bound: u32) -> bool
         | ((y.kind == 25) & (2 <= foralls))
 }
 
-fn misplaced_at<'a>(image: &'a [u32], d: &'a [u32], f: &'a [u32], b: &'a [u32], i: u32) -> bool
-    ensures { λ r. ⌜ r ≡ misplaced-by (book-in (now (image .entry)) []) (now (d .entry)) (now (f .entry)) (now (b .entry)) i ⌝ }
+fn misplaced_at<'a>(image: &'a [u32], s: &'a [u32], i: u32) -> bool
+    ensures { λ r. ⌜ r ≡ misplaced-at (book-in (now (image .entry)) []) (now (s .entry)) i ⌝ }
 {
     let y = book::node_at(image, i);
-    let depth = book::fetch(d, i as usize);
-    let foralls = book::fetch(f, i as usize);
-    let bound = book::fetch(b, i as usize);
-    is_misplaced(y, depth, foralls, bound)
+    let v = book::fetch(s, i as usize);
+    is_misplaced(y, v / 1024 + 1, v / 256 % 4, v % 256)
 }
 
-fn misplaced_in<'a>(image: &'a [u32], d: &'a [u32], f: &'a [u32], b: &'a [u32], n: u32) -> Found
-    ensures { λ r. ⌜ r ≡ least (misplaced-by (book-in (now (image .entry)) []) (now (d .entry)) (now (f .entry)) (now (b .entry))) n ⌝ }
+fn misplaced_in<'a>(image: &'a [u32], s: &'a [u32], n: u32) -> Found
+    ensures { λ r. ⌜ r ≡ least (misplaced-at (book-in (now (image .entry)) []) (now (s .entry))) n ⌝ }
 {
     let mut i: u32 = 0;
     while i < n {
-        if misplaced_at(image, d, f, b, i) {
+        if misplaced_at(image, s, i) {
             return Found::Here(i);
         }
         i += 1;
@@ -230,12 +202,8 @@ fn misplaced_in<'a>(image: &'a [u32], d: &'a [u32], f: &'a [u32], b: &'a [u32], 
 pub fn bad_around(image: &[u32]) -> Found
     ensures { λ r. ⌜ r ≡ least (bad-around (book-in (now (image .entry)) [])) (length (book-in (now (image .entry)) [] .nodes)) ⌝ }
 {
-    let mut d = [1u32; 1024];
-    let mut f = [0u32; 1024];
-    let mut b = [0u32; 1024];
+    let mut around = [0u32; 1024];
     let n = book::nodes(image);
-    hand_depths(image, &mut d);
-    hand_foralls(image, &mut f);
-    hand_bounds(image, &mut b);
-    misplaced_in(image, &d, &f, &b, n)
+    hand_down(image, &mut around);
+    misplaced_in(image, &around, n)
 }

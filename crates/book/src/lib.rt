@@ -86,6 +86,21 @@ pub fn put(s: &mut [u32], i: usize, x: u32)
     }
 }
 
+// The same for a table of bytes.
+pub fn fetch_byte(s: &[u8], i: usize) -> u8
+    ensures { λ r. ⌜ r ≡ getD (now (s .entry)) i 0 ⌝ }
+{
+    if i < s.len() { s[i] } else { 0 }
+}
+
+pub fn put_byte(s: &mut [u8], i: usize, x: u8)
+    ensures { λ _. ⌜ now (s .exit) ≡ set (now (s .entry)) i x ⌝ }
+{
+    if i < s.len() {
+        s[i] = x;
+    }
+}
+
 pub fn row(image: &[u32], r: u32) -> Line
     ensures { λ l. ⌜ l ≡ row-in (now (image .entry)) r ⌝ }
 {

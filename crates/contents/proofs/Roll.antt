@@ -17,8 +17,7 @@ use Rattle.book.specs.Book.{Book, no-entry, function-at, entry-at, location, en
 use Rattle.book.specs.Lines.{entry-of}
 use Rattle.book.specs.Contents.{in-bounds, in-form, least-location, rolled, untraced, bad-entry}
 use Rattle.book.specs.Image.{book-in}
-use Rattle.book.proofs.Image.{elements-most}
-use Rattle.contents.specs.Roll.{entries-from, marked, roll-of, untraced-by}
+use Rattle.contents.specs.Roll.{entries-from, marked, roll-of, untraced-by, Clear}
 
 -- ---- the table has exactly the labels that the entries put on the roll
 
@@ -57,8 +56,16 @@ unfolding roll-of rolled
 roll-at B x zero s h p = rw p
 roll-at B x (suc i) s h p = marked-at (entry-at B i) (roll-of B i s) x (rolled B x i) (rw (length-roll B i s) h) (roll-at B x i s h p)
 
-roll-clear : (B : Book) (x i : ℕ) → x < 10000 → eqb (getD (roll-of B i (replicate 10000 0)) x 0) 0 ≡ not (rolled B x i)
-roll-clear B x i h = roll-at B x i (replicate 10000 0) (rw (length-replicate {A = ℕ} 10000 0) h) (getD-replicate {A = ℕ} 10000 x 0 0 h)
+roll-clear : (B : Book) (x i : ℕ) (s : List ℕ) → Clear (B .E) s → x < B .E → eqb (getD (roll-of B i s) x 0) 0 ≡ not (rolled B x i)
+roll-clear B x i s k h = roll-at B x i s (omega (arith, k .long)) (k .empty x h)
+
+-- as many zeros as there may be elements are clear
+pub clear : (E k : ℕ) → E ≤ k → Clear E (replicate k 0)
+clear E k h =
+    record {
+      long = rw (length-replicate {A = ℕ} k 0) h;
+      empty = λ x l. getD-replicate {A = ℕ} k x 0 0 (omega arith);
+    }
 
 -- ---- the loop
 
@@ -69,9 +76,6 @@ roll-none B s = refl
 pub roll-step : (B : Book) (i : ℕ) (s : List ℕ) (e : Entry) → entry-at B i ≡ e → roll-of B (i + 1) s ≡ marked e (roll-of B i s)
 unfolding roll-of
 roll-step B i s e p = rw (add-one i, ← p)
-
-pub roll-long : (B : Book) (i : ℕ) (s : List ℕ) → s ≡ roll-of B i (replicate 10000 0) → 10000 ≡ length s
-roll-long B i s p = sym (ap length p ∙ length-roll B i (replicate 10000 0) ∙ length-replicate {A = ℕ} 10000 0)
 
 pub record Inside (B : Book) (e : Entry) : Type 0 where
   pub arg1 : e .arg1 < B .E
@@ -95,20 +99,20 @@ inside B e p =
     }
 
 rest-of :
-    (B : Book) (i : ℕ) (e : Entry) → entry-at B i ≡ e → in-bounds B e ≡ true → B .E ≤ 10000 →
+    (B : Book) (i : ℕ) (e : Entry) (s : List ℕ) → entry-at B i ≡ e → in-bounds B e ≡ true → Clear (B .E) s →
     bad-entry B i
     ≡ not
     (in-form (B .P) e (function-at B (e .function)) && leb (least-location B i) (entry-location B e)
-    && untraced-by (roll-of B i (replicate 10000 0)) e)
+    && untraced-by (roll-of B i s) e)
 unfolding bad-entry untraced
-rest-of B i e at p h =
+rest-of B i e s at p k =
     let w = inside B e p in
     rw (
       at,
       p,
-      roll-clear B (e .arg1) i (omega (arith, w .arg1)),
-      roll-clear B (e .arg2) i (omega (arith, w .arg2)),
-      roll-clear B (e .value) i (omega (arith, w .value)),
+      roll-clear B (e .arg1) i s k (w .arg1),
+      roll-clear B (e .arg2) i s k (w .arg2),
+      roll-clear B (e .value) i s k (w .value),
     )
 
 -- what an image's book has is the same whatever its entries are
@@ -118,14 +122,14 @@ module _ (m : List ℕ) (es : List Entry) (i : ℕ) (e : Entry) (at : entry-at (
   bad-bounds p = rw (at, p)
 
   pub bad-rest :
-      in-bounds (book-in m []) e ≡ true →
+      (s : List ℕ) → Clear (book-in m [] .E) s → in-bounds (book-in m []) e ≡ true →
       bad-entry (book-in m es) i
       ≡ not
       (in-form (book-in m [] .P) e (function-at (book-in m []) (e .function))
       && leb (least-location (book-in m es) i) (location (book-in m []) (e .function) (e .arg1) (e .arg2))
-      && untraced-by (roll-of (book-in m es) i (replicate 10000 0)) e)
+      && untraced-by (roll-of (book-in m es) i s) e)
   unfolding in-bounds book-in
-  bad-rest p = rest-of (book-in m es) i e at p (elements-most m es)
+  bad-rest s k p = rest-of (book-in m es) i e s at p k
 
   pub low-step : least-location (book-in m es) (i + 1) ≡ location (book-in m []) (e .function) (e .arg1) (e .arg2) + 1
   unfolding least-location book-in

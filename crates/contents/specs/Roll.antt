@@ -1,9 +1,10 @@
 -- What the code holds for 8: the contents lines as entries, and a table of the labels that they put on the roll.
+use mathlib.Core.Path.{_≡_}
 use mathlib.Core.Bool.{Bool, _&&_, _||_}
 use mathlib.Core.List.{List}
-use Prim.Native.Nat.{ℕ, zero, suc, _+_}
+use Prim.Native.Nat.{ℕ, zero, suc, _+_, _<_, _≤_}
 use lib.Dec.{eqb}
-use lib.ListN.{getD, set}
+use lib.ListN.{length, getD, set}
 use Rattle.text.specs.Words.{if_then_else_, table}
 use Rattle.text.specs.Text.{line}
 use Rattle.book.specs.declared.Entry.{Entry}
@@ -24,3 +25,8 @@ roll-of B (suc i) s = marked (entry-at B i) (roll-of B i s)
 
 abbrev pub untraced-by : List ℕ → Entry → Bool
 untraced-by s e = eqb (e .function) 0 || eqb (getD s (e .arg1) 0) 0 && eqb (getD s (e .arg2) 0) 0 && eqb (getD s (e .value) 0) 0
+
+-- a table for E elements, none of which it has marked
+pub record Clear (E : ℕ) (s : List ℕ) : Type 0 where
+  pub long : E ≤ length s
+  pub empty : (x : ℕ) → x < E → getD s x 0 ≡ 0

@@ -10,7 +10,7 @@ ghost use Rattle.text.specs.Text.{line};
 ghost use Rattle.book.specs.Lines.{entry-of};
 ghost use Rattle.book.specs.Contents.{in-bounds, in-form, bad-entry};
 ghost use Rattle.book.specs.Image.{book-in};
-ghost use Rattle.contents.specs.Roll.{entries-from, marked, untraced-by};
+ghost use Rattle.contents.specs.Roll.{entries-from, marked, untraced-by, Clear};
 
 // Entry i of those whose lines start at line `first`.
 pub fn read_entry(text: &[u8], first: u32, i: u32) -> Entry
@@ -47,29 +47,29 @@ fn in_form(p: u32, x: Entry, f: Function) -> bool
 }
 
 // An entry of function 0 puts its label on the roll.
-fn mark(roll: &mut [u32], x: Entry)
+fn mark(roll: &mut [u8], x: Entry)
     ensures { λ _. ⌜ now (roll .exit) ≡ marked x (now (roll .entry)) ⌝ }
 {
     if x.function == 0 {
-        book::put(roll, x.arg1 as usize, 1);
+        book::put_byte(roll, x.arg1 as usize, 1);
     }
 }
 
 // It is no trace of a label on the roll.
-fn no_trace(roll: &[u32], x: Entry) -> bool
+fn no_trace(roll: &[u8], x: Entry) -> bool
     ensures { λ r. ⌜ r ≡ untraced-by (now (roll .entry)) x ⌝ }
 {
-    let a = book::fetch(roll, x.arg1 as usize);
-    let b = book::fetch(roll, x.arg2 as usize);
-    let v = book::fetch(roll, x.value as usize);
+    let a = book::fetch_byte(roll, x.arg1 as usize);
+    let b = book::fetch_byte(roll, x.arg2 as usize);
+    let v = book::fetch_byte(roll, x.value as usize);
     (x.function == 0) | ((a == 0) & (b == 0) & (v == 0))
 }
 
-// 8: the least of n entries that is at fault; their lines start at line `first`.
-pub fn bad_contents<'a>(text: &'a [u8], image: &'a [u32], first: u32, n: u32) -> Found
+// 8: the least of n entries that is at fault; their lines start at line `first`. The roll is clear to begin with.
+fn bad_entries<'a>(text: &'a [u8], image: &'a [u32], first: u32, n: u32, roll: &mut [u8]) -> Found
+    requires { ⌜ Clear (book-in (now image) [] .E) (now roll) ⌝ }
     ensures { λ r. ⌜ r ≡ least (bad-entry (book-in (now (image .entry)) (entries-from (now (text .entry)) first n))) n ⌝ }
 {
-    let mut roll = [0u32; 10000];
     let p = book::permanent(image);
     let mut i: u32 = 0;
     let mut low: u64 = 0;
@@ -80,12 +80,25 @@ pub fn bad_contents<'a>(text: &'a [u8], image: &'a [u32], first: u32, n: u32) ->
         }
         let f = book::function_at(image, x.function);
         let place = book::location(image, x.function, x.arg1, x.arg2);
-        if !(in_form(p, x, f) & (low <= place) & no_trace(&roll, x)) {
+        if !(in_form(p, x, f) & (low <= place) & no_trace(roll, x)) {
             return Found::Here(i);
         }
-        mark(&mut roll, x);
+        mark(roll, x);
         low = place + 1;
         i += 1;
     }
     Found::Nowhere
+}
+
+// 8: the same. Most books have few elements, and a small roll is soon cleared.
+pub fn bad_contents<'a>(text: &'a [u8], image: &'a [u32], first: u32, n: u32) -> Found
+    ensures { λ r. ⌜ r ≡ least (bad-entry (book-in (now (image .entry)) (entries-from (now (text .entry)) first n))) n ⌝ }
+{
+    if book::elements(image) <= 256 {
+        let mut roll = [0u8; 256];
+        bad_entries(text, image, first, n, &mut roll)
+    } else {
+        let mut roll = [0u8; 10000];
+        bad_entries(text, image, first, n, &mut roll)
+    }
 }

@@ -8,14 +8,14 @@ ghost use Prim.Native.Nat.{_+_, _-_};
 ghost use lib.ListN.{length};
 ghost use Rattle.text.specs.Words.{least};
 ghost use Rattle.text.specs.Text.{line};
-ghost use Rattle.book.specs.Kinds.{sort, is-term, is-rule};
+ghost use Rattle.book.specs.Kinds.{sort-table, is-term, is-rule};
 ghost use Rattle.book.specs.Lines.{fits, bad-node, bad-agent};
 ghost use Rattle.book.specs.Image.{book-in};
-ghost use Rattle.nodes.specs.Fits.{fits-by};
+ghost use Rattle.nodes.specs.Fits.{sorts-of, fits-plain, fits-function, fits-node, fits-target};
 
 // The three operand sorts of each node kind from 0 to 27: 0 no such kind, 1 unused, 2 permanent element, 3 variable,
 // 4 to 6 function of arity 0 to 2, 7 universe, 8 dynamic universe, 9 term, 10 rule, 11 a term that names a dynamic location.
-const SORTS: [u8; 84] = [
+pub const SORTS: [u8; 84] = [
     0, // 0 no kind
     0,
     0,
@@ -102,12 +102,28 @@ const SORTS: [u8; 84] = [
     1,
 ];
 
-// The sort of operand j, 0 to 2, of a node kind.
-pub fn sort(kind: u32, j: u8) -> u8
-    ensures { λ r. ⌜ r ≡ sort kind j ⌝ }
+// What the three operands of a node have to be.
+pub struct OperandSorts {
+    pub a: u8,
+    pub b: u8,
+    pub c: u8,
+}
+
+// The operand sorts of a node kind. The table is lent: a pass over the nodes lays it out once.
+pub fn sorts_of(table: &[u8; 84], kind: u32) -> OperandSorts
+    requires { ⌜ now table ≡ sort-table ⌝ }
+    ensures { λ r. ⌜ r ≡ sorts-of kind ⌝ }
 {
-    let i = kind as usize * 3 + j as usize;
-    if i < 84 { SORTS[i] } else { 0 }
+    if kind < 28 {
+        let i = kind as usize * 3;
+        OperandSorts {
+            a: table[i],
+            b: table[i + 1],
+            c: table[i + 2],
+        }
+    } else {
+        OperandSorts { a: 0, b: 0, c: 0 }
+    }
 }
 
 pub fn is_term(kind: u32) -> bool
@@ -128,43 +144,67 @@ pub fn is_rule(kind: u32) -> bool
     }
 }
 
-// x fits the sort s as an operand of node n. As a function it is f; as a node it has that kind, and its field a names g.
-fn fits_by(s: u8, x: u32, n: u32, p: u32, count: u32, f: Function, kind: u32, g: Function) -> bool
-    ensures { λ r. ⌜ r ≡ fits-by s x n p count f kind g ⌝ }
+// x fits s, one of the sorts 0 to 3; p elements are permanent.
+fn fits_plain(s: u8, x: u32, p: u32) -> bool
+    ensures { λ r. ⌜ r ≡ fits-plain s x p ⌝ }
+{
+    ((s == 1) & (x == 0)) | ((s == 2) & (x < p)) | ((s == 3) & (x < 8))
+}
+
+// x fits s, one of the sorts 4 to 8: it is function f, one of `count`.
+fn fits_function(s: u8, x: u32, count: u32, f: Function) -> bool
+    ensures { λ r. ⌜ r ≡ fits-function s x count f ⌝ }
 {
     let named = (0 < x) & (x < count);
-    ((s == 1) & (x == 0))
-        | ((s == 2) & (x < p))
-        | ((s == 3) & (x < 8))
-        | ((s == 4) & named & (f.arity == 0))
+    ((s == 4) & named & (f.arity == 0))
         | ((s == 5) & named & (f.arity == 1))
         | ((s == 6) & named & (f.arity == 2))
         | ((s == 7) & named & (f.arity == 1) & ((f.kind == 1) | (f.kind == 3)))
         | ((s == 8) & named & (f.arity == 1) & (f.kind == 3))
-        | ((s == 9) & (x < n) & is_term(kind))
-        | ((s == 10) & (x < n) & is_rule(kind))
-        | ((s == 11) & (x < n) & ((4 <= kind) & (kind <= 6)) & (2 <= g.kind))
 }
 
+// x fits s, sort 9 or 10, as an operand of node n: it is a node of that kind.
+fn fits_node(s: u8, x: u32, n: u32, kind: u32) -> bool
+    ensures { λ r. ⌜ r ≡ fits-node s x n kind ⌝ }
+{
+    ((s == 9) & (x < n) & is_term(kind)) | ((s == 10) & (x < n) & is_rule(kind))
+}
+
+// x fits s, a sort from 11 on, as an operand of node n: it is a node of that kind, whose field a names g.
+fn fits_target(s: u8, x: u32, n: u32, kind: u32, g: Function) -> bool
+    ensures { λ r. ⌜ r ≡ fits-target s x n kind g ⌝ }
+{
+    (s == 11) & (x < n) & ((4 <= kind) & (kind <= 6)) & (2 <= g.kind)
+}
+
+// x fits the sort s as an operand of node n. Only what the sort asks about is loaded.
 fn fits(image: &[u32], n: u32, s: u8, x: u32) -> bool
     ensures { λ r. ⌜ r ≡ fits (book-in (now (image .entry)) []) n s x ⌝ }
 {
-    let p = book::permanent(image);
-    let count = book::functions(image);
-    let f = book::function_at(image, x);
-    let y = book::node_at(image, x);
-    let g = book::function_at(image, y.a);
-    fits_by(s, x, n, p, count, f, y.kind, g)
+    if s < 4 {
+        fits_plain(s, x, book::permanent(image))
+    } else if s < 9 {
+        fits_function(s, x, book::functions(image), book::function_at(image, x))
+    } else {
+        let y = book::node_at(image, x);
+        if s < 11 {
+            fits_node(s, x, n, y.kind)
+        } else {
+            fits_target(s, x, n, y.kind, book::function_at(image, y.a))
+        }
+    }
 }
 
 // 5: node n is at fault.
-fn bad_node(image: &[u32], n: u32) -> bool
+fn bad_node(image: &[u32], table: &[u8; 84], n: u32) -> bool
+    requires { ⌜ now table ≡ sort-table ⌝ }
     ensures { λ r. ⌜ r ≡ bad-node (book-in (now (image .entry)) []) n ⌝ }
 {
     let y = book::node_at(image, n);
-    let a = fits(image, n, sort(y.kind, 0), y.a);
-    let b = fits(image, n, sort(y.kind, 1), y.b);
-    let c = fits(image, n, sort(y.kind, 2), y.c);
+    let s = sorts_of(table, y.kind);
+    let a = fits(image, n, s.a, y.a);
+    let b = fits(image, n, s.b, y.b);
+    let c = fits(image, n, s.c, y.c);
     !(a & b & c)
 }
 
@@ -172,9 +212,10 @@ fn bad_node(image: &[u32], n: u32) -> bool
 pub fn bad_nodes(image: &[u32], n: u32) -> Found
     ensures { λ r. ⌜ r ≡ least (bad-node (book-in (now (image .entry)) [])) n ⌝ }
 {
+    let table = SORTS;
     let mut i: u32 = 0;
     while i < n {
-        if bad_node(image, i) {
+        if bad_node(image, &table, i) {
             return Found::Here(i);
         }
         i += 1;

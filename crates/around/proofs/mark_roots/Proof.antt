@@ -1,6 +1,5 @@
-use Rattle.around.proofs.Tables.{roots-step, roots-none, tally-step, tally-none, handed-step, handed-none}
-use Rattle.around.specs.Tables.{rooted, tallied, deeper-33, forall-33, depths-to, foralls-to, bounds-to}
-use Rattle.book.specs.Around.{as-it-is, bound-more}
+use Rattle.around.proofs.Tables.{roots-step, roots-none}
+use Rattle.around.specs.Tables.{rooted}
 use Rattle.book.specs.Image.{book-in}
 use borrow.Author.Needs.{needs}
 use native.Mathlib.Omega.{arith}
@@ -13,7 +12,7 @@ use Rattle.around.proofs.mark_roots.Tie as tie
 use Rattle.around.proofs.mark_roots.Reads as reads
 use Rattle.around.proofs.mark_roots.Lts as lts
 use Rattle.book.proofs.agent_at.Reads as agent-at-reads
-use Rattle.book.proofs.put.Reads as put-reads
+use Rattle.book.proofs.put_byte.Reads as put-byte-reads
 
 abbrev Inv-loop : tie.InvT-loop
 Inv-loop image n s₀ i₀ s i =
@@ -31,12 +30,12 @@ agent-at-requires : tie.Need-agent-at-requires Inv-loop μ-loop
 agent-at-requires c κs = search needs
 
 -- src/lib.rt:55:22
-cast-put : tie.Need-cast-put Inv-loop μ-loop
-cast-put c = search needs
+cast-put-byte : tie.Need-cast-put-byte Inv-loop μ-loop
+cast-put-byte c = search needs
 
 -- src/lib.rt:55:9
-put-requires : tie.Need-put-requires Inv-loop μ-loop
-put-requires c κs = search needs
+put-byte-requires : tie.Need-put-byte-requires Inv-loop μ-loop
+put-byte-requires c κs = search needs
 
 -- src/lib.rt:56:9
 add-i : tie.Need-add-i Inv-loop μ-loop
@@ -48,7 +47,7 @@ loop-less c = search needs
 
 -- src/lib.rt:53:5
 loop-again : tie.Need-loop-again Inv-loop μ-loop
-loop-again c = let a = c .before .before .before .before .before .before .before .before .before .before .args in let l = c .before .before .before .before .before .before .before .loop in (search needs, c .before .before .put .kept .0 ∙ l .inv .1, rw (roots-step (book-in (a .image .now) []) (l .i) (a .s .now)) (c .before .before .put .ensures ∙ rw (c .before .before .before .before .before .agent-at .ensures, l .inv .2)))
+loop-again c = let a = c .before .before .before .before .before .before .before .before .before .before .args in let l = c .before .before .before .before .before .before .before .loop in (search needs, c .before .before .put-byte .kept .0 ∙ l .inv .1, rw (roots-step (book-in (a .image .now) []) (l .i) (a .s .now)) (c .before .before .put-byte .ensures ∙ rw (c .before .before .before .before .before .agent-at .ensures, l .inv .2)))
 
 -- src/lib.rt:49:1
 same-length : tie.Need-same-length Inv-loop μ-loop
@@ -66,8 +65,8 @@ mark-roots-spec =
     μ-loop
     loop-holds
     agent-at-requires
-    cast-put
-    put-requires
+    cast-put-byte
+    put-byte-requires
     add-i
     loop-less
     loop-again

@@ -8,37 +8,27 @@ use Rattle.around.proofs.is_misplaced.Reads as is-misplaced-reads
 use Rattle.book.proofs.fetch.Reads as fetch-reads
 use Rattle.book.proofs.node_at.Reads as node-at-reads
 
--- src/lib.rt:209:9
+-- src/lib.rt:179:9
 node-at-requires : tie.Need-node-at-requires
 node-at-requires c κs = search needs
 
--- src/lib.rt:210:9
+-- src/lib.rt:180:9
 fetch-requires : tie.Need-fetch-requires
 fetch-requires c κs = search needs
 
--- src/lib.rt:211:9
-fetch-requires-2 : tie.Need-fetch-requires-2
-fetch-requires-2 c κs = search needs
+-- src/lib.rt:181:21
+add-is-misplaced : tie.Need-add-is-misplaced
+add-is-misplaced c = search needs
 
--- src/lib.rt:212:9
-fetch-requires-3 : tie.Need-fetch-requires-3
-fetch-requires-3 c κs = search needs
-
--- src/lib.rt:213:5
+-- src/lib.rt:181:5
 is-misplaced-requires : tie.Need-is-misplaced-requires
 is-misplaced-requires c κs = search needs
 
--- src/lib.rt:206:1
+-- src/lib.rt:176:1
 returns : tie.Need-returns
-returns c = c .is-misplaced .ensures ∙ rw (c .before .fetch3 .ensures, c .before .before .fetch2 .ensures, c .before .before .before .fetch .ensures, c .before .before .before .before .node-at .ensures)
+returns c = c .is-misplaced .ensures ∙ rw (c .before .fetch .ensures, c .before .before .node-at .ensures)
 
 pub misplaced-at-spec : {M : Type 1} → statement M
 misplaced-at-spec =
     tie.close
-    (tie.spec
-    node-at-requires
-    fetch-requires
-    fetch-requires-2
-    fetch-requires-3
-    is-misplaced-requires
-    returns)
+    (tie.spec node-at-requires fetch-requires add-is-misplaced is-misplaced-requires returns)

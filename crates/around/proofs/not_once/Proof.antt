@@ -10,7 +10,7 @@ use Rattle.around.proofs.not_once.Statement.{statement}
 use Rattle.around.proofs.not_once.Tie as tie
 use Rattle.around.proofs.not_once.Reads as reads
 use Rattle.around.proofs.not_once.Lts as lts
-use Rattle.book.proofs.fetch.Reads as fetch-reads
+use Rattle.book.proofs.fetch_byte.Reads as fetch-byte-reads
 
 abbrev Inv-loop : tie.InvT-loop
 Inv-loop s n i₀ i = (i ≤ (n)) × (least-from (λ i. not (eqb (getD s i 0) 1)) ((n) - i) i ≡ least (λ i. not (eqb (getD s i 0) 1)) (n))
@@ -23,12 +23,12 @@ loop-holds : tie.Need-loop-holds Inv-loop μ-loop
 loop-holds c = (search needs, least-start _ _)
 
 -- src/lib.rt:77:29
-cast-fetch : tie.Need-cast-fetch Inv-loop μ-loop
-cast-fetch c = search needs
+cast-fetch-byte : tie.Need-cast-fetch-byte Inv-loop μ-loop
+cast-fetch-byte c = search needs
 
 -- src/lib.rt:77:14
-fetch-requires : tie.Need-fetch-requires Inv-loop μ-loop
-fetch-requires c κs = search needs
+fetch-byte-requires : tie.Need-fetch-byte-requires Inv-loop μ-loop
+fetch-byte-requires c κs = search needs
 
 -- src/lib.rt:78:13
 returns : tie.Need-returns Inv-loop μ-loop
@@ -57,8 +57,8 @@ not-once-spec =
     Inv-loop
     μ-loop
     loop-holds
-    cast-fetch
-    fetch-requires
+    cast-fetch-byte
+    fetch-byte-requires
     returns
     add-i
     loop-less

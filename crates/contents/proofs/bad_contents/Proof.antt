@@ -1,164 +1,52 @@
-use Rattle.contents.proofs.Roll.{entry-there, bad-bounds, bad-rest, roll-none, roll-step, roll-long, low-none, low-step}
-use Rattle.contents.specs.Roll.{entries-from, marked, roll-of}
-use Rattle.book.specs.Image.{book-in}
-use Rattle.book.specs.Contents.{bad-entry, least-location}
-use Rattle.book.specs.Book.{Book, entry-at}
-use Rattle.book.specs.declared.Entry.{Entry}
-use Rattle.text.proofs.Words.{least-start, least-pass, least-stop, least-end}
-use Rattle.text.specs.Words.{least-from, least}
-use borrow.Author.Tests.{not-true, not-false}
-use borrow.Author.Needs.{needs}
-use lib.ListN.{replicate}
-use lib.Dec.{leb}
+use mathlib.Core.List.{[]}
 use native.Mathlib.Omega.{arith}
-use Prim.Native.Nat.{ℕ, _≤_, _-_, _+_}
-use mathlib.Core.List.{List, []}
-use mathlib.Core.Bool.{true, false, not, _&&_}
-use mathlib.Core.Path.{_≡_, refl, sym, _∙_, ap}
+use Rattle.book.specs.Image.{book-in}
+use Rattle.book.proofs.Image.{elements-most}
+use Rattle.contents.proofs.Roll.{clear}
+use borrow.Author.Needs.{needs}
 use Rattle.contents.proofs.bad_contents.Statement.{statement}
 use Rattle.contents.proofs.bad_contents.Tie as tie
 use Rattle.contents.proofs.bad_contents.Reads as reads
 use Rattle.contents.proofs.bad_contents.Lts as lts
-use Rattle.book.proofs.function_at.Reads as function-at-reads
-use Rattle.book.proofs.location.Reads as location-reads
-use Rattle.book.proofs.permanent.Reads as permanent-reads
-use Rattle.contents.proofs.in_bounds.Reads as in-bounds-reads
-use Rattle.contents.proofs.in_form.Reads as in-form-reads
-use Rattle.contents.proofs.mark.Reads as mark-reads
-use Rattle.contents.proofs.no_trace.Reads as no-trace-reads
-use Rattle.contents.proofs.read_entry.Reads as read-entry-reads
+use Rattle.book.proofs.elements.Reads as elements-reads
+use Rattle.contents.proofs.bad_entries.Reads as bad-entries-reads
 
-abbrev Inv-loop : tie.InvT-loop
-Inv-loop text image first n roll₀ p i₀ low₀ roll i low =
-    (i ≤ n)
-    × (least-from (bad-entry (book-in image (entries-from text first n))) (n - i) i ≡ least (bad-entry (book-in image (entries-from text first n))) n)
-    × (roll ≡ roll-of (book-in image (entries-from text first n)) i (replicate 10000 0))
-    × (low ≡ least-location (book-in image (entries-from text first n)) i)
+-- src/lib.rt:97:8
+elements-requires : tie.Need-elements-requires
+elements-requires c κs = search needs
 
-abbrev μ-loop : tie.MeasureT-loop
-μ-loop text image first n roll₀ p i₀ low₀ roll i low = n - i
+-- src/lib.rt:99:44
+slice-aggregate-bad-entries : tie.Need-slice-aggregate-bad-entries
+slice-aggregate-bad-entries c = search needs
 
--- the entry of the text that the loop reads
-there :
-    (c : tie.After-read-entry Inv-loop μ-loop) →
-    entry-at (book-in (c .before .before .before .before .before .before .args .image .now) (entries-from (c .before .before .before .before .before .before .args .text .now) (c .before .before .before .before .before .before .args .first) (c .before .before .before .before .before .before .args .n))) (c .before .before .loop .i) ≡ c .read-entry .result
-there c =
-    let a = c .before .before .before .before .before .before .args in
-    entry-there (a .image .now) (a .text .now) (a .first) (a .n) (c .before .before .loop .i) (c .before .loop-test .taken) ∙ sym (c .read-entry .ensures)
+-- src/lib.rt:99:9
+bad-entries-requires : tie.Need-bad-entries-requires
+bad-entries-requires c κs = let m = c .before .before .before .before .before .args .image .now in clear (book-in m [] .E) 256 (omega (arith, c .before .before .elements .ensures, c .before .if1 .taken))
 
--- what the tests of an entry that is in bounds say
-rest :
-    (c : tie.After-no-trace Inv-loop μ-loop) →
-    bad-entry (book-in (c .before .before .before .before .before .before .before .before .before .before .before .before .before .args .image .now) (entries-from (c .before .before .before .before .before .before .before .before .before .before .before .before .before .args .text .now) (c .before .before .before .before .before .before .before .before .before .before .before .before .before .args .first) (c .before .before .before .before .before .before .before .before .before .before .before .before .before .args .n))) (c .before .before .before .before .before .before .before .before .before .loop .i)
-    ≡ not (c .before .before .in-form .result && leb (c .before .before .before .before .before .before .before .before .before .loop .low) (c .before .before .before .location .result) && c .no-trace .result)
-rest c =
-    let a = c .before .before .before .before .before .before .before .before .before .before .before .before .before .args in
-    let l = c .before .before .before .before .before .before .before .before .before .loop in
-    rw (
-      c .no-trace .ensures,
-      c .before .before .in-form .ensures,
-      c .before .before .before .location .ensures .0,
-      c .before .before .before .before .function-at .ensures,
-      c .before .before .before .before .before .before .before .before .before .before .permanent .ensures,
-      l .inv .3,
-      l .inv .2,
-    )
-    (bad-rest (a .image .now) (entries-from (a .text .now) (a .first) (a .n)) (l .i) (c .before .before .before .before .before .before .before .read-entry .result) (there (c .before .before .before .before .before .before .before))
-    (sym (c .before .before .before .before .before .before .in-bounds .ensures) ∙ not-false _ (c .before .before .before .before .before .if1 .left)))
+-- src/lib.rt:102:44
+slice-aggregate-bad-entries-2 : tie.Need-slice-aggregate-bad-entries-2
+slice-aggregate-bad-entries-2 c = search needs
 
--- src/lib.rt:74:9
-permanent-requires : tie.Need-permanent-requires Inv-loop μ-loop
-permanent-requires c κs = search needs
+-- src/lib.rt:102:9
+bad-entries-requires-2 : tie.Need-bad-entries-requires-2
+bad-entries-requires-2 c κs = let m = c .before .before .before .before .before .args .image .now in clear (book-in m [] .E) 10000 (elements-most m [])
 
--- src/lib.rt:77:5
-loop-holds : tie.Need-loop-holds Inv-loop μ-loop
-loop-holds c = let a = c .before .before .before .args in let B : Book = book-in (a .image .now) (entries-from (a .text .now) (a .first) (a .n)) in (search needs, least-start _ _, roll-none B (replicate 10000 0), low-none B)
+-- src/lib.rt:94:1
+returns : tie.Need-returns
+returns c = search needs
 
--- src/lib.rt:78:13
-read-entry-requires : tie.Need-read-entry-requires Inv-loop μ-loop
-read-entry-requires c κs = search needs
-
--- src/lib.rt:79:13
-in-bounds-requires : tie.Need-in-bounds-requires Inv-loop μ-loop
-in-bounds-requires c κs = search needs
-
--- src/lib.rt:80:13
-returns : tie.Need-returns Inv-loop μ-loop
-returns c = let a = c .before .before .before .before .before .before .before .before .args in let l = c .before .before .before .before .loop in let es : List Entry = entries-from (a .text .now) (a .first) (a .n) in least-stop (bad-entry (book-in (a .image .now) es)) (a .n) (l .i) (c .before .before .before .loop-test .taken) (bad-bounds (a .image .now) es (l .i) (c .before .before .read-entry .result) (there (c .before .before)) (sym (c .before .in-bounds .ensures) ∙ not-true _ (c .if1 .taken))) (l .inv .1)
-
--- src/lib.rt:82:13
-function-at-requires : tie.Need-function-at-requires Inv-loop μ-loop
-function-at-requires c κs = search needs
-
--- src/lib.rt:83:13
-location-requires : tie.Need-location-requires Inv-loop μ-loop
-location-requires c κs = search needs
-
--- src/lib.rt:84:14
-in-form-requires : tie.Need-in-form-requires Inv-loop μ-loop
-in-form-requires c κs = search needs
-
--- src/lib.rt:84:59
-slice-aggregate-no-trace : tie.Need-slice-aggregate-no-trace Inv-loop μ-loop
-slice-aggregate-no-trace c = let a = c .before .before .before .before .before .before .before .before .before .before .before .before .args in let l = c .before .before .before .before .before .before .before .before .loop in roll-long (book-in (a .image .now) (entries-from (a .text .now) (a .first) (a .n))) (l .i) (l .roll) (l .inv .2)
-
--- src/lib.rt:84:50
-no-trace-requires : tie.Need-no-trace-requires Inv-loop μ-loop
-no-trace-requires c κs = search needs
-
--- src/lib.rt:85:13
-returns-2 : tie.Need-returns-2 Inv-loop μ-loop
-returns-2 c = let a = c .before .before .before .before .before .before .before .before .before .before .before .before .before .before .args in let l = c .before .before .before .before .before .before .before .before .before .before .loop in least-stop (bad-entry (book-in (a .image .now) (entries-from (a .text .now) (a .first) (a .n)))) (a .n) (l .i) (c .before .before .before .before .before .before .before .before .before .loop-test .taken) (rest (c .before) ∙ c .if2 .taken) (l .inv .1)
-
--- src/lib.rt:87:14
-slice-aggregate-mark : tie.Need-slice-aggregate-mark Inv-loop μ-loop
-slice-aggregate-mark c = let a = c .before .before .before .before .before .before .before .before .before .before .before .before .before .before .before .args in let l = c .before .before .before .before .before .before .before .before .before .before .before .loop in roll-long (book-in (a .image .now) (entries-from (a .text .now) (a .first) (a .n))) (l .i) (l .roll) (l .inv .2)
-
--- src/lib.rt:87:9
-mark-requires : tie.Need-mark-requires Inv-loop μ-loop
-mark-requires c κs = search needs
-
--- src/lib.rt:88:15
-add-low : tie.Need-add-low Inv-loop μ-loop
-add-low c = omega (arith, c .before .before .before .before .before .before .before .location .ensures .1)
-
--- src/lib.rt:89:9
-add-i : tie.Need-add-i Inv-loop μ-loop
-add-i c = search needs
-
--- src/lib.rt:77:5
-loop-less : tie.Need-loop-less Inv-loop μ-loop
-loop-less c = search needs
-
--- src/lib.rt:77:5
-loop-again : tie.Need-loop-again Inv-loop μ-loop
-loop-again c = let a = c .before .before .before .before .before .before .before .before .before .before .before .before .before .before .before .before .before .args in let l = c .before .before .before .before .before .before .before .before .before .before .before .before .before .loop in let es : List Entry = entries-from (a .text .now) (a .first) (a .n) in let x = c .before .before .before .before .before .before .before .before .before .before .before .read-entry .result in (search needs, least-pass (bad-entry (book-in (a .image .now) es)) (a .n) (l .i) (c .before .before .before .before .before .before .before .before .before .before .before .before .loop-test .taken) (rest (c .before .before .before .before) ∙ c .before .before .before .if2 .left) (l .inv .1), c .before .mark .ensures ∙ ap (marked x) (l .inv .2) ∙ sym (roll-step (book-in (a .image .now) es) (l .i) (replicate 10000 0) x (there (c .before .before .before .before .before .before .before .before .before .before .before))), rw (c .before .before .before .before .before .before .before .location .ensures .0) (sym (low-step (a .image .now) es (l .i) x (there (c .before .before .before .before .before .before .before .before .before .before .before)))))
-
--- src/lib.rt:70:1
-returns-3 : tie.Need-returns-3 Inv-loop μ-loop
-returns-3 c = let a = c .before .before .before .before .before .args in let l = c .before .loop in least-end (bad-entry (book-in (a .image .now) (entries-from (a .text .now) (a .first) (a .n)))) (a .n) (l .i) (c .loop-test .left) (l .inv .1)
+-- src/lib.rt:94:1
+returns-2 : tie.Need-returns-2
+returns-2 c = search needs
 
 pub bad-contents-spec : {M : Type 1} → statement M
 bad-contents-spec =
     tie.close
     (tie.spec
-    Inv-loop
-    μ-loop
-    permanent-requires
-    loop-holds
-    read-entry-requires
-    in-bounds-requires
+    elements-requires
+    slice-aggregate-bad-entries
+    bad-entries-requires
+    slice-aggregate-bad-entries-2
+    bad-entries-requires-2
     returns
-    function-at-requires
-    location-requires
-    in-form-requires
-    slice-aggregate-no-trace
-    no-trace-requires
-    returns-2
-    slice-aggregate-mark
-    mark-requires
-    add-low
-    add-i
-    loop-less
-    loop-again
-    returns-3)
+    returns-2)

@@ -4,15 +4,15 @@ use Rattle.contents.proofs.mark.Statement.{statement}
 use Rattle.contents.proofs.mark.Tie as tie
 use Rattle.contents.proofs.mark.Reads as reads
 use Rattle.contents.proofs.mark.Lts as lts
-use Rattle.book.proofs.put.Reads as put-reads
+use Rattle.book.proofs.put_byte.Reads as put-byte-reads
 
 -- src/lib.rt:55:25
-cast-put : tie.Need-cast-put
-cast-put c = search needs
+cast-put-byte : tie.Need-cast-put-byte
+cast-put-byte c = search needs
 
 -- src/lib.rt:55:9
-put-requires : tie.Need-put-requires
-put-requires c κs = search needs
+put-byte-requires : tie.Need-put-byte-requires
+put-byte-requires c κs = search needs
 
 -- src/lib.rt:51:1
 same-length : tie.Need-same-length
@@ -20,11 +20,11 @@ same-length c = search needs
 
 -- src/lib.rt:51:1
 returns : tie.Need-returns
-returns c = simp (eq-eqb _ _ (c .before .before .before .before .before .if1 .taken)) (c .before .before .put .ensures)
+returns c = simp (eq-eqb _ _ (c .before .before .before .before .before .if1 .taken)) (c .before .before .put-byte .ensures)
 
 -- src/lib.rt:51:1
 returns-2 : tie.Need-returns-2
 returns-2 c = simp (ne-eqb _ _ (c .if1 .left))
 
 pub mark-spec : {M : Type 1} → statement M
-mark-spec = tie.close (tie.spec cast-put put-requires same-length returns returns-2)
+mark-spec = tie.close (tie.spec cast-put-byte put-byte-requires same-length returns returns-2)

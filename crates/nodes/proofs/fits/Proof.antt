@@ -1,6 +1,9 @@
-use Rattle.nodes.specs.Fits.{fits-by}
+use mathlib.Core.Path.{_≡_, _∙_, sym}
+use mathlib.Core.List.{[]}
+use native.Mathlib.Omega.{arith}
 use Rattle.book.specs.Lines.{fits}
-use mathlib.Core.Path.{_∙_}
+use Rattle.book.specs.Image.{book-in}
+use Rattle.nodes.proofs.Classes as classes
 use borrow.Author.Needs.{needs}
 use Rattle.nodes.proofs.fits.Statement.{statement}
 use Rattle.nodes.proofs.fits.Tie as tie
@@ -10,45 +13,77 @@ use Rattle.book.proofs.function_at.Reads as function-at-reads
 use Rattle.book.proofs.functions.Reads as functions-reads
 use Rattle.book.proofs.node_at.Reads as node-at-reads
 use Rattle.book.proofs.permanent.Reads as permanent-reads
-use Rattle.nodes.proofs.fits_by.Reads as fits-by-reads
+use Rattle.nodes.proofs.fits_function.Reads as fits-function-reads
+use Rattle.nodes.proofs.fits_node.Reads as fits-node-reads
+use Rattle.nodes.proofs.fits_plain.Reads as fits-plain-reads
+use Rattle.nodes.proofs.fits_target.Reads as fits-target-reads
 
--- src/lib.rt:71:9
+-- src/lib.rt:185:26
 permanent-requires : tie.Need-permanent-requires
 permanent-requires c κs = search needs
 
--- src/lib.rt:72:9
+-- src/lib.rt:185:9
+fits-plain-requires : tie.Need-fits-plain-requires
+fits-plain-requires c κs = search needs
+
+-- src/lib.rt:187:29
 functions-requires : tie.Need-functions-requires
 functions-requires c κs = search needs
 
--- src/lib.rt:73:9
+-- src/lib.rt:187:53
 function-at-requires : tie.Need-function-at-requires
 function-at-requires c κs = search needs
 
--- src/lib.rt:74:9
+-- src/lib.rt:187:9
+fits-function-requires : tie.Need-fits-function-requires
+fits-function-requires c κs = search needs
+
+-- src/lib.rt:189:13
 node-at-requires : tie.Need-node-at-requires
 node-at-requires c κs = search needs
 
--- src/lib.rt:75:9
+-- src/lib.rt:191:13
+fits-node-requires : tie.Need-fits-node-requires
+fits-node-requires c κs = search needs
+
+-- src/lib.rt:193:42
 function-at-requires-2 : tie.Need-function-at-requires-2
 function-at-requires-2 c κs = search needs
 
--- src/lib.rt:76:5
-fits-by-requires : tie.Need-fits-by-requires
-fits-by-requires c κs = search needs
+-- src/lib.rt:193:13
+fits-target-requires : tie.Need-fits-target-requires
+fits-target-requires c κs = search needs
 
--- src/lib.rt:68:1
+-- src/lib.rt:181:1
 returns : tie.Need-returns
-unfolding fits fits-by
-returns c = c .fits-by .ensures ∙ rw (c .before .function-at2 .ensures, c .before .before .node-at .ensures, c .before .before .before .function-at .ensures, c .before .before .before .before .functions .ensures, c .before .before .before .before .before .permanent .ensures)
+returns c = let a = c .before .before .before .before .args in c .fits-plain .ensures ∙ rw (c .before .permanent .ensures, classes.plain (book-in (a .image .now) []) (a .n) (a .s) (a .x) (omega arith))
+
+-- src/lib.rt:181:1
+returns-2 : tie.Need-returns-2
+returns-2 c = let a = c .before .before .before .before .before .before .args in c .fits-function .ensures ∙ rw (c .before .function-at .ensures, c .before .before .functions .ensures, classes.function (book-in (a .image .now) []) (a .n) (a .s) (a .x) (omega arith) (omega arith))
+
+-- src/lib.rt:181:1
+returns-3 : tie.Need-returns-3
+returns-3 c = let a = c .before .before .before .before .before .before .args in c .fits-node .ensures ∙ rw (c .before .before .node-at .ensures, classes.node (book-in (a .image .now) []) (a .n) (a .s) (a .x) (omega arith) (omega arith))
+
+-- src/lib.rt:181:1
+returns-4 : tie.Need-returns-4
+returns-4 c = let a = c .before .before .before .before .before .before .before .args in c .fits-target .ensures ∙ rw (c .before .function-at2 .ensures, c .before .before .before .node-at .ensures, classes.target (book-in (a .image .now) []) (a .n) (a .s) (a .x) (omega arith))
 
 pub fits-spec : {M : Type 1} → statement M
 fits-spec =
     tie.close
     (tie.spec
     permanent-requires
+    fits-plain-requires
     functions-requires
     function-at-requires
+    fits-function-requires
     node-at-requires
+    fits-node-requires
     function-at-requires-2
-    fits-by-requires
-    returns)
+    fits-target-requires
+    returns
+    returns-2
+    returns-3
+    returns-4)

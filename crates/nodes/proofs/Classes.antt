@@ -1,0 +1,71 @@
+-- What fits a sort is what the definition says of that sort alone. Assumes nothing.
+use mathlib.Core.Path.{_≡_, refl}
+use mathlib.Core.Bool.{or-false}
+use Prim.Native.Nat.{ℕ, _<_, _≤_}
+use native.Mathlib.Omega.{arith}
+use borrow.Author.Tests.{ne-eqb}
+use lib.ListN.{length}
+use Rattle.book.specs.Book.{Book, function-at, node-at}
+use Rattle.book.specs.Lines.{fits}
+use Rattle.nodes.specs.Fits.{fits-plain, fits-function, fits-node, fits-target}
+
+module _ (B : Book) (n s x : ℕ) where
+  pub plain : s < 4 → fits B n s x ≡ fits-plain s x (B .P)
+  unfolding fits
+  plain h =
+      simp (
+        ne-eqb s 4 (λ e. omega arith),
+        ne-eqb s 5 (λ e. omega arith),
+        ne-eqb s 6 (λ e. omega arith),
+        ne-eqb s 7 (λ e. omega arith),
+        ne-eqb s 8 (λ e. omega arith),
+        ne-eqb s 9 (λ e. omega arith),
+        ne-eqb s 10 (λ e. omega arith),
+        ne-eqb s 11 (λ e. omega arith),
+        or-false,
+      )
+
+  pub function : 4 ≤ s → s < 9 → fits B n s x ≡ fits-function s x (length (B .functions)) (function-at B x)
+  unfolding fits
+  function l h =
+      simp (
+        ne-eqb s 1 (λ e. omega arith),
+        ne-eqb s 2 (λ e. omega arith),
+        ne-eqb s 3 (λ e. omega arith),
+        ne-eqb s 9 (λ e. omega arith),
+        ne-eqb s 10 (λ e. omega arith),
+        ne-eqb s 11 (λ e. omega arith),
+        or-false,
+      )
+
+  pub node : 9 ≤ s → s < 11 → fits B n s x ≡ fits-node s x n (node-at B x .kind)
+  unfolding fits
+  node l h =
+      simp (
+        ne-eqb s 1 (λ e. omega arith),
+        ne-eqb s 2 (λ e. omega arith),
+        ne-eqb s 3 (λ e. omega arith),
+        ne-eqb s 4 (λ e. omega arith),
+        ne-eqb s 5 (λ e. omega arith),
+        ne-eqb s 6 (λ e. omega arith),
+        ne-eqb s 7 (λ e. omega arith),
+        ne-eqb s 8 (λ e. omega arith),
+        ne-eqb s 11 (λ e. omega arith),
+        or-false,
+      )
+
+  pub target : 11 ≤ s → fits B n s x ≡ fits-target s x n (node-at B x .kind) (function-at B (node-at B x .a))
+  unfolding fits
+  target l =
+      simp (
+        ne-eqb s 1 (λ e. omega arith),
+        ne-eqb s 2 (λ e. omega arith),
+        ne-eqb s 3 (λ e. omega arith),
+        ne-eqb s 4 (λ e. omega arith),
+        ne-eqb s 5 (λ e. omega arith),
+        ne-eqb s 6 (λ e. omega arith),
+        ne-eqb s 7 (λ e. omega arith),
+        ne-eqb s 8 (λ e. omega arith),
+        ne-eqb s 9 (λ e. omega arith),
+        ne-eqb s 10 (λ e. omega arith),
+      )
