@@ -35,12 +35,6 @@ struct Spot {
 
 // ---- the list
 
-fn smaller(a: usize, b: usize) -> usize
-    ensures { λ r. ⌜ r ≡ min a b ⌝ }
-{
-    if a < b { a } else { b }
-}
-
 // The location that an instruction is about, and the value that it gives it.
 fn own_location(what: Instruction) -> u32
     ensures { λ r. ⌜ r ≡ own what ⌝ }
@@ -154,7 +148,7 @@ fn against(e: u16, s: Spot, w: u16, what: Instruction) -> bool
 fn other_at(e: u16, list: &[u64], len: usize, s: Spot, w: u16) -> bool
     ensures { λ r. ⌜ r ≡ any (λ i. other w (gives e s i)) (items (now (list .entry)) len) ⌝ }
 {
-    let n = smaller(len, list.len());
+    let n = table::smaller(len, list.len());
     let mut j: usize = 0;
     while j < n {
         let what = records::decode(list[j]);
@@ -183,7 +177,7 @@ fn releases(what: Instruction, x: u16) -> bool
 fn is_released(list: &[u64], len: usize, x: u16) -> bool
     ensures { λ r. ⌜ r ≡ has (released (items (now (list .entry)) len)) x ⌝ }
 {
-    let n = smaller(len, list.len());
+    let n = table::smaller(len, list.len());
     let mut j: usize = 0;
     while j < n {
         let what = records::decode(list[j]);
@@ -237,7 +231,7 @@ fn better_of(
 fn first_clash(image: &[u16; 4296], contents: &[u16], list: &[u64], len: usize) -> u32
     ensures { λ r. ⌜ r ≡ best (book-in (now (image .entry)) []) (now (contents .entry)) (items (now (list .entry)) len) (items (now (list .entry)) len) (L (book-in (now (image .entry)) [])) ⌝ }
 {
-    let n = smaller(len, list.len());
+    let n = table::smaller(len, list.len());
     let mut least = table::total(image);
     let mut j: usize = 0;
     while j < n {
@@ -273,7 +267,7 @@ fn changes_own(n: u32, contents: &[u16], what: Instruction) -> bool
 fn has_change(n: u32, contents: &[u16], list: &[u64], len: usize) -> bool
     ensures { λ r. ⌜ r ≡ any (change n (now (contents .entry))) (items (now (list .entry)) len) ⌝ }
 {
-    let m = smaller(len, list.len());
+    let m = table::smaller(len, list.len());
     let mut j: usize = 0;
     while j < m {
         let what = records::decode(list[j]);
@@ -373,11 +367,11 @@ fn clear_run(
     ensures { λ _. ⌜ now (writers .exit) ≡ run-marked bit e f x first end (now (contents .entry)) (now (writers .entry)) ⌝ }
 {
     let n = contents.len();
-    let a = smaller(first, n);
-    let b = smaller(end, n);
+    let a = table::smaller(first, n);
+    let b = table::smaller(end, n);
     let m = writers.len();
-    let p = smaller(first, m);
-    let q = smaller(end, m);
+    let p = table::smaller(first, m);
+    let q = table::smaller(end, m);
     clear_part(&mut contents[a..b], &mut writers[p..q], e, f, x, bit);
 }
 
@@ -432,7 +426,7 @@ fn clear_all(
     ensures { λ _. ⌜ now (contents .exit) ≡ clears (book-in (now (image .entry)) []) (items (now (list .entry)) len) (now (contents .entry)) ⌝ }
     ensures { λ _. ⌜ now (writers .exit) ≡ clear-marks bit (book-in (now (image .entry)) []) (items (now (list .entry)) len) (now (contents .entry)) (now (writers .entry)) ⌝ }
 {
-    let n = smaller(len, list.len());
+    let n = table::smaller(len, list.len());
     let mut j: usize = 0;
     while j < n {
         let what = records::decode(list[j]);
@@ -457,7 +451,7 @@ fn put_all(contents: &mut [u16], writers: &mut [u64], list: &[u64], len: usize, 
     ensures { λ _. ⌜ now (contents .exit) ≡ puts (items (now (list .entry)) len) (now (contents .entry)) ⌝ }
     ensures { λ _. ⌜ now (writers .exit) ≡ put-marks bit (length (now (contents .entry))) (items (now (list .entry)) len) (now (writers .entry)) ⌝ }
 {
-    let n = smaller(len, list.len());
+    let n = table::smaller(len, list.len());
     let mut j: usize = 0;
     while j < n {
         let what = records::decode(list[j]);

@@ -1,19 +1,20 @@
 -- Laws of numbers: a product of two u16 fits, the row and the column of the next place, and what an image's book has. Assumes nothing.
 use mathlib.Core.Path.{_≡_, refl, sym, ap, _∙_, subst⁻¹}
-use mathlib.Core.Bool.{Bool, true, false, _&&_}
+use mathlib.Core.Bool.{Bool, true, false, _&&_, _||_}
 use mathlib.Core.List.{List, [], _∷_}
 use Prim.Native.Nat.{ℕ, zero, suc, _+_, _*_, _^_, _-_, _/_, _%_, _<_, _≤_}
 use native.Mathlib.Nat.{div-zero, mod-zero, mod-lt, div-add-mod', mul-add-div-right, mul-add-mod-self-right, div-eq-of-lt, mod-eq-of-lt, div-self, mod-self, le-of-lt, lt-of-le-of-lt, mul-le-mul-left, mul-le-mul-right, mul-lt-mul-of-pos-right}
 use native.Mathlib.Omega.{arith}
-use borrow.Author.Tests.{eqb-true, eqb-false}
+use borrow.Author.Tests.{eqb-true, eqb-false, le-ltb}
 use lib.Pow.{pow-pos, pow-add}
 use lib.Dec.{eqb, ltb}
 use lib.ListN.{length, getD}
 use Rattle.text.specs.Words.{table}
-use Rattle.text.proofs.Words.{length-table-from, getD-table, getD-table-past}
+use Rattle.text.proofs.Words.{or-no, length-table-from, getD-table, getD-table-past}
 use Rattle.book.specs.declared.Function.{Function}
-use Rattle.book.specs.Book.{Book, function-at, no-function}
+use Rattle.book.specs.Book.{Book, arguments, function-at, no-function}
 use Rattle.book.specs.Image.{word, row-in, capped, function-of, book-in}
+use Rattle.table.specs.Part.{arguments-by}
 
 pub below : (k : ℕ) {a b : ℕ} → a < 2 ^ k → b < 2 ^ k → a * b < 2 ^ (k + k)
 below k {a} {b} ha hb =
@@ -56,6 +57,28 @@ module _ (e i : ℕ) where
                 (ap (λ (n : ℕ). n / e) (next-is p) ∙ mul-add-div-right p (i / e) (i % e + 1) ∙ ap (λ (n : ℕ). i / e + n) (div-eq-of-lt q) ∙ omega arith),
             sym (ap (λ (n : ℕ). n % e) (next-is p) ∙ mul-add-mod-self-right (i / e) e (i % e + 1) ∙ mod-eq-of-lt q),
           )
+
+-- ---- the arguments of a location, of which only a binary function has a row and a column
+
+pub arguments-are :
+    (e arity i row col : ℕ) → (1 < arity → row ≡ i / e) → (1 < arity → col ≡ i % e) → arguments-by arity i row col ≡ arguments e arity i
+arguments-are e zero i row col p q = refl
+arguments-are e (suc zero) i row col p q = refl
+arguments-are e (suc (suc n)) i row col p q = rw (p (omega arith), q (omega arith))
+
+-- a function that is not said to have them
+no-elements : (e arity : ℕ) → ltb arity 2 || eqb e 0 ≡ true → 1 < arity → e ≡ 0
+no-elements e arity h k = eqb-true e 0 (rw (le-ltb arity 2 (omega arith)) at h)
+
+pub no-row : (e arity i : ℕ) → ltb arity 2 || eqb e 0 ≡ true → 1 < arity → 0 ≡ i / e
+no-row e arity i h k = rw (no-elements e arity h k, div-zero)
+
+pub no-col : (e arity i : ℕ) → ltb arity 2 || eqb e 0 ≡ true → 1 < arity → i ≡ i % e
+no-col e arity i h k = rw (no-elements e arity h k, mod-zero)
+
+-- any other has an element
+pub some-elements : (e arity : ℕ) → ltb arity 2 || eqb e 0 ≡ false → 0 < e
+some-elements e arity h = let n = eqb-false e 0 (or-no (ltb arity 2) (eqb e 0) h .1) in omega (arith, n)
 
 -- ---- what an image's book has
 

@@ -2,21 +2,27 @@
 use book::Function;
 use text::Found;
 ghost use mathlib.Core.Path.{_≡_};
-ghost use mathlib.Core.Bool.{_&&_};
+ghost use mathlib.Core.Bool.{_&&_, _||_};
 ghost use mathlib.Core.List.{[]};
-ghost use Prim.Native.Nat.{_+_, _*_, _/_, _%_, _<_, _≤_};
+ghost use Prim.Native.Nat.{_+_, _*_, _/_, _%_, _<_, _≤_, min};
 ghost use lib.Dec.{eqb, ltb};
 ghost use lib.ListN.{length, getD, take};
 ghost use Rattle.text.specs.Words.{least};
 ghost use Rattle.book.specs.Book.{Book, L, true-element, size, boolean, relation, dynamic, default, function-at, place};
 ghost use Rattle.book.specs.Image.{word, capped, book-in};
 ghost use Rattle.book.specs.Contents.{some-on-roll, all-permanent, bad-value};
-ghost use Rattle.table.specs.Part.{arguments-by, Part};
+ghost use Rattle.table.specs.Part.{arguments-by, Blameless, Past, Part};
 
 // The bounds of the counts in an image.
 pub const MOST_ELEMENTS: u16 = 10000;
 
 pub const MOST_FUNCTIONS: u16 = 32;
+
+pub fn smaller(a: usize, b: usize) -> usize
+    ensures { λ r. ⌜ r ≡ min a b ⌝ }
+{
+    if a < b { a } else { b }
+}
 
 // ---- the image
 
@@ -135,21 +141,6 @@ fn is_boolean(v: u16) -> bool
     (v == 1) | (v == 2)
 }
 
-// The row and the column of the place after i.
-fn next_row(e: u16, i: u32, row: u32, col: u32) -> u32
-    requires { ⌜ (i < 2147483648) × (row ≡ i / e) × (col ≡ i % e) ⌝ }
-    ensures { λ r. ⌜ r ≡ (i + 1) / e ⌝ }
-{
-    if col + 1 == e as u32 { row + 1 } else { row }
-}
-
-fn next_col(e: u16, i: u32, col: u32) -> u32
-    requires { ⌜ (i < 2147483648) × (col ≡ i % e) ⌝ }
-    ensures { λ r. ⌜ r ≡ (i + 1) % e ⌝ }
-{
-    if col + 1 == e as u32 { 0 } else { col + 1 }
-}
-
 // ---- 8
 
 // x is on the roll.
@@ -172,6 +163,16 @@ fn all_permanent(p: u16, arity: u32, i: u32, row: u32, col: u32) -> bool
     (row < p as u32) & (col < p as u32)
 }
 
+// A value that f may hold if it is static: its default, or a permanent one at permanent arguments.
+fn is_static_fine(p: u16, f: Function, v: u16, i: u32, row: u32, col: u32) -> bool
+    ensures { λ r. ⌜ r ≡ (dynamic f || eqb v (default f) || all-permanent p (arguments-by (f .arity) i row col) && ltb v p) ⌝ }
+{
+    if is_dynamic(f) {
+        return true;
+    }
+    (v == default_of(f)) | all_permanent(p, f.arity, i, row, col) & (v < p)
+}
+
 // One of the arguments is on the roll.
 fn some_on_roll(contents: &[u16], e: u16, arity: u32, i: u32, row: u32, col: u32) -> bool
     ensures { λ r. ⌜ ((B : Book) → B .E ≡ e → r ≡ some-on-roll B (now (contents .entry)) (arguments-by arity i row col)) ⌝ }
@@ -185,40 +186,81 @@ fn some_on_roll(contents: &[u16], e: u16, arity: u32, i: u32, row: u32, col: u32
     on_roll(contents, e, row) | on_roll(contents, e, col)
 }
 
+// The row and the column of location i of a binary function.
+fn row_of(e: u16, arity: u32, i: u32) -> u32
+    ensures { λ r. ⌜ (1 < arity → r ≡ i / e) ⌝ }
+{
+    if (arity < 2) | (e == 0) {
+        return 0;
+    }
+    i / e as u32
+}
+
+fn col_of(e: u16, arity: u32, i: u32) -> u32
+    ensures { λ r. ⌜ (1 < arity → r ≡ i % e) ⌝ }
+{
+    if (arity < 2) | (e == 0) {
+        return i;
+    }
+    i % e as u32
+}
+
 // Location l, which is number i of f, is at fault.
-fn is_bad(contents: &[u16], e: u16, p: u16, f: Function, l: u32, i: u32, row: u32, col: u32) -> bool
-    requires { ⌜ (row ≡ i / e) × (col ≡ i % e) ⌝ }
+fn is_bad(contents: &[u16], e: u16, p: u16, f: Function, l: u32, i: u32) -> bool
     ensures { λ r. ⌜ ((B : Book) → B .E ≡ e → B .P ≡ p → place B l ≡ record { function = f; index = i } → r ≡ bad-value B (now (contents .entry)) l) ⌝ }
 {
+    let row = row_of(e, f.arity, i);
+    let col = col_of(e, f.arity, i);
     let v = fetch(contents, l as usize);
-    let at_rest = v == default_of(f);
-    let lawful = (v < e)
-        & (!is_relation(f) | is_boolean(v))
-        & (is_dynamic(f) | at_rest | all_permanent(p, f.arity, i, row, col) & (v < p));
+    let lawful = (v < e) & (!is_relation(f) | is_boolean(v)) & is_static_fine(p, f, v, i, row, col);
     if l < e as u32 {
         return !(lawful & (!(v == 2) | (p as u32 <= l)));
     }
     let trace = on_roll(contents, e, v as u32)
-        | !at_rest & some_on_roll(contents, e, f.arity, i, row, col);
+        | !(v == default_of(f)) & some_on_roll(contents, e, f.arity, i, row, col);
     !(lawful & !trace)
 }
 
-// The least location at fault of f's part, counted from its first.
+// What a location of f may hold without fault: its default, if that is an element and not on the roll; else a number that none holds.
+fn blameless(contents: &[u16], e: u16, f: Function) -> u32
+    ensures { λ r. ⌜ Blameless (now (contents .entry)) e f r ⌝ }
+{
+    let v = default_of(f);
+    if (v < e) & (fetch(contents, v as usize) != 2) {
+        return v as u32;
+    }
+    65536
+}
+
+// A location from l to end, before which, from l on, all hold v.
+fn past(contents: &[u16], v: u32, l: u32, end: u32) -> u32
+    requires { ⌜ l ≤ end ⌝ }
+    ensures { λ r. ⌜ Past (now (contents .entry)) v l end r ⌝ }
+{
+    let n = smaller(end as usize, contents.len());
+    let mut k = l as usize;
+    while k < n {
+        if contents[k] as u32 != v {
+            return k as u32;
+        }
+        k = k + 1;
+    }
+    k as u32
+}
+
+// The least location at fault of f's part, counted from its first. Nearly all are blameless, and only the others are judged.
 fn bad_part(contents: &[u16], e: u16, p: u16, f: Function, first: u32) -> Found
     requires { ⌜ (e ≤ 10000) × (first ≤ 3200000000) ⌝ }
     ensures { λ r. ⌜ ((B : Book) → Part B e p f first → r ≡ least (λ i. bad-value B (now (contents .entry)) (first + i)) (size e (f .arity))) ⌝ }
 {
-    let n = size(e, f.arity);
-    let mut i: u32 = 0;
-    let mut row: u32 = 0;
-    let mut col: u32 = 0;
-    while i < n {
-        if is_bad(contents, e, p, f, first + i, i, row, col) {
-            return Found::Here(i);
+    let end = first + size(e, f.arity);
+    let v = blameless(contents, e, f);
+    let mut l = past(contents, v, first, end);
+    while l < end {
+        if is_bad(contents, e, p, f, l, l - first) {
+            return Found::Here(l - first);
         }
-        row = next_row(e, i, row, col);
-        col = next_col(e, i, col);
-        i = i + 1;
+        l = past(contents, v, l + 1, end);
     }
     Found::Nowhere
 }

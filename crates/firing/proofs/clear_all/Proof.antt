@@ -18,7 +18,7 @@ use Rattle.firing.proofs.clear_all.Reads as reads
 use Rattle.firing.proofs.clear_all.Lts as lts
 use Rattle.firing.proofs.clear_for.Reads as clear-for-reads
 use Rattle.records.proofs.decode.Reads as decode-reads
-use Rattle.firing.proofs.smaller.Reads as smaller-reads
+use Rattle.table.proofs.smaller.Reads as smaller-reads
 
 abbrev Inv-loop : tie.InvT-loop
 Inv-loop image contents₀ writers₀ list len bit n j₀ contents writers j =

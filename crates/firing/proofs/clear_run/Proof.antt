@@ -13,7 +13,7 @@ use Rattle.firing.proofs.clear_run.Tie as tie
 use Rattle.firing.proofs.clear_run.Reads as reads
 use Rattle.firing.proofs.clear_run.Lts as lts
 use Rattle.firing.proofs.clear_part.Reads as clear-part-reads
-use Rattle.firing.proofs.smaller.Reads as smaller-reads
+use Rattle.table.proofs.smaller.Reads as smaller-reads
 
 -- src/lib.rt:384:9
 smaller-requires : tie.Need-smaller-requires

@@ -19,7 +19,7 @@ use Rattle.firing.proofs.first_clash.Reads as reads
 use Rattle.firing.proofs.first_clash.Lts as lts
 use Rattle.firing.proofs.better_of.Reads as better-of-reads
 use Rattle.records.proofs.decode.Reads as decode-reads
-use Rattle.firing.proofs.smaller.Reads as smaller-reads
+use Rattle.table.proofs.smaller.Reads as smaller-reads
 use Rattle.table.proofs.total.Reads as total-reads
 
 abbrev Inv-loop : tie.InvT-loop

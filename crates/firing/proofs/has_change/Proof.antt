@@ -18,7 +18,7 @@ use Rattle.firing.proofs.has_change.Reads as reads
 use Rattle.firing.proofs.has_change.Lts as lts
 use Rattle.firing.proofs.changes_own.Reads as changes-own-reads
 use Rattle.records.proofs.decode.Reads as decode-reads
-use Rattle.firing.proofs.smaller.Reads as smaller-reads
+use Rattle.table.proofs.smaller.Reads as smaller-reads
 
 abbrev Inv-loop : tie.InvT-loop
 Inv-loop n contents list len m j₀ j =

@@ -20,7 +20,7 @@ use Rattle.firing.proofs.is_released.Reads as reads
 use Rattle.firing.proofs.is_released.Lts as lts
 use Rattle.records.proofs.decode.Reads as decode-reads
 use Rattle.firing.proofs.releases.Reads as releases-reads
-use Rattle.firing.proofs.smaller.Reads as smaller-reads
+use Rattle.table.proofs.smaller.Reads as smaller-reads
 
 abbrev Inv-loop : tie.InvT-loop
 Inv-loop list len x n j₀ j =

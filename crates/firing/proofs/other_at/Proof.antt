@@ -19,7 +19,7 @@ use Rattle.firing.proofs.other_at.Reads as reads
 use Rattle.firing.proofs.other_at.Lts as lts
 use Rattle.firing.proofs.against.Reads as against-reads
 use Rattle.records.proofs.decode.Reads as decode-reads
-use Rattle.firing.proofs.smaller.Reads as smaller-reads
+use Rattle.table.proofs.smaller.Reads as smaller-reads
 
 abbrev Inv-loop : tie.InvT-loop
 Inv-loop e list len s w n j₀ j =

@@ -20,7 +20,7 @@ use Rattle.records.proofs.decode.Reads as decode-reads
 use Rattle.firing.proofs.own_location.Reads as own-location-reads
 use Rattle.firing.proofs.own_value.Reads as own-value-reads
 use Rattle.firing.proofs.put.Reads as put-reads
-use Rattle.firing.proofs.smaller.Reads as smaller-reads
+use Rattle.table.proofs.smaller.Reads as smaller-reads
 
 abbrev Inv-loop : tie.InvT-loop
 Inv-loop contents₀ writers₀ list len bit n j₀ contents writers j =

@@ -1,74 +1,107 @@
-use Rattle.table.specs.Part.{Part}
-use Rattle.book.specs.Contents.{bad-value}
-use Rattle.book.specs.Book.{Book}
-use Rattle.text.proofs.Words.{least-start, least-pass, least-stop, least-end}
-use Rattle.text.specs.Words.{least-from, least}
-use borrow.Author.Needs.{needs}
+use mathlib.Core.Path.{_≡_, sym, ap, _∙_}
+use Prim.Native.Nat.{ℕ, _+_, _-_, _<_, _≤_}
 use native.Mathlib.Omega.{arith}
-use native.Mathlib.Nat.{zero-div, zero-mod}
-use Prim.Native.Nat.{ℕ, _-_, _≤_, _+_, _/_, _%_}
-use mathlib.Core.Bool.{Bool, true, false}
-use mathlib.Core.Path.{_≡_, _∙_, sym, refl, ap}
+use borrow.Author.Needs.{needs}
+use Rattle.book.specs.Book.{Book, size}
+use Rattle.table.specs.Part.{Past, Part}
+use Rattle.table.proofs.Scan.{Passed, scan-start, scan-skip, scan-pass, scan-stop, scan-end}
 use Rattle.table.proofs.bad_part.Statement.{statement}
 use Rattle.table.proofs.bad_part.Tie as tie
 use Rattle.table.proofs.bad_part.Reads as reads
 use Rattle.table.proofs.bad_part.Lts as lts
+use Rattle.table.proofs.blameless.Reads as blameless-reads
 use Rattle.table.proofs.is_bad.Reads as is-bad-reads
-use Rattle.table.proofs.next_col.Reads as next-col-reads
-use Rattle.table.proofs.next_row.Reads as next-row-reads
+use Rattle.table.proofs.past.Reads as past-reads
 use Rattle.table.proofs.size.Reads as size-reads
 
 abbrev Inv-loop : tie.InvT-loop
-Inv-loop contents e p f first n i₀ row₀ col₀ i row col =
-    (i ≤ n) × (row ≡ i / e) × (col ≡ i % e)
-    × ((B : Book) → Part B e p f first → least-from (λ j. bad-value B contents (first + j)) (n - i) i ≡ least (λ j. bad-value B contents (first + j)) n)
+Inv-loop contents e p f first end v l₀ l =
+    (first ≤ l) × (l ≤ end) × ((B : Book) (k : Part B e p f first) → Passed B contents e p f first k l)
 
 abbrev μ-loop : tie.MeasureT-loop
-μ-loop contents e p f first n i₀ row₀ col₀ i row col = n - i
+μ-loop contents e p f first end v l₀ l = end - l
 
--- src/lib.rt:215:9
+-- src/lib.rt:249:23
 size-requires : tie.Need-size-requires Inv-loop μ-loop
 size-requires c κs = search needs
 
--- src/lib.rt:219:5
+-- src/lib.rt:249:15
+add-end : tie.Need-add-end Inv-loop μ-loop
+add-end c = record { fits = omega (arith, c .before .before .pre, c .size .ensures .1 (c .before .before .pre .0)) }
+
+-- src/lib.rt:250:9
+blameless-requires : tie.Need-blameless-requires Inv-loop μ-loop
+blameless-requires c κs = search needs
+
+-- src/lib.rt:251:9
+past-requires : tie.Need-past-requires Inv-loop μ-loop
+past-requires c κs = search needs
+
+-- src/lib.rt:252:5
 loop-holds : tie.Need-loop-holds Inv-loop μ-loop
-loop-holds c = let a = c .before .before .args in (omega arith, sym (zero-div (a .e)), sym (zero-mod (a .e)), λ B k. least-start (λ j. bad-value B (a .contents .now) (a .first + j)) (c .size .result))
+loop-holds c =
+    let a = c .before .before .before .before .args in
+    let n = c .before .before .size in
+    let h : Past (a .contents .now) (c .before .blameless .result) (a .first) (a .first + size (a .e) (a .f .arity)) (c .past .result) = rw (← n .ensures .0) (c .past .ensures) in (
+      h .from,
+      c .past .ensures .to,
+      λ B k. scan-skip B (a .contents .now) (a .e) (a .p) (a .f) (a .first) k (a .first) (omega arith) (scan-start B (a .contents .now) (a .e) (a .p) (a .f) (a .first) k) (c .before .blameless .result) (c .past .result) (c .before .blameless .ensures) h,
+    )
 
--- src/lib.rt:220:38
-add-is-bad : tie.Need-add-is-bad Inv-loop μ-loop
-add-is-bad c = record { fits = omega (arith, c .before .before .before .before .pre, c .before .before .size .ensures .1 (c .before .before .before .before .pre .0), c .loop-test .taken) }
+-- src/lib.rt:253:41
+sub-is-bad : tie.Need-sub-is-bad Inv-loop μ-loop
+sub-is-bad c = search needs
 
--- src/lib.rt:220:12
+-- src/lib.rt:253:12
 is-bad-requires : tie.Need-is-bad-requires Inv-loop μ-loop
-is-bad-requires c κs = (c .before .loop .inv .1, c .before .loop .inv .2)
+is-bad-requires c κs = search needs
 
--- src/lib.rt:221:13
+-- src/lib.rt:254:32
+sub-t13 : tie.Need-sub-t13 Inv-loop μ-loop
+sub-t13 c = search needs
+
+-- src/lib.rt:254:13
 returns : tie.Need-returns Inv-loop μ-loop
-returns c = λ B k. let a = c .before .before .before .before .before .before .args in let l = c .before .before .before .loop in rw (← c .before .before .before .before .size .ensures .0) (least-stop (λ j. bad-value B (a .contents .now) (a .first + j)) (c .before .before .before .before .size .result) (l .i) (c .before .before .loop-test .taken) (sym (c .before .is-bad .ensures B (k .elements) (k .permanent) (k .places (l .i) (omega (arith, c .before .before .loop-test .taken, c .before .before .before .before .size .ensures .0)))) ∙ c .if1 .taken) (l .inv .3 B k))
+returns c =
+    λ B k.
+    let a = c .before .before .before .before .before .before .before .before .args in
+    let l = c .before .before .before .loop in
+    let j = c .before .is-bad in
+    scan-stop B (a .contents .now) (a .e) (a .p) (a .f) (a .first) k (l .l) (l .inv .0) (l .inv .2 B k) (j .result) (omega (arith, c .before .before .loop-test .taken, c .before .before .before .before .before .before .size .ensures .0)) (j .ensures B (k .elements) (k .permanent)) (c .if1 .taken)
 
--- src/lib.rt:223:9
-next-row-requires : tie.Need-next-row-requires Inv-loop μ-loop
-next-row-requires c κs = (omega (arith, c .before .before .loop-test .taken, c .before .before .before .before .size .ensures .1 (c .before .before .before .before .before .before .pre .0)), c .before .before .before .loop .inv .1, c .before .before .before .loop .inv .2)
+-- src/lib.rt:256:31
+add-past : tie.Need-add-past Inv-loop μ-loop
+add-past c = record { fits = omega (arith, c .before .before .loop-test .taken, c .before .before .before .before .before .before .before .before .pre, c .before .before .before .before .before .before .size .ensures .1 (c .before .before .before .before .before .before .before .before .pre .0)) }
 
--- src/lib.rt:224:9
-next-col-requires : tie.Need-next-col-requires Inv-loop μ-loop
-next-col-requires c κs = (omega (arith, c .before .before .before .loop-test .taken, c .before .before .before .before .before .size .ensures .1 (c .before .before .before .before .before .before .before .pre .0)), c .before .before .before .before .loop .inv .2)
+-- src/lib.rt:256:9
+past-requires-2 : tie.Need-past-requires-2 Inv-loop μ-loop
+past-requires-2 c κs = search needs
 
--- src/lib.rt:225:13
-add-i : tie.Need-add-i Inv-loop μ-loop
-add-i c = search needs
-
--- src/lib.rt:219:5
+-- src/lib.rt:252:5
 loop-less : tie.Need-loop-less Inv-loop μ-loop
-loop-less c = search needs
+loop-less c = omega (arith, c .past2 .ensures .from, c .before .before .before .loop-test .taken)
 
--- src/lib.rt:219:5
+-- src/lib.rt:252:5
 loop-again : tie.Need-loop-again Inv-loop μ-loop
-loop-again c = let a = c .before .before .before .before .before .before .before .before .args in let l = c .before .before .before .before .before .loop in (omega (arith, c .before .before .before .before .loop-test .taken), c .before .next-row .ensures, c .next-col .ensures, λ B k. least-pass (λ j. bad-value B (a .contents .now) (a .first + j)) (c .before .before .before .before .before .before .size .result) (l .i) (c .before .before .before .before .loop-test .taken) (sym (c .before .before .before .is-bad .ensures B (k .elements) (k .permanent) (k .places (l .i) (omega (arith, c .before .before .before .before .loop-test .taken, c .before .before .before .before .before .before .size .ensures .0)))) ∙ c .before .before .if1 .left) (l .inv .3 B k))
+loop-again c =
+    let a = c .before .before .before .before .before .before .before .before .before .args in
+    let l = c .before .before .before .before .loop in
+    let n = c .before .before .before .before .before .before .before .size in
+    let j = c .before .before .is-bad in
+    let v = c .before .before .before .before .before .before .blameless in
+    let h : Past (a .contents .now) (v .result) (l .l + 1) (a .first + size (a .e) (a .f .arity)) (c .past2 .result) = rw (← n .ensures .0) (c .past2 .ensures) in (
+      omega (arith, l .inv .0, h .from),
+      c .past2 .ensures .to,
+      λ B k. scan-skip B (a .contents .now) (a .e) (a .p) (a .f) (a .first) k (l .l + 1) (omega (arith, l .inv .0)) (scan-pass B (a .contents .now) (a .e) (a .p) (a .f) (a .first) k (l .l) (l .inv .0) (l .inv .2 B k) (j .result) (omega (arith, c .before .before .before .loop-test .taken, n .ensures .0)) (j .ensures B (k .elements) (k .permanent)) (c .before .if1 .left)) (v .result) (c .past2 .result) (v .ensures) h,
+    )
 
--- src/lib.rt:211:1
+-- src/lib.rt:245:1
 returns-2 : tie.Need-returns-2 Inv-loop μ-loop
-returns-2 c = λ B k. let a = c .before .before .before .before .args in let l = c .before .loop in rw (← c .before .before .size .ensures .0) (least-end (λ j. bad-value B (a .contents .now) (a .first + j)) (c .before .before .size .result) (l .i) (c .loop-test .left) (l .inv .3 B k))
+returns-2 c =
+    λ B k.
+    let a = c .before .before .before .before .before .before .args in
+    let l = c .before .loop in
+    scan-end B (a .contents .now) (a .e) (a .p) (a .f) (a .first) k (l .l) (l .inv .0) (l .inv .2 B k) (omega (arith, c .loop-test .left, c .before .before .before .before .size .ensures .0))
 
 pub bad-part-spec : {M : Type 1} → statement M
 bad-part-spec =
@@ -77,13 +110,16 @@ bad-part-spec =
     Inv-loop
     μ-loop
     size-requires
+    add-end
+    blameless-requires
+    past-requires
     loop-holds
-    add-is-bad
+    sub-is-bad
     is-bad-requires
+    sub-t13
     returns
-    next-row-requires
-    next-col-requires
-    add-i
+    add-past
+    past-requires-2
     loop-less
     loop-again
     returns-2)

@@ -1,0 +1,54 @@
+use mathlib.Core.Path.{_≡_, sym, _∙_}
+use mathlib.Core.Bool.{not}
+use Prim.Native.Nat.{ℕ, _<_}
+use native.Mathlib.Omega.{arith}
+use borrow.Author.Needs.{needs}
+use borrow.Author.Tests.{ltb-true, eqb-false, not-true}
+use lib.Dec.{eqb, ltb}
+use lib.ListN.{getD}
+use Rattle.text.proofs.Words.{and-cases}
+use Rattle.book.specs.Book.{default}
+use Rattle.table.proofs.Faults.{at-rest}
+use Rattle.table.proofs.blameless.Statement.{statement}
+use Rattle.table.proofs.blameless.Tie as tie
+use Rattle.table.proofs.blameless.Reads as reads
+use Rattle.table.proofs.blameless.Lts as lts
+use Rattle.table.proofs.default_of.Reads as default-of-reads
+use Rattle.table.proofs.fetch.Reads as fetch-reads
+
+-- src/lib.rt:204:9
+default-of-requires : tie.Need-default-of-requires
+default-of-requires c κs = search needs
+
+-- src/lib.rt:205:35
+cast-fetch : tie.Need-cast-fetch
+cast-fetch c = search needs
+
+-- src/lib.rt:205:19
+fetch-requires : tie.Need-fetch-requires
+fetch-requires c κs = search needs
+
+-- src/lib.rt:206:16
+cast-result : tie.Need-cast-result
+cast-result c = search needs
+
+-- src/lib.rt:206:9
+returns : tie.Need-returns
+returns c =
+    λ B l e q h.
+    let a = c .before .before .before .before .args in
+    let d = c .before .before .default-of in
+    let w = c .before .fetch in
+    let t = and-cases (ltb (d .result) (a .e)) (not (eqb (w .result) 2)) (c .if1 .taken) in
+    let low : default (a .f) < B .E = rw (← d .ensures, e) (ltb-true (d .result) (a .e) (t .0)) in
+    let off : getD (a .contents .now) (default (a .f)) 0 ≡ 2 → ⊥ = rw (← d .ensures, ← w .ensures) (eqb-false (w .result) 2 (not-true (eqb (w .result) 2) (t .1))) in
+    at-rest B (a .contents .now) l (a .f) q (h ∙ d .ensures) low off
+
+-- src/lib.rt:201:1
+returns-2 : tie.Need-returns-2
+returns-2 c = λ B l e q h. absurd (omega (arith, h, c .before .before .before .shared-slice-known .given l))
+
+pub blameless-spec : {M : Type 1} → statement M
+blameless-spec =
+    tie.close
+    (tie.spec default-of-requires cast-fetch fetch-requires cast-result returns returns-2)
