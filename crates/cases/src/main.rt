@@ -70,7 +70,8 @@ fn show_log(name: &[u8], log: &[u8]) {
     }
 }
 
-fn main() {
+// 01's book with other logs: (b) to (e).
+fn show_logs() {
     // No pair.
     show_log(
         b"(b)\n",
@@ -105,6 +106,10 @@ fn main() {
      1     2     0     0
 ",
     );
+}
+
+// Plus: (f) and (g).
+fn show_sums() {
     // f := 1 plus 1.
     show(
         b"(f)\n",
@@ -140,6 +145,10 @@ fn main() {
      0     0     0     0
 ",
     );
+}
+
+// Minus: (h).
+fn show_differences() {
     // f := 0 minus 1; f was 0.
     show(
         b"(h)\n",
@@ -158,6 +167,10 @@ fn main() {
      0     0     0     0
 ",
     );
+}
+
+// Equal: (i).
+fn show_equality() {
     // f := undef equal undef.
     show(
         b"(i)\n",
@@ -175,6 +188,10 @@ fn main() {
      0     0     0     0
 ",
     );
+}
+
+// And: (j).
+fn show_conjunction() {
     // f := false and undef; f was 0.
     show(
         b"(j)\n",
@@ -193,6 +210,10 @@ fn main() {
      0     0     0     0
 ",
     );
+}
+
+// Updates at once: (k).
+fn show_swap() {
     // s := t beside t := s.
     show(
         b"(k)\n",
@@ -215,6 +236,10 @@ fn main() {
      0     0     0     0
 ",
     );
+}
+
+// A release: (l).
+fn show_release() {
     // release 6.
     show(
         b"(l)\n",
@@ -234,4 +259,14 @@ fn main() {
      0     0     0     0
 ",
     );
+}
+
+fn main() {
+    show_logs();
+    show_sums();
+    show_differences();
+    show_equality();
+    show_conjunction();
+    show_swap();
+    show_release();
 }
