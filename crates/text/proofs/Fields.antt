@@ -1,6 +1,6 @@
 -- The columns of a field, one by one: what the scan and the pushes give is what the definitions say. Assumes nothing.
 use mathlib.Core.Path.{_≡_, refl, sym, _∙_, ap}
-use mathlib.Core.Bool.{Bool, true, false, _&&_, _||_, not}
+use mathlib.Core.Bool.{Bool, true, false, _&&_, _||_, not, and-true, or-false}
 use mathlib.Core.List.{List, [], _∷_, _++_}
 use Prim.Native.Nat.{ℕ, zero, suc, _+_, _-_, _*_, _<_, _≤_, min}
 use native.Mathlib.Nat.{mul-comm, min-le-right}
@@ -14,7 +14,7 @@ use Rattle.text.specs.declared.Scan.the-variants.{Blank, Zero, Digits, B
 use Rattle.text.specs.Words.{if_then_else_}
 use Rattle.text.specs.Text.{blank, zero-digit, digit, digits, field-ok, value-of, line-bytes, column, well-formed, numbers-of, line}
 use Rattle.text.specs.declared.Line.{Line}
-use Rattle.text.specs.Scan.{step-of, scan, ends-well}
+use Rattle.text.specs.Scan.{step-of, scan, ends-well, four-blanks, two-ok}
 
 -- ---- the form of a field
 
@@ -187,3 +187,62 @@ module _ (text : List ℕ) (at : ℕ) where
   pub ended : (n : ℕ) → length text ≤ at → value-of n (take 1 (drop at text)) ≡ n
   unfolding value-of
   ended n h = rw (drop-of-length-le text {i = at} h)
+
+-- ---- a field of one digit or two
+
+module _ (text : List ℕ) (at : ℕ) where
+  -- one column of those that are taken
+  column-step : (j k n : ℕ) → suc j ≡ n → j < length text → take (suc k) (drop j text) ≡ getD text j 0 ∷ take k (drop n text)
+  column-step j k n e h = rw (drop-cons text j 0 h, e)
+
+  -- four columns as a list
+  pub four :
+      at + 4 ≤ length text →
+      take 4 (drop at text) ≡ getD text at 0 ∷ getD text (at + 1) 0 ∷ getD text (at + 2) 0 ∷ getD text (at + 3) 0 ∷ []
+  four h =
+      column-step at 3 (at + 1) (omega arith) (omega arith)
+      ∙ ap (λ (l : List ℕ). getD text at 0 ∷ l)
+      (column-step (at + 1) 2 (at + 2) (omega arith) (omega arith)
+      ∙ ap (λ (l : List ℕ). getD text (at + 1) 0 ∷ l)
+      (column-step (at + 2) 1 (at + 3) (omega arith) (omega arith)
+      ∙ ap (λ (l : List ℕ). getD text (at + 2) 0 ∷ l) (column-step (at + 3) 0 (at + 4) (omega arith) (omega arith))))
+
+  -- after four blanks come two columns
+  after : take 4 (drop at text) ≡ four-blanks → take 6 (drop at text) ≡ four-blanks ++ take 2 (drop (at + 4) text)
+  after b = take-add 4 2 (drop at text) ∙ rw (b, drop-drop 4 at text)
+
+  pub two-value :
+      (e f : ℕ) → take 4 (drop at text) ≡ four-blanks → e ≡ value-of 0 (take 1 (drop (at + 4) text)) →
+      f ≡ value-of e (take 1 (drop (at + 5) text)) → f ≡ value-of 0 (take 6 (drop at text))
+  unfolding value-of
+  two-value e f b p q = sym (ap (value-of 0) (after b) ∙ value-step text at 4 1 0 e f p (sym q))
+
+  pub two-form :
+      at + 6 ≤ length text → take 4 (drop at text) ≡ four-blanks →
+      two-ok (getD text (at + 4) 0) (getD text (at + 5) 0) ≡ field-ok (take 6 (drop at text))
+  unfolding field-ok digits
+  two-form h b =
+      go (getD text (at + 4) 0) (getD text (at + 5) 0) ∙ sym (ap field-ok (after b ∙ ap (λ (l : List ℕ). four-blanks ++ l) two))
+    where
+      two : take 2 (drop (at + 4) text) ≡ getD text (at + 4) 0 ∷ getD text (at + 5) 0 ∷ []
+      two =
+          column-step (at + 4) 1 (at + 5) (omega arith) (omega arith)
+          ∙ ap (λ (l : List ℕ). getD text (at + 4) 0 ∷ l) (column-step (at + 5) 0 (at + 6) (omega arith) (omega arith))
+
+      -- a blank is no digit
+      no-digit : (f : ℕ) → digit f ≡ (if eqb f blank then false else digit f && true && true)
+      no-digit f = at-blank (eqb f blank) refl
+        where
+          at-blank : (b : Bool) → eqb f blank ≡ b → digit f ≡ (if b then false else digit f && true && true)
+          at-blank true e = rw (eqb-true f blank e)
+          at-blank false e = rw (and-true (digit f), and-true (digit f))
+
+      go : (e f : ℕ) → two-ok e f ≡ field-ok (e ∷ f ∷ [])
+      go e f = at-blank (eqb e blank) refl
+        where
+          at-blank :
+              (b : Bool) → eqb e blank ≡ b →
+              (b && digit f || digit e && digit f && not (eqb e zero-digit))
+              ≡ (if b then (if eqb f blank then false else digit f && true && true) else digit e && (digit f && true) && not (eqb e zero-digit))
+          at-blank true p = rw (eqb-true e blank p) (or-false (digit f) ∙ no-digit f)
+          at-blank false p = rw (and-true (digit f))

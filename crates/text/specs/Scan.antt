@@ -1,5 +1,5 @@
 -- What the code holds while it reads a field: what the columns so far are.
-use mathlib.Core.Bool.{Bool, true, false, _&&_}
+use mathlib.Core.Bool.{Bool, true, false, _&&_, _||_, not}
 use mathlib.Core.List.{List, [], _∷_}
 use Prim.Native.Nat.{ℕ}
 use lib.Dec.{eqb, leb}
@@ -25,3 +25,11 @@ ends-well Blank = false
 ends-well Zero = true
 ends-well Digits = true
 ends-well Bad = false
+
+-- four columns before a number of one digit or two
+abbrev pub four-blanks : List ℕ
+four-blanks = blank ∷ blank ∷ blank ∷ blank ∷ []
+
+-- and its last two columns, e and f
+abbrev pub two-ok : ℕ → ℕ → Bool
+two-ok e f = eqb e blank && digit f || digit e && digit f && not (eqb e zero-digit)

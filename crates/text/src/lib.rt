@@ -1,10 +1,11 @@
 // The text of books and logs: their lines, judged and read.
 ghost use mathlib.Core.Path.{_≡_};
+ghost use mathlib.Core.Bool.{true};
 ghost use Prim.Native.Nat.{_+_, _*_, _<_, _≤_};
 ghost use lib.ListN.{length, take, drop};
 ghost use Rattle.text.specs.Words.{least};
 ghost use Rattle.text.specs.Text.{field-ok, value-of, well-formed, line-bytes, line, bad-line};
-ghost use Rattle.text.specs.Scan.{step-of, ends-well};
+ghost use Rattle.text.specs.Scan.{step-of, ends-well, four-blanks, two-ok};
 
 // The refusals of 01's table.
 pub const ILL_FORMED: u32 = 1;
@@ -121,8 +122,8 @@ fn ends(s: Scan) -> bool
     }
 }
 
-// The six columns from `at` on are a field in form.
-fn in_form(text: &[u8], at: usize) -> bool
+// The six columns from `at` on are a field in form, read column by column.
+fn scanned(text: &[u8], at: usize) -> bool
     requires { ⌜ at + 6 ≤ length (now text) ⌝ }
     ensures { λ r. ⌜ r ≡ field-ok (take 6 (drop at (now (text .entry)))) ⌝ }
 {
@@ -133,6 +134,41 @@ fn in_form(text: &[u8], at: usize) -> bool
         k += 1;
     }
     ends(s)
+}
+
+// Four columns are blank. Side by side they are one number, which the machine loads and compares at once.
+fn all_blank(a: u8, b: u8, c: u8, d: u8) -> bool
+    ensures { λ r. ⌜ (r ≡ true → (a ≡ 32) × (b ≡ 32) × (c ≡ 32) × (d ≡ 32)) ⌝ }
+{
+    a as u32 + b as u32 * 256 + c as u32 * 65536 + d as u32 * 16777216 == 538976288
+}
+
+// The first four columns of the field at `at` are blank.
+fn blanks(text: &[u8], at: usize) -> bool
+    requires { ⌜ at + 6 ≤ length (now text) ⌝ }
+    ensures { λ r. ⌜ (r ≡ true → take 4 (drop at (now (text .entry))) ≡ four-blanks) ⌝ }
+{
+    all_blank(text[at], text[at + 1], text[at + 2], text[at + 3])
+}
+
+// The last two columns of a field, after blanks: at most one blank more, then digits, the first of two not 0.
+fn two_in_form(e: u8, f: u8) -> bool
+    ensures { λ r. ⌜ r ≡ two-ok e f ⌝ }
+{
+    let last = (48 <= f) & (f <= 57);
+    ((e == 32) & last) | ((48 <= e) & (e <= 57) & last & !(e == 48))
+}
+
+// The six columns from `at` on are a field in form. Most fields have one digit or two.
+fn in_form(text: &[u8], at: usize) -> bool
+    requires { ⌜ at + 6 ≤ length (now text) ⌝ }
+    ensures { λ r. ⌜ r ≡ field-ok (take 6 (drop at (now (text .entry)))) ⌝ }
+{
+    if blanks(text, at) {
+        two_in_form(text[at + 4], text[at + 5])
+    } else {
+        scanned(text, at)
+    }
 }
 
 // Line i is whole and in form.
@@ -185,8 +221,8 @@ fn push(text: &[u8], at: usize, n: u32) -> u32
     }
 }
 
-// What the six columns from `at` on say.
-fn number(text: &[u8], at: usize) -> u32
+// What the six columns from `at` on say, column by column.
+fn columns(text: &[u8], at: usize) -> u32
     requires { ⌜ at < 1000000000000 ⌝ }
     ensures { λ r. ⌜ r ≡ value-of 0 (take 6 (drop at (now (text .entry)))) ⌝ }
 {
@@ -196,6 +232,31 @@ fn number(text: &[u8], at: usize) -> u32
     let d = push(text, at + 3, c);
     let e = push(text, at + 4, d);
     push(text, at + 5, e)
+}
+
+// The field at `at` is there, and its first four columns are blank.
+fn short(text: &[u8], at: usize) -> bool
+    requires { ⌜ at < 1000000000000 ⌝ }
+    ensures { λ r. ⌜ (r ≡ true → take 4 (drop at (now (text .entry))) ≡ four-blanks) ⌝ }
+{
+    if at + FIELD <= text.len() {
+        blanks(text, at)
+    } else {
+        false
+    }
+}
+
+// What the six columns from `at` on say. Most fields have one digit or two.
+fn number(text: &[u8], at: usize) -> u32
+    requires { ⌜ at < 1000000000000 ⌝ }
+    ensures { λ r. ⌜ r ≡ value-of 0 (take 6 (drop at (now (text .entry)))) ⌝ }
+{
+    if short(text, at) {
+        let e = push(text, at + 4, 0);
+        push(text, at + 5, e)
+    } else {
+        columns(text, at)
+    }
 }
 
 // Line i of those that start at line `first`, as numbers.
