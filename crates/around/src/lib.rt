@@ -9,7 +9,7 @@ ghost use lib.ListN.{length, getD};
 ghost use Rattle.text.specs.Words.{least};
 ghost use Rattle.book.specs.Kinds.{sort-table};
 ghost use Rattle.book.specs.Use.{bad-use};
-ghost use Rattle.book.specs.Around.{bit-of, put-if, hand, handed, misplaced, bad-around};
+ghost use Rattle.book.specs.Around.{bit-of, binds, put-if, hand, handed, misplaced, bad-around};
 ghost use Rattle.book.specs.Image.{book-in};
 ghost use Rattle.around.specs.Tables.{one-more, bumped, counted, rooted, tallied, below, in-forall, in-binder, to-ab, to-c, misplaced-at};
 
@@ -165,16 +165,24 @@ fn hand_down(image: &[u32], s: &mut [u32])
     }
 }
 
-// Node y stands where it may not.
+// The variable that node y names or binds is bound.
+fn has(y: Node, bound: u32) -> bool
+    ensures { λ r. ⌜ r ≡ binds bound (y .a) ⌝ }
+{
+    !(bound & bit(y.a) == 0)
+}
+
+// Node y stands where it may not. Only a variable and a binder ask what is bound.
 fn is_misplaced(y: Node, depth: u32, foralls: u32, bound: u32) -> bool
     ensures { λ r. ⌜ r ≡ misplaced y depth foralls bound ⌝ }
 {
-    let b = bit(y.a);
-    let has = !(bound & b == 0);
-    ((y.kind == 2) & !has)
-        | (((24 <= y.kind) & (y.kind <= 26)) & has)
-        | (32 < depth)
-        | ((y.kind == 25) & (2 <= foralls))
+    let deep = 32 < depth;
+    let kind = y.kind;
+    match kind {
+        2 => !has(y, bound) | deep,
+        24..=26 => has(y, bound) | deep | ((kind == 25) & (2 <= foralls)),
+        _ => deep,
+    }
 }
 
 fn misplaced_at<'a>(image: &'a [u32], s: &'a [u32], i: u32) -> bool

@@ -1,19 +1,26 @@
 -- What fits a sort is what the definition says of that sort alone. Assumes nothing.
 use mathlib.Core.Path.{_≡_, refl}
 use mathlib.Core.Bool.{or-false}
+use mathlib.Core.Logic.{_≢_}
 use Prim.Native.Nat.{ℕ, _<_, _≤_}
 use native.Mathlib.Omega.{arith}
 use borrow.Author.Tests.{ne-eqb}
+use lib.Dec.{eqb}
 use lib.ListN.{length}
 use Rattle.book.specs.Book.{Book, function-at, node-at}
 use Rattle.book.specs.Lines.{fits}
 use Rattle.nodes.specs.Fits.{fits-plain, fits-function, fits-node, fits-target}
 
 module _ (B : Book) (n s x : ℕ) where
-  pub plain : s < 4 → fits B n s x ≡ fits-plain s x (B .P)
+  pub unused : s ≡ 1 → fits B n s x ≡ eqb x 0
   unfolding fits
-  plain h =
+  unused e = rw e (simp or-false)
+
+  pub plain : s ≢ 1 → s < 4 → fits B n s x ≡ fits-plain s x (B .P)
+  unfolding fits
+  plain k h =
       simp (
+        ne-eqb s 1 k,
         ne-eqb s 4 (λ e. omega arith),
         ne-eqb s 5 (λ e. omega arith),
         ne-eqb s 6 (λ e. omega arith),

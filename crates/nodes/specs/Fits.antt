@@ -4,16 +4,16 @@ use Prim.Native.Nat.{ℕ}
 use lib.Dec.{eqb, ltb, leb}
 use Rattle.book.specs.declared.Function.{Function}
 use Rattle.book.specs.Book.{relation, dynamic, dynamic-relation}
-use Rattle.book.specs.Kinds.{is-term, is-rule, names-location, variables, sort, unused, permanent, variable, function0, function1, function2, universe, dynamic-universe, term, rule, target}
+use Rattle.book.specs.Kinds.{is-term, is-rule, names-location, variables, sort, permanent, variable, function0, function1, function2, universe, dynamic-universe, term, rule, target}
 use Rattle.nodes.specs.declared.OperandSorts.{OperandSorts}
 
 -- the sorts of the three operands of a node kind
 abbrev pub sorts-of : ℕ → OperandSorts
 sorts-of kind = record { a = sort kind 0; b = sort kind 1; c = sort kind 2 }
 
--- sorts 0 to 3
+-- sorts 0, 2 and 3
 abbrev pub fits-plain : ℕ → ℕ → ℕ → Bool
-fits-plain s x P = eqb s unused && eqb x 0 || eqb s permanent && ltb x P || eqb s variable && ltb x variables
+fits-plain s x P = eqb s permanent && ltb x P || eqb s variable && ltb x variables
 
 -- sorts 4 to 8: x is function f, one of F
 abbrev pub fits-function : ℕ → ℕ → ℕ → Function → Bool

@@ -3,8 +3,9 @@ use book::Function;
 use text::Found;
 use text::Line;
 ghost use mathlib.Core.Path.{_≡_};
+ghost use mathlib.Core.Logic.{_≢_};
 ghost use mathlib.Core.List.{[]};
-ghost use Prim.Native.Nat.{_+_, _-_};
+ghost use Prim.Native.Nat.{_+_, _-_, _≤_};
 ghost use lib.ListN.{length};
 ghost use Rattle.text.specs.Words.{least};
 ghost use Rattle.text.specs.Text.{line};
@@ -144,11 +145,11 @@ pub fn is_rule(kind: u32) -> bool
     }
 }
 
-// x fits s, one of the sorts 0 to 3; p elements are permanent.
+// x fits s, one of the sorts 0, 2 and 3; p elements are permanent.
 fn fits_plain(s: u8, x: u32, p: u32) -> bool
     ensures { λ r. ⌜ r ≡ fits-plain s x p ⌝ }
 {
-    ((s == 1) & (x == 0)) | ((s == 2) & (x < p)) | ((s == 3) & (x < 8))
+    ((s == 2) & (x < p)) | ((s == 3) & (x < 8))
 }
 
 // x fits s, one of the sorts 4 to 8: it is function f, one of `count`.
@@ -177,8 +178,9 @@ fn fits_target(s: u8, x: u32, n: u32, kind: u32, g: Function) -> bool
     (s == 11) & (x < n) & ((4 <= kind) & (kind <= 6)) & (2 <= g.kind)
 }
 
-// x fits the sort s as an operand of node n. Only what the sort asks about is loaded.
-fn fits(image: &[u32], n: u32, s: u8, x: u32) -> bool
+// x fits s, any sort but 1, 9 and 10, as an operand of node n. Only what the sort asks about is loaded.
+fn fits_other(image: &[u32], n: u32, s: u8, x: u32) -> bool
+    requires { ⌜ (s ≢ 1) × (9 ≤ s → 11 ≤ s) ⌝ }
     ensures { λ r. ⌜ r ≡ fits (book-in (now (image .entry)) []) n s x ⌝ }
 {
     if s < 4 {
@@ -187,11 +189,23 @@ fn fits(image: &[u32], n: u32, s: u8, x: u32) -> bool
         fits_function(s, x, book::functions(image), book::function_at(image, x))
     } else {
         let y = book::node_at(image, x);
-        if s < 11 {
-            fits_node(s, x, n, y.kind)
-        } else {
-            fits_target(s, x, n, y.kind, book::function_at(image, y.a))
-        }
+        fits_target(s, x, n, y.kind, book::function_at(image, y.a))
+    }
+}
+
+// x fits the sort s as an operand of node n. Most operands are unused or nodes.
+fn fits(image: &[u32], n: u32, s: u8, x: u32) -> bool
+    ensures { λ r. ⌜ r ≡ fits (book-in (now (image .entry)) []) n s x ⌝ }
+{
+    if s == 1 {
+        x == 0
+    } else if s < 9 {
+        fits_other(image, n, s, x)
+    } else if s < 11 {
+        let y = book::node_at(image, x);
+        fits_node(s, x, n, y.kind)
+    } else {
+        fits_other(image, n, s, x)
     }
 }
 

@@ -9,80 +9,50 @@ use Rattle.nodes.proofs.fits.Statement.{statement}
 use Rattle.nodes.proofs.fits.Tie as tie
 use Rattle.nodes.proofs.fits.Reads as reads
 use Rattle.nodes.proofs.fits.Lts as lts
-use Rattle.book.proofs.function_at.Reads as function-at-reads
-use Rattle.book.proofs.functions.Reads as functions-reads
 use Rattle.book.proofs.node_at.Reads as node-at-reads
-use Rattle.book.proofs.permanent.Reads as permanent-reads
-use Rattle.nodes.proofs.fits_function.Reads as fits-function-reads
 use Rattle.nodes.proofs.fits_node.Reads as fits-node-reads
-use Rattle.nodes.proofs.fits_plain.Reads as fits-plain-reads
-use Rattle.nodes.proofs.fits_target.Reads as fits-target-reads
+use Rattle.nodes.proofs.fits_other.Reads as fits-other-reads
 
--- src/lib.rt:185:26
-permanent-requires : tie.Need-permanent-requires
-permanent-requires c κs = search needs
+-- src/lib.rt:203:9
+fits-other-requires : tie.Need-fits-other-requires
+fits-other-requires c κs = search needs
 
--- src/lib.rt:185:9
-fits-plain-requires : tie.Need-fits-plain-requires
-fits-plain-requires c κs = search needs
-
--- src/lib.rt:187:29
-functions-requires : tie.Need-functions-requires
-functions-requires c κs = search needs
-
--- src/lib.rt:187:53
-function-at-requires : tie.Need-function-at-requires
-function-at-requires c κs = search needs
-
--- src/lib.rt:187:9
-fits-function-requires : tie.Need-fits-function-requires
-fits-function-requires c κs = search needs
-
--- src/lib.rt:189:13
+-- src/lib.rt:205:13
 node-at-requires : tie.Need-node-at-requires
 node-at-requires c κs = search needs
 
--- src/lib.rt:191:13
+-- src/lib.rt:206:9
 fits-node-requires : tie.Need-fits-node-requires
 fits-node-requires c κs = search needs
 
--- src/lib.rt:193:42
-function-at-requires-2 : tie.Need-function-at-requires-2
-function-at-requires-2 c κs = search needs
+-- src/lib.rt:208:9
+fits-other-requires-2 : tie.Need-fits-other-requires-2
+fits-other-requires-2 c κs = search needs
 
--- src/lib.rt:193:13
-fits-target-requires : tie.Need-fits-target-requires
-fits-target-requires c κs = search needs
-
--- src/lib.rt:181:1
+-- src/lib.rt:197:1
 returns : tie.Need-returns
-returns c = let a = c .before .before .before .before .args in c .fits-plain .ensures ∙ rw (c .before .permanent .ensures, classes.plain (book-in (a .image .now) []) (a .n) (a .s) (a .x) (omega arith))
+returns c = let a = c .before .before .args in sym (classes.unused (book-in (a .image .now) []) (a .n) (a .s) (a .x) (c .if1 .taken))
 
--- src/lib.rt:181:1
+-- src/lib.rt:197:1
 returns-2 : tie.Need-returns-2
-returns-2 c = let a = c .before .before .before .before .before .before .args in c .fits-function .ensures ∙ rw (c .before .function-at .ensures, c .before .before .functions .ensures, classes.function (book-in (a .image .now) []) (a .n) (a .s) (a .x) (omega arith) (omega arith))
+returns-2 c = search needs
 
--- src/lib.rt:181:1
+-- src/lib.rt:197:1
 returns-3 : tie.Need-returns-3
-returns-3 c = let a = c .before .before .before .before .before .before .args in c .fits-node .ensures ∙ rw (c .before .before .node-at .ensures, classes.node (book-in (a .image .now) []) (a .n) (a .s) (a .x) (omega arith) (omega arith))
+returns-3 c = let a = c .before .before .before .before .before .before .args in c .fits-node .ensures ∙ rw (c .before .node-at .ensures, classes.node (book-in (a .image .now) []) (a .n) (a .s) (a .x) (omega arith) (omega arith))
 
--- src/lib.rt:181:1
+-- src/lib.rt:197:1
 returns-4 : tie.Need-returns-4
-returns-4 c = let a = c .before .before .before .before .before .before .before .args in c .fits-target .ensures ∙ rw (c .before .function-at2 .ensures, c .before .before .before .node-at .ensures, classes.target (book-in (a .image .now) []) (a .n) (a .s) (a .x) (omega arith))
+returns-4 c = search needs
 
 pub fits-spec : {M : Type 1} → statement M
 fits-spec =
     tie.close
     (tie.spec
-    permanent-requires
-    fits-plain-requires
-    functions-requires
-    function-at-requires
-    fits-function-requires
+    fits-other-requires
     node-at-requires
     fits-node-requires
-    function-at-requires-2
-    fits-target-requires
+    fits-other-requires-2
     returns
     returns-2
     returns-3
