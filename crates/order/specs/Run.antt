@@ -38,7 +38,7 @@ unfoldable pub run : Book → Log → List ℕ → ℕ → Ran
 run B g c zero = ran (record { contents = c; fired = [] })
 run B g c (suc n) = next B n (move-at g n) (run B g c n)
 
--- a move's instructions, if it is walked after these; else is
+-- one move more: its own instructions if it is walked, and else those so far
 abbrev pub made-next : Book → Input → List Instruction → Ran → List Instruction
 made-next B m is (ran s) = made-by (walked B (s .contents) m)
 made-next B m is (halted n p q s) = is
