@@ -1,45 +1,23 @@
 -- Laws of what a move's walk leaves: a refused one, none of its marks.
 use mathlib.Core.Path.{_≡_, refl, sym, ap, _∙_}
 use mathlib.Core.Bool.{Bool, true, false}
-use mathlib.Core.List.{List, [], _∷_, map, map-append}
-use Prim.Native.Nat.{ℕ, suc, _+_, _-_, _^_, _<_}
-use native.Mathlib.Numerals.{add-one}
+use mathlib.Core.List.{List, [], _∷_}
+use Prim.Native.Nat.{ℕ, suc, _-_, _^_}
 use native.Mathlib.Nat.{mod-self, mod-eq-of-lt}
 use native.Mathlib.Omega.{arith}
 use lib.Bits.{bitOr, bitAnd, and-mask, or-mod, or-zero-r}
 use lib.Dec.{eqb}
-use lib.ListN.{length, getD, set, take, drop}
-use lib.Seq.{map-set-same, set-getD, take-suc, take-suc-set, drop-cons, drop-set-lt}
+use lib.ListN.{getD}
+use lib.Seq.{map-set-same, set-getD}
 use borrow.Author.Tests.{eqb-true}
 use Rattle.text.specs.Words.{if_then_else_}
 use Rattle.book.specs.declared.Agent.{Agent}
 use Rattle.book.specs.Book.{Book, node-at, agent-at}
-use Rattle.engine.specs.Look.{Look, gives, seen}
-use Rattle.engine.specs.Move.{dynamic-among, looked}
+use Rattle.engine.specs.Move.{looked}
 use Rattle.engine.specs.Rule.{Walk, Walked, going, met, walk, no-variables, agent-walk}
-use Rattle.term.specs.Marks.{mark-one, marked, Placed, Runs}
-use Rattle.walk.specs.declared.State.{State}
-use Rattle.walk.specs.Walk.{outcome, walk-of, rule-from}
+use Rattle.term.specs.Marks.{mark-one, marked, Runs}
+use Rattle.walk.specs.Walk.{rule-from}
 use Rattle.walk.specs.Gather.{masked, cleared, Below, Gathered}
-use Rattle.walk.proofs.Steps.{outcome-going, outcome-met}
-
--- ---- one more element of a list that is changed in place, element after element
-
-module _ (f : ℕ → ℕ) (l₀ l : List ℕ) (i : ℕ) (same : length l ≡ length l₀) (below : i < length l)
-    (before : take i l ≡ map f (take i l₀)) (left : drop i l ≡ drop i l₀) where
-  here : getD l i 0 ∷ drop (suc i) l ≡ getD l₀ i 0 ∷ drop (suc i) l₀
-  here = sym (drop-cons l i 0 below) ∙ left ∙ drop-cons l₀ i 0 (omega arith)
-
-  pub done-next : take (i + 1) (set l i (f (getD l i 0))) ≡ map f (take (i + 1) l₀)
-  done-next =
-      let h : i < length l₀ = omega arith in
-      let e : getD l i 0 ≡ getD l₀ i 0 = cc here in
-      rw (add-one, take-suc-set l i (f (getD l i 0)) below, take-suc l₀ i 0 h, map-append, before, e)
-
-  pub left-next : drop (i + 1) (set l i (f (getD l i 0))) ≡ drop (i + 1) l₀
-  left-next =
-      let t : drop (suc i) l ≡ drop (suc i) l₀ = cc here in
-      rw (add-one, drop-set-lt (suc i) l i (f (getD l i 0)) (omega arith)) t
 
 -- ---- marks taken back
 
@@ -89,27 +67,27 @@ module _ (B : Book) (c : List ℕ) (bit : ℕ) (z : Walked) (m n : List ℕ) whe
   unfolding agent-walk
   runs-agent agent p g e f r = started p (B .P) g (agent-at B agent) e f r
 
-module _ (B : Book) (c : List ℕ) (bit agent : ℕ) (s : State) (l m n : List ℕ) (h : Runs B c bit (agent-walk B agent) (outcome s l) m n) where
-  pub gathered : s .refused ≡ 0 → Gathered B c bit agent (outcome s l) m n
-  gathered e =
+module _ (B : Book) (c : List ℕ) (bit agent : ℕ) (o : Walked) (m n : List ℕ) (h : Runs B c bit (agent-walk B agent) o m n) where
+  pub gathered : (w : Walk) → o ≡ going w → Gathered B c bit agent o m n
+  gathered w e =
       record {
         outcome = h .value;
-        fired = λ p w q. h .marks p;
+        fired = λ p v q. h .marks p;
         refused = λ p r q u k b low.
-            let g : going (walk-of s l) ≡ met r q = sym (outcome-going s l e) ∙ u in
+            let g : going w ≡ met r q = sym e ∙ u in
             let z : _≡_ {A = ℕ} 0 1 = cc g in
             absurd (omega arith);
         silent = λ p q. h .marks p ∙ rw q (marked-zero (looked B c (record { agent = agent })) m);
       }
 
-  pub gathered-back : (o : List ℕ) → o ≡ cleared bit n → ((s .refused ≡ 0) → ⊥) → Gathered B c bit agent (outcome s l) m o
-  gathered-back o k e =
+  pub gathered-back : (r q : ℕ) (k : List ℕ) → o ≡ met r q → k ≡ cleared bit n → Gathered B c bit agent o m k
+  gathered-back r q k e t =
       record {
         outcome = h .value;
-        fired = λ p w q.
-            let g : met (s .refused) (s .node) ≡ going w = sym (outcome-met s l e) ∙ q in
+        fired = λ p w u.
+            let g : met r q ≡ going w = sym e ∙ u in
             let z : _≡_ {A = ℕ} 0 1 = cc g in
             absurd (omega arith);
-        refused = λ p r q u j b low. k ∙ rw (h .marks p) (taken-back bit j (looked B c (record { agent = agent })) m b low);
-        silent = λ p q. k ∙ rw (h .marks p, q) (marked-zero (looked B c (record { agent = agent })) m);
+        refused = λ p a b u j v low. t ∙ rw (h .marks p) (taken-back bit j (looked B c (record { agent = agent })) m v low);
+        silent = λ p u. t ∙ rw (h .marks p, u) (marked-zero (looked B c (record { agent = agent })) m);
       }

@@ -1,4 +1,4 @@
 pub mod Steps
 pub mod Sweep
 pub mod Kept
-pub mod Parts
+pub mod Functions

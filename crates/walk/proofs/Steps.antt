@@ -1,33 +1,35 @@
--- Laws of the walk's steps: states and their outcomes, scopes, the search for a label.
-use mathlib.Core.Path.{_≡_, refl, ap, sym, _∙_}
-use mathlib.Core.Bool.{Bool, true, false, _&&_, not}
-use mathlib.Core.List.{List, [], _∷_, _++_, map, map-append}
-use Prim.Native.Nat.{ℕ, zero, suc, _+_, _-_, _≤_, _<_}
-use native.Mathlib.Numerals.{add-one}
+-- Laws of a walk's steps: what it came to, scopes, and the rules one by one.
+use mathlib.Core.Path.{_≡_, refl, sym, _∙_}
+use mathlib.Core.Logic.{dite, inl, inr}
+use mathlib.Core.Bool.{Bool, true, false}
+use mathlib.Core.List.{List}
+use Prim.Native.Nat.{ℕ, suc, _-_, _≤_, _<_}
 use native.Mathlib.Omega.{arith}
+use native.Mathlib.Decide.{decLt}
 use lib.Dec.{eqb, ltb}
-use lib.ListN.{length, getD, set, take, length-map, length-take}
-use lib.Seq.{take-suc-set, take-set-lt, set-out, getD-set-other}
-use borrow.Author.Tests.{eq-eqb, ne-eqb, lt-ltb, le-ltb}
+use lib.ListN.{set, take, length-take}
+use lib.Seq.{take-set-lt, set-out, getD-set-other}
+use borrow.Author.Tests.{eq-eqb, ne-eqb}
 use Rattle.text.specs.Words.{if_then_else_}
-use Rattle.text.specs.Refusals.{non-boolean, not-releasable, no-label-left, list-full}
-use Rattle.text.specs.declared.Found.{Found}
+use Rattle.text.specs.Refusals.{no-label-left}
 use Rattle.text.specs.declared.Found.the-variants.{Nowhere, Here}
 use Rattle.book.specs.declared.Node.{Node}
-use Rattle.book.specs.Book.{boolean, relation, Book, function-at, reserve, dynamic-at}
-use Rattle.engine.specs.declared.Instruction.{Instruction}
-use Rattle.engine.specs.declared.Instruction.the-variants.{Update, Release}
-use Rattle.engine.specs.Look.{Look, done, read, gives, seen, _>>=_}
-use Rattle.engine.specs.Move.{dynamic-among}
-use Rattle.engine.specs.Rule.{Rule, skip, Walk, Walked, going, met, _then_, after, give, lowest, import-of, not-free, walk}
-use Rattle.records.specs.Code.{decode-of, items}
+use Rattle.book.specs.Book.{Book}
+use Rattle.engine.specs.Look.{Look, done, _>>=_}
+use Rattle.engine.specs.Term.{term-at, eval}
+use Rattle.engine.specs.Rule.{Rule, skip, Walk, Walked, going, met, after, import-of, walk}
+use Rattle.engine.proofs.Steps.{rule-pair, rule-test, rule-skip, no-rule-at}
 use Rattle.term.specs.Held.{variables-of, agent-of}
-use Rattle.term.specs.Marks.{mark-one, marked, Placed, Runs}
-use Rattle.term.proofs.Marking.{runs-done}
+use Rattle.term.specs.Marks.{Runs}
+use Rattle.term.proofs.Marking.{runs-done, runs-bind}
+use Rattle.giving.specs.declared.Pace.{Pace}
+use Rattle.giving.specs.Giving.{walk-from, reached, taking, enrolling}
+use Rattle.giving.proofs.Steps.{reached-going}
+use Rattle.marking.specs.Marking.{found-below}
 use Rattle.walk.specs.declared.State.{State}
-use Rattle.walk.specs.Walk.{walk-of, outcome, refused-by, setting, freeing, taking, found-below, rule-from}
+use Rattle.walk.specs.Walk.{walk-of, outcome, rule-from}
 
--- ---- outcomes
+-- ---- what a walk came to
 
 pub outcome-going : (s : State) (l : List ℕ) → s .refused ≡ 0 → outcome s l ≡ going (walk-of s l)
 unfolding outcome
@@ -37,18 +39,9 @@ pub outcome-met : (s : State) (l : List ℕ) → ((s .refused ≡ 0) → ⊥) �
 unfolding outcome
 outcome-met s l e = rw (ne-eqb (s .refused) 0 e)
 
--- one instruction more, or 14
-module _ (s : State) (l : List ℕ) (i : Instruction) (n : ℕ) where
-  pub give-room : (v : ℕ) → s .len < 256 → s .len < length l → decode-of v ≡ i
-      → going (record { made = items (set l (s .len) v) (s .len + 1); next = s .label }) ≡ give n i (walk-of s l)
-  give-room v h j e =
-      let k : length (items l (s .len)) < 256 = rw (length-map, length-take) (omega arith) in
-      rw (lt-ltb (length (items l (s .len))) 256 k, add-one, take-suc-set l (s .len) v j, map-append, e)
-
-  pub give-full : 256 ≤ length l → 256 ≤ s .len → met list-full n ≡ give n i (walk-of s l)
-  give-full long h =
-      let k : 256 ≤ length (items l (s .len)) = rw (length-map, length-take) (omega arith) in
-      rw (le-ltb (length (items l (s .len))) 256 k)
+pub outcome-reached : (s : Pace) (l : List ℕ) → outcome (record { len = s .len; label = s .label; refused = s .refused; node = s .node }) l ≡ reached s l
+unfolding outcome reached
+outcome-reached s l = refl
 
 -- ---- scopes
 
@@ -62,123 +55,71 @@ module _ (s : List ℕ) (a x : ℕ) where
   pub bind-agent : a < 8 → agent-of (set s a x) ≡ agent-of s
   bind-agent h = getD-set-other s a 8 x 0 (omega arith)
 
--- ---- nothing to do
-
-pub runs-skip : (B : Book) (c : List ℕ) (bit me : ℕ) (vs : List ℕ) (o : Walked) (m : List ℕ) → Runs B c bit (after o (walk B me skip vs)) o m m
-unfolding walk
-runs-skip B c bit me vs (going w) m = runs-done B c bit (going w) m
-runs-skip B c bit me vs (met r q) m = runs-done B c bit (met r q) m
-
--- ---- the search for a label
-
-module _ (c : List ℕ) where
-  lowest-more : (x k : ℕ)
-      → (gives c (lowest x (suc k)) ≡ (if eqb (getD c x 0) 2 then Here x else gives c (lowest (suc x) k)))
-      × (seen c (lowest x (suc k)) ≡ x ∷ (if eqb (getD c x 0) 2 then [] else seen c (lowest (suc x) k)))
-  unfolding lowest gives seen _>>=_
-  lowest-more x k = go (eqb (getD c x 0) 2)
-    where
-      go : (b : Bool) → (gives c (if b then done (Here x) else lowest (suc x) k) ≡ (if b then Here x else gives c (lowest (suc x) k)))
-          × (_≡_ {A = List ℕ} (x ∷ seen c (if b then done (Here x) else lowest (suc x) k)) (x ∷ (if b then [] else seen c (lowest (suc x) k))))
-      go true = (refl, refl)
-      go false = (refl, refl)
-
-  module _ (e x : ℕ) (h : x < e) where
-    one-more : e - x ≡ suc (e - suc x)
-    one-more = omega arith
-
-    pub lowest-stop : getD c x 0 ≡ 2 → (gives c (lowest x (e - x)) ≡ Here x) × (seen c (lowest x (e - x)) ≡ x ∷ [])
-    lowest-stop g =
-        let r = lowest-more x (e - suc x) in
-        let q = eq-eqb (getD c x 0) 2 g in
-        rw one-more (r .0 ∙ rw q, r .1 ∙ rw q)
-
-    pub lowest-pass : ((getD c x 0 ≡ 2) → ⊥)
-        → (gives c (lowest x (e - x)) ≡ gives c (lowest (x + 1) (e - (x + 1)))) × (seen c (lowest x (e - x)) ≡ x ∷ seen c (lowest (x + 1) (e - (x + 1))))
-    lowest-pass g =
-        let r = lowest-more x (e - suc x) in
-        let q = ne-eqb (getD c x 0) 2 g in
-        rw (add-one x, one-more) (r .0 ∙ rw q, r .1 ∙ rw q)
-
-pub lowest-end : (c : List ℕ) (e x : ℕ) → e ≤ x → (gives c (lowest x (e - x)) ≡ Nowhere) × (seen c (lowest x (e - x)) ≡ [])
-unfolding lowest gives seen
-lowest-end c e x h = let z : e - x ≡ 0 = omega arith in (rw z, rw z)
-
--- what it looks at is all Reserve's
-all-roll : (B : Book) → Placed B → (c : List ℕ) (k x : ℕ) → ((j : ℕ) → j < k → x + j < B .E) → dynamic-among B (seen c (lowest x k)) ≡ seen c (lowest x k)
-unfolding lowest seen dynamic-among _>>=_
-all-roll B p c zero x h = refl
-all-roll B p c (suc k) x h = rw (p .roll x (omega (arith, h 0 (omega arith)))) (ap (λ (s : List ℕ). x ∷ s) (go (eqb (getD c x 0) 2) (all-roll B p c k (suc x) (λ j i. omega (arith, h (suc j) (omega arith))))))
-  where
-    go : (b : Bool) → dynamic-among B (seen c (lowest (suc x) k)) ≡ seen c (lowest (suc x) k)
-        → dynamic-among B (seen c (if b then done (Here x) else lowest (suc x) k)) ≡ seen c (if b then done (Here x) else lowest (suc x) k)
-    go true e = refl
-    go false e = e
-
-pub runs-lowest : (B : Book) (c : List ℕ) (bit from e x : ℕ) (m n : List ℕ) → e ≡ B .E → found-below e x ≡ gives c (lowest from (e - from))
-    → n ≡ marked bit (seen c (lowest from (e - from))) m → Runs B c bit (lowest from (B .E - from)) (found-below e x) m n
-runs-lowest B c bit from e x m n q h k =
-    record {
-      value = h ∙ rw q;
-      marks = λ p. k ∙ rw q (ap (λ (s : List ℕ). marked bit s m) (sym (all-roll B p c (B .E - from) from (λ j i. omega arith))));
-    }
-
--- ---- 11 and 12, or one instruction more
-
-module _ (B : Book) (f l v n : ℕ) where
-  pub setting-ok : (relation (function-at B f) && not (boolean v)) ≡ false → (o : Walked) → (o then setting B f l v n) ≡ (o then give n (Update l v))
-  setting-ok e (going w) = rw e
-  setting-ok e (met r q) = refl
-
-  pub setting-bad : (relation (function-at B f) && not (boolean v)) ≡ true → (o : Walked) → (o then setting B f l v n) ≡ (o then refused-by non-boolean n)
-  setting-bad e (going w) = rw e
-  setting-bad e (met r q) = refl
-
-module _ (B : Book) (x r n : ℕ) where
-  pub freeing-ok : not-free B x r ≡ false → (o : Walked) → (o then freeing B x r n) ≡ (o then give n (Release x))
-  freeing-ok e (going w) = rw e
-  freeing-ok e (met a q) = refl
-
-  pub freeing-bad : not-free B x r ≡ true → (o : Walked) → (o then freeing B x r n) ≡ (o then refused-by not-releasable n)
-  freeing-bad e (going w) = rw e
-  freeing-bad e (met a q) = refl
-
--- ---- arms of the walk
-
 module _ (B : Book) (c : List ℕ) (bit : ℕ) where
-  -- from a state with no refusal
-  module _ (s : State) (l : List ℕ) (h : s .refused ≡ 0) where
-    pub runs-from : (f : Walk → Look Walked) (z : Walked) (m n : List ℕ) → Runs B c bit (after (outcome s l) f) z m n → Runs B c bit (f (walk-of s l)) z m n
-    runs-from f z m n k = rw (outcome-going s l h) at k
-
-    pub runs-arm : (me : ℕ) (vs : List ℕ) (r t : Rule) (z : Walked) (m n : List ℕ) → r ≡ t
-        → Runs B c bit (walk B me t vs (walk-of s l)) z m n → Runs B c bit (after (outcome s l) (walk B me r vs)) z m n
-    runs-arm me vs r t z m n e k = rw (outcome-going s l h, e) k
-
-  -- a rule that does nothing
-  pub runs-nothing : (me : ℕ) (vs : List ℕ) (r : Rule) (o : Walked) (m : List ℕ) → r ≡ skip → Runs B c bit (after o (walk B me r vs)) o m m
-  runs-nothing me vs r o m e = rw e (runs-skip B c bit me vs o m)
-
   -- a scope that has these variables and this agent
   pub runs-scope : (t vs : List ℕ) (me : ℕ) (r : Rule) (o z : Walked) (m n : List ℕ) → variables-of t ≡ vs → agent-of t ≡ me
       → Runs B c bit (after o (walk B (agent-of t) r (variables-of t))) z m n → Runs B c bit (after o (walk B me r vs)) z m n
   runs-scope t vs me r o z m n e f h = rw (← e, ← f) h
 
-  pub runs-branch : (ns : ℕ → Node) (d me : ℕ) (vs : List ℕ) (w : Walk) (next p q : ℕ) (b : Bool) (z : Walked) (m n : List ℕ)
-      → next ≡ (if b then p else q) → Runs B c bit (walk B me (rule-from ns d next) vs w) z m n
-      → Runs B c bit (if b then walk B me (rule-from ns d p) vs w else walk B me (rule-from ns d q) vs w) z m n
-  runs-branch ns d me vs w next p q true z m n e h = rw e at h
-  runs-branch ns d me vs w next p q false z m n e h = rw e at h
+  -- ---- what follows a pace
 
-  -- an import, by what its search came to
-  module _ (n u e x : ℕ) (w : Walk) (body : ℕ → Walk → Look Walked) (z : Walked) (k m : List ℕ) where
-    pub import-found : x < e → Runs B c bit (after (taking B u x n w) (body x)) z k m → Runs B c bit (import-of B n u w body (found-below e x)) z k m
-    import-found h r = rw (lt-ltb x e h) r
+  module _ (f : Walk → Look Walked) (s : Pace) (l : List ℕ) (h : s .refused ≡ 0) (z : Walked) (m n : List ℕ) where
+    pub runs-from : Runs B c bit (after (reached s l) f) z m n → Runs B c bit (f (walk-from s l)) z m n
+    runs-from k = rw (reached-going s l h) at k
 
-    pub import-none : e ≤ x → Runs B c bit (done (met no-label-left n)) z k m → Runs B c bit (import-of B n u w body (found-below e x)) z k m
-    import-none h r = rw (le-ltb x e h) r
+    pub runs-after : Runs B c bit (f (walk-from s l)) z m n → Runs B c bit (after (reached s l) f) z m n
+    runs-after k = rw (reached-going s l h) k
 
--- ---- the kinds of rules
+  -- nothing more is done
+  pub runs-met : (f : Walk → Look Walked) (o : Walked) (r q : ℕ) (m : List ℕ) → o ≡ met r q → Runs B c bit (after o f) o m m
+  runs-met f o r q m e = rw e (runs-done B c bit (met r q) m)
+
+  pub runs-skip : (me : ℕ) (vs : List ℕ) (r : Rule) (o : Walked) (m : List ℕ) → r ≡ skip → Runs B c bit (after o (walk B me r vs)) o m m
+  unfolding walk
+  runs-skip me vs r o m e = rw e (go o)
+    where
+      go : (o : Walked) → Runs B c bit (after o (λ w. done (going w))) o m m
+      go (going w) = runs-done B c bit (going w) m
+      go (met a q) = runs-done B c bit (met a q) m
+
+  -- ---- rules: a pair, a test, an import, none
+
+  module _ (me : ℕ) (vs : List ℕ) (ns : ℕ → Node) (d i : ℕ) (x : Node) (some : 2 ≤ d) (loaded : x ≡ ns i) (s : Pace) (l : List ℕ) (h : s .refused ≡ 0) where
+    abbrev go : ℕ → Walk → Look Walked
+    go p = walk B me (rule-from ns (d - 1) p) vs
+
+    pub runs-pair : (p z : Walked) (j m n : List ℕ) → x .kind ≡ 22 → Runs B c bit (after (reached s l) (go (x .a))) p j m → Runs B c bit (after p (go (x .b))) z m n
+        → Runs B c bit (after (reached s l) (walk B me (rule-from ns d i) vs)) z j n
+    unfolding walk
+    runs-pair p z j m n k r t =
+        runs-after (walk B me (rule-from ns d i) vs) s l h z j n
+        (rw (rule-pair ns d i x some loaded k)
+        (runs-bind B c bit (go (x .a) (walk-from s l)) (λ o. after o (go (x .b))) p z j m n (runs-from (go (x .a)) s l h p j m r) t))
+
+    pub runs-test : (v next : ℕ) (z : Walked) (j m n : List ℕ) → x .kind ≡ 23 → next ≡ (if eqb v 2 then x .b else x .c)
+        → Runs B c bit (eval B me vs (term-at ns (d - 1) (x .a))) v j m → Runs B c bit (after (reached s l) (go next)) z m n
+        → Runs B c bit (after (reached s l) (walk B me (rule-from ns d i) vs)) z j n
+    unfolding walk
+    runs-test v next z j m n k e r t =
+        let w = walk-from s l in
+        runs-after (walk B me (rule-from ns d i) vs) s l h z j n
+        (rw (rule-test ns d i x some loaded k)
+        (runs-bind B c bit (eval B me vs (term-at ns (d - 1) (x .a))) (λ y. if eqb y 2 then go (x .b) w else go (x .c) w) v z j m n r
+        (branch (eqb v 2) e (runs-from (go next) s l h z m n t))))
+      where
+        branch : (b : Bool) → next ≡ (if b then x .b else x .c) → Runs B c bit (go next (walk-from s l)) z m n
+            → Runs B c bit (if b then go (x .b) (walk-from s l) else go (x .c) (walk-from s l)) z m n
+        branch true e t = rw e at t
+        branch false e t = rw e at t
+
+-- an import, by the label that its search came to
+pub import-as : (B : Book) (n u x : ℕ) (w : Walk) (body : ℕ → Walk → Look Walked)
+    → import-of B n u w body (found-below (B .E) x) ≡ after (enrolling B u x n w) (body x)
+import-as B n u x w body = go (ltb x (B .E))
+  where
+    go : (b : Bool) → import-of B n u w body (if b then Here x else Nowhere) ≡ after (if b then taking B u x n w else met no-label-left n) (body x)
+    go true = refl
+    go false = refl
 
 -- one place less
 less-by : (k m : ℕ) → k < suc m → ((k ≡ m) → ⊥) → k < m
@@ -188,5 +129,13 @@ exact : (k : ℕ) → 20 ≤ k → k < 21 → k ≡ 20
 exact k h i = omega arith
 
 -- of the kinds 20 to 27, the one that is none of 21 to 27
-pub only-skip : (k : ℕ) → 20 ≤ k → k < 28 → ((k ≡ 21) → ⊥) → ((k ≡ 22) → ⊥) → ((k ≡ 23) → ⊥) → ((k ≡ 24) → ⊥) → ((k ≡ 25) → ⊥) → ((k ≡ 26) → ⊥) → ((k ≡ 27) → ⊥) → k ≡ 20
+only-skip : (k : ℕ) → 20 ≤ k → k < 28 → ((k ≡ 21) → ⊥) → ((k ≡ 22) → ⊥) → ((k ≡ 23) → ⊥) → ((k ≡ 24) → ⊥) → ((k ≡ 25) → ⊥) → ((k ≡ 26) → ⊥) → ((k ≡ 27) → ⊥) → k ≡ 20
 only-skip k h i a b c d e f g = exact k h (less-by k 21 (less-by k 22 (less-by k 23 (less-by k 24 (less-by k 25 (less-by k 26 (less-by k 27 i g) f) e) d) c) b) a)
+
+pub rule-none : (ns : ℕ → Node) (d n : ℕ) (x : Node) → 2 ≤ d → x ≡ ns n
+    → ((x .kind ≡ 21) → ⊥) → ((x .kind ≡ 22) → ⊥) → ((x .kind ≡ 23) → ⊥) → ((x .kind ≡ 24) → ⊥) → ((x .kind ≡ 25) → ⊥) → ((x .kind ≡ 26) → ⊥) → ((x .kind ≡ 27) → ⊥)
+    → rule-from ns d n ≡ skip
+rule-none ns d n x some loaded p q r s t u v =
+    dite (decLt (x .kind) 20) (λ (h : x .kind < 20). no-rule-at ns d n x some loaded (inl h)) (λ (h : ¬ (x .kind < 20)).
+    dite (decLt (x .kind) 28) (λ (i : x .kind < 28). rule-skip ns d n x some loaded (only-skip (x .kind) (omega arith) i p q r s t u v))
+    (λ (i : ¬ (x .kind < 28)). no-rule-at ns d n x some loaded (inr (omega arith))))

@@ -8,8 +8,8 @@ use Rattle.engine.specs.Term.{term-at}
 use Rattle.engine.specs.Rule.{walk, refuse-if, not-boolean, give, _then_}
 use Rattle.term.specs.Held.{held, value-at, aim-at}
 use Rattle.term.proofs.Marking.{runs-bind, runs-gives}
-use Rattle.walk.specs.Walk.{walk-of}
-use Rattle.walk.proofs.Steps.{outcome-going}
+use Rattle.giving.specs.Giving.{walk-from}
+use Rattle.giving.proofs.Steps.{reached-going}
 use borrow.Author.Needs.{needs}
 use Rattle.walk.proofs.assign.Statement.{statement}
 use Rattle.walk.proofs.assign.Tie as tie
@@ -40,10 +40,10 @@ returns c =
     let B = held m in
     let s = a .scope .now in
     let t = term-at (node-at B) (a .depth) (a .row .a) in
-    let w = walk-of (a .s) (a .list .now) in
+    let w = walk-from (a .s) (a .list .now) in
     λ room. runs-bind B (a .contents .now) (a .bit) (aim-at m s (a .depth) (a .row .a)) (λ l. value-at m s (a .depth) (a .row .b) >>= λ v. done (refuse-if (not-boolean B t v) non-boolean (a .n) w then give (a .n) (Update l v))) _ _ _ _ _ (c .before .before .before .before .before .before .before .before .before .before .before .aim .ensures)
     (runs-bind B (a .contents .now) (a .bit) (value-at m s (a .depth) (a .row .b)) (λ v. done (refuse-if (not-boolean B t v) non-boolean (a .n) w then give (a .n) (Update (c .before .before .before .before .before .before .before .before .before .before .before .aim .result) v))) _ _ _ _ _ (c .before .before .before .before .before .before .before .eval .ensures)
-    (runs-gives B (a .contents .now) (a .bit) _ _ _ (c .before .before .update .ensures room ∙ rw (outcome-going (a .s) (a .list .now) (c .before .before .before .before .before .before .before .before .before .before .before .before .before .before .before .before .pre), c .before .before .before .before .named .ensures))))
+    (runs-gives B (a .contents .now) (a .bit) _ _ _ (c .before .before .update .ensures room ∙ rw (reached-going (a .s) (a .list .now) (c .before .before .before .before .before .before .before .before .before .before .before .before .before .before .before .before .pre), c .before .before .before .before .named .ensures))))
 
 pub assign-spec : {M : Type 1} → statement M
 assign-spec =

@@ -5,17 +5,17 @@ use borrow.Author.Needs.{needs}
 use Rattle.walk.proofs.bind.Statement.{statement}
 use Rattle.walk.proofs.bind.Tie as tie
 
-mul-v : tie.Need-mul-v
-mul-v c = search needs
+mul-scope : tie.Need-mul-scope
+mul-scope c = search needs
 
-array-write-v : tie.Need-array-write-v
-array-write-v c = search needs
+element-write-scope : tie.Need-element-write-scope
+element-write-scope c = search needs
 
 returns : tie.Need-returns
-returns c = (bind-in (c .before .args .scope) (c .before .args .a) (c .before .args .x) (c .if1 .taken), bind-agent (c .before .args .scope) (c .before .args .a) (c .before .args .x) (c .if1 .taken))
+returns c = let a = c .before .args in (bind-in (a .scope .now) (a .a) (a .x) (c .if1 .taken), bind-agent (a .scope .now) (a .a) (a .x) (c .if1 .taken))
 
 returns-2 : tie.Need-returns-2
-returns-2 c = (bind-past (c .before .args .scope) (c .before .args .a) (c .before .args .x) (c .if1 .left), refl)
+returns-2 c = let a = c .before .args in (bind-past (a .scope .now) (a .a) (a .x) (c .if1 .left), refl)
 
 pub bind-spec : {M : Type 1} → statement M
-bind-spec = tie.close (tie.spec mul-v array-write-v returns returns-2)
+bind-spec = tie.close (tie.spec mul-scope element-write-scope returns returns-2)

@@ -2,6 +2,8 @@
 use mathlib.Core.Path.{refl}
 use mathlib.Core.List.{[], _∷_}
 use Rattle.term.specs.Held.{held}
+use Rattle.giving.specs.Giving.{walk-from}
+use Rattle.giving.proofs.Steps.{reached-going, reached-met}
 use Rattle.walk.specs.Walk.{walk-at}
 use Rattle.walk.specs.Gather.{agent-row}
 use Rattle.walk.proofs.Steps.{runs-from}
@@ -19,6 +21,9 @@ permanent-requires c κs = search needs
 walk-requires : tie.Need-walk-requires
 walk-requires c κs = search needs
 
+ended-requires : tie.Need-ended-requires
+ended-requires c κs = search needs
+
 same-length : tie.Need-same-length
 same-length c = search needs
 
@@ -27,17 +32,23 @@ same-length-2 c = search needs
 
 returns : tie.Need-returns
 returns c =
-    let a = c .before .before .before .before .before .before .before .before .before .before .before .before .before .before .args in
+    let a = c .before .before .before .before .before .before .before .before .before .before .before .before .before .before .before .before .args in
     let m = a .image .now in
     let B = held m in
-    let who = c .before .before .before .before .before .before .before .before .before .before .agent-at .result in
-    λ room. gathered B (a .contents .now) (a .bit) (a .agent) (c .before .before .before .before .before .before .walk .result) _ _ _
-    (runs-agent B (a .contents .now) (a .bit) _ _ _ (a .agent) (c .before .before .before .before .before .before .before .before .before .permanent .result) (agent-row who) (c .before .before .before .before .before .before .before .before .before .before .agent-at .ensures) (c .before .before .before .before .before .before .before .before .before .permanent .ensures)
-    (runs-from B (a .contents .now) (a .bit) (record { len = 0; label = c .before .before .before .before .before .before .before .before .before .permanent .result; refused = 0; node = 0 }) (a .list .now) refl (walk-at m (0 ∷ 0 ∷ 0 ∷ 0 ∷ 0 ∷ 0 ∷ 0 ∷ 0 ∷ who .element ∷ []) 32 (who .root)) _ _ _ (c .before .before .before .before .before .before .walk .ensures room)))
-    (c .if1 .taken)
+    let who = c .before .before .before .before .before .before .before .before .before .before .before .before .agent-at .result in
+    let r = c .before .before .before .before .before .before .before .walk .result in
+    let l = c .before .before .before .before .before .before .before .walk .last .1 .1 .1 .1 .0 in
+    λ room. rw (c .ended .ensures l)
+    (gathered B (a .contents .now) (a .bit) (a .agent) _ _ _
+    (runs-agent B (a .contents .now) (a .bit) _ _ _ (a .agent) (c .before .before .before .before .before .before .before .before .before .before .before .permanent .result) (agent-row who) (c .before .before .before .before .before .before .before .before .before .before .before .before .agent-at .ensures) (c .before .before .before .before .before .before .before .before .before .before .before .permanent .ensures)
+    (runs-from B (a .contents .now) (a .bit) (walk-at m (0 ∷ 0 ∷ 0 ∷ 0 ∷ 0 ∷ 0 ∷ 0 ∷ 0 ∷ who .element ∷ []) 32 (who .root)) (record { len = 0; label = c .before .before .before .before .before .before .before .before .before .before .before .permanent .result; refused = 0; node = 0 }) (a .list .now) refl _ _ _ (c .before .before .before .before .before .before .before .walk .ensures room)))
+    (walk-from r l) (reached-going r l (c .before .if1 .taken)))
 
 clear-requires : tie.Need-clear-requires
 clear-requires c κs = search needs
+
+ended-requires-2 : tie.Need-ended-requires-2
+ended-requires-2 c κs = search needs
 
 same-length-3 : tie.Need-same-length-3
 same-length-3 c = search needs
@@ -47,14 +58,17 @@ same-length-4 c = search needs
 
 returns-2 : tie.Need-returns-2
 returns-2 c =
-    let a = c .before .before .before .before .before .before .before .before .before .before .before .before .before .before .before .before .before .before .args in
+    let a = c .before .before .before .before .before .before .before .before .before .before .before .before .before .before .before .before .before .before .before .before .args in
     let m = a .image .now in
     let B = held m in
-    let who = c .before .before .before .before .before .before .before .before .before .before .before .before .before .before .agent-at .result in
-    λ room. gathered-back B (a .contents .now) (a .bit) (a .agent) (c .before .before .before .before .before .before .before .before .before .before .walk .result) _ _ _
-    (runs-agent B (a .contents .now) (a .bit) _ _ _ (a .agent) (c .before .before .before .before .before .before .before .before .before .before .before .before .before .permanent .result) (agent-row who) (c .before .before .before .before .before .before .before .before .before .before .before .before .before .before .agent-at .ensures) (c .before .before .before .before .before .before .before .before .before .before .before .before .before .permanent .ensures)
-    (runs-from B (a .contents .now) (a .bit) (record { len = 0; label = c .before .before .before .before .before .before .before .before .before .before .before .before .before .permanent .result; refused = 0; node = 0 }) (a .list .now) refl (walk-at m (0 ∷ 0 ∷ 0 ∷ 0 ∷ 0 ∷ 0 ∷ 0 ∷ 0 ∷ who .element ∷ []) 32 (who .root)) _ _ _ (c .before .before .before .before .before .before .before .before .before .before .walk .ensures room)))
-    _ (c .before .before .clear .ensures) (c .before .before .before .before .if1 .left)
+    let who = c .before .before .before .before .before .before .before .before .before .before .before .before .before .before .before .before .agent-at .result in
+    let r = c .before .before .before .before .before .before .before .before .before .before .before .walk .result in
+    let l = c .before .before .before .before .before .before .before .before .before .before .before .walk .last .1 .1 .1 .1 .0 in
+    λ room. rw (c .ended2 .ensures l)
+    (gathered-back B (a .contents .now) (a .bit) (a .agent) _ _ _
+    (runs-agent B (a .contents .now) (a .bit) _ _ _ (a .agent) (c .before .before .before .before .before .before .before .before .before .before .before .before .before .before .before .permanent .result) (agent-row who) (c .before .before .before .before .before .before .before .before .before .before .before .before .before .before .before .before .agent-at .ensures) (c .before .before .before .before .before .before .before .before .before .before .before .before .before .before .before .permanent .ensures)
+    (runs-from B (a .contents .now) (a .bit) (walk-at m (0 ∷ 0 ∷ 0 ∷ 0 ∷ 0 ∷ 0 ∷ 0 ∷ 0 ∷ who .element ∷ []) 32 (who .root)) (record { len = 0; label = c .before .before .before .before .before .before .before .before .before .before .before .before .before .before .before .permanent .result; refused = 0; node = 0 }) (a .list .now) refl _ _ _ (c .before .before .before .before .before .before .before .before .before .before .before .walk .ensures room)))
+    (r .refused) (r .node) _ (reached-met r l (c .before .before .before .before .before .if1 .left)) (c .before .before .before .clear .ensures))
 
 pub gather-spec : {M : Type 1} → statement M
 gather-spec =
@@ -63,10 +77,12 @@ gather-spec =
     agent-at-requires
     permanent-requires
     walk-requires
+    ended-requires
     same-length
     same-length-2
     returns
     clear-requires
+    ended-requires-2
     same-length-3
     same-length-4
     returns-2)

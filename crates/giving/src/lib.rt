@@ -1,0 +1,191 @@
+// The instructions that a walk gives: how far it is, one instruction more, or a refusal.
+use engine::Instruction;
+ghost use mathlib.Core.Path.{_≡_};
+ghost use mathlib.Core.Bool.{_||_};
+ghost use mathlib.Core.List.{List};
+ghost use Prim.Native.Nat.{ℕ, _<_, min};
+ghost use lib.Dec.{eqb};
+ghost use Rattle.book.specs.Book.{node-at};
+ghost use Rattle.engine.specs.Term.{term-at, function-of};
+ghost use Rattle.engine.specs.Rule.{_then_, give};
+ghost use Rattle.term.specs.Held.{held};
+ghost use Rattle.giving.specs.Giving.{Room, walk-from, reached, refused-by, setting, freeing, taking, enrolling};
+
+// How far a walk is: how many instructions it has given, the label from which the next import looks,
+// its refusal (0 for none) and the refusal's node. Eight bytes go from node to node in a register.
+pub struct Pace {
+    pub len: u16,
+    pub label: u16,
+    pub refused: u16,
+    pub node: u16,
+}
+
+fn smaller(a: usize, b: usize) -> usize
+    ensures { λ r. ⌜ r ≡ min a b ⌝ }
+{
+    if a < b { a } else { b }
+}
+
+// A refusal at node n, unless there is one already.
+pub fn refuse(s: Pace, number: u32, n: u16) -> Pace
+    requires { ⌜ (0 < number) × (number < 65536) ⌝ }
+    ensures { λ r. ⌜ ((l : List ℕ) → reached r l ≡ (reached s l then refused-by number n)) ⌝ }
+{
+    if s.refused != 0 {
+        return s;
+    }
+    Pace {
+        len: s.len,
+        label: s.label,
+        refused: number as u16,
+        node: n,
+    }
+}
+
+// One more instruction, which node n gives; 14 if it does not fit.
+pub fn give(list: &mut [u64], s: Pace, i: Instruction, n: u16) -> Pace
+    ensures { λ r. ⌜ (Room (now (list .entry)) → reached r (now (list .exit)) ≡ (reached s (now (list .entry)) then give n i)) ⌝ }
+{
+    if s.refused != 0 {
+        return s;
+    }
+    let at = s.len as usize;
+    let room = smaller(256, list.len());
+    if at < room {
+        list[at] = records::code(i);
+        Pace {
+            len: s.len + 1,
+            label: s.label,
+            refused: 0,
+            node: s.node,
+        }
+    } else {
+        refuse(s, text::LIST_FULL, n)
+    }
+}
+
+// Whether a function of that kind is a relation.
+pub fn relation(kind: u16) -> bool
+    ensures { λ r. ⌜ r ≡ (eqb kind 1 || eqb kind 3) ⌝ }
+{
+    match kind {
+        1 => true,
+        3 => true,
+        _ => false,
+    }
+}
+
+// The function of the location that the term at node n names.
+pub fn named(image: &[u16; 4296], depth: usize, n: u16) -> u16
+    ensures { λ r. ⌜ r ≡ function-of (term-at (node-at (held (now (image .entry)))) depth n) ⌝ }
+{
+    if depth == 0 {
+        return 0;
+    }
+    let row = term::node(image, n);
+    let k = row.kind;
+    match k {
+        4 => row.a,
+        5 => row.a,
+        6 => row.a,
+        _ => 0,
+    }
+}
+
+// Sets a location of function f to x; 11 if f is a relation and x not Boolean.
+pub fn update(
+    image: &[u16; 4296],
+    list: &mut [u64],
+    s: Pace,
+    n: u16,
+    f: u16,
+    at: u32,
+    x: u16,
+) -> Pace
+    ensures { λ r. ⌜ (Room (now (list .entry)) → reached r (now (list .exit)) ≡ (reached s (now (list .entry)) then setting (held (now (image .entry))) f at x n)) ⌝ }
+{
+    let run = term::function(image, f);
+    if relation(run.kind) {
+        if term::boolean(x) {
+            give(
+                list,
+                s,
+                Instruction::Update {
+                    location: at,
+                    value: x,
+                },
+                n,
+            )
+        } else {
+            refuse(s, text::NON_BOOLEAN, n)
+        }
+    } else {
+        give(
+            list,
+            s,
+            Instruction::Update {
+                location: at,
+                value: x,
+            },
+            n,
+        )
+    }
+}
+
+// The two updates by which an import at node n takes label x into universe u.
+fn take(image: &[u16; 4296], list: &mut [u64], s: Pace, n: u16, u: u16, x: u16) -> Pace
+    requires { ⌜ (s .refused ≡ 0) × (x < 65535) ⌝ }
+    ensures { λ r. ⌜ (Room (now (list .entry)) → reached r (now (list .exit)) ≡ taking (held (now (image .entry))) u x n (walk-from s (now (list .entry)))) ⌝ }
+{
+    let r = Pace {
+        len: s.len,
+        label: x + 1,
+        refused: 0,
+        node: 0,
+    };
+    let t = give(
+        list,
+        r,
+        Instruction::Update {
+            location: x as u32,
+            value: 1,
+        },
+        n,
+    );
+    let at = term::location(image, u, x, 0);
+    give(
+        list,
+        t,
+        Instruction::Update {
+            location: at,
+            value: 2,
+        },
+        n,
+    )
+}
+
+// The same if x is an element; 13 if not, as no label is left.
+pub fn enroll(image: &[u16; 4296], list: &mut [u64], s: Pace, n: u16, u: u16, x: u16) -> Pace
+    requires { ⌜ s .refused ≡ 0 ⌝ }
+    ensures { λ r. ⌜ (Room (now (list .entry)) → reached r (now (list .exit)) ≡ enrolling (held (now (image .entry))) u x n (walk-from s (now (list .entry)))) ⌝ }
+{
+    if x < term::elements(image) {
+        take(image, list, s, n, u, x)
+    } else {
+        refuse(s, text::NO_LABEL_LEFT, n)
+    }
+}
+
+// Releases x, Reserve there being v; 12 if x is no label or in Reserve.
+pub fn free(image: &[u16; 4296], list: &mut [u64], s: Pace, n: u16, x: u16, v: u16) -> Pace
+    ensures { λ r. ⌜ (Room (now (list .entry)) → reached r (now (list .exit)) ≡ (reached s (now (list .entry)) then freeing (held (now (image .entry))) x v n)) ⌝ }
+{
+    if x < term::permanent(image) {
+        return refuse(s, text::NOT_RELEASABLE, n);
+    }
+    if v == 2 {
+        refuse(s, text::NOT_RELEASABLE, n)
+    } else {
+        give(list, s, Instruction::Release { label: x }, n)
+    }
+}

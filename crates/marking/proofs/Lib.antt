@@ -1,0 +1,4 @@
+pub mod InPlace
+pub mod Parts
+pub mod Labels
+pub mod Members

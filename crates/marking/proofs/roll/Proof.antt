@@ -1,0 +1,25 @@
+-- `roll` meets its contract.
+use mathlib.Core.Path.{sym}
+use Prim.Native.Nat.{_<_}
+use Rattle.term.specs.Held.{held}
+use borrow.Author.Needs.{needs}
+use Rattle.marking.proofs.roll.Statement.{statement}
+use Rattle.marking.proofs.roll.Tie as tie
+
+elements-requires : tie.Need-elements-requires
+elements-requires c κs = search needs
+
+returns : tie.Need-returns
+returns c =
+    let a = c .before .before .args in
+    let h : a .x < held (a .image .now) .E = rw (← c .before .elements .ensures) (c .if1 .taken) in
+    λ p. sym (p .roll (a .x) h)
+
+dynamic-at-requires : tie.Need-dynamic-at-requires
+dynamic-at-requires c κs = search needs
+
+returns-2 : tie.Need-returns-2
+returns-2 c = search needs
+
+pub roll-spec : {M : Type 1} → statement M
+roll-spec = tie.close (tie.spec elements-requires returns dynamic-at-requires returns-2)

@@ -1,0 +1,174 @@
+// What rules look at beside their terms: labels, Reserve, universes; and the marks of it.
+use term::Run;
+ghost use mathlib.Core.Path.{_≡_};
+ghost use mathlib.Core.List.{List, map};
+ghost use Prim.Native.Nat.{ℕ, _+_, _-_, _≤_, min};
+ghost use lib.Bits.{bitOr, bitAnd};
+ghost use lib.Dec.{leb};
+ghost use Rattle.text.specs.Words.{if_then_else_, table, table-from};
+ghost use Rattle.book.specs.Book.{Book, function-at, offset, reserve, dynamic-at};
+ghost use Rattle.engine.specs.Look.{read, seen};
+ghost use Rattle.engine.specs.Move.{dynamic-among};
+ghost use Rattle.engine.specs.Rule.{members, lowest};
+ghost use Rattle.term.specs.Held.{held, function-run};
+ghost use Rattle.term.specs.Marks.{noted, marked, Placed, Runs};
+ghost use Rattle.marking.specs.Marking.{found-below, members-from, first-and-rest};
+
+fn smaller(a: usize, b: usize) -> usize
+    ensures { λ r. ⌜ r ≡ min a b ⌝ }
+{
+    if a < b { a } else { b }
+}
+
+// ---- parts
+
+// Keeps only the bits of the mask in all marks.
+pub fn keep(readers: &mut [u64], mask: u64)
+    ensures { λ _. ⌜ now (readers .exit) ≡ map (λ v. bitAnd v mask) (now (readers .entry)) ⌝ }
+{
+    let mut i: usize = 0;
+    while i < readers.len() {
+        readers[i] = readers[i] & mask;
+        i += 1;
+    }
+}
+
+// Puts a bit into all marks of a part.
+pub fn mark_part(part: &mut [u64], bit: u64)
+    ensures { λ _. ⌜ now (part .exit) ≡ map (λ v. bitOr v bit) (now (part .entry)) ⌝ }
+{
+    let mut i: usize = 0;
+    while i < part.len() {
+        part[i] = part[i] | bit;
+        i += 1;
+    }
+}
+
+// Puts a bit into the marks from first to end, as far as they go.
+pub fn mark_between(readers: &mut [u64], bit: u64, first: usize, end: usize)
+    ensures { λ _. ⌜ now (readers .exit) ≡ marked bit (table-from (λ l. l) first (end - first)) (now (readers .entry)) ⌝ }
+{
+    let stop = smaller(end, readers.len());
+    let start = smaller(first, stop);
+    mark_part(&mut readers[start..stop], bit);
+}
+
+// Marks the locations from first to end if their function's kind is dynamic.
+pub fn mark_function(readers: &mut [u64], bit: u64, kind: u16, first: usize, end: usize)
+    ensures { λ _. ⌜ now (readers .exit) ≡ (if leb 2 kind then marked bit (table-from (λ l. l) first (end - first)) (now (readers .entry)) else now (readers .entry)) ⌝ }
+{
+    if 2 <= kind {
+        mark_between(readers, bit, first, end);
+    }
+}
+
+// ---- labels and Reserve
+
+// The lowest label of Reserve from `from` on, or E; the labels tried are marked.
+pub fn lowest(
+    image: &[u16; 4296],
+    contents: &[u16],
+    readers: &mut [u64],
+    bit: u64,
+    from: u16,
+) -> u16
+    ensures { λ r. ⌜ Runs (held (now (image .entry))) (now (contents .entry)) bit (lowest from (held (now (image .entry)) .E - from)) (found-below (held (now (image .entry)) .E) r) (now (readers .entry)) (now (readers .exit)) ⌝ }
+{
+    let e = term::elements(image);
+    let mut x = from;
+    while x < e {
+        term::mark(readers, bit, x as usize);
+        if term::fetch(contents, x as usize) == 2 {
+            return x;
+        }
+        x += 1;
+    }
+    x
+}
+
+// Whether location x, Reserve's while x is an element, is dynamic.
+pub fn roll(image: &[u16; 4296], x: u16) -> bool
+    ensures { λ r. ⌜ (Placed (held (now (image .entry))) → r ≡ dynamic-at (held (now (image .entry))) x) ⌝ }
+{
+    if x < term::elements(image) {
+        return true;
+    }
+    term::dynamic_at(image, x as u32)
+}
+
+// Marks Reserve at x.
+pub fn note_roll(image: &[u16; 4296], readers: &mut [u64], bit: u64, x: u16)
+    ensures { λ _. ⌜ (Placed (held (now (image .entry))) → now (readers .exit) ≡ noted (held (now (image .entry))) bit x (now (readers .entry))) ⌝ }
+{
+    if roll(image, x) {
+        term::mark(readers, bit, x as usize);
+    }
+}
+
+// The value of Reserve at x.
+pub fn read_roll(
+    image: &[u16; 4296],
+    contents: &[u16],
+    readers: &mut [u64],
+    bit: u64,
+    x: u16,
+) -> u16
+    ensures { λ r. ⌜ Runs (held (now (image .entry))) (now (contents .entry)) bit (read (reserve x)) r (now (readers .entry)) (now (readers .exit)) ⌝ }
+{
+    note_roll(image, readers, bit, x);
+    term::fetch(contents, x as usize)
+}
+
+// ---- universes
+
+// Marks a function at the elements below e, location by location.
+pub fn mark_each(readers: &mut [u64], bit: u64, run: Run, e: u16)
+    ensures { λ _. ⌜ now (readers .exit) ≡ marked bit (table (λ y. run .first + offset e (run .arity) y 0) e) (now (readers .entry)) ⌝ }
+{
+    let mut y: u16 = 0;
+    while y < e {
+        let at = term::locate(run, e, y, 0);
+        term::mark(readers, bit, at as usize);
+        y += 1;
+    }
+}
+
+// The same; the locations of a unary function, as every universe is, are one part.
+pub fn mark_run(readers: &mut [u64], bit: u64, run: Run, e: u16)
+    ensures { λ _. ⌜ now (readers .exit) ≡ marked bit (table (λ y. run .first + offset e (run .arity) y 0) e) (now (readers .entry)) ⌝ }
+{
+    if run.arity == 1 {
+        let first = run.first as usize;
+        mark_between(readers, bit, first, first + e as usize);
+    } else {
+        mark_each(readers, bit, run, e);
+    }
+}
+
+// Marks the universe u at all elements if it is dynamic.
+pub fn universe(image: &[u16; 4296], readers: &mut [u64], bit: u64, u: u16)
+    ensures { λ _. ⌜ ((c : List ℕ) → Placed (held (now (image .entry))) → now (readers .exit) ≡ marked bit (dynamic-among (held (now (image .entry))) (seen c (members (held (now (image .entry))) u 0 (held (now (image .entry)) .E)))) (now (readers .entry))) ⌝ }
+{
+    let e = term::elements(image);
+    let run = term::function(image, u);
+    let at = term::locate(run, e, 0, 0);
+    if term::dynamic(image, u, 0, 0, at) {
+        mark_run(readers, bit, run, e);
+    }
+}
+
+// The least member of a universe from `from` on, or e; run is the universe's.
+pub fn next_member(contents: &[u16], run: Run, e: u16, from: u16) -> u16
+    ensures { λ r. ⌜ from ≤ r ⌝ }
+    ensures { λ r. ⌜ ((B : Book) (u : ℕ) → function-run run ≡ function-at B u → e ≡ B .E → members-from B (now (contents .entry)) u from ≡ first-and-rest B (now (contents .entry)) u r) ⌝ }
+{
+    let mut y = from;
+    while y < e {
+        let at = term::locate(run, e, y, 0);
+        if term::fetch(contents, at as usize) == 2 {
+            return y;
+        }
+        y += 1;
+    }
+    y
+}
