@@ -82,7 +82,7 @@ fn report_parts(book: &[u8], log: &[u8], output: &mut [u8]) -> usize
     let mut contents = [0u16; 2048];
     let mut readers = [0u64; 2048];
     let mut writers = [0u64; 2048];
-    let answer = run::run_core(
+    let out = run::run_core(
         book,
         log,
         &mut contents,
@@ -90,6 +90,7 @@ fn report_parts(book: &[u8], log: &[u8], output: &mut [u8]) -> usize
         &mut writers,
         RECORDS,
     );
+    let answer = out.answer;
     if answer.number == 0 {
         print_accepted(book, &contents, answer, output)
     } else {

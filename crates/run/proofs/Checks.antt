@@ -15,15 +15,16 @@ use Rattle.text.specs.Words.{Checked, good, refused, _>>=_, _>>_, least, none-a
 use Rattle.text.specs.Refusals.{log-line}
 use Rattle.text.proofs.Words.{and-cases, least-none, getD-table, length-table-from, bind-good, then-good, found-good, good-same}
 use Rattle.book.specs.declared.Entry.{Entry}
-use Rattle.book.specs.Book.{Book, L}
+use Rattle.book.specs.Book.{Book, L, start}
 use Rattle.book.specs.Check.{check-book}
 use Rattle.book.specs.Image.{word, book-in}
 use Rattle.book.proofs.Image.{agents-long}
+use Rattle.records.specs.declared.Told.{Told}
 use Rattle.order.specs.Log.{Log, no-input, move-at, bad-move, bad-pair, input-of, log-of, check-agents, check-log-header, check-log-text, check-log-lines, check-log}
-use Rattle.order.specs.Run.{run-log, LogAnswer}
-use Rattle.order.specs.Call.{Lengths, Tables, lengths, check-lent, check-all, left-in, log-answer, log-call}
+use Rattle.order.specs.Run.{run-log, last-made}
+use Rattle.order.specs.Call.{Lengths, Tables, lengths, check-lent, check-all, left-in, log-answer, log-call, log-made, log-listed}
 use Rattle.order.proofs.Numbers.{Early, off, all-early}
-use Rattle.run.specs.Turns.{answered}
+use Rattle.run.specs.Turns.{Tells}
 
 abbrev triple : ℕ → ℕ → ℕ → Answer
 triple n p q = record { number = n; p = p; q = q }
@@ -93,8 +94,9 @@ agents-low B text g e =
 -- ---- the call: it is refused at the first check that refuses, with the tables as they were
 
 module _ (book log : List ℕ) (t : Tables) (n : ℕ) where
-  abbrev kept : Answer → LogAnswer
-  kept a = answered a (t .contents) (t .readers) (t .writers)
+  -- no instruction
+  abbrev none : Answer → Told
+  none a = record { answer = a; len = 0 }
 
   -- the checks go on from here
   abbrev rest : Book → Log → Checked (Book × Log)
@@ -115,14 +117,24 @@ module _ (book log : List ℕ) (t : Tables) (n : ℕ) where
       go : Early {A = Book × Log} (refused 0 p q) → ⊥
       go (off h) = omega arith
 
-  module _ (a : Answer) where
-    pub book-stops : a ≡ answer-of (check-book book) → a .number ≢ 0 → kept a ≡ log-call book log t n
-    unfolding log-call check-all _>>=_
+  module _ (a : Answer) (l : List ℕ) where
+    abbrev Stops : Checked (Book × Log) → Type 0
+    Stops o = Tells (none a) l (t .contents) (t .readers) (t .writers) (log-answer t o) (log-made o)
+
+    stops : (m p q : ℕ) → a ≡ record { number = m; p = p; q = q } → Stops (refused m p q)
+    stops m p q e = record { answer = rw e; made = refl }
+
+    -- the call is refused so
+    abbrev pub Stopped : Type 0
+    Stopped = Tells (none a) l (t .contents) (t .readers) (t .writers) (log-call book log t n) (log-listed book log t n)
+
+    pub book-stops : a ≡ answer-of (check-book book) → a .number ≢ 0 → Stopped
+    unfolding log-call log-listed check-all _>>=_
     book-stops e z = go (check-book book) e
       where
-        go : (o : Checked Book) → a ≡ answer-of o → kept a ≡ log-answer t (o >>= (λ B. check-log B log >>= rest B))
+        go : (o : Checked Book) → a ≡ answer-of o → Stops (o >>= (λ B. check-log B log >>= rest B))
         go (good B) e = absurd (z (ap (λ (x : Answer). x .number) e))
-        go (refused m p q) e = rw e
+        go (refused m p q) e = stops m p q e
 
     pub book-good : a ≡ answer-of (check-book book) → a .number ≡ 0 → (B : Book) × (check-book book ≡ good B)
     unfolding check-all _>>=_
@@ -134,13 +146,13 @@ module _ (book log : List ℕ) (t : Tables) (n : ℕ) where
             let k : m ≡ 0 = sym (ap (λ (x : Answer). x .number) e) ∙ z in absurd (not-zero p q (rw (w, k)))
 
     module _ (B : Book) (is : check-book book ≡ good B) where
-      pub log-stops : a ≡ answer-of (check-log B log) → a .number ≢ 0 → kept a ≡ log-call book log t n
-      unfolding log-call _>>=_
+      pub log-stops : a ≡ answer-of (check-log B log) → a .number ≢ 0 → Stopped
+      unfolding log-call log-listed _>>=_
       log-stops e z = rw (after-book B is) (go (check-log B log) e)
         where
-          go : (o : Checked Log) → a ≡ answer-of o → kept a ≡ log-answer t (o >>= rest B)
+          go : (o : Checked Log) → a ≡ answer-of o → Stops (o >>= rest B)
           go (good g) e = absurd (z (ap (λ (x : Answer). x .number) e))
-          go (refused m p q) e = rw e
+          go (refused m p q) e = stops m p q e
 
       pub log-good : a ≡ answer-of (check-log B log) → a .number ≡ 0 → (g : Log) × (check-log B log ≡ good g)
       unfolding _>>=_
@@ -152,19 +164,21 @@ module _ (book log : List ℕ) (t : Tables) (n : ℕ) where
               let k : m ≡ 0 = sym (ap (λ (x : Answer). x .number) e) ∙ z in absurd (not-zero p q (after-book B is ∙ rw (w, k)))
 
       module _ (g : Log) (says : check-log B log ≡ good g) where
-        pub lent-stops : a ≡ answer-of (check-lent B (lengths t n)) → a .number ≢ 0 → kept a ≡ log-call book log t n
-        unfolding log-call _>>_
+        pub lent-stops : a ≡ answer-of (check-lent B (lengths t n)) → a .number ≢ 0 → Stopped
+        unfolding log-call log-listed _>>_
         lent-stops e z = rw (after-log B g is says) (go (check-lent B (lengths t n)) e)
           where
-            go : (o : Checked (Unit {0})) → a ≡ answer-of o → kept a ≡ log-answer t (o >> good (B, g))
+            go : (o : Checked (Unit {0})) → a ≡ answer-of o → Stops (o >> good (B, g))
             go (good u) e = absurd (z (ap (λ (x : Answer). x .number) e))
-            go (refused m p q) e = rw e
+            go (refused m p q) e = stops m p q e
 
-        pub lent-passes : a ≡ answer-of (check-lent B (lengths t n)) → a .number ≡ 0 → left-in t (run-log B g) ≡ log-call book log t n
-        unfolding log-call _>>_
+        pub lent-passes : a ≡ answer-of (check-lent B (lengths t n)) → a .number ≡ 0
+            → (left-in t (run-log B g) ≡ log-call book log t n) × (last-made B g (start B) (length (g .moves)) ≡ log-listed book log t n)
+        unfolding log-call log-listed _>>_
         lent-passes e z = rw (after-log B g is says) (go (check-lent B (lengths t n)) refl e)
           where
-            go : (o : Checked (Unit {0})) → check-lent B (lengths t n) ≡ o → a ≡ answer-of o → left-in t (run-log B g) ≡ log-answer t (o >> good (B, g))
-            go (good u) w e = refl
+            go : (o : Checked (Unit {0})) → check-lent B (lengths t n) ≡ o → a ≡ answer-of o
+                → (left-in t (run-log B g) ≡ log-answer t (o >> good (B, g))) × (last-made B g (start B) (length (g .moves)) ≡ log-made (o >> good (B, g)))
+            go (good u) w e = (refl, refl)
             go (refused m p q) w e =
                 let k : m ≡ 0 = sym (ap (λ (x : Answer). x .number) e) ∙ z in absurd (not-zero p q (after-log B g is says ∙ rw (w, k)))

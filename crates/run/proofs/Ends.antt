@@ -17,17 +17,19 @@ use Rattle.book.specs.Sound.{Lawful, Sound}
 use Rattle.book.proofs.Accepted.{accepted}
 use Rattle.book.proofs.Start.{start-sound}
 use Rattle.book.proofs.Bare.{bare-image, sound-bare, lawful-bare}
-use Rattle.engine.specs.Move.{Input, Moved, move}
-use Rattle.engine.proofs.Entries.{move-bare}
+use Rattle.engine.specs.declared.Instruction.{Instruction}
+use Rattle.engine.specs.Move.{Input, Moved, walked, move}
+use Rattle.engine.proofs.Entries.{walked-bare, move-bare}
+use Rattle.records.specs.declared.Told.{Told}
 use Rattle.order.specs.Pairs.{rows, TwoFound, no-two, two, least-two}
 use Rattle.order.specs.Log.{Log, move-at, check-log}
-use Rattle.order.specs.Run.{Run, Ran, ran, halted, next, run, touching, LogAnswer, order-checked, finish, run-from, run-log}
+use Rattle.order.specs.Run.{Run, Ran, ran, halted, next, run, made-next, last-made, touching, LogAnswer, order-checked, finish, run-from, run-log}
 use Rattle.order.proofs.Marks.{halted-number}
 use Rattle.log.proofs.Stages.{passed-log}
 use Rattle.touch.specs.declared.Two.{Two}
 use Rattle.touch.specs.Marked.{unordered-marked, clipped, two-of}
 use Rattle.touch.proofs.Fired.{touching-fired}
-use Rattle.run.specs.Turns.{log-in, left-of, Begun, Holds, Done, answered, RowsOf, Passed, Long}
+use Rattle.run.specs.Turns.{log-in, left-of, Begun, Holds, Done, answered, Tells, RowsOf, Passed, Long}
 use Rattle.run.proofs.Checks.{agents-low}
 use Rattle.run.proofs.Marks.{length-readers, length-writers}
 
@@ -82,6 +84,16 @@ same-run A B e g c (suc n) = rw (same-run A B e g c n) (go (run B g c n))
     go (ran s) = rw (e (s .contents) (move-at g n))
     go (halted a p q s) = refl
 
+same-made : (A B : Book) → ((c : List ℕ) (i : Input) → move A c i ≡ move B c i) → ((c : List ℕ) (i : Input) → walked A c i ≡ walked B c i)
+    → (g : Log) (c : List ℕ) (n : ℕ) → last-made A g c n ≡ last-made B g c n
+unfolding last-made
+same-made A B e w g c zero = refl
+same-made A B e w g c (suc n) = rw (same-run A B e g c n, same-made A B e w g c n) (go (run B g c n))
+  where
+    go : (o : Ran) → made-next A (move-at g n) (last-made B g c n) o ≡ made-next B (move-at g n) (last-made B g c n) o
+    go (ran s) = rw (w (s .contents) (move-at g n))
+    go (halted a p q s) = refl
+
 module _ (b l m : List ℕ) (n : ℕ) (order : List ℕ) (B : Book) (g : Log) (ok : Passed b l m n order B g) where
   abbrev A : Book
   A = book-in m []
@@ -97,6 +109,9 @@ module _ (b l m : List ℕ) (n : ℕ) (order : List ℕ) (B : Book) (g : Log) (o
 
   same-move : (c : List ℕ) (i : Input) → move A c i ≡ move B c i
   same-move c i = ap (λ (x : Book). move x c i) is-bare ∙ move-bare B c i
+
+  same-walk : (c : List ℕ) (i : Input) → walked A c i ≡ walked B c i
+  same-walk c i = ap (λ (x : Book). walked x c i) is-bare ∙ walked-bare B c i
 
   -- a run can begin at the start, with no marks
   pub begun : (c rs ws rs₀ ws₀ : List ℕ) → c ≡ start B → length rs₀ ≡ L B → length ws₀ ≡ L B → rs ≡ replicate (length rs₀) 0 → ws ≡ replicate (length ws₀) 0
@@ -116,36 +131,41 @@ module _ (b l m : List ℕ) (n : ℕ) (order : List ℕ) (B : Book) (g : Log) (o
   abbrev whole : Ran
   whole = run B g (start B) (length (g .moves))
 
-  done : (c : List ℕ) (r : Answer) (d rs ws : List ℕ) → c ≡ start B → Done A (run A (log-in l) c n) r d rs ws → Done B whole r d rs ws
-  done c r d rs ws e k =
-      let same : run A (log-in l) c n ≡ whole = rw (e, ← is-log, ok .moves) (same-run A B same-move g (start B) (length (g .moves))) in
-      let k′ : Done A whole r d rs ws = rw same at k in
-      record {
-        answer = k′ .answer;
-        tables = record { contents = k′ .tables .contents; readers = rw (← locations) (k′ .tables .readers); writers = rw (← locations) (k′ .tables .writers) };
-      }
+  abbrev made : List Instruction
+  made = last-made B g (start B) (length (g .moves))
 
-  module _ (c : List ℕ) (r : Answer) (d rs ws : List ℕ) (e : c ≡ start B) (k : Done A (run A (log-in l) c n) r d rs ws) where
+  module _ (c : List ℕ) (r : Told) (list d rs ws : List ℕ) (e : c ≡ start B) (k : Done A (run A (log-in l) c n) (last-made A (log-in l) c n) r list d rs ws) where
+    done : Done B whole made r list d rs ws
+    done =
+        let same : run A (log-in l) c n ≡ whole = rw (e, ← is-log, ok .moves) (same-run A B same-move g (start B) (length (g .moves))) in
+        let alike : last-made A (log-in l) c n ≡ made = rw (e, ← is-log, ok .moves) (same-made A B same-move same-walk g (start B) (length (g .moves))) in
+        let k′ : Done A whole made r list d rs ws = rw (same, alike) at k in
+        record {
+          answer = k′ .answer;
+          made = k′ .made;
+          tables = record { contents = k′ .tables .contents; readers = rw (← locations) (k′ .tables .readers); writers = rw (← locations) (k′ .tables .writers) };
+        }
+
     -- a move was refused
-    pub ends-halted : r .number ≢ 0 → answered r d rs ws ≡ run-log B g
+    pub ends-halted : r .answer .number ≢ 0 → Tells r list d rs ws (run-log B g) made
     unfolding run-log run-from finish
-    ends-halted z = go whole (done c r d rs ws e k)
+    ends-halted z = record { answer = go whole done; made = done .made }
       where
-        go : (o : Ran) → Done B o r d rs ws → answered r d rs ws ≡ finish B g o
+        go : (o : Ran) → Done B o made r list d rs ws → answered (r .answer) d rs ws ≡ finish B g o
         go (ran s) x = absurd (z (ap (λ (y : Answer). y .number) (x .answer)))
         go (halted a p q s) x = rw (x .answer, x .tables .contents, x .tables .readers, x .tables .writers)
 
     -- all fired
-    pub ends-ran : r .number ≡ 0 → (r′ : Answer) → ((s : Run) (c : List ℕ) → Holds B s c rs ws → r′ ≡ order-checked B s (touching B g (s .fired)) .answer)
-        → answered r′ d rs ws ≡ run-log B g
+    pub ends-ran : r .answer .number ≡ 0 → (a : Answer) → ((s : Run) (c : List ℕ) → Holds B s c rs ws → a ≡ order-checked B s (touching B g (s .fired)) .answer)
+        → Tells (record { answer = a; len = r .len }) list d rs ws (run-log B g) made
     unfolding run-log run-from finish
-    ends-ran z r′ f = go whole refl (done c r d rs ws e k)
+    ends-ran z a f = record { answer = go whole refl done; made = done .made }
       where
-        two-way : (s : Run) → Holds B s d rs ws → (o : TwoFound) → r′ ≡ order-checked B s o .answer → answered r′ d rs ws ≡ order-checked B s o
+        two-way : (s : Run) → Holds B s d rs ws → (o : TwoFound) → a ≡ order-checked B s o .answer → answered a d rs ws ≡ order-checked B s o
         two-way s x no-two y = rw (y, x .contents, x .readers, x .writers)
         two-way s x (two i j) y = rw (y, x .contents, x .readers, x .writers)
 
-        go : (o : Ran) → whole ≡ o → Done B o r d rs ws → answered r′ d rs ws ≡ finish B g o
+        go : (o : Ran) → whole ≡ o → Done B o made r list d rs ws → answered a d rs ws ≡ finish B g o
         go (ran s) w x = two-way s (x .tables) (touching B g (s .fired)) (f s d (x .tables))
-        go (halted a p q s) w x =
-            absurd (omega (arith, z, ap (λ (y : Answer). y .number) (x .answer), halted-number B g (start B) (length (g .moves)) a p q s w .0))
+        go (halted v p q s) w x =
+            absurd (omega (arith, z, ap (λ (y : Answer). y .number) (x .answer), halted-number B g (start B) (length (g .moves)) v p q s w .0))

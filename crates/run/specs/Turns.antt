@@ -11,6 +11,9 @@ use Rattle.book.specs.Book.{Book, L}
 use Rattle.book.specs.Check.{check-book}
 use Rattle.book.specs.Image.{book-in}
 use Rattle.book.specs.Sound.{Lawful, Sound}
+use Rattle.engine.specs.declared.Instruction.{Instruction}
+use Rattle.records.specs.declared.Told.{Told}
+use Rattle.records.specs.Code.{items}
 use Rattle.order.specs.Pairs.{rows}
 use Rattle.order.specs.Log.{Log, move-at, log-of, check-log}
 use Rattle.order.specs.Run.{Run, Ran, ran, halted, run, readers, writers, LogAnswer}
@@ -46,9 +49,10 @@ pub record Holds (B : Book) (s : Run) (c rs ws : List ℕ) : Type 0 where
   pub readers : rs ≡ readers (L B) (s .fired)
   pub writers : ws ≡ writers (L B) (s .fired)
 
--- what such a run o answers, r, and leaves
-pub record Done (B : Book) (o : Ran) (r : Answer) (c rs ws : List ℕ) : Type 0 where
-  pub answer : r ≡ halt-of o
+-- what such a run o, whose last move walked gave is, answers and leaves: r, the list l and the tables
+pub record Done (B : Book) (o : Ran) (is : List Instruction) (r : Told) (l c rs ws : List ℕ) : Type 0 where
+  pub answer : r .answer ≡ halt-of o
+  pub made : items l (r .len) ≡ is
   pub tables : Holds B (left-of o) c rs ws
 
 -- ---- the call
@@ -58,6 +62,11 @@ tables c rs ws = record { contents = c; readers = rs; writers = ws }
 
 abbrev pub answered : Answer → List ℕ → List ℕ → List ℕ → LogAnswer
 answered r c rs ws = record { answer = r; contents = c; readers = rs; writers = ws }
+
+-- the answer and length r, the list l of numbers and the tables are these
+pub record Tells (r : Told) (l c rs ws : List ℕ) (a : LogAnswer) (is : List Instruction) : Type 0 where
+  pub answer : answered (r .answer) c rs ws ≡ a
+  pub made : items l (r .len) ≡ is
 
 abbrev pub tables-of : LogAnswer → Tables
 tables-of a = tables (a .contents) (a .readers) (a .writers)

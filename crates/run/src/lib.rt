@@ -1,5 +1,7 @@
 // A log's run: the checks, the start, the moves in turn, and 17.
 use moves::Verdict;
+use records::Outcome;
+use records::Told;
 use text::Answer;
 ghost use mathlib.Core.Path.{_≡_};
 ghost use mathlib.Core.List.{List, []};
@@ -10,13 +12,14 @@ ghost use Rattle.text.specs.Words.{good, answer-of};
 ghost use Rattle.book.specs.Book.{Book, L, start};
 ghost use Rattle.book.specs.Check.{check-book};
 ghost use Rattle.book.specs.Image.{book-in};
+ghost use Rattle.records.specs.Items.{listed};
 ghost use Rattle.moves.specs.Effect.{Fit, Effect};
 ghost use Rattle.moves.specs.Effect as effect;
 ghost use Rattle.order.specs.Log.{Log};
-ghost use Rattle.order.specs.Run.{Run, run, touching, order-checked, run-log};
-ghost use Rattle.order.specs.Call.{check-lent, log-call};
+ghost use Rattle.order.specs.Run.{Run, run, last-made, touching, order-checked, run-log};
+ghost use Rattle.order.specs.Call.{check-lent, log-call, log-listed};
 ghost use Rattle.order.specs.Demand.{Demand3};
-ghost use Rattle.run.specs.Turns.{log-in, Begun, Holds, Done, RowsOf, Passed, Long, tables, tables-of, answered, packed};
+ghost use Rattle.run.specs.Turns.{log-in, Begun, Holds, Done, RowsOf, Passed, Long, Tells, tables, tables-of, answered, packed};
 
 // The least number of instruction records lent.
 const MOST_INSTRUCTIONS: usize = 256;
@@ -37,6 +40,13 @@ fn triple(number: u32, p: u32, q: u32) -> Answer
     Answer { number, p, q }
 }
 
+// The same, with no instruction.
+fn refused(answer: Answer) -> Told
+    ensures { λ r. ⌜ r ≡ record { answer = answer; len = 0 } ⌝ }
+{
+    Told { answer, len: 0 }
+}
+
 // ---- the moves in turn
 
 // Move i of the log, marked as bit i.
@@ -47,16 +57,18 @@ fn step(
     contents: &mut [u16],
     readers: &mut [u64],
     writers: &mut [u64],
+    list: &mut [u64; 256],
 ) -> Verdict
     requires { ⌜ i < 64 ⌝ }
-    ensures { λ r. ⌜ (Fit (book-in (now (image .entry)) []) (line (now (log .entry)) (1 + i) .a) (2 ^ i) (effect.tables (now (contents .entry)) (now (readers .entry)) (now (writers .entry))) → Effect (book-in (now (image .entry)) []) (line (now (log .entry)) (1 + i) .a) (2 ^ i) (effect.tables (now (contents .entry)) (now (readers .entry)) (now (writers .entry))) r (effect.tables (now (contents .exit)) (now (readers .exit)) (now (writers .exit)))) ⌝ }
+    ensures { λ r. ⌜ (Fit (book-in (now (image .entry)) []) (line (now (log .entry)) (1 + i) .a) (2 ^ i) (effect.tables (now (contents .entry)) (now (readers .entry)) (now (writers .entry))) → Effect (book-in (now (image .entry)) []) (line (now (log .entry)) (1 + i) .a) (2 ^ i) (effect.tables (now (contents .entry)) (now (readers .entry)) (now (writers .entry))) r (now (list .exit)) (effect.tables (now (contents .exit)) (now (readers .exit)) (now (writers .exit)))) ⌝ }
+    ensures { λ r. ⌜ r .len ≤ 256 ⌝ }
 {
     let agent = log::agent_of(log, i);
     let bit = 1u64 << i;
-    moves::fire_move(image, contents, readers, writers, bit, agent)
+    moves::fire_move(image, contents, readers, writers, bit, agent, list)
 }
 
-// The moves in turn, up to one that is refused.
+// The moves in turn, up to one that is refused; the list holds the instructions of the last one walked.
 fn run_moves(
     image: &[u16; 4296],
     log: &[u8],
@@ -64,19 +76,25 @@ fn run_moves(
     contents: &mut [u16],
     readers: &mut [u64],
     writers: &mut [u64],
-) -> Answer
+    list: &mut [u64; 256],
+) -> Told
     requires { ⌜ moves ≤ 64 ⌝ }
-    ensures { λ r. ⌜ (Begun (book-in (now (image .entry)) []) (log-in (now (log .entry))) moves (now (contents .entry)) (now (readers .entry)) (now (writers .entry)) → Done (book-in (now (image .entry)) []) (run (book-in (now (image .entry)) []) (log-in (now (log .entry))) (now (contents .entry)) moves) r (now (contents .exit)) (now (readers .exit)) (now (writers .exit))) ⌝ }
+    ensures { λ r. ⌜ (Begun (book-in (now (image .entry)) []) (log-in (now (log .entry))) moves (now (contents .entry)) (now (readers .entry)) (now (writers .entry)) → Done (book-in (now (image .entry)) []) (run (book-in (now (image .entry)) []) (log-in (now (log .entry))) (now (contents .entry)) moves) (last-made (book-in (now (image .entry)) []) (log-in (now (log .entry))) (now (contents .entry)) moves) r (now (list .exit)) (now (contents .exit)) (now (readers .exit)) (now (writers .exit))) ⌝ }
+    ensures { λ r. ⌜ r .len ≤ 256 ⌝ }
 {
+    let mut len: usize = 0;
     let mut i: u32 = 0;
     while i < moves {
-        let v = step(image, log, i, contents, readers, writers);
+        let v = step(image, log, i, contents, readers, writers, list);
         if v.number != 0 {
-            return triple(v.number, i, v.q);
+            let answer = triple(v.number, i, v.q);
+            return Told { answer, len: v.len };
         }
+        len = v.len;
         i += 1;
     }
-    triple(0, 0, 0)
+    let answer = triple(0, 0, 0);
+    Told { answer, len }
 }
 
 // ---- before and after them
@@ -92,7 +110,7 @@ fn agents(image: &[u16; 4296]) -> u32
 // 2, lowest table first.
 fn check_lent(all: u32, contents: usize, readers: usize, writers: usize, lent: usize) -> Answer
     ensures { λ r. ⌜ ((B : Book) → L B ≡ all → r ≡ answer-of (check-lent B (record { contents = contents; readers = readers; writers = writers; instructions = lent }))) ⌝ }
-    ensures { λ r. ⌜ (r .number ≡ 0 → (all ≤ contents) × (all ≤ readers) × (all ≤ writers)) ⌝ }
+    ensures { λ r. ⌜ (r .number ≡ 0 → (all ≤ contents) × (all ≤ readers) × (all ≤ writers) × (256 ≤ lent)) ⌝ }
 {
     if contents < all as usize {
         return triple(text::LENT_SHORT, all, CONTENTS);
@@ -159,46 +177,52 @@ fn run_checked(
     contents: &mut [u16],
     readers: &mut [u64],
     writers: &mut [u64],
-) -> Answer
+    list: &mut [u64; 256],
+) -> Told
     requires { ⌜ moves ≤ 64 ⌝ }
-    ensures { λ r. ⌜ ((B : Book) (g : Log) → Passed (now (book .entry)) (now (log .entry)) (now (image .entry)) moves (now (rows .entry)) B g → Long B (now (contents .entry)) (now (readers .entry)) (now (writers .entry)) → answered r (now (contents .exit)) (now (readers .exit)) (now (writers .exit)) ≡ run-log B g) ⌝ }
+    ensures { λ r. ⌜ ((B : Book) (g : Log) → Passed (now (book .entry)) (now (log .entry)) (now (image .entry)) moves (now (rows .entry)) B g → Long B (now (contents .entry)) (now (readers .entry)) (now (writers .entry)) → Tells r (now (list .exit)) (now (contents .exit)) (now (readers .exit)) (now (writers .exit)) (run-log B g) (last-made B g (start B) (length (g .moves)))) ⌝ }
+    ensures { λ r. ⌜ r .len ≤ 256 ⌝ }
 {
     begin(book, image, contents, readers, writers);
-    let halt = run_moves(image, log, moves, contents, readers, writers);
+    let ran = run_moves(image, log, moves, contents, readers, writers, list);
+    let halt = ran.answer;
     if halt.number != 0 {
-        return halt;
+        return ran;
     }
-    check_order(readers, writers, rows, moves)
+    let answer = check_order(readers, writers, rows, moves);
+    Told {
+        answer,
+        len: ran.len,
+    }
 }
 
-// A log's run from the bytes of a book and a log, with tables that the caller lends; `lent` is how
-// many instruction records there are. What it answers and leaves is that of the definition, for all
-// inputs; of an accepted log every order that keeps its pairs does the same.
-pub fn run_core(
+// The call, the instructions of the last move walked left in the list as numbers.
+fn run_into(
     book: &[u8],
     log: &[u8],
     contents: &mut [u16],
     readers: &mut [u64],
     writers: &mut [u64],
     lent: usize,
-) -> Answer
-    ensures { λ r. ⌜ answered r (now (contents .exit)) (now (readers .exit)) (now (writers .exit)) ≡ log-call (now (book .entry)) (now (log .entry)) (tables (now (contents .entry)) (now (readers .entry)) (now (writers .entry))) lent ⌝ }
-    ensures { λ r. ⌜ Demand3 (now (book .entry)) (now (log .entry)) (tables (now (contents .entry)) (now (readers .entry)) (now (writers .entry))) lent ⌝ }
+    list: &mut [u64; 256],
+) -> Told
+    ensures { λ r. ⌜ Tells r (now (list .exit)) (now (contents .exit)) (now (readers .exit)) (now (writers .exit)) (log-call (now (book .entry)) (now (log .entry)) (tables (now (contents .entry)) (now (readers .entry)) (now (writers .entry))) lent) (log-listed (now (book .entry)) (now (log .entry)) (tables (now (contents .entry)) (now (readers .entry)) (now (writers .entry))) lent) ⌝ }
+    ensures { λ r. ⌜ r .len ≤ lent ⌝ }
 {
     let mut image = [0u16; 4296];
     let opened = open::open(book, &mut image);
     if opened.number != 0 {
-        return opened;
+        return refused(opened);
     }
     let checked = log::check_log(log, agents(&image));
     let listed = checked.answer;
     if listed.number != 0 {
-        return listed;
+        return refused(listed);
     }
     let all = table::total(&image);
     let short = check_lent(all, contents.len(), readers.len(), writers.len(), lent);
     if short.number != 0 {
-        return short;
+        return refused(short);
     }
     let n = all as usize;
     let rows = checked.rows;
@@ -211,10 +235,32 @@ pub fn run_core(
         &mut contents[0..n],
         &mut readers[0..n],
         &mut writers[0..n],
+        list,
     )
 }
 
-// The same for C: number × 2^48 + p × 2^24 + q.
+// A log's run from the bytes of a book and a log, with tables that the caller lends; `lent` is how
+// many instruction records there are, and the list fits those. What it answers and leaves is that of
+// the definition, for all inputs; of an accepted log every order that keeps its pairs does the same.
+pub fn run_core(
+    book: &[u8],
+    log: &[u8],
+    contents: &mut [u16],
+    readers: &mut [u64],
+    writers: &mut [u64],
+    lent: usize,
+) -> Outcome
+    ensures { λ r. ⌜ answered (r .answer) (now (contents .exit)) (now (readers .exit)) (now (writers .exit)) ≡ log-call (now (book .entry)) (now (log .entry)) (tables (now (contents .entry)) (now (readers .entry)) (now (writers .entry))) lent ⌝ }
+    ensures { λ r. ⌜ Demand3 (now (book .entry)) (now (log .entry)) (tables (now (contents .entry)) (now (readers .entry)) (now (writers .entry))) lent ⌝ }
+    ensures { λ r. ⌜ listed (r .list) ≡ log-listed (now (book .entry)) (now (log .entry)) (tables (now (contents .entry)) (now (readers .entry)) (now (writers .entry))) lent ⌝ }
+    ensures { λ r. ⌜ (r .list .len ≤ lent) × (r .list .len ≤ 256) ⌝ }
+{
+    let mut list = [0u64; 256];
+    let t = run_into(book, log, contents, readers, writers, lent, &mut list);
+    records::with_list(t, &list)
+}
+
+// The answer for C: number × 2^48 + p × 2^24 + q.
 #[no_mangle]
 pub extern "C" fn rental_run(
     book: &[u8],
@@ -226,6 +272,8 @@ pub extern "C" fn rental_run(
 ) -> u64
     ensures { λ r. ⌜ (r ≡ packed (log-call (now (book .entry)) (now (log .entry)) (tables (now (contents .entry)) (now (readers .entry)) (now (writers .entry))) lent .answer)) × (tables (now (contents .exit)) (now (readers .exit)) (now (writers .exit)) ≡ tables-of (log-call (now (book .entry)) (now (log .entry)) (tables (now (contents .entry)) (now (readers .entry)) (now (writers .entry))) lent)) ⌝ }
 {
-    let a = run_core(book, log, contents, readers, writers, lent);
+    let mut list = [0u64; 256];
+    let t = run_into(book, log, contents, readers, writers, lent, &mut list);
+    let a = t.answer;
     a.number as u64 * 281474976710656 + a.p as u64 * 16777216 + a.q as u64
 }

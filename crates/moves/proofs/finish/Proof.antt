@@ -5,32 +5,22 @@ use Rattle.moves.proofs.Effect.{verdict-len}
 use borrow.Author.Needs.{needs}
 use Rattle.moves.proofs.finish.Statement.{statement}
 use Rattle.moves.proofs.finish.Tie as tie
-use Rattle.moves.proofs.finish.Reads as reads
-use Rattle.moves.proofs.finish.Lts as lts
-use Rattle.firing.proofs.settle.Reads as settle-reads
-use Rattle.moves.proofs.close.Reads as close-reads
 
--- src/lib.rt:128:9
 settle-requires : tie.Need-settle-requires
 settle-requires c κs = search needs
 
--- src/lib.rt:129:5
 close-requires : tie.Need-close-requires
 close-requires c κs = search needs
 
--- src/lib.rt:117:1
 same-length : tie.Need-same-length
 same-length c = search needs
 
--- src/lib.rt:117:1
 same-length-2 : tie.Need-same-length-2
 same-length-2 c = search needs
 
--- src/lib.rt:117:1
 same-length-3 : tie.Need-same-length-3
 same-length-3 c = search needs
 
--- src/lib.rt:117:1
 returns : tie.Need-returns
 returns c =
     let s = c .before .before .before .before .before .before .before .before .before .settle in

@@ -6,32 +6,22 @@ use borrow.Author.Needs.{needs}
 use Rattle.moves.specs.Effect.{tables}
 use Rattle.moves.proofs.fire_move.Statement.{statement}
 use Rattle.moves.proofs.fire_move.Tie as tie
-use Rattle.moves.proofs.fire_move.Reads as reads
-use Rattle.moves.proofs.fire_move.Lts as lts
-use Rattle.moves.proofs.settle_move.Reads as settle-move-reads
-use Rattle.walk.proofs.gather.Reads as gather-reads
 
--- src/lib.rt:159:9
 gather-requires : tie.Need-gather-requires
 gather-requires c κs = search needs
 
--- src/lib.rt:160:5
 settle-move-requires : tie.Need-settle-move-requires
 settle-move-requires c κs = search needs
 
--- src/lib.rt:147:1
 same-length : tie.Need-same-length
 same-length c = search needs
 
--- src/lib.rt:147:1
 same-length-2 : tie.Need-same-length-2
 same-length-2 c = search needs
 
--- src/lib.rt:147:1
 same-length-3 : tie.Need-same-length-3
 same-length-3 c = search needs
 
--- src/lib.rt:147:1
 returns : tie.Need-returns
 returns c =
     let a = c .before .before .before .before .before .before .before .before .before .before .before .before .before .before .before .before .before .before .before .before .args in

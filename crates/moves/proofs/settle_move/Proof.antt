@@ -8,42 +8,30 @@ use Rattle.book.specs.Image.{book-in}
 use Rattle.moves.proofs.Effect.{refused-state, finished-state}
 use Rattle.moves.proofs.settle_move.Statement.{statement}
 use Rattle.moves.proofs.settle_move.Tie as tie
-use Rattle.moves.proofs.settle_move.Reads as reads
-use Rattle.moves.proofs.settle_move.Lts as lts
-use Rattle.moves.proofs.finish.Reads as finish-reads
-use Rattle.records.proofs.within.Reads as within-reads
 
--- src/lib.rt:138:16
 cast-t10 : tie.Need-cast-t10
 cast-t10 c = search needs
 
--- src/lib.rt:136:9
 returns : tie.Need-returns
 returns c =
     let a = c .before .before .before .before .before .before .args in
     (λ k t h. refused-state (book-in (a .image .now) []) k (a .bit) t (a .s) (a .list .now) (a .contents .now) (a .readers .now) (a .writers .now) h (c .before .if1 .taken), omega arith)
 
--- src/lib.rt:142:9
 within-requires : tie.Need-within-requires
 within-requires c κs = search needs
 
--- src/lib.rt:143:5
 finish-requires : tie.Need-finish-requires
 finish-requires c κs = search needs
 
--- src/lib.rt:123:1
 same-length : tie.Need-same-length
 same-length c = search needs
 
--- src/lib.rt:123:1
 same-length-2 : tie.Need-same-length-2
 same-length-2 c = search needs
 
--- src/lib.rt:123:1
 same-length-3 : tie.Need-same-length-3
 same-length-3 c = search needs
 
--- src/lib.rt:123:1
 returns-2 : tie.Need-returns-2
 returns-2 c =
     let a = c .before .before .before .before .before .before .before .before .before .before .before .before .before .before .before .before .before .args in

@@ -8,10 +8,6 @@ use Rattle.records.proofs.Lists.{clipped, said, said-more}
 use borrow.Author.Needs.{needs}
 use Rattle.records.proofs.listed.Statement.{statement}
 use Rattle.records.proofs.listed.Tie as tie
-use Rattle.records.proofs.listed.Reads as reads
-use Rattle.records.proofs.listed.Lts as lts
-use Rattle.records.proofs.decode.Reads as decode-reads
-use Rattle.records.proofs.within.Reads as within-reads
 
 abbrev Inv-loop : tie.InvT-loop
 Inv-loop list len n records₀ i₀ records i = (i ≤ n) × (length records ≡ 256) × (said records i ≡ items list i)

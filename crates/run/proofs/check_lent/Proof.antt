@@ -49,7 +49,7 @@ triple-requires-5 c κs = search needs
 
 -- src/lib.rt:92:1
 returns-5 : tie.Need-returns-5
-returns-5 c = let a = c .before .before .before .before .before .args in let n : Lengths = record { contents = a .contents; readers = a .readers; writers = a .writers; instructions = a .lent } in let e = c .triple5 .ensures in (λ B h. e ∙ lent-all B n (a .all) h (c .before .before .before .before .if1 .left) (c .before .before .before .if2 .left) (c .before .before .if3 .left) (c .before .if4 .left), λ z. (c .before .before .before .before .if1 .left, c .before .before .before .if2 .left, c .before .before .if3 .left))
+returns-5 c = let a = c .before .before .before .before .before .args in let n : Lengths = record { contents = a .contents; readers = a .readers; writers = a .writers; instructions = a .lent } in let e = c .triple5 .ensures in (λ B h. e ∙ lent-all B n (a .all) h (c .before .before .before .before .if1 .left) (c .before .before .before .if2 .left) (c .before .before .if3 .left) (c .before .if4 .left), λ z. (c .before .before .before .before .if1 .left, c .before .before .before .if2 .left, c .before .before .if3 .left, c .before .if4 .left))
 
 pub check-lent-spec : {M : Type 1} → statement M
 check-lent-spec =

@@ -8,14 +8,16 @@ use borrow.Author.Needs.{needs}
 use Rattle.run.proofs.rental_run.Statement.{statement}
 use Rattle.run.proofs.rental_run.Tie as tie
 
-run-core-requires : tie.Need-run-core-requires
-run-core-requires c κs = search needs
+run-into-requires : tie.Need-run-into-requires
+run-into-requires c κs = search needs
 
 cast-result : tie.Need-cast-result
 cast-result c = search needs
 
 mul-result : tie.Need-mul-result
-mul-result c = let a = c .before .before .before .before .before .before .before .before .before .before .before .before .before .before .before .before .args in omega (arith, ap (λ (x : LogAnswer). x .answer .number) (c .before .before .before .before .before .before .before .run-core .ensures .0), number-most (a .book .now) (a .log .now) (tables (a .contents .now) (a .readers .now) (a .writers .now)) (a .lent))
+mul-result c =
+    let a = c .before .before .before .before .before .before .before .before .before .before .before .before .before .before .before .before .before .before .args in
+    omega (arith, ap (λ (x : LogAnswer). x .answer .number) (c .before .before .before .before .before .before .before .before .run-into .ensures .0 .answer), number-most (a .book .now) (a .log .now) (tables (a .contents .now) (a .readers .now) (a .writers .now)) (a .lent))
 
 cast-result-2 : tie.Need-cast-result-2
 cast-result-2 c = search needs
@@ -24,13 +26,17 @@ mul-result-2 : tie.Need-mul-result-2
 mul-result-2 c = search needs
 
 add-result : tie.Need-add-result
-add-result c = let a = c .before .before .before .before .before .before .before .before .before .before .before .before .before .before .before .before .before .args in omega (arith, c .struct-known2 .given, ap (λ (x : LogAnswer). x .answer .number) (c .before .before .before .before .before .before .before .before .run-core .ensures .0), number-most (a .book .now) (a .log .now) (tables (a .contents .now) (a .readers .now) (a .writers .now)) (a .lent))
+add-result c =
+    let a = c .before .before .before .before .before .before .before .before .before .before .before .before .before .before .before .before .before .before .before .args in
+    omega (arith, c .struct-known2 .given, ap (λ (x : LogAnswer). x .answer .number) (c .before .before .before .before .before .before .before .before .before .run-into .ensures .0 .answer), number-most (a .book .now) (a .log .now) (tables (a .contents .now) (a .readers .now) (a .writers .now)) (a .lent))
 
 cast-result-3 : tie.Need-cast-result-3
 cast-result-3 c = search needs
 
 add-result-2 : tie.Need-add-result-2
-add-result-2 c = let a = c .before .before .before .before .before .before .before .before .before .before .before .before .before .before .before .before .before .before .args in omega (arith, c .struct-known3 .given, c .before .struct-known2 .given, ap (λ (x : LogAnswer). x .answer .number) (c .before .before .before .before .before .before .before .before .before .run-core .ensures .0), number-most (a .book .now) (a .log .now) (tables (a .contents .now) (a .readers .now) (a .writers .now)) (a .lent))
+add-result-2 c =
+    let a = c .before .before .before .before .before .before .before .before .before .before .before .before .before .before .before .before .before .before .before .before .args in
+    omega (arith, c .struct-known3 .given, c .before .struct-known2 .given, ap (λ (x : LogAnswer). x .answer .number) (c .before .before .before .before .before .before .before .before .before .before .run-into .ensures .0 .answer), number-most (a .book .now) (a .log .now) (tables (a .contents .now) (a .readers .now) (a .writers .now)) (a .lent))
 
 same-length : tie.Need-same-length
 same-length c = search needs
@@ -42,13 +48,13 @@ same-length-3 : tie.Need-same-length-3
 same-length-3 c = search needs
 
 returns : tie.Need-returns
-returns c = let e = c .before .before .before .before .before .before .before .before .before .run-core .ensures .0 in (ap (λ (x : LogAnswer). packed (x .answer)) e, ap tables-of e)
+returns c = let e = c .before .before .before .before .before .before .before .before .before .before .run-into .ensures .0 .answer in (ap (λ (x : LogAnswer). packed (x .answer)) e, ap tables-of e)
 
 pub rental-run-spec : {M : Type 1} → statement M
 rental-run-spec =
     tie.close
     (tie.spec
-    run-core-requires
+    run-into-requires
     cast-result
     mul-result
     cast-result-2

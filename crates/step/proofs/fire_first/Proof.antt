@@ -11,36 +11,25 @@ use Rattle.step.proofs.Fired.{first-step}
 use borrow.Author.Needs.{needs}
 use Rattle.step.proofs.fire_first.Statement.{statement}
 use Rattle.step.proofs.fire_first.Tie as tie
-use Rattle.step.proofs.fire_first.Reads as reads
-use Rattle.step.proofs.fire_first.Lts as lts
-use Rattle.step.proofs.fire.Reads as fire-reads
-use Rattle.table.proofs.total.Reads as total-reads
 
--- src/lib.rt:145:15
 total-requires : tie.Need-total-requires
 total-requires c κs = search needs
 
--- src/lib.rt:145:15
 cast-all : tie.Need-cast-all
 cast-all c = search needs
 
--- src/lib.rt:146:17
 slice-relend-prefix-fire : tie.Need-slice-relend-prefix-fire
 slice-relend-prefix-fire c = search needs
 
--- src/lib.rt:146:17
 slice-aggregate-fire : tie.Need-slice-aggregate-fire
 slice-aggregate-fire c = sym (length-take-le (c .before .total .result) (c .before .before .before .args .contents .now) (omega (arith, c .before .before .before .pre .0, c .before .total .ensures)))
 
--- src/lib.rt:146:5
 fire-requires : tie.Need-fire-requires
 fire-requires c κs = let a = c .before .before .before .before .args in subst (λ (n : ℕ). Ready (book-in (a .image .now) []) (take n (a .contents .now)) (a .agent)) (sym (c .before .before .total .ensures)) (c .before .before .before .before .pre .1)
 
--- src/lib.rt:136:1
 same-length : tie.Need-same-length
 same-length c = search needs
 
--- src/lib.rt:136:1
 returns : tie.Need-returns
 returns c =
     let a = c .before .before .before .before .before .before .before .args in

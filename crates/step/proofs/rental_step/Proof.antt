@@ -7,56 +7,43 @@ use Rattle.step.proofs.Numbered.{low}
 use borrow.Author.Needs.{needs}
 use Rattle.step.proofs.rental_step.Statement.{statement}
 use Rattle.step.proofs.rental_step.Tie as tie
-use Rattle.step.proofs.rental_step.Reads as reads
-use Rattle.step.proofs.rental_step.Lts as lts
-use Rattle.step.proofs.step_into.Reads as step-into-reads
 
--- src/lib.rt:193:9
 step-into-requires : tie.Need-step-into-requires
 step-into-requires c κs = search needs
 
--- src/lib.rt:195:5
 cast-result : tie.Need-cast-result
 cast-result c = search needs
 
--- src/lib.rt:195:5
 mul-result : tie.Need-mul-result
 mul-result c =
     let a = c .before .before .before .before .before .before .before .before .before .args in
     let s = c .before .before .before .before .step-into in
     omega (arith, low (a .book .now) (a .contents .now) (a .agent) (a .lent) (s .result .answer) (s .ensures .0 .answer))
 
--- src/lib.rt:195:41
 cast-result-2 : tie.Need-cast-result-2
 cast-result-2 c = search needs
 
--- src/lib.rt:195:41
 mul-result-2 : tie.Need-mul-result-2
 mul-result-2 c = search needs
 
--- src/lib.rt:195:5
 add-result : tie.Need-add-result
 add-result c =
     let a = c .before .before .before .before .before .before .before .before .before .before .args in
     let s = c .before .before .before .before .before .step-into in
     omega (arith, low (a .book .now) (a .contents .now) (a .agent) (a .lent) (s .result .answer) (s .ensures .0 .answer))
 
--- src/lib.rt:195:65
 cast-result-3 : tie.Need-cast-result-3
 cast-result-3 c = search needs
 
--- src/lib.rt:195:5
 add-result-2 : tie.Need-add-result-2
 add-result-2 c =
     let a = c .before .before .before .before .before .before .before .before .before .before .before .args in
     let s = c .before .before .before .before .before .before .step-into in
     omega (arith, low (a .book .now) (a .contents .now) (a .agent) (a .lent) (s .result .answer) (s .ensures .0 .answer))
 
--- src/lib.rt:187:1
 same-length : tie.Need-same-length
 same-length c = search needs
 
--- src/lib.rt:187:1
 returns : tie.Need-returns
 returns c = let s = c .before .before .before .before .before .before .step-into in (ap (λ (a : Answer). packed a) (s .ensures .0 .answer), s .ensures .0 .contents)
 

@@ -4,24 +4,16 @@ use native.Mathlib.Omega.{arith}
 use borrow.Author.Needs.{needs}
 use Rattle.step.proofs.step_core.Statement.{statement}
 use Rattle.step.proofs.step_core.Tie as tie
-use Rattle.step.proofs.step_core.Reads as reads
-use Rattle.step.proofs.step_core.Lts as lts
-use Rattle.records.proofs.with_list.Reads as with-list-reads
-use Rattle.step.proofs.step_into.Reads as step-into-reads
 
--- src/lib.rt:182:9
 step-into-requires : tie.Need-step-into-requires
 step-into-requires c κs = search needs
 
--- src/lib.rt:183:5
 with-list-requires : tie.Need-with-list-requires
 with-list-requires c κs = search needs
 
--- src/lib.rt:175:1
 same-length : tie.Need-same-length
 same-length c = search needs
 
--- src/lib.rt:175:1
 returns : tie.Need-returns
 returns c =
     let t = c .before .before .before .before .step-into .ensures in

@@ -5,22 +5,13 @@ use Rattle.step.proofs.Whole.{refused-book, refused-call, shown, ready,
 use borrow.Author.Needs.{needs}
 use Rattle.step.proofs.step_into.Statement.{statement}
 use Rattle.step.proofs.step_into.Tie as tie
-use Rattle.step.proofs.step_into.Reads as reads
-use Rattle.step.proofs.step_into.Lts as lts
-use Rattle.open.proofs.open.Reads as open-reads
-use Rattle.step.proofs.check_call.Reads as check-call-reads
-use Rattle.step.proofs.fire_first.Reads as fire-first-reads
-use Rattle.step.proofs.refused.Reads as refused-reads
 
--- src/lib.rt:163:9
 open-requires : tie.Need-open-requires
 open-requires c κs = search needs
 
--- src/lib.rt:165:9
 refused-requires : tie.Need-refused-requires
 refused-requires c κs = search needs
 
--- src/lib.rt:165:9
 returns : tie.Need-returns
 returns c =
     let a = c .before .before .before .before .before .before .before .args in
@@ -28,19 +19,15 @@ returns c =
     let e = c .refused .ensures in
     (rw e (refused-book (a .book .now) (a .contents .now) (a .list .now) (a .agent) (a .lent) (o .result) (o .ensures .0) (λ z. omega (arith, c .before .if1 .taken, z))), rw e (omega arith))
 
--- src/lib.rt:167:9
 check-call-requires : tie.Need-check-call-requires
 check-call-requires c κs = search needs
 
--- src/lib.rt:169:9
 refused-requires-2 : tie.Need-refused-requires-2
 refused-requires-2 c κs = search needs
 
--- src/lib.rt:169:9
 same-length : tie.Need-same-length
 same-length c = search needs
 
--- src/lib.rt:169:9
 returns-2 : tie.Need-returns-2
 returns-2 c =
     let a = c .before .before .before .before .before .before .before .before .before .before .before .before .args in
@@ -49,7 +36,6 @@ returns-2 c =
     let e = c .refused2 .ensures in
     (rw e (refused-call (a .book .now) (a .contents .now) (a .list .now) (a .agent) (a .lent) (o .last .1 .0) (o .ensures .1) (o .result) (o .ensures .0) (omega (arith, c .before .before .before .before .before .before .if1 .left)) (d .result) (d .ensures) (λ z. omega (arith, c .before .if2 .taken, z))), rw e (omega arith))
 
--- src/lib.rt:171:34
 cast-fire-first : tie.Need-cast-fire-first
 cast-fire-first c =
     let a = c .before .before .before .before .before .before .before .before .before .before .before .before .before .args in
@@ -57,7 +43,6 @@ cast-fire-first c =
     let d = c .before .before .before .before .check-call in
     record { fits = omega (arith, shown (a .book .now) (a .contents .now) (a .list .now) (a .agent) (a .lent) (o .last .1 .0) (o .ensures .1) (o .result) (o .ensures .0) (omega (arith, c .before .before .before .before .before .before .before .if1 .left)) (d .result) (d .ensures) (omega (arith, c .before .before .if2 .left)) .agent, agents-low (o .last .1 .0)) }
 
--- src/lib.rt:171:5
 fire-first-requires : tie.Need-fire-first-requires
 fire-first-requires c κs =
     let a = c .before .before .before .before .before .before .before .before .before .before .before .before .before .before .args in
@@ -65,11 +50,9 @@ fire-first-requires c κs =
     let d = c .before .before .before .before .before .check-call in
     (shown (a .book .now) (a .contents .now) (a .list .now) (a .agent) (a .lent) (o .last .1 .0) (o .ensures .1) (o .result) (o .ensures .0) (omega (arith, c .before .before .before .before .before .before .before .before .if1 .left)) (d .result) (d .ensures) (omega (arith, c .before .before .before .if2 .left)) .long, ready (a .book .now) (a .contents .now) (a .list .now) (a .agent) (a .lent) (o .last .1 .0) (o .ensures .1) (o .result) (o .ensures .0) (omega (arith, c .before .before .before .before .before .before .before .before .if1 .left)) (d .result) (d .ensures) (omega (arith, c .before .before .before .if2 .left)))
 
--- src/lib.rt:152:1
 same-length-2 : tie.Need-same-length-2
 same-length-2 c = search needs
 
--- src/lib.rt:152:1
 returns-3 : tie.Need-returns-3
 returns-3 c =
     let a = c .before .before .before .before .before .before .before .before .before .before .before .before .before .before .before .before .before .args in
