@@ -3,7 +3,7 @@ use mathlib.Core.Path.{_≡_, refl, sym, ap, subst, _∙_}
 use mathlib.Core.Logic.{_≢_}
 use mathlib.Core.Bool.{Bool, true, false, false≢true}
 use mathlib.Core.List.{List, [], _∷_, _++_}
-use Prim.Native.Nat.{ℕ, zero, suc, _-_, _≤_, _<_, min}
+use Prim.Native.Nat.{ℕ, zero, suc, _+_, _-_, _^_, _≤_, _<_, min}
 use native.Mathlib.Omega.{arith}
 use lib.ListN.{length, take, drop, replicate}
 use lib.Seq.{length-take-le, length-front, take-append-seam, drop-append-seam}
@@ -33,6 +33,11 @@ use Rattle.run.specs.Laps.{Before, Walking, Stage, Kept, Lap}
 use Rattle.run.proofs.Checks.{rest, not-zero, after-book, after-log, book-stops, book-good, log-stops, log-good, lent-stops, lent-passes}
 use Rattle.run.proofs.Ends.{same-run, begun}
 use Rattle.run.proofs.Turns.{going-start}
+use Rattle.walk.specs.Walk.{outcome}
+use Rattle.walk.specs.Gather.{Gathered}
+use Rattle.engine.specs.Rule.{Walked}
+use Rattle.text.specs.Text.{line}
+use Rattle.step.proofs.Halves.{given-few, same-outcome}
 use Rattle.run.proofs.Laps.{walking-lists}
 
 -- ---- what a call gives
@@ -287,3 +292,56 @@ module _ (b l : List ℕ) (lent : Tables) (n : ℕ) (m : List ℕ) (is : List In
   -- what is passed on now
   pub lap-now : length x ≡ 256 → is ≡ items x (t .count)
   lap-now e = ap head-of (all-lists e)
+
+  -- and no more than fit
+  pub lap-few : (t .count ≤ 256) × (t .count ≤ n)
+  lap-few =
+      let e = walking .count in
+      (omega (arith, e, given-few (t .walk)), omega (arith, e, given-few (t .walk), kept .records))
+
+  -- any list that holds the same will do
+  pub lap-passed : (x′ : List ℕ) → length x ≡ 256 → length x′ ≡ 256 → items x′ (t .count) ≡ items x (t .count) → Lap b l lent n m (is ∷ rest) t x′ c rs ws
+  lap-passed x′ e e′ q =
+      let K = kept in
+      let w = walking in
+      let i : outcome (t .walk) x′ ≡ outcome (t .walk) x = same-outcome (t .walk) x x′ e e′ (subst (λ (j : ℕ). items x′ j ≡ items x j) (w .count) q) in
+      record {
+        over = λ y. absurd (false≢true (sym y ∙ is-on b l lent n m is rest t x c rs ws h));
+        on = λ y. record {
+          B = K .B;
+          g = K .g;
+          stage = record {
+            over = λ z. absurd (false≢true (sym z ∙ y));
+            walking = λ _. record {
+              old = w .old;
+              before = w .before;
+              at = w .at;
+              after = record {
+                fit = w .after .fit;
+                contents = w .after .contents;
+                readers = subst (λ (o : Walked). Gathered (book-in m []) (w .old .contents) (2 ^ t .at) (line l (1 + t .at) .a) o (w .old .readers) (take (L (book-in m [])) rs)) (sym i) (w .after .readers);
+                writers = w .after .writers;
+              };
+              count = w .count;
+            };
+            lists = K .stage .lists;
+          };
+          records = K .records;
+          contents = K .contents;
+          readers = K .readers;
+          writers = K .writers;
+          same = K .same;
+          call = K .call;
+        };
+      }
+
+-- when there is no more to pass on the call is over
+pub is-over : (b l : List ℕ) (lent : Tables) (n : ℕ) (m : List ℕ) (t : Turn) (x c rs ws : List ℕ) → Lap b l lent n m [] t x c rs ws → length x ≡ 256 → t .more ≡ false
+is-over b l lent n m t x c rs ws h e = go (t .more) refl
+  where
+    go : (v : Bool) → t .more ≡ v → t .more ≡ false
+    go false y = y
+    go true y =
+        let K = h .on y in
+        let q = K .stage .lists y ∙ walking-lists b l m (K .B) (K .g) t x (take (L (book-in m [])) c) (take (L (book-in m [])) rs) (take (L (book-in m [])) ws) (K .stage .walking y) e in
+        absurd (is-cons _ _ (sym q))

@@ -1,4 +1,5 @@
 // A log's run: the checks, the start, the moves in turn, and 17.
+use engine::Record;
 use moves::Verdict;
 use records::Outcome;
 use records::Told;
@@ -23,6 +24,7 @@ ghost use Rattle.order.specs.Call.{Tables, check-lent, log-call, log-listed};
 ghost use Rattle.order.specs.Demand.{Demand3};
 ghost use Rattle.engine.specs.declared.Instruction.{Instruction};
 ghost use Rattle.order.specs.Lists.{lists-from, call-lists};
+ghost use Rattle.lent.specs.Written.{all-written};
 ghost use Rattle.run.specs.Laps.{Before, Walking, Stage, Lap};
 ghost use Rattle.run.specs.Turns.{log-in, Begun, Holds, Done, RowsOf, Passed, Long, Tells, tables, tables-of, answered, packed};
 
@@ -477,6 +479,39 @@ pub fn next_lap(
         work,
         t,
     )
+}
+
+// A log's run: a book, a log, the tables, and a list of instruction records. Each move's
+// instructions are written into the list, and the move is fired by what is read from there.
+pub fn run(
+    book: &[u8],
+    log: &[u8],
+    contents: &mut [u16],
+    readers: &mut [u64],
+    writers: &mut [u64],
+    instructions: &mut [Record],
+) -> Answer
+    ensures { λ r. ⌜ (answered r (now (contents .exit)) (now (readers .exit)) (now (writers .exit)) ≡ log-call (now (book .entry)) (now (log .entry)) (tables (now (contents .entry)) (now (readers .entry)) (now (writers .entry))) (length (now (instructions .entry)))) × (now (instructions .exit) ≡ all-written (call-lists (now (book .entry)) (now (log .entry)) (tables (now (contents .entry)) (now (readers .entry)) (now (writers .entry))) (length (now (instructions .entry)))) (now (instructions .entry))) × Demand3 (now (book .entry)) (now (log .entry)) (tables (now (contents .entry)) (now (readers .entry)) (now (writers .entry))) (length (now (instructions .entry))) ⌝ }
+{
+    let lent = instructions.len();
+    let mut image = [0u16; 4296];
+    let mut work = [0u64; 256];
+    let mut t = first_lap(
+        book,
+        log,
+        contents,
+        readers,
+        writers,
+        lent,
+        &mut image,
+        &mut work,
+    );
+    while t.more {
+        let count = t.count;
+        lent::pass(instructions, &mut work, count);
+        t = next_lap(log, contents, readers, writers, &image, &mut work, t);
+    }
+    t.answer
 }
 
 // The answer for C: number × 2^48 + p × 2^24 + q.
