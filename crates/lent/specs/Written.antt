@@ -11,3 +11,8 @@ unfoldable pub written : List Instruction → List Record → List Record
 written [] ys = ys
 written (i ∷ is) [] = []
 written (i ∷ is) (y ∷ ys) = record { what = i } ∷ written is ys
+
+-- one list of instructions after the other
+unfoldable pub all-written : List (List Instruction) → List Record → List Record
+all-written [] ys = ys
+all-written (is ∷ iss) ys = all-written iss (written is ys)

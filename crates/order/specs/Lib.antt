@@ -7,3 +7,4 @@ pub mod Orders
 pub mod Demand
 pub mod Open
 pub mod Claims
+pub mod Lists

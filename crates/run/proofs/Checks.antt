@@ -99,19 +99,19 @@ module _ (book log : List ℕ) (t : Tables) (n : ℕ) where
   none a = record { answer = a; len = 0 }
 
   -- the checks go on from here
-  abbrev rest : Book → Log → Checked (Book × Log)
+  abbrev pub rest : Book → Log → Checked (Book × Log)
   rest B g = check-lent B (lengths t n) >> good (B, g)
 
-  after-book : (B : Book) → check-book book ≡ good B → check-all book log (lengths t n) ≡ (check-log B log >>= rest B)
+  pub after-book : (B : Book) → check-book book ≡ good B → check-all book log (lengths t n) ≡ (check-log B log >>= rest B)
   unfolding check-all _>>=_
   after-book B e = rw e
 
-  after-log : (B : Book) (g : Log) → check-book book ≡ good B → check-log B log ≡ good g → check-all book log (lengths t n) ≡ rest B g
+  pub after-log : (B : Book) (g : Log) → check-book book ≡ good B → check-log B log ≡ good g → check-all book log (lengths t n) ≡ rest B g
   unfolding _>>=_
   after-log B g e f = after-book B e ∙ rw f
 
   -- none of the checks gives 0
-  not-zero : (p q : ℕ) → check-all book log (lengths t n) ≡ refused 0 p q → ⊥
+  pub not-zero : (p q : ℕ) → check-all book log (lengths t n) ≡ refused 0 p q → ⊥
   not-zero p q e = go (subst Early e (all-early book log (lengths t n)))
     where
       go : Early {A = Book × Log} (refused 0 p q) → ⊥

@@ -75,7 +75,7 @@ module _ (B : Book) (g : Log) (s : Run) (c R W order : List ℕ) (m : ℕ) (move
 
 -- ---- the book that the image holds has no entries, which does not matter to the moves
 
-same-run : (A B : Book) → ((c : List ℕ) (i : Input) → move A c i ≡ move B c i) → (g : Log) (c : List ℕ) (n : ℕ) → run A g c n ≡ run B g c n
+pub same-run : (A B : Book) → ((c : List ℕ) (i : Input) → move A c i ≡ move B c i) → (g : Log) (c : List ℕ) (n : ℕ) → run A g c n ≡ run B g c n
 unfolding run
 same-run A B e g c zero = refl
 same-run A B e g c (suc n) = rw (same-run A B e g c n) (go (run B g c n))

@@ -3,3 +3,5 @@ pub mod Turns
 pub mod Checks
 pub mod Ends
 pub mod Call
+pub mod Laps
+pub mod Calls

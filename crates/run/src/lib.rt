@@ -1,11 +1,14 @@
 // A log's run: the checks, the start, the moves in turn, and 17.
+use engine::Record;
 use moves::Verdict;
 use records::Outcome;
 use records::Told;
 use text::Answer;
+use walk::State;
 ghost use mathlib.Core.Path.{_≡_};
-ghost use mathlib.Core.List.{List, []};
-ghost use Prim.Native.Nat.{ℕ, _+_, _^_, _<_, _≤_};
+ghost use mathlib.Core.Bool.{true, false};
+ghost use mathlib.Core.List.{List, [], _∷_};
+ghost use Prim.Native.Nat.{ℕ, suc, _+_, _-_, _^_, _<_, _≤_, min};
 ghost use lib.ListN.{length, replicate};
 ghost use Rattle.text.specs.Text.{line};
 ghost use Rattle.text.specs.Words.{good, answer-of};
@@ -17,8 +20,12 @@ ghost use Rattle.moves.specs.Effect.{Fit, Effect};
 ghost use Rattle.moves.specs.Effect as effect;
 ghost use Rattle.order.specs.Log.{Log};
 ghost use Rattle.order.specs.Run.{Run, run, last-made, touching, order-checked, run-log};
-ghost use Rattle.order.specs.Call.{check-lent, log-call, log-listed};
+ghost use Rattle.order.specs.Call.{Tables, check-lent, log-call, log-listed};
 ghost use Rattle.order.specs.Demand.{Demand3};
+ghost use Rattle.engine.specs.declared.Instruction.{Instruction};
+ghost use Rattle.order.specs.Lists.{lists-from, call-lists};
+ghost use Rattle.lent.specs.Written.{all-written};
+ghost use Rattle.run.specs.Laps.{Before, Walking, Stage, Lap};
 ghost use Rattle.run.specs.Turns.{log-in, Begun, Holds, Done, RowsOf, Passed, Long, Tells, tables, tables-of, answered, packed};
 
 // The least number of instruction records lent.
@@ -258,6 +265,253 @@ pub fn run_core(
     let mut list = [0u64; 256];
     let t = run_into(book, log, contents, readers, writers, lent, &mut list);
     records::with_list(t, &list)
+}
+
+// ---- the run move by move, so that each move's instructions can go through a lent list
+
+// How far a run is: a move's walk has given its instructions, or all is over, with its answer.
+pub struct Turn {
+    pub more: bool,
+    pub count: usize,
+    pub answer: Answer,
+    pub walk: State,
+    pub at: u32,
+    pub moves: u32,
+    pub rows: [u64; 64],
+}
+
+fn ended(answer: Answer) -> Turn
+    ensures { λ r. ⌜ (r .more ≡ false) × (r .answer ≡ answer) ⌝ }
+{
+    let none = State {
+        len: 0,
+        label: 0,
+        refused: 0,
+        node: 0,
+    };
+    let rows = [0u64; 64];
+    Turn {
+        more: false,
+        count: 0,
+        answer: answer,
+        walk: none,
+        at: 0,
+        moves: 0,
+        rows: rows,
+    }
+}
+
+// Move i's bit.
+fn bit_of(i: u32) -> u64
+    ensures { λ r. ⌜ (i < 64 → r ≡ 2 ^ i) ⌝ }
+{
+    if i < 64 {
+        return 1u64 << i;
+    }
+    0
+}
+
+// The walk of move i, if there is one; else the order is checked.
+fn walk_on(
+    log: &[u8],
+    contents: &[u16],
+    readers: &mut [u64],
+    writers: &[u64],
+    image: &[u16; 4296],
+    work: &mut [u64; 256],
+    rows: [u64; 64],
+    moves: u32,
+    i: u32,
+) -> Turn
+    ensures { λ r. ⌜ ((b : List ℕ) (B : Book) (g : Log) → Before b (now (log .entry)) (now (image .entry)) B g moves rows i (now (contents .entry)) (now (readers .entry)) (now (writers .entry)) → Stage b (now (log .entry)) (now (image .entry)) B g (lists-from (book-in (now (image .entry)) []) (log-in (now (log .entry))) (start B) (moves - i) i) r (now (work .exit)) (now (contents .entry)) (now (readers .exit)) (now (writers .entry))) ⌝ }
+{
+    if i < moves {
+        let agent = log::agent_of(log, i);
+        let bit = bit_of(i);
+        let s = walk::gather(image, contents, readers, bit, work, agent);
+        let count = step::given(s);
+        let none = triple(0, 0, 0);
+        return Turn {
+            more: true,
+            count: count,
+            answer: none,
+            walk: s,
+            at: i,
+            moves: moves,
+            rows: rows,
+        };
+    }
+    let answer = check_order(readers, writers, &rows, moves);
+    ended(answer)
+}
+
+// The rest of the move that is on, on tables of just the records needed; then the next one's walk.
+fn turn_on(
+    log: &[u8],
+    contents: &mut [u16],
+    readers: &mut [u64],
+    writers: &mut [u64],
+    image: &[u16; 4296],
+    work: &mut [u64; 256],
+    t: Turn,
+) -> Turn
+    ensures { λ r. ⌜ ((b : List ℕ) (B : Book) (g : Log) → Walking b (now (log .entry)) (now (image .entry)) B g t (now (work .entry)) (now (contents .entry)) (now (readers .entry)) (now (writers .entry)) → Stage b (now (log .entry)) (now (image .entry)) B g (lists-from (book-in (now (image .entry)) []) (log-in (now (log .entry))) (start B) (t .moves - suc (t .at)) (suc (t .at))) r (now (work .exit)) (now (contents .exit)) (now (readers .exit)) (now (writers .exit))) ⌝ }
+{
+    let i = t.at;
+    let bit = bit_of(i);
+    let s = t.walk;
+    let v = moves::settle_move(image, contents, readers, writers, bit, work, s);
+    if v.number != 0 {
+        return ended(triple(v.number, i, v.q));
+    }
+    let rows = t.rows;
+    let next = following(i);
+    walk_on(
+        log,
+        contents,
+        readers,
+        writers,
+        image,
+        work,
+        rows,
+        t.moves,
+        next,
+    )
+}
+
+// The number after i.
+fn following(i: u32) -> u32
+    ensures { λ r. ⌜ (i < 64 → r ≡ i + 1) ⌝ }
+{
+    if i < 64 {
+        return i + 1;
+    }
+    i
+}
+
+// The start, and the first move's walk, on tables of just the records needed.
+fn start_on(
+    book: &[u8],
+    log: &[u8],
+    contents: &mut [u16],
+    readers: &mut [u64],
+    writers: &mut [u64],
+    image: &[u16; 4296],
+    work: &mut [u64; 256],
+    rows: [u64; 64],
+    moves: u32,
+) -> Turn
+    ensures { λ r. ⌜ ((B : Book) (g : Log) → moves ≤ 64 → Passed (now (book .entry)) (now (log .entry)) (now (image .entry)) moves rows B g → Long B (now (contents .entry)) (now (readers .entry)) (now (writers .entry)) → Stage (now (book .entry)) (now (log .entry)) (now (image .entry)) B g (lists-from (book-in (now (image .entry)) []) (log-in (now (log .entry))) (start B) moves 0) r (now (work .exit)) (now (contents .exit)) (now (readers .exit)) (now (writers .exit))) ⌝ }
+{
+    begin(book, image, contents, readers, writers);
+    walk_on(log, contents, readers, writers, image, work, rows, moves, 0)
+}
+
+// The checks, the start, and the first move's walk.
+pub fn first_lap(
+    book: &[u8],
+    log: &[u8],
+    contents: &mut [u16],
+    readers: &mut [u64],
+    writers: &mut [u64],
+    lent: usize,
+    image: &mut [u16; 4296],
+    work: &mut [u64; 256],
+) -> Turn
+    ensures { λ r. ⌜ Lap (now (book .entry)) (now (log .entry)) (tables (now (contents .entry)) (now (readers .entry)) (now (writers .entry))) lent (now (image .exit)) (call-lists (now (book .entry)) (now (log .entry)) (tables (now (contents .entry)) (now (readers .entry)) (now (writers .entry))) lent) r (now (work .exit)) (now (contents .exit)) (now (readers .exit)) (now (writers .exit)) ⌝ }
+{
+    let opened = open::open(book, image);
+    if opened.number != 0 {
+        return ended(opened);
+    }
+    let checked = log::check_log(log, agents(image));
+    let listed = checked.answer;
+    if listed.number != 0 {
+        return ended(listed);
+    }
+    let all = table::total(image);
+    let short = check_lent(all, contents.len(), readers.len(), writers.len(), lent);
+    if short.number != 0 {
+        return ended(short);
+    }
+    let n = all as usize;
+    let rows = checked.rows;
+    start_on(
+        book,
+        log,
+        &mut contents[..n],
+        &mut readers[..n],
+        &mut writers[..n],
+        image,
+        work,
+        rows,
+        checked.moves,
+    )
+}
+
+fn smaller(a: usize, b: usize) -> usize
+    ensures { λ r. ⌜ r ≡ min a b ⌝ }
+{
+    if a < b { a } else { b }
+}
+
+// The rest of the move that is on, and the next one's walk.
+pub fn next_lap(
+    log: &[u8],
+    contents: &mut [u16],
+    readers: &mut [u64],
+    writers: &mut [u64],
+    image: &[u16; 4296],
+    work: &mut [u64; 256],
+    t: Turn,
+) -> Turn
+    ensures { λ r. ⌜ ((b : List ℕ) (lent : Tables) (n : ℕ) (is : List Instruction) (rest : List (List Instruction)) → length (now (work .entry)) ≡ 256 → Lap b (now (log .entry)) lent n (now (image .entry)) (is ∷ rest) t (now (work .entry)) (now (contents .entry)) (now (readers .entry)) (now (writers .entry)) → Lap b (now (log .entry)) lent n (now (image .entry)) rest r (now (work .exit)) (now (contents .exit)) (now (readers .exit)) (now (writers .exit))) ⌝ }
+{
+    let all = table::total(image) as usize;
+    let two = smaller(readers.len(), writers.len());
+    let n = smaller(all, smaller(contents.len(), two));
+    turn_on(
+        log,
+        &mut contents[..n],
+        &mut readers[..n],
+        &mut writers[..n],
+        image,
+        work,
+        t,
+    )
+}
+
+// A log's run: a book, a log, the tables, and a list of instruction records. Each move's
+// instructions are written into the list, and the move is fired by what is read from there.
+pub fn run(
+    book: &[u8],
+    log: &[u8],
+    contents: &mut [u16],
+    readers: &mut [u64],
+    writers: &mut [u64],
+    instructions: &mut [Record],
+) -> Answer
+    ensures { λ r. ⌜ (answered r (now (contents .exit)) (now (readers .exit)) (now (writers .exit)) ≡ log-call (now (book .entry)) (now (log .entry)) (tables (now (contents .entry)) (now (readers .entry)) (now (writers .entry))) (length (now (instructions .entry)))) × (now (instructions .exit) ≡ all-written (call-lists (now (book .entry)) (now (log .entry)) (tables (now (contents .entry)) (now (readers .entry)) (now (writers .entry))) (length (now (instructions .entry)))) (now (instructions .entry))) × Demand3 (now (book .entry)) (now (log .entry)) (tables (now (contents .entry)) (now (readers .entry)) (now (writers .entry))) (length (now (instructions .entry))) ⌝ }
+{
+    let lent = instructions.len();
+    let mut image = [0u16; 4296];
+    let mut work = [0u64; 256];
+    let mut t = first_lap(
+        book,
+        log,
+        contents,
+        readers,
+        writers,
+        lent,
+        &mut image,
+        &mut work,
+    );
+    while t.more {
+        let count = t.count;
+        lent::pass(instructions, &mut work, count);
+        t = next_lap(log, contents, readers, writers, &image, &mut work, t);
+    }
+    t.answer
 }
 
 // The answer for C: number × 2^48 + p × 2^24 + q.

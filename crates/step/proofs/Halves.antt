@@ -35,19 +35,19 @@ given-none s h = rw (ne-eqb (s .refused) 0 h)
 pub given-some : (s : State) (n : ℕ) → s .refused ≡ 0 → n ≡ min (s .len) 256 → n ≡ given-of s
 given-some s n h e = rw (eq-eqb (s .refused) 0 h) e
 
-given-few : (s : State) → given-of s ≤ 256
+pub given-few : (s : State) → given-of s ≤ 256
 given-few s = dite (ℕ-discrete (s .refused) 0)
     (λ (h : s .refused ≡ 0). rw (eq-eqb (s .refused) 0 h) (omega arith))
     (λ (h : s .refused ≢ 0). rw (ne-eqb (s .refused) 0 h) (omega arith))
 
 -- what the list holds
-made-of : (s : State) (l : List ℕ) → length l ≡ 256 → items l (given-of s) ≡ made-by (outcome s l)
+pub made-of : (s : State) (l : List ℕ) → length l ≡ 256 → items l (given-of s) ≡ made-by (outcome s l)
 made-of s l e = dite (ℕ-discrete (s .refused) 0)
     (λ (h : s .refused ≡ 0). rw (outcome-going s l h, eq-eqb (s .refused) 0 h) (clipped l (s .len) (min (s .len) 256) (omega arith)))
     (λ (h : s .refused ≢ 0). rw (outcome-met s l h, ne-eqb (s .refused) 0 h))
 
 -- and another list that holds the same
-same-outcome : (s : State) (l l′ : List ℕ) → length l ≡ 256 → length l′ ≡ 256 → items l′ (given-of s) ≡ items l (given-of s) → outcome s l′ ≡ outcome s l
+pub same-outcome : (s : State) (l l′ : List ℕ) → length l ≡ 256 → length l′ ≡ 256 → items l′ (given-of s) ≡ items l (given-of s) → outcome s l′ ≡ outcome s l
 same-outcome s l l′ e e′ q = dite (ℕ-discrete (s .refused) 0)
     (λ (h : s .refused ≡ 0).
     let i : items l′ (s .len) ≡ items l (s .len) =

@@ -193,7 +193,7 @@ pub struct Paused {
 }
 
 // How many instructions a walk gave: none if it was refused.
-fn given(s: State) -> usize
+pub fn given(s: State) -> usize
     ensures { λ r. ⌜ r ≡ given-of s ⌝ }
 {
     if s.refused != 0 {
