@@ -161,7 +161,7 @@ module _ (B : Book) (c : List ℕ) (all : List Instruction) where
       step false false f g = cc
 
   -- trouble at an instruction about l
-  abbrev bad-one : ℕ → Instruction → Bool
+  abbrev pub bad-one : ℕ → Instruction → Bool
   bad-one l i = eqb (own i) l && trouble B c all i
 
   -- and a clash is trouble at some instruction about the location
@@ -198,7 +198,7 @@ module _ (B : Book) (c : List ℕ) (all : List Instruction) where
       step true false e = omega arith
       step false u e = omega arith
 
-  best-le : (is : List Instruction) (b : ℕ) → best B c all is b ≤ b
+  pub best-le : (is : List Instruction) (b : ℕ) → best B c all is b ≤ b
   unfolding best
   best-le [] b = omega arith
   best-le (i ∷ is) b = omega (arith, best-le is (better B c all i b), better-le i b)
@@ -212,7 +212,7 @@ module _ (B : Book) (c : List ℕ) (all : List Instruction) where
       step true t false f g h = let z : _≡_ {A = ℕ} 0 1 = cc in absurd (omega arith)
       step false t u f g h = let z : _≡_ {A = ℕ} 0 1 = cc in absurd (omega arith)
 
-  best-here : (is : List Instruction) (b l : ℕ) → any (bad-one l) is ≡ true → best B c all is b ≤ l
+  pub best-here : (is : List Instruction) (b l : ℕ) → any (bad-one l) is ≡ true → best B c all is b ≤ l
   unfolding best any
   best-here [] b l e = let z : _≡_ {A = ℕ} 0 1 = cc in absurd (omega arith)
   best-here (i ∷ is) b l e = step (bad-one l i) refl e (λ g. best-here is (better B c all i b) l g)
@@ -237,6 +237,10 @@ module _ (B : Book) (c : List ℕ) (all : List Instruction) where
   best-clashes [] h b n old k = old k
   best-clashes (i ∷ is) h b n old k =
       best-clashes is (rest-in all i is h) (better B c all i b) n (better-clashes i (first-in all i is h) b n old) k
+
+  -- what is better than the start has trouble
+  pub best-trouble : (b : ℕ) → best B c all all b < b → any (bad-one (best B c all all b)) all ≡ true
+  best-trouble b h = clash-trouble (best B c all all b) (best-clashes all (λ t k. k) b b (λ k. absurd (omega arith)) h)
 
   clashes-at : (l : ℕ) → l < L B → clashes all (updates B c all) l ≡ Bad l
   unfolding clashes

@@ -6,3 +6,4 @@ pub mod Runs
 pub mod Fires
 pub mod Judged
 pub mod Ready
+pub mod Rivals

@@ -16,7 +16,7 @@ ghost use Rattle.engine.specs.Move.{label-of, released, other, idle, fire};
 ghost use Rattle.records.specs.Code.{items};
 ghost use Rattle.table.specs.Part.{arguments-by};
 ghost use Rattle.firing.specs.Outcome.{updates-by, clash-by, move-by, mark, marked, OffRoll, Ready, Settled};
-ghost use Rattle.firing.specs.Steps.{own, gets, any, trace-by, trace-in, spot, gives, doomed, better, best, change, wiped-in, part-cleared, part-marked, run-cleared, run-marked, cleared, clear-marked, clear-of, clear-marks-of, clears, clear-marks, puts, put-marks};
+ghost use Rattle.firing.specs.Steps.{own, gets, any, trace-by, trace-in, spot, gives, doomed, better, best, location-of, slot-of, Last, Chain, nearer, change, wiped-in, part-cleared, part-marked, run-cleared, run-marked, cleared, clear-marked, clear-of, clear-marks-of, clears, clear-marks, puts, put-marks};
 
 // What becomes of a move.
 pub enum Outcome {
@@ -227,12 +227,12 @@ fn better_of(
     best
 }
 
-// The least location that clashes, or L.
-fn first_clash(image: &[u16; 4296], contents: &[u16], list: &[u64], len: usize) -> u32
-    ensures { λ r. ⌜ r ≡ best (book-in (now (image .entry)) []) (now (contents .entry)) (items (now (list .entry)) len) (items (now (list .entry)) len) (L (book-in (now (image .entry)) [])) ⌝ }
+// The least location that clashes, or most: each instruction is held against all.
+fn first_of_all(image: &[u16; 4296], contents: &[u16], list: &[u64], len: usize, most: u32) -> u32
+    ensures { λ r. ⌜ r ≡ best (book-in (now (image .entry)) []) (now (contents .entry)) (items (now (list .entry)) len) (items (now (list .entry)) len) most ⌝ }
 {
     let n = table::smaller(len, list.len());
-    let mut least = table::total(image);
+    let mut least = most;
     let mut j: usize = 0;
     while j < n {
         let what = records::decode(list[j]);
@@ -242,12 +242,86 @@ fn first_clash(image: &[u16; 4296], contents: &[u16], list: &[u64], len: usize) 
     least
 }
 
+// ---- 15 of updates alone, as the numbers that stand for them: a location with two values
+
+// From here on a number stands for a release.
+const RELEASES: u64 = 281474976710656;
+
+// Instructions that a move can have.
+const MOST: usize = 256;
+
+// Updates with one location have one slot, and few others have it.
+fn slot(code: u64) -> usize
+    ensures { λ r. ⌜ (r ≡ slot-of code) × (r < 512) ⌝ }
+{
+    (code / 65536 % 512) as usize
+}
+
+// The last of the first p updates with the location of this one, counted from 1; 0 if none has it. Only those at its slot are tried: p is one, and
+// prior has the one before each.
+fn last_at(list: &[u64], prior: &[u16; 256], p: u16, code: u64) -> usize
+    requires { ⌜ Chain (now list) (now prior) code p ⌝ }
+    ensures { λ r. ⌜ Last location-of (now (list .entry)) code p r ⌝ }
+{
+    let mut i = p as usize;
+    while 0 < i {
+        if list[i - 1] / 65536 == code / 65536 {
+            return i;
+        }
+        i = prior[i - 1] as usize;
+    }
+    0
+}
+
+// The location of an update where it is less than least and update i, counted from 1, gives it another value; else least.
+fn nearer(list: &[u64], i: usize, code: u64, least: u64) -> u64
+    requires { ⌜ i ≤ length (now list) ⌝ }
+    ensures { λ r. ⌜ r ≡ nearer (now (list .entry)) i code least ⌝ }
+{
+    if i == 0 {
+        return least;
+    }
+    if (list[i - 1] == code) | (least <= code / 65536) {
+        return least;
+    }
+    code / 65536
+}
+
+// The least location that clashes, or most. Without a release it is enough to hold each update against the last one before it at its location.
+// Counted from 1, `last` has the last update at each slot, and `prior` the one before each update at its slot.
+fn first_clash(image: &[u16; 4296], contents: &[u16], list: &[u64], len: usize, most: u32) -> u32
+    ensures { λ r. ⌜ r ≡ best (book-in (now (image .entry)) []) (now (contents .entry)) (items (now (list .entry)) len) (items (now (list .entry)) len) most ⌝ }
+{
+    let n = table::smaller(len, list.len());
+    if MOST < n {
+        return first_of_all(image, contents, list, len, most);
+    }
+    let mut last = [0u16; 512];
+    let mut prior = [0u16; 256];
+    let mut least = most as u64;
+    let mut j: usize = 0;
+    while j < n {
+        let code = list[j];
+        if RELEASES <= code {
+            return first_of_all(image, contents, list, len, most);
+        }
+        let s = slot(code);
+        let p = last[s];
+        least = nearer(list, last_at(list, &prior, p, code), code, least);
+        prior[j] = p;
+        last[s] = j as u16 + 1;
+        j = j + 1;
+    }
+    least as u32
+}
+
 // The least location that clashes.
 pub fn clash(image: &[u16; 4296], contents: &[u16], list: &[u64], len: usize) -> Found
     ensures { λ r. ⌜ r ≡ clash-by (now (image .entry)) (now (contents .entry)) (now (list .entry)) len ⌝ }
 {
-    let at = first_clash(image, contents, list, len);
-    if at < table::total(image) {
+    let most = table::total(image);
+    let at = first_clash(image, contents, list, len, most);
+    if at < most {
         return Found::Here(at);
     }
     Found::Nowhere
@@ -496,7 +570,7 @@ pub fn settle(
     ensures { λ r. ⌜ (Ready (book-in (now (image .entry)) []) (now (contents .entry)) (items (now (list .entry)) len) → (ls : List ℕ) → Settled (move-by (now (image .entry)) (now (contents .entry)) (now (list .entry)) len ls) bit (now (contents .entry)) (now (writers .entry)) r (now (contents .exit)) (now (writers .exit))) ⌝ }
 {
     let all = table::total(image);
-    let at = first_clash(image, contents, list, len);
+    let at = first_clash(image, contents, list, len, all);
     let idle = is_idle(image, contents, list, len);
     if at < all {
         return Outcome::Clash { location: at };

@@ -8,23 +8,38 @@ use Rattle.book.specs.Book.{L}
 use Rattle.book.specs.Image.{book-in}
 use Rattle.records.specs.Code.{items}
 use Rattle.firing.specs.Outcome.{clash-by}
+use Rattle.firing.specs.Steps.{best}
 use Rattle.firing.proofs.Best.{best-least, best-none}
 use Rattle.firing.proofs.clash.Statement.{statement}
 use Rattle.firing.proofs.clash.Tie as tie
 use Rattle.firing.proofs.clash.Reads as reads
 use Rattle.firing.proofs.clash.Lts as lts
 
-first-clash-requires : tie.Need-first-clash-requires
-first-clash-requires c κs = search needs
-
 total-requires : tie.Need-total-requires
 total-requires c κs = search needs
 
+first-clash-requires : tie.Need-first-clash-requires
+first-clash-requires c κs = search needs
+
 returns : tie.Need-returns
-returns c = let a = c .before .before .before .before .before .args in let B = book-in (a .image .now) [] in let is = items (a .list .now) (a .len) in let r = c .before .before .first-clash in let t = c .before .total .ensures in rw (r .ensures) (best-least B (a .contents .now) is (omega (arith, r .ensures, t, c .if1 .taken)))
+returns c =
+    let a = c .before .before .before .before .before .args in
+    let B = book-in (a .image .now) [] in
+    let is = items (a .list .now) (a .len) in
+    let t = c .before .before .total .ensures in
+    let r = c .before .first-clash in
+    let q : r .result ≡ best B (a .contents .now) is is (L B) = r .ensures ∙ ap (best B (a .contents .now) is is) t in
+    rw q (best-least B (a .contents .now) is (omega (arith, q, t, c .if1 .taken)))
 
 returns-2 : tie.Need-returns-2
-returns-2 c = let a = c .before .before .before .before .before .args in let B = book-in (a .image .now) [] in let is = items (a .list .now) (a .len) in let r = c .before .before .first-clash in let t = c .before .total .ensures in best-none B (a .contents .now) is (omega (arith, r .ensures, t, c .if1 .left))
+returns-2 c =
+    let a = c .before .before .before .before .before .args in
+    let B = book-in (a .image .now) [] in
+    let is = items (a .list .now) (a .len) in
+    let t = c .before .before .total .ensures in
+    let r = c .before .first-clash in
+    let q : r .result ≡ best B (a .contents .now) is is (L B) = r .ensures ∙ ap (best B (a .contents .now) is is) t in
+    best-none B (a .contents .now) is (omega (arith, q, t, c .if1 .left))
 
 pub clash-spec : {M : Type 1} → statement M
-clash-spec = tie.close (tie.spec first-clash-requires total-requires returns returns-2)
+clash-spec = tie.close (tie.spec total-requires first-clash-requires returns returns-2)

@@ -1,80 +1,157 @@
-use mathlib.Core.Path.{_≡_, refl, sym, ap, ap₂, _∙_}
-use mathlib.Core.Bool.{Bool, true, false, _&&_, _||_, not}
-use mathlib.Core.List.{List, []}
-use Prim.Native.Nat.{ℕ, _+_, _≤_, _<_, _-_, _/_, _%_, min}
+use mathlib.Core.Path.{_≡_, refl, sym, ap, _∙_}
+use mathlib.Core.List.{[]}
+use Prim.Native.Nat.{ℕ, _+_, _-_, _<_, _≤_, min}
 use native.Mathlib.Omega.{arith}
 use borrow.Author.Needs.{needs}
-use borrow.Author.Tests.{le-ltb, lt-ltb, lt-leb, le-leb, eq-eqb, ne-eqb}
-use lib.Dec.{eqb, ltb, leb}
-use lib.ListN.{length, getD, take, drop, set, length-set}
-use Rattle.book.specs.Book.{L}
+use lib.ListN.{length, getD, set}
 use Rattle.book.specs.Image.{book-in}
-use Rattle.engine.specs.declared.Instruction.{Instruction}
-use Rattle.records.specs.Code.{decode-of, items}
-use Rattle.firing.specs.Steps.{better, best}
-use Rattle.firing.proofs.Laws.{items-cons, items-end}
+use Rattle.firing.specs.Steps.{location-of, slot-of, Last}
+use Rattle.firing.proofs.Laws.{take-min}
+use Rattle.firing.proofs.Rivals.{Looked, looked-start, looked-chain, held-in, looked-next, looked-best}
 use Rattle.firing.proofs.first_clash.Statement.{statement}
 use Rattle.firing.proofs.first_clash.Tie as tie
 use Rattle.firing.proofs.first_clash.Reads as reads
 use Rattle.firing.proofs.first_clash.Lts as lts
-use Rattle.firing.proofs.better_of.Reads as better-of-reads
-use Rattle.records.proofs.decode.Reads as decode-reads
+use Rattle.firing.proofs.first_of_all.Reads as first-of-all-reads
+use Rattle.firing.proofs.last_at.Reads as last-at-reads
+use Rattle.firing.proofs.nearer.Reads as nearer-reads
+use Rattle.firing.proofs.slot.Reads as slot-reads
 use Rattle.table.proofs.smaller.Reads as smaller-reads
-use Rattle.table.proofs.total.Reads as total-reads
 
 abbrev Inv-loop : tie.InvT-loop
-Inv-loop image contents list len n least₀ j₀ least j =
-    best (book-in image []) contents (items list len) (drop j (items list len)) least
-    ≡ best (book-in image []) contents (items list len) (items list len) (L (book-in image []))
+Inv-loop image contents list len most n last₀ prior₀ least₀ j₀ last prior least j =
+    (j ≤ n) × Looked list n most j last prior least
 
 abbrev μ-loop : tie.MeasureT-loop
-μ-loop image contents list len n least₀ j₀ least j = n - j
+μ-loop image contents list len most n last₀ prior₀ least₀ j₀ last prior least j = n - j
 
--- src/lib.rt:255:9
+-- src/lib.rt:300:9
 smaller-requires : tie.Need-smaller-requires Inv-loop μ-loop
 smaller-requires c κs = search needs
 
--- src/lib.rt:256:9
-total-requires : tie.Need-total-requires Inv-loop μ-loop
-total-requires c κs = search needs
+-- src/lib.rt:302:9
+first-of-all-requires : tie.Need-first-of-all-requires Inv-loop μ-loop
+first-of-all-requires c κs = search needs
 
--- src/lib.rt:258:5
+-- src/lib.rt:302:9
+returns : tie.Need-returns Inv-loop μ-loop
+returns c = c .first-of-all .ensures
+
+-- src/lib.rt:308:5
 loop-holds : tie.Need-loop-holds Inv-loop μ-loop
-loop-holds c = rw (c .total .ensures)
+loop-holds c = let a = c .before .before .before .before .args in (omega arith, looked-start (a .list .now) (c .before .smaller .result) (a .most))
 
--- src/lib.rt:259:27
-mul-decode : tie.Need-mul-decode Inv-loop μ-loop
-mul-decode c = search needs
+-- src/lib.rt:309:20
+mul-code : tie.Need-mul-code Inv-loop μ-loop
+mul-code c = search needs
 
--- src/lib.rt:259:27
-shared-slice-read-decode : tie.Need-shared-slice-read-decode Inv-loop μ-loop
-shared-slice-read-decode c = search needs
+-- src/lib.rt:309:20
+shared-slice-read-code : tie.Need-shared-slice-read-code Inv-loop μ-loop
+shared-slice-read-code c = search needs
 
--- src/lib.rt:259:13
-decode-requires : tie.Need-decode-requires Inv-loop μ-loop
-decode-requires c κs = search needs
+-- src/lib.rt:311:13
+first-of-all-requires-2 : tie.Need-first-of-all-requires-2 Inv-loop μ-loop
+first-of-all-requires-2 c κs = search needs
 
--- src/lib.rt:260:9
-better-of-requires : tie.Need-better-of-requires Inv-loop μ-loop
-better-of-requires c κs = search needs
+-- src/lib.rt:311:13
+returns-2 : tie.Need-returns-2 Inv-loop μ-loop
+returns-2 c = c .first-of-all2 .ensures
 
--- src/lib.rt:261:13
+-- src/lib.rt:313:13
+slot-requires : tie.Need-slot-requires Inv-loop μ-loop
+slot-requires c κs = search needs
+
+-- src/lib.rt:314:17
+mul-p : tie.Need-mul-p Inv-loop μ-loop
+mul-p c = search needs
+
+-- src/lib.rt:314:17
+array-read-p : tie.Need-array-read-p Inv-loop μ-loop
+array-read-p c = search needs
+
+-- src/lib.rt:315:30
+last-at-requires : tie.Need-last-at-requires Inv-loop μ-loop
+last-at-requires c κs =
+    let a = c .before .before .before .before .before .before .before .before .before .before .args in
+    let n = c .before .before .before .before .before .before .before .smaller in
+    let l = c .before .before .before .before .before .loop in
+    let h = c .before .before .before .before .loop-test .taken in
+    let room : l .j < 256 = omega (arith, h, c .before .before .before .before .before .before .if1 .left) in
+    rw (c .before .slot .ensures .0) (looked-chain (a .list .now) (n .result) (a .most) (l .j) (l .last) (l .prior) (l .least) (l .inv .1) h room (omega (arith, n .ensures)))
+
+-- src/lib.rt:315:9
+nearer-requires : tie.Need-nearer-requires Inv-loop μ-loop
+nearer-requires c κs =
+    let a = c .before .before .before .before .before .before .before .before .before .before .before .args in
+    let n = c .before .before .before .before .before .before .before .before .smaller in
+    let l = c .before .before .before .before .before .before .loop in
+    let h = c .before .before .before .before .before .loop-test .taken in
+    let room : l .j < 256 = omega (arith, h, c .before .before .before .before .before .before .before .if1 .left) in
+    let held = c .last-at in
+    let x = getD (a .list .now) (l .j) 0 in
+    let k : Last location-of (a .list .now) x (getD (l .last) (slot-of x) 0) (held .result) = rw (← c .before .before .slot .ensures .0) (held .ensures) in
+    omega (arith, held-in (a .list .now) (n .result) (a .most) (l .j) (l .last) (l .prior) (l .least) (l .inv .1) h room (held .result) k (c .before .before .before .if2 .left), h, n .ensures)
+
+-- src/lib.rt:316:9
+mul-prior : tie.Need-mul-prior Inv-loop μ-loop
+mul-prior c = search needs
+
+-- src/lib.rt:316:9
+array-write-prior : tie.Need-array-write-prior Inv-loop μ-loop
+array-write-prior c = search needs
+
+-- src/lib.rt:317:19
+cast-last : tie.Need-cast-last Inv-loop μ-loop
+cast-last c = search needs
+
+-- src/lib.rt:317:19
+add-last : tie.Need-add-last Inv-loop μ-loop
+add-last c = search needs
+
+-- src/lib.rt:317:9
+mul-last : tie.Need-mul-last Inv-loop μ-loop
+mul-last c = search needs
+
+-- src/lib.rt:317:9
+array-write-last : tie.Need-array-write-last Inv-loop μ-loop
+array-write-last c = search needs
+
+-- src/lib.rt:318:13
 add-j : tie.Need-add-j Inv-loop μ-loop
 add-j c = search needs
 
--- src/lib.rt:258:5
+-- src/lib.rt:308:5
 loop-less : tie.Need-loop-less Inv-loop μ-loop
 loop-less c = search needs
 
--- src/lib.rt:258:5
+-- src/lib.rt:308:5
 loop-again : tie.Need-loop-again Inv-loop μ-loop
-unfolding best
-loop-again c = let a = c .before .before .before .before .before .before .before .before .before .args in let B = book-in (a .image .now) [] in let n = c .before .before .before .before .before .before .smaller in let l = c .before .before .before .before .loop in let is = items (a .list .now) (a .len) in let d = items-cons (a .list .now) (a .len) (n .result) (n .ensures) (l .j) (c .before .before .before .loop-test .taken) in let q : c .better-of .result ≡ better B (a .contents .now) is (decode-of (getD (a .list .now) (l .j) 0)) (l .least) = c .better-of .ensures ∙ rw (c .before .decode .ensures) in ap (best B (a .contents .now) is (drop (l .j + 1) is)) q ∙ sym (ap (λ (xs : List Instruction). best B (a .contents .now) is xs (l .least)) d) ∙ l .inv
+loop-again c =
+    let a = c .before .before .before .before .before .before .before .before .before .before .before .before .args in
+    let n = c .before .before .before .before .before .before .before .before .before .smaller in
+    let l = c .before .before .before .before .before .before .before .loop in
+    let h = c .before .before .before .before .before .before .loop-test .taken in
+    let room : l .j < 256 = omega (arith, h, c .before .before .before .before .before .before .before .before .if1 .left) in
+    let held = c .before .last-at in
+    let x = getD (a .list .now) (l .j) 0 in
+    let k : Last location-of (a .list .now) x (getD (l .last) (slot-of x) 0) (held .result) = rw (← c .before .before .before .slot .ensures .0) (held .ensures) in
+    let m = looked-next (a .list .now) (n .result) (a .most) (l .j) (l .last) (l .prior) (l .least) (l .inv .1) h room (held .result) k (c .before .before .before .before .if2 .left) in
+    (omega (arith, h), rw (c .nearer .ensures, c .before .before .before .slot .ensures .0) m)
 
--- src/lib.rt:252:1
-returns : tie.Need-returns Inv-loop μ-loop
-unfolding best
-returns c = let a = c .before .before .before .before .before .before .args in let B = book-in (a .image .now) [] in let n = c .before .before .before .smaller in let l = c .before .loop in let is = items (a .list .now) (a .len) in let d = items-end (a .list .now) (a .len) (n .result) (n .ensures) (l .j) (c .loop-test .left) in sym (ap (λ (xs : List Instruction). best B (a .contents .now) is xs (l .least)) d) ∙ l .inv
+-- src/lib.rt:320:5
+cast-result : tie.Need-cast-result Inv-loop μ-loop
+cast-result c = search needs
+
+-- src/lib.rt:291:1
+returns-3 : tie.Need-returns-3 Inv-loop μ-loop
+returns-3 c =
+    let a = c .before .before .before .before .before .before .args in
+    let n = c .before .before .before .smaller in
+    let l = c .before .loop in
+    let e : l .j ≡ n .result = omega (arith, l .inv .0, c .loop-test .left) in
+    let m : Looked (a .list .now) (n .result) (a .most) (n .result) (l .last) (l .prior) (l .least) = rw e at (l .inv .1) in
+    let f : n .result ≤ length (a .list .now) = omega (arith, n .ensures) in
+    rw (← take-min (a .list .now) (n .result) (a .len) (n .ensures)) (looked-best (book-in (a .image .now) []) (a .contents .now) (a .list .now) (n .result) f (m .updates) (a .most) (l .last) (l .prior) (l .least) m)
 
 pub first-clash-spec : {M : Type 1} → statement M
 first-clash-spec =
@@ -83,13 +160,26 @@ first-clash-spec =
     Inv-loop
     μ-loop
     smaller-requires
-    total-requires
+    first-of-all-requires
+    returns
     loop-holds
-    mul-decode
-    shared-slice-read-decode
-    decode-requires
-    better-of-requires
+    mul-code
+    shared-slice-read-code
+    first-of-all-requires-2
+    returns-2
+    slot-requires
+    mul-p
+    array-read-p
+    last-at-requires
+    nearer-requires
+    mul-prior
+    array-write-prior
+    cast-last
+    add-last
+    mul-last
+    array-write-last
     add-j
     loop-less
     loop-again
-    returns)
+    cast-result
+    returns-3)
