@@ -8,7 +8,6 @@ use native.Mathlib.Omega.{arith}
 use lib.ListN.{length, set, length-map, length-take}
 use lib.Seq.{take-suc-set}
 use borrow.Author.Tests.{eq-eqb, ne-eqb, lt-ltb, le-ltb}
-use Rattle.text.specs.Words.{if_then_else_}
 use Rattle.text.specs.Refusals.{non-boolean, not-releasable, list-full}
 use Rattle.book.specs.Book.{boolean, relation, Book, function-at}
 use Rattle.engine.specs.declared.Instruction.{Instruction}

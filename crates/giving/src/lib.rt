@@ -27,7 +27,7 @@ fn smaller(a: usize, b: usize) -> usize
 }
 
 // A refusal at node n, unless there is one already.
-pub fn refuse(s: Pace, number: u32, n: u16) -> Pace
+fn refuse(s: Pace, number: u32, n: u16) -> Pace
     requires { ⌜ (0 < number) × (number < 65536) ⌝ }
     ensures { λ r. ⌜ ((l : List ℕ) → reached r l ≡ (reached s l then refused-by number n)) ⌝ }
 {
@@ -43,7 +43,7 @@ pub fn refuse(s: Pace, number: u32, n: u16) -> Pace
 }
 
 // One more instruction, which node n gives; 14 if it does not fit.
-pub fn give(list: &mut [u64], s: Pace, i: Instruction, n: u16) -> Pace
+fn give(list: &mut [u64], s: Pace, i: Instruction, n: u16) -> Pace
     ensures { λ r. ⌜ (Room (now (list .entry)) → reached r (now (list .exit)) ≡ (reached s (now (list .entry)) then give n i)) ⌝ }
 {
     if s.refused != 0 {
@@ -65,7 +65,7 @@ pub fn give(list: &mut [u64], s: Pace, i: Instruction, n: u16) -> Pace
 }
 
 // Whether a function of that kind is a relation.
-pub fn relation(kind: u16) -> bool
+fn relation(kind: u16) -> bool
     ensures { λ r. ⌜ r ≡ (eqb kind 1 || eqb kind 3) ⌝ }
 {
     match kind {

@@ -10,7 +10,7 @@ use lib.ListN.{getD}
 use borrow.Author.Tests.{eq-eqb, ne-eqb}
 use Rattle.text.specs.Words.{if_then_else_}
 use Rattle.text.specs.declared.Found.the-variants.{Nowhere, Here}
-use Rattle.book.specs.Book.{Book, dynamic-at}
+use Rattle.book.specs.Book.{Book}
 use Rattle.engine.specs.Look.{done, gives, seen, _>>=_}
 use Rattle.engine.specs.Move.{dynamic-among}
 use Rattle.engine.specs.Rule.{lowest}

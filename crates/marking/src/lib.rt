@@ -34,7 +34,7 @@ pub fn keep(readers: &mut [u64], mask: u64)
 }
 
 // Puts a bit into all marks of a part.
-pub fn mark_part(part: &mut [u64], bit: u64)
+fn mark_part(part: &mut [u64], bit: u64)
     ensures { λ _. ⌜ now (part .exit) ≡ map (λ v. bitOr v bit) (now (part .entry)) ⌝ }
 {
     let mut i: usize = 0;
@@ -45,7 +45,7 @@ pub fn mark_part(part: &mut [u64], bit: u64)
 }
 
 // Puts a bit into the marks from first to end, as far as they go.
-pub fn mark_between(readers: &mut [u64], bit: u64, first: usize, end: usize)
+fn mark_between(readers: &mut [u64], bit: u64, first: usize, end: usize)
     ensures { λ _. ⌜ now (readers .exit) ≡ marked bit (table-from (λ l. l) first (end - first)) (now (readers .entry)) ⌝ }
 {
     let stop = smaller(end, readers.len());
@@ -87,7 +87,7 @@ pub fn lowest(
 }
 
 // Whether location x, Reserve's while x is an element, is dynamic.
-pub fn roll(image: &[u16; 4296], x: u16) -> bool
+fn roll(image: &[u16; 4296], x: u16) -> bool
     ensures { λ r. ⌜ (Placed (held (now (image .entry))) → r ≡ dynamic-at (held (now (image .entry))) x) ⌝ }
 {
     if x < term::elements(image) {
@@ -97,7 +97,7 @@ pub fn roll(image: &[u16; 4296], x: u16) -> bool
 }
 
 // Marks Reserve at x.
-pub fn note_roll(image: &[u16; 4296], readers: &mut [u64], bit: u64, x: u16)
+fn note_roll(image: &[u16; 4296], readers: &mut [u64], bit: u64, x: u16)
     ensures { λ _. ⌜ (Placed (held (now (image .entry))) → now (readers .exit) ≡ noted (held (now (image .entry))) bit x (now (readers .entry))) ⌝ }
 {
     if roll(image, x) {
@@ -122,7 +122,7 @@ pub fn read_roll(
 // ---- universes
 
 // Marks a function at the elements below e, location by location.
-pub fn mark_each(readers: &mut [u64], bit: u64, run: Run, e: u16)
+fn mark_each(readers: &mut [u64], bit: u64, run: Run, e: u16)
     ensures { λ _. ⌜ now (readers .exit) ≡ marked bit (table (λ y. run .first + offset e (run .arity) y 0) e) (now (readers .entry)) ⌝ }
 {
     let mut y: u16 = 0;
@@ -134,7 +134,7 @@ pub fn mark_each(readers: &mut [u64], bit: u64, run: Run, e: u16)
 }
 
 // The same; the locations of a unary function, as every universe is, are one part.
-pub fn mark_run(readers: &mut [u64], bit: u64, run: Run, e: u16)
+fn mark_run(readers: &mut [u64], bit: u64, run: Run, e: u16)
     ensures { λ _. ⌜ now (readers .exit) ≡ marked bit (table (λ y. run .first + offset e (run .arity) y 0) e) (now (readers .entry)) ⌝ }
 {
     if run.arity == 1 {

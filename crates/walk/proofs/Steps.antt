@@ -1,5 +1,5 @@
 -- Laws of a walk's steps: what it came to, scopes, and the rules one by one.
-use mathlib.Core.Path.{_≡_, refl, sym, _∙_}
+use mathlib.Core.Path.{_≡_, refl, sym}
 use mathlib.Core.Logic.{dite, inl, inr}
 use mathlib.Core.Bool.{Bool, true, false}
 use mathlib.Core.List.{List}
@@ -15,7 +15,7 @@ use Rattle.text.specs.Refusals.{no-label-left}
 use Rattle.text.specs.declared.Found.the-variants.{Nowhere, Here}
 use Rattle.book.specs.declared.Node.{Node}
 use Rattle.book.specs.Book.{Book}
-use Rattle.engine.specs.Look.{Look, done, _>>=_}
+use Rattle.engine.specs.Look.{Look, done}
 use Rattle.engine.specs.Term.{term-at, eval}
 use Rattle.engine.specs.Rule.{Rule, skip, Walk, Walked, going, met, after, import-of, walk}
 use Rattle.engine.proofs.Steps.{rule-pair, rule-test, rule-skip, no-rule-at}

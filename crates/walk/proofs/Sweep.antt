@@ -4,7 +4,6 @@ use mathlib.Core.List.{List, [], _∷_}
 use Prim.Native.Nat.{ℕ, _+_, _-_, _≤_, _<_}
 use native.Mathlib.Omega.{arith}
 use borrow.Author.Tests.{lt-ltb, le-ltb}
-use Rattle.text.specs.Words.{if_then_else_}
 use Rattle.book.specs.Book.{Book}
 use Rattle.engine.specs.Look.{Look, done, gives, _>>=_}
 use Rattle.engine.specs.Rule.{Walk, Walked, going, met, after, members, each}

@@ -27,7 +27,7 @@ pub struct State {
 }
 
 // Puts variable a at x.
-pub fn bind(scope: &mut [u16; 9], a: u16, x: u16)
+fn bind(scope: &mut [u16; 9], a: u16, x: u16)
     ensures { λ _. ⌜ (variables-of (now (scope .exit)) ≡ set (variables-of (now (scope .entry))) a x) × (agent-of (now (scope .exit)) ≡ agent-of (now (scope .entry))) ⌝ }
 {
     if a < 8 {
@@ -36,7 +36,7 @@ pub fn bind(scope: &mut [u16; 9], a: u16, x: u16)
 }
 
 // The branch that a guard takes: b where it is true, else c.
-pub fn branch(x: u16, b: u16, c: u16) -> u16
+fn branch(x: u16, b: u16, c: u16) -> u16
     ensures { λ r. ⌜ r ≡ (if eqb x 2 then b else c) ⌝ }
 {
     if x == 2 { b } else { c }
@@ -66,7 +66,7 @@ fn assign(
 
 // The rule at node n, looking at most `depth` nodes down; after a refusal nothing more is done.
 // A pair's second part and a test's branch take their node's place, with no call.
-pub fn walk(
+fn walk(
     image: &[u16; 4296],
     contents: &[u16],
     readers: &mut [u64],
@@ -201,7 +201,7 @@ pub struct Actor {
 }
 
 // Agent i; past the last all 0.
-pub fn agent_at(image: &[u16; 4296], i: u32) -> Actor
+fn agent_at(image: &[u16; 4296], i: u32) -> Actor
     ensures { λ r. ⌜ agent-row r ≡ agent-at (held (now (image .entry))) i ⌝ }
 {
     if i < term::capped(image[4], 16) as u32 {

@@ -1,5 +1,5 @@
 -- `update` meets its contract.
-use mathlib.Core.Path.{_≡_, refl, sym, _∙_}
+use mathlib.Core.Path.{_≡_, sym, _∙_}
 use mathlib.Core.Bool.{true, false, _&&_, not}
 use Rattle.book.specs.Book.{boolean, relation, function-at}
 use Rattle.term.specs.Held.{held}

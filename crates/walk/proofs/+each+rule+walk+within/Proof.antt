@@ -1,5 +1,5 @@
 -- `each`, `rule`, `walk`, `within` meet their contracts.
-use mathlib.Core.Path.{_≡_, refl, sym, _∙_}
+use mathlib.Core.Path.{_≡_, refl, _∙_}
 use mathlib.Core.List.{List}
 use Prim.Native.Nat.{ℕ, _+_, _*_, _-_, _<_, _≤_}
 use native.Mathlib.Omega.{arith}
@@ -13,7 +13,7 @@ use Rattle.engine.proofs.Steps.{rule-last, rule-assign, rule-bind, rule-for-all
 use Rattle.term.specs.Held.{held, node-row, variables-of, agent-of, value-at}
 use Rattle.term.specs.Marks.{Runs}
 use Rattle.term.proofs.Marking.{runs-bind, runs-gives, runs-as}
-use Rattle.giving.specs.Giving.{Room, walk-from, reached, enrolling}
+use Rattle.giving.specs.Giving.{Room, walk-from, reached}
 use Rattle.giving.proofs.Steps.{reached-going, reached-met}
 use Rattle.marking.specs.Marking.{found-below, members-from, first-and-rest}
 use Rattle.walk.specs.Walk.{rule-from, body-at, sweep-at, walk-at as node-walk}
