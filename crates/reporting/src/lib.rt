@@ -22,9 +22,6 @@ const MOST_INPUT: usize = 60000;
 // The input, as the q of a 2.
 const INPUT: u32 = 4;
 
-// How many records each table has.
-const RECORDS: usize = 2048;
-
 fn smaller(a: usize, b: usize) -> usize
     ensures { λ r. ⌜ (r ≡ min a b) × (r ≤ b) ⌝ }
 {
@@ -82,15 +79,7 @@ fn report_parts(book: &[u8], log: &[u8], output: &mut [u8]) -> usize
     let mut contents = [0u16; 2048];
     let mut readers = [0u64; 2048];
     let mut writers = [0u64; 2048];
-    let out = run::run_core(
-        book,
-        log,
-        &mut contents,
-        &mut readers,
-        &mut writers,
-        RECORDS,
-    );
-    let answer = out.answer;
+    let answer = lending::run_alone(book, log, &mut contents, &mut readers, &mut writers);
     if answer.number == 0 {
         print_accepted(book, &contents, answer, output)
     } else {
