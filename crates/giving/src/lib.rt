@@ -134,7 +134,7 @@ pub fn update(
 
 // The two updates by which an import at node n takes label x into universe u.
 fn take(image: &[u16; 4296], list: &mut [u64], s: Pace, n: u16, u: u16, x: u16) -> Pace
-    requires { ⌜ (s .refused ≡ 0) × (x < 65535) ⌝ }
+    requires { ⌜ x < 65535 ⌝ }
     ensures { λ r. ⌜ (Room (now (list .entry)) → reached r (now (list .exit)) ≡ taking (held (now (image .entry))) u x n (walk-from s (now (list .entry)))) ⌝ }
 {
     let r = Pace {
@@ -166,8 +166,7 @@ fn take(image: &[u16; 4296], list: &mut [u64], s: Pace, n: u16, u: u16, x: u16) 
 
 // The same if x is an element; 13 if not, as no label is left.
 pub fn enroll(image: &[u16; 4296], list: &mut [u64], s: Pace, n: u16, u: u16, x: u16) -> Pace
-    requires { ⌜ s .refused ≡ 0 ⌝ }
-    ensures { λ r. ⌜ (Room (now (list .entry)) → reached r (now (list .exit)) ≡ enrolling (held (now (image .entry))) u x n (walk-from s (now (list .entry)))) ⌝ }
+    ensures { λ r. ⌜ (s .refused ≡ 0 → Room (now (list .entry)) → reached r (now (list .exit)) ≡ enrolling (held (now (image .entry))) u x n (walk-from s (now (list .entry)))) ⌝ }
 {
     if x < term::elements(image) {
         take(image, list, s, n, u, x)

@@ -112,8 +112,7 @@ pub struct OperandSorts {
 
 // The operand sorts of a node kind. The table is lent: a pass over the nodes lays it out once.
 pub fn sorts_of(table: &[u8; 84], kind: u32) -> OperandSorts
-    requires { ⌜ now table ≡ sort-table ⌝ }
-    ensures { λ r. ⌜ r ≡ sorts-of kind ⌝ }
+    ensures { λ r. ⌜ (now (table .entry) ≡ sort-table → r ≡ sorts-of kind) ⌝ }
 {
     if kind < 28 {
         let i = kind as usize * 3;

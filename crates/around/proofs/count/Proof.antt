@@ -28,7 +28,7 @@ same-length c = search needs
 
 -- src/lib.rt:34:1
 returns : tie.Need-returns
-returns c = rw (c .before .before .bump3 .ensures, c .before .before .before .before .before .before .before .bump2 .ensures, c .before .before .before .before .before .before .before .before .before .before .before .before .bump .ensures, c .before .before .before .before .before .before .before .before .before .before .before .before .before .before .before .sorts-of .ensures)
+returns c = rw (c .before .before .bump3 .ensures, c .before .before .before .before .before .before .before .bump2 .ensures, c .before .before .before .before .before .before .before .before .before .before .before .before .bump .ensures, c .before .before .before .before .before .before .before .before .before .before .before .before .before .before .before .sorts-of .ensures (c .before .before .before .before .before .before .before .before .before .before .before .before .before .before .before .before .before .pre))
 
 pub count-spec : {M : Type 1} → statement M
 count-spec =

@@ -30,7 +30,7 @@ same-length c = search needs
 -- src/lib.rt:137:1
 returns : tie.Need-returns
 unfolding hand
-returns c = rw (c .before .before .put-if3 .ensures, c .before .before .before .before .before .before .before .put-if2 .ensures, c .before .before .before .before .before .before .before .before .before .before .before .before .put-if .ensures, c .before .before .before .before .before .before .before .before .before .before .before .before .before .before .before .sorts-of .ensures)
+returns c = rw (c .before .before .put-if3 .ensures, c .before .before .before .before .before .before .before .put-if2 .ensures, c .before .before .before .before .before .before .before .before .before .before .before .before .put-if .ensures, c .before .before .before .before .before .before .before .before .before .before .before .before .before .before .before .sorts-of .ensures (c .before .before .before .before .before .before .before .before .before .before .before .before .before .before .before .before .before .pre))
 
 pub hand-spec : {M : Type 1} → statement M
 hand-spec =

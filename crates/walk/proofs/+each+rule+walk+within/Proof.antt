@@ -300,7 +300,7 @@ rule-returns-4 t c =
     λ room. rw (rule-import (node-at B) (a .depth) (a .n) x (q .0) (q .2) (c .before .before .before .before .before .before .before .before .before .before .before .before .before .before .before .match .keys4))
     (runs-bind B (a .contents .now) (a .bit) (lowest (a .s .label) (B .E - a .s .label)) (λ o. import-of B (a .n) (x .b) w body o) (found-below (B .E) y) _ _ _ _ (c .before .before .before .before .before .before .before .before .before .before .before .before .before .lowest .ensures)
     (runs-as B (a .contents .now) (a .bit) _ _ _ _ _ (import-as B (a .n) (x .b) y w body)
-    (rw (← c .before .before .before .before .before .before .before .before .before .enroll .ensures room) (c .before .before .before .before .within2 .ensures (omega (arith, c .before .before .before .before .before .before .before .before .before .enroll .kept .1 .0))))))
+    (rw (← c .before .before .before .before .before .before .before .before .before .enroll .ensures (q .1) room) (c .before .before .before .before .within2 .ensures (omega (arith, c .before .before .before .before .before .before .before .before .before .enroll .kept .1 .0))))))
 
 rule-same-length-9 : (t : ℕ) → rule-lts.Need-same-length-9 (claims-rule t) (rule-at t) rule.Post
 rule-same-length-9 t c = search needs
