@@ -123,25 +123,28 @@ fn rule(
     let less = depth - 1;
     let k = row.kind;
     match k {
-        21 => assign(image, contents, readers, bit, list, scope, less, s, n, row),
-        24 => {
-            let x = term::eval(image, contents, readers, bit, scope, less, row.b);
-            within(image, contents, readers, bit, list, scope, less, s, row, x)
-        }
-        25 => {
-            marking::universe(image, readers, bit, row.b);
-            each(image, contents, readers, bit, list, scope, less, s, row)
-        }
-        26 => {
-            let x = marking::lowest(image, contents, readers, bit, s.label);
-            let t = giving::enroll(image, list, s, n, row.b, x);
-            within(image, contents, readers, bit, list, scope, less, t, row, x)
-        }
-        27 => {
-            let x = term::eval(image, contents, readers, bit, scope, less, row.a);
-            let v = marking::read_roll(image, contents, readers, bit, x);
-            giving::free(image, list, s, n, x, v)
-        }
+        20..=27 => match k {
+            21 => assign(image, contents, readers, bit, list, scope, less, s, n, row),
+            24 => {
+                let x = term::eval(image, contents, readers, bit, scope, less, row.b);
+                within(image, contents, readers, bit, list, scope, less, s, row, x)
+            }
+            25 => {
+                marking::universe(image, readers, bit, row.b);
+                each(image, contents, readers, bit, list, scope, less, s, row)
+            }
+            26 => {
+                let x = marking::lowest(image, contents, readers, bit, s.label);
+                let t = giving::enroll(image, list, s, n, row.b, x);
+                within(image, contents, readers, bit, list, scope, less, t, row, x)
+            }
+            27 => {
+                let x = term::eval(image, contents, readers, bit, scope, less, row.a);
+                let v = marking::read_roll(image, contents, readers, bit, x);
+                giving::free(image, list, s, n, x, v)
+            }
+            _ => s,
+        },
         _ => s,
     }
 }

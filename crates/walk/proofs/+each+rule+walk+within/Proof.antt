@@ -1,4 +1,5 @@
 -- `each`, `rule`, `walk`, `within` meet their contracts.
+use mathlib.Core.Logic.{inl, inr}
 use mathlib.Core.Path.{_≡_, refl, _∙_}
 use mathlib.Core.List.{List}
 use Prim.Native.Nat.{ℕ, _+_, _*_, _-_, _<_, _≤_}
@@ -9,7 +10,7 @@ use Rattle.book.specs.Book.{node-at, reserve}
 use Rattle.engine.specs.declared.Instruction.the-variants.{Release}
 use Rattle.engine.specs.Look.{Look, done, read, gives, _>>=_}
 use Rattle.engine.specs.Rule.{Walk, Walked, _then_, after, give, refuse-if, not-free, members, lowest, import-of, each as for-each, walk as walked}
-use Rattle.engine.proofs.Steps.{rule-last, rule-assign, rule-bind, rule-for-all, rule-import, rule-free}
+use Rattle.engine.proofs.Steps.{rule-last, rule-assign, rule-bind, rule-for-all, rule-import, rule-free, no-rule-at}
 use Rattle.term.specs.Held.{held, node-row, variables-of, agent-of, value-at}
 use Rattle.term.specs.Marks.{Runs}
 use Rattle.term.proofs.Marking.{runs-bind, runs-gives, runs-as}
@@ -230,9 +231,9 @@ rule-same-length-2 t c = search needs
 
 rule-returns : (t : ℕ) → rule-lts.Need-returns (claims-rule t) (rule-at t) rule.Post
 rule-returns t c =
-    let a = c .before .before .before .before .before .before .before .before .before .before .before .args in
+    let a = c .before .before .before .before .before .before .before .before .before .before .before .before .before .args in
     let B = held (a .image .now) in
-    let q = c .before .before .before .before .before .before .before .before .before .before .before .pre .1 in
+    let q = c .before .before .before .before .before .before .before .before .before .before .before .before .before .pre .1 in
     λ room. runs-as B (a .contents .now) (a .bit) _ _ _ _ _ (rw (rule-assign (node-at B) (a .depth) (a .n) (node-row (a .row)) (q .0) (q .2) (c .before .before .before .before .before .before .before .match .keys1))) (c .before .before .before .before .assign .ensures room)
 
 rule-same-length-3 : (t : ℕ) → rule-lts.Need-same-length-3 (claims-rule t) (rule-at t) rule.Post
@@ -244,14 +245,14 @@ rule-same-length-4 t c = search needs
 rule-returns-2 : (t : ℕ) → rule-lts.Need-returns-2 (claims-rule t) (rule-at t) rule.Post
 unfolding walked
 rule-returns-2 t c =
-    let a = c .before .before .before .before .before .before .before .before .before .before .before .before .before .before .before .args in
+    let a = c .before .before .before .before .before .before .before .before .before .before .before .before .before .before .before .before .before .args in
     let m = a .image .now in
     let B = held m in
     let s = a .scope .now in
     let x = node-row (a .row) in
     let d = a .depth - 1 in
     let w = walk-from (a .s) (a .list .now) in
-    let q = c .before .before .before .before .before .before .before .before .before .before .before .before .before .before .before .pre .1 in
+    let q = c .before .before .before .before .before .before .before .before .before .before .before .before .before .before .before .before .before .pre .1 in
     λ room. rw (rule-bind (node-at B) (a .depth) (a .n) x (q .0) (q .2) (c .before .before .before .before .before .before .before .before .before .before .before .match .keys2))
     (runs-bind B (a .contents .now) (a .bit) (value-at m s d (x .b)) (λ y. body-at m s d (x .c) (x .a) y w) _ _ _ _ _ (c .before .before .before .before .before .before .before .before .before .eval .ensures)
     (runs-from B (a .contents .now) (a .bit) (body-at m s d (x .c) (x .a) (c .before .before .before .before .before .before .before .before .before .eval .result)) (a .s) (a .list .now) (q .1) _ _ _ (c .before .before .before .before .within .ensures room)))
@@ -265,14 +266,14 @@ rule-same-length-6 t c = search needs
 rule-returns-3 : (t : ℕ) → rule-lts.Need-returns-3 (claims-rule t) (rule-at t) rule.Post
 unfolding walked
 rule-returns-3 t c =
-    let a = c .before .before .before .before .before .before .before .before .before .before .before .before .before .before .before .args in
+    let a = c .before .before .before .before .before .before .before .before .before .before .before .before .before .before .before .before .before .args in
     let m = a .image .now in
     let B = held m in
     let s = a .scope .now in
     let x = node-row (a .row) in
     let d = a .depth - 1 in
     let w = walk-from (a .s) (a .list .now) in
-    let q = c .before .before .before .before .before .before .before .before .before .before .before .before .before .before .before .pre .1 in
+    let q = c .before .before .before .before .before .before .before .before .before .before .before .before .before .before .before .before .before .pre .1 in
     λ room. rw (rule-for-all (node-at B) (a .depth) (a .n) x (q .0) (q .2) (c .before .before .before .before .before .before .before .before .before .before .before .match .keys3))
     (runs-bind B (a .contents .now) (a .bit) (members B (x .b) 0 (B .E)) (λ ys. for-each (body-at m s d (x .c) (x .a)) ys w) (gives (a .contents .now) (members B (x .b) 0 (B .E))) _ _ _ _
     (record { value = refl; marks = c .before .before .before .before .before .before .before .before .before .universe .ensures (a .contents .now) })
@@ -287,7 +288,7 @@ rule-same-length-8 t c = search needs
 rule-returns-4 : (t : ℕ) → rule-lts.Need-returns-4 (claims-rule t) (rule-at t) rule.Post
 unfolding walked
 rule-returns-4 t c =
-    let a = c .before .before .before .before .before .before .before .before .before .before .before .before .before .before .before .before .before .before .before .args in
+    let a = c .before .before .before .before .before .before .before .before .before .before .before .before .before .before .before .before .before .before .before .before .before .args in
     let m = a .image .now in
     let B = held m in
     let s = a .scope .now in
@@ -296,7 +297,7 @@ rule-returns-4 t c =
     let w = walk-from (a .s) (a .list .now) in
     let body : ℕ → Walk → Look Walked = body-at m s d (x .c) (x .a) in
     let y = c .before .before .before .before .before .before .before .before .before .before .before .before .before .lowest .result in
-    let q = c .before .before .before .before .before .before .before .before .before .before .before .before .before .before .before .before .before .before .before .pre .1 in
+    let q = c .before .before .before .before .before .before .before .before .before .before .before .before .before .before .before .before .before .before .before .before .before .pre .1 in
     λ room. rw (rule-import (node-at B) (a .depth) (a .n) x (q .0) (q .2) (c .before .before .before .before .before .before .before .before .before .before .before .before .before .before .before .match .keys4))
     (runs-bind B (a .contents .now) (a .bit) (lowest (a .s .label) (B .E - a .s .label)) (λ o. import-of B (a .n) (x .b) w body o) (found-below (B .E) y) _ _ _ _ (c .before .before .before .before .before .before .before .before .before .before .before .before .before .lowest .ensures)
     (runs-as B (a .contents .now) (a .bit) _ _ _ _ _ (import-as B (a .n) (x .b) y w body)
@@ -311,7 +312,7 @@ rule-same-length-10 t c = search needs
 rule-returns-5 : (t : ℕ) → rule-lts.Need-returns-5 (claims-rule t) (rule-at t) rule.Post
 unfolding walked
 rule-returns-5 t c =
-    let a = c .before .before .before .before .before .before .before .before .before .before .before .before .before .before .before .before .args in
+    let a = c .before .before .before .before .before .before .before .before .before .before .before .before .before .before .before .before .before .before .args in
     let m = a .image .now in
     let B = held m in
     let s = a .scope .now in
@@ -319,7 +320,7 @@ rule-returns-5 t c =
     let d = a .depth - 1 in
     let w = walk-from (a .s) (a .list .now) in
     let y = c .before .before .before .before .before .before .before .before .before .before .eval2 .result in
-    let q = c .before .before .before .before .before .before .before .before .before .before .before .before .before .before .before .before .pre .1 in
+    let q = c .before .before .before .before .before .before .before .before .before .before .before .before .before .before .before .before .before .before .pre .1 in
     λ room. rw (rule-free (node-at B) (a .depth) (a .n) x (q .0) (q .2) (c .before .before .before .before .before .before .before .before .before .before .before .before .match .keys5))
     (runs-bind B (a .contents .now) (a .bit) (value-at m s d (x .a)) (λ y. read (reserve y) >>= λ v. done (refuse-if (not-free B y v) not-releasable (a .n) w then give (a .n) (Release y))) _ _ _ _ _ (c .before .before .before .before .before .before .before .before .before .before .eval2 .ensures)
     (runs-bind B (a .contents .now) (a .bit) (read (reserve y)) (λ v. done (refuse-if (not-free B y v) not-releasable (a .n) w then give (a .n) (Release y))) _ _ _ _ _ (c .before .before .before .before .before .before .read-roll .ensures)
@@ -327,13 +328,31 @@ rule-returns-5 t c =
 
 rule-returns-6 : (t : ℕ) → rule-lts.Need-returns-6 (claims-rule t) (rule-at t) rule.Post
 rule-returns-6 t c =
-    let a = c .before .before .before .before .args in
+    let a = c .before .before .before .before .before .before .args in
     let B = held (a .image .now) in
-    let q = c .before .before .before .before .pre .1 in
+    let q = c .before .before .before .before .before .before .pre .1 in
     let r = c .match .rest in
     λ room. runs-from B (a .contents .now) (a .bit) (node-walk (a .image .now) (a .scope .now) (a .depth) (a .n)) (a .s) (a .list .now) (q .1) _ _ _
     (runs-skip B (a .contents .now) (a .bit) (agent-of (a .scope .now)) (variables-of (a .scope .now)) (rule-from (node-at B) (a .depth) (a .n)) (reached (a .s) (a .list .now)) (a .readers .now)
     (rule-none (node-at B) (a .depth) (a .n) (node-row (a .row)) (q .0) (q .2) (r .0 .0 .0 .0 .1) (q .3) (q .4) (r .0 .0 .0 .1) (r .0 .0 .1) (r .0 .1) (r .1)))
+
+rule-returns-7 : (t : ℕ) → rule-lts.Need-returns-7 (claims-rule t) (rule-at t) rule.Post
+rule-returns-7 t c =
+    let a = c .before .before .before .before .args in
+    let B = held (a .image .now) in
+    let q = c .before .before .before .before .pre .1 in
+    λ room. runs-from B (a .contents .now) (a .bit) (node-walk (a .image .now) (a .scope .now) (a .depth) (a .n)) (a .s) (a .list .now) (q .1) _ _ _
+    (runs-skip B (a .contents .now) (a .bit) (agent-of (a .scope .now)) (variables-of (a .scope .now)) (rule-from (node-at B) (a .depth) (a .n)) (reached (a .s) (a .list .now)) (a .readers .now)
+    (no-rule-at (node-at B) (a .depth) (a .n) (node-row (a .row)) (q .0) (q .2) (inl (c .if1 .taken))))
+
+rule-returns-8 : (t : ℕ) → rule-lts.Need-returns-8 (claims-rule t) (rule-at t) rule.Post
+rule-returns-8 t c =
+    let a = c .before .before .before .before .before .args in
+    let B = held (a .image .now) in
+    let q = c .before .before .before .before .before .pre .1 in
+    λ room. runs-from B (a .contents .now) (a .bit) (node-walk (a .image .now) (a .scope .now) (a .depth) (a .n)) (a .s) (a .list .now) (q .1) _ _ _
+    (runs-skip B (a .contents .now) (a .bit) (agent-of (a .scope .now)) (variables-of (a .scope .now)) (rule-from (node-at B) (a .depth) (a .n)) (reached (a .s) (a .list .now)) (a .readers .now)
+    (no-rule-at (node-at B) (a .depth) (a .n) (node-row (a .row)) (q .0) (q .2) (inr (omega (arith, c .if2 .left)))))
 
 abbrev walk-Inv-loop : walk-lts.InvT-loop
 walk-Inv-loop image contents readers₀ bit list₀ scope depth n left₀ at₀ r₀ readers list left at r =
@@ -505,7 +524,9 @@ pub +each+rule+walk+within-spec : {M : Type 1} → statement M
     (rule-same-length-9 t)
     (rule-same-length-10 t)
     (rule-returns-5 t)
-    (rule-returns-6 t))
+    (rule-returns-6 t)
+    (rule-returns-7 t)
+    (rule-returns-8 t))
     (λ t. walk-lts.spec (claims-walk t)
     (walk-at t)
     walk.Post
