@@ -27,6 +27,22 @@ const BOOK: [u8; 575] = *b"     8     6     3    13
      2     6     0     4
 ";
 
+// A book and a log of one move, which sets f, so far 0, to a term over two elements. The term's kind and the elements are put in below.
+const TERM: [u8; 325] = *b"     8     6     2     5
+     1     1     0     0
+     1     3     0     0
+     0     2     0     0
+     4     1     0     0
+     1     0     0     0
+     1     0     0     0
+     0     1     2     0
+    21     0     3     0
+     4     3     0     0
+     1     0     0     3
+     1     0     0     0
+     0     0     0     0
+";
+
 // Writes the first n bytes.
 fn write_front(bytes: &[u8], n: usize) {
     if n <= bytes.len() {
@@ -108,108 +124,28 @@ fn show_logs() {
     );
 }
 
-// Plus: (f) and (g).
-fn show_sums() {
-    // f := 1 plus 1.
-    show(
-        b"(f)\n",
-        b"     8     6     2     5
-     1     0     0     0
-     1     3     0     0
-     0     2     0     0
-     4     1     0     0
-     1     4     0     0
-     1     4     0     0
-    11     1     2     0
-    21     0     3     0
-     4     3     0     0
-     1     0     0     0
-     0     0     0     0
-",
-    );
-    // f := 2 plus 1, P being 6; f was 0.
-    show(
-        b"(g)\n",
-        b"     8     6     2     5
-     1     1     0     0
-     1     3     0     0
-     0     2     0     0
-     4     1     0     0
-     1     5     0     0
-     1     4     0     0
-    11     1     2     0
-    21     0     3     0
-     4     3     0     0
-     1     0     0     3
-     1     0     0     0
-     0     0     0     0
-",
-    );
+// The same for a term: the two columns of its kind, and its two elements.
+fn show_term(name: &[u8], kind: [u8; 2], x: u8, y: u8) {
+    let mut input = TERM;
+    input[136] = x;
+    input[161] = y;
+    input[179] = kind[0];
+    input[180] = kind[1];
+    show(name, &input);
 }
 
-// Minus: (h).
-fn show_differences() {
-    // f := 0 minus 1; f was 0.
-    show(
-        b"(h)\n",
-        b"     8     6     2     5
-     1     1     0     0
-     1     3     0     0
-     0     2     0     0
-     4     1     0     0
-     1     3     0     0
-     1     4     0     0
-    12     1     2     0
-    21     0     3     0
-     4     3     0     0
-     1     0     0     3
-     1     0     0     0
-     0     0     0     0
-",
-    );
-}
-
-// Equal: (i).
-fn show_equality() {
-    // f := undef equal undef.
-    show(
-        b"(i)\n",
-        b"     8     6     2     5
-     1     0     0     0
-     1     3     0     0
-     0     2     0     0
-     4     1     0     0
-     1     0     0     0
-     1     0     0     0
-     7     1     2     0
-    21     0     3     0
-     4     3     0     0
-     1     0     0     0
-     0     0     0     0
-",
-    );
-}
-
-// And: (j).
-fn show_conjunction() {
-    // f := false and undef; f was 0.
-    show(
-        b"(j)\n",
-        b"     8     6     2     5
-     1     1     0     0
-     1     3     0     0
-     0     2     0     0
-     4     1     0     0
-     1     1     0     0
-     1     0     0     0
-     9     1     2     0
-    21     0     3     0
-     4     3     0     0
-     1     0     0     3
-     1     0     0     0
-     0     0     0     0
-",
-    );
+// What terms give: (f) to (j).
+fn show_terms() {
+    // 1 plus 1.
+    show_term(b"(f)\n", *b"11", b'4', b'4');
+    // 2 plus 1, P being 6.
+    show_term(b"(g)\n", *b"11", b'5', b'4');
+    // 0 minus 1.
+    show_term(b"(h)\n", *b"12", b'3', b'4');
+    // undef equal undef.
+    show_term(b"(i)\n", *b" 7", b'0', b'0');
+    // false and undef.
+    show_term(b"(j)\n", *b" 9", b'1', b'0');
 }
 
 // Updates at once: (k).
@@ -263,10 +199,7 @@ fn show_release() {
 
 fn main() {
     show_logs();
-    show_sums();
-    show_differences();
-    show_equality();
-    show_conjunction();
+    show_terms();
     show_swap();
     show_release();
 }
