@@ -4,6 +4,8 @@ use engine::Instruction;
 use engine::Record;
 use text::Answer;
 ghost use mathlib.Core.Path.{_≡_};
+ghost use Prim.Native.Nat.{ℕ, _≤_};
+ghost use Rattle.engine.specs.Rule.{most-instructions};
 ghost use Rattle.engine.specs.declared.Instruction.the-variants.{Release};
 ghost use Rattle.order.specs.Call.{log-call};
 ghost use Rattle.order.specs.Demand.{Demand3};
@@ -18,7 +20,7 @@ fn blank() -> Record
     }
 }
 
-// The run with a list of 2,048 records, which it lends.
+// The run with a list of 256 records, which it lends; a longer one makes no difference.
 pub fn run_alone(
     book: &[u8],
     log: &[u8],
@@ -26,9 +28,9 @@ pub fn run_alone(
     readers: &mut [u64],
     writers: &mut [u64],
 ) -> Answer
-    ensures { λ r. ⌜ (answered r (now (contents .exit)) (now (readers .exit)) (now (writers .exit)) ≡ log-call (now (book .entry)) (now (log .entry)) (tables (now (contents .entry)) (now (readers .entry)) (now (writers .entry))) 2048) × Demand3 (now (book .entry)) (now (log .entry)) (tables (now (contents .entry)) (now (readers .entry)) (now (writers .entry))) 2048 ⌝ }
+    ensures { λ r. ⌜ ((n : ℕ) → most-instructions ≤ n → (answered r (now (contents .exit)) (now (readers .exit)) (now (writers .exit)) ≡ log-call (now (book .entry)) (now (log .entry)) (tables (now (contents .entry)) (now (readers .entry)) (now (writers .entry))) n) × Demand3 (now (book .entry)) (now (log .entry)) (tables (now (contents .entry)) (now (readers .entry)) (now (writers .entry))) n) ⌝ }
 {
     let none = blank();
-    let mut list = [none; 2048];
+    let mut list = [none; 256];
     run::run(book, log, contents, readers, writers, &mut list)
 }

@@ -1,5 +1,6 @@
 -- `report_parts` meets its contract.
 use mathlib.Core.Path.{_≡_}
+use native.Mathlib.Omega.{arith}
 use Rattle.reporting.proofs.Printed.{own, own-lengths, parts-accepted, parts-refused, shown-as}
 use borrow.Author.Needs.{needs}
 use Rattle.reporting.proofs.report_parts.Statement.{statement}
@@ -35,13 +36,13 @@ same-length : tie.Need-same-length
 same-length c = search needs
 
 returns : tie.Need-returns
-returns c = let a = c .before .before .before .before .before .before .before .before .before .before .before .before .before .before .before .before .before .args in let r = c .before .before .before .before .before .before .before .before .before .before .run-alone in let p = c .before .before .print-accepted in let k = parts-accepted (a .book .now) (a .log .now) own 2048 own-lengths (r .result) (r .last .1 .1 .0) (r .last .1 .1 .1 .0) (r .last .1 .1 .1 .1 .0) (r .ensures .0) (c .before .before .before .before .before .if1 .taken) in shown-as _ _ (a .output .now) (p .result) (p .last .1 .1 .1 .0) (k .text) (p .ensures (k .says) (k .is) (k .few) (rw (c .before .before .before .before .before .before .before .before .before .before .run-alone .kept .1 .1 .0) (k .few)))
+returns c = let a = c .before .before .before .before .before .before .before .before .before .before .before .before .before .before .before .before .before .args in let r = c .before .before .before .before .before .before .before .before .before .before .run-alone in let p = c .before .before .print-accepted in let k = parts-accepted (a .book .now) (a .log .now) own 2048 own-lengths (r .result) (r .last .1 .1 .0) (r .last .1 .1 .1 .0) (r .last .1 .1 .1 .1 .0) (r .ensures 2048 (omega arith) .0) (c .before .before .before .before .before .if1 .taken) in shown-as _ _ (a .output .now) (p .result) (p .last .1 .1 .1 .0) (k .text) (p .ensures (k .says) (k .is) (k .few) (rw (c .before .before .before .before .before .before .before .before .before .before .run-alone .kept .1 .1 .0) (k .few)))
 
 same-length-2 : tie.Need-same-length-2
 same-length-2 c = search needs
 
 returns-2 : tie.Need-returns-2
-returns-2 c = let a = c .before .before .before .before .before .before .before .before .before .before .before .before .before .before .before .before .args in let r = c .before .before .before .before .before .before .before .before .before .run-alone in let p = c .before .before .print-refusal in shown-as _ _ (a .output .now) (p .result) (p .last .1 .0) (parts-refused (a .book .now) (a .log .now) own 2048 own-lengths (r .result) (r .last .1 .1 .0) (r .last .1 .1 .1 .0) (r .last .1 .1 .1 .1 .0) (r .ensures .0) (c .before .before .before .before .if1 .left)) (p .ensures)
+returns-2 c = let a = c .before .before .before .before .before .before .before .before .before .before .before .before .before .before .before .before .args in let r = c .before .before .before .before .before .before .before .before .before .run-alone in let p = c .before .before .print-refusal in shown-as _ _ (a .output .now) (p .result) (p .last .1 .0) (parts-refused (a .book .now) (a .log .now) own 2048 own-lengths (r .result) (r .last .1 .1 .0) (r .last .1 .1 .1 .0) (r .last .1 .1 .1 .1 .0) (r .ensures 2048 (omega arith) .0) (c .before .before .before .before .if1 .left)) (p .ensures)
 
 pub report-parts-spec : {M : Type 1} → statement M
 report-parts-spec =
