@@ -25,8 +25,8 @@ fn bump(s: &mut [u8], on: bool, x: u32)
     ensures { λ _. ⌜ now (s .exit) ≡ bumped on x (now (s .entry)) ⌝ }
 {
     if on {
-        let k = book::fetch_byte(s, x as usize);
-        book::put_byte(s, x as usize, one_more(k));
+        let k = image::fetch_byte(s, x as usize);
+        image::put_byte(s, x as usize, one_more(k));
     }
 }
 
@@ -47,8 +47,8 @@ fn mark_roots(image: &[u32], n: u32, s: &mut [u8])
 {
     let mut i: u32 = 0;
     while i < n {
-        let a = book::agent_at(image, i);
-        book::put_byte(s, a.root as usize, 1);
+        let a = image::agent_at(image, i);
+        image::put_byte(s, a.root as usize, 1);
         i += 1;
     }
 }
@@ -60,7 +60,7 @@ fn tally(image: &[u32], n: u32, s: &mut [u8])
     let table = nodes::SORTS;
     let mut i: u32 = 0;
     while i < n {
-        let y = book::node_at(image, i);
+        let y = image::node_at(image, i);
         count(&table, s, y);
         i += 1;
     }
@@ -71,7 +71,7 @@ fn not_once(s: &[u8], n: u32) -> Found
 {
     let mut i: u32 = 0;
     while i < n {
-        if !(book::fetch_byte(s, i as usize) == 1) {
+        if !(image::fetch_byte(s, i as usize) == 1) {
             return Found::Here(i);
         }
         i += 1;
@@ -84,8 +84,8 @@ pub fn bad_use(image: &[u32]) -> Found
     ensures { λ r. ⌜ r ≡ least (bad-use (book-in (now (image .entry)) [])) (length (book-in (now (image .entry)) [] .nodes)) ⌝ }
 {
     let mut counts = [0u8; 1024];
-    let a = book::agents(image);
-    let n = book::nodes(image);
+    let a = image::agents(image);
+    let n = image::nodes(image);
     mark_roots(image, a, &mut counts);
     tally(image, n, &mut counts);
     not_once(&counts, n)
@@ -133,7 +133,7 @@ fn put_if(s: &mut [u32], on: bool, x: u32, v: u32)
     ensures { λ _. ⌜ now (s .exit) ≡ put-if on x v (now (s .entry)) ⌝ }
 {
     if on {
-        book::put(s, x as usize, v);
+        image::put(s, x as usize, v);
     }
 }
 
@@ -153,12 +153,12 @@ fn hand_down(image: &[u32], s: &mut [u32])
     ensures { λ _. ⌜ now (s .exit) ≡ handed (book-in (now (image .entry)) []) to-ab to-c (length (book-in (now (image .entry)) [] .nodes)) (now (s .entry)) ⌝ }
 {
     let table = nodes::SORTS;
-    let n = book::nodes(image);
+    let n = image::nodes(image);
     let mut k: u32 = 0;
     while k < n {
         let m = n - (k + 1);
-        let y = book::node_at(image, m);
-        let v = below(book::fetch(s, m as usize));
+        let y = image::node_at(image, m);
+        let v = below(image::fetch(s, m as usize));
         let w = in_binder(y, in_forall(y, v));
         hand(&table, s, y, v, w);
         k += 1;
@@ -188,8 +188,8 @@ fn is_misplaced(y: Node, depth: u32, foralls: u32, bound: u32) -> bool
 fn misplaced_at<'a>(image: &'a [u32], s: &'a [u32], i: u32) -> bool
     ensures { λ r. ⌜ r ≡ misplaced-at (book-in (now (image .entry)) []) (now (s .entry)) i ⌝ }
 {
-    let y = book::node_at(image, i);
-    let v = book::fetch(s, i as usize);
+    let y = image::node_at(image, i);
+    let v = image::fetch(s, i as usize);
     is_misplaced(y, v / 1024 + 1, v / 256 % 4, v % 256)
 }
 
@@ -211,7 +211,7 @@ pub fn bad_around(image: &[u32]) -> Found
     ensures { λ r. ⌜ r ≡ least (bad-around (book-in (now (image .entry)) [])) (length (book-in (now (image .entry)) [] .nodes)) ⌝ }
 {
     let mut around = [0u32; 1024];
-    let n = book::nodes(image);
+    let n = image::nodes(image);
     hand_down(image, &mut around);
     misplaced_in(image, &around, n)
 }

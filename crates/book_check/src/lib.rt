@@ -92,7 +92,7 @@ fn check_locations<'a>(text: &'a [u8], image: &'a [u32], h: Header) -> Answer
     requires { ⌜ (Room h) × (Holds (now image) h (now text)) ⌝ }
     ensures { λ r. ⌜ r ≡ answer-of (from-locations h (now (text .entry))) ⌝ }
 {
-    if book::fetch(image, 6) <= book::MOST_LOCATIONS {
+    if image::fetch(image, 6) <= book::MOST_LOCATIONS {
         check_nodes(text, image, h)
     } else {
         refuse(text::HEADER_BOUNDS, FIELD_OF_L)
@@ -138,7 +138,7 @@ fn check_lines(text: &[u8], h: Header, image: &mut [u32; 4296]) -> Answer
     requires { ⌜ Room h ⌝ }
     ensures { λ r. ⌜ (r ≡ answer-of (check-lines h (now (text .entry)))) × Opened (now (image .exit)) (check-lines h (now (text .entry))) ⌝ }
 {
-    book::decode(text, h, image);
+    image::decode(text, h, image);
     check_functions(text, image, h)
 }
 

@@ -29,8 +29,8 @@ pub fn read_entry(text: &[u8], first: u32, i: u32) -> Entry
 fn in_bounds(image: &[u32], x: Entry) -> bool
     ensures { λ r. ⌜ r ≡ in-bounds (book-in (now (image .entry)) []) x ⌝ }
 {
-    let f = book::functions(image);
-    let e = book::elements(image);
+    let f = image::functions(image);
+    let e = image::elements(image);
     (x.function < f) & (x.arg1 < e) & (x.arg2 < e) & (x.value < e)
 }
 
@@ -51,7 +51,7 @@ fn mark(roll: &mut [u8], x: Entry)
     ensures { λ _. ⌜ now (roll .exit) ≡ marked x (now (roll .entry)) ⌝ }
 {
     if x.function == 0 {
-        book::put_byte(roll, x.arg1 as usize, 1);
+        image::put_byte(roll, x.arg1 as usize, 1);
     }
 }
 
@@ -59,9 +59,9 @@ fn mark(roll: &mut [u8], x: Entry)
 fn no_trace(roll: &[u8], x: Entry) -> bool
     ensures { λ r. ⌜ r ≡ untraced-by (now (roll .entry)) x ⌝ }
 {
-    let a = book::fetch_byte(roll, x.arg1 as usize);
-    let b = book::fetch_byte(roll, x.arg2 as usize);
-    let v = book::fetch_byte(roll, x.value as usize);
+    let a = image::fetch_byte(roll, x.arg1 as usize);
+    let b = image::fetch_byte(roll, x.arg2 as usize);
+    let v = image::fetch_byte(roll, x.value as usize);
     (x.function == 0) | ((a == 0) & (b == 0) & (v == 0))
 }
 
@@ -70,7 +70,7 @@ fn bad_entries<'a>(text: &'a [u8], image: &'a [u32], first: u32, n: u32, roll: &
     requires { ⌜ Clear (book-in (now image) [] .E) (now roll) ⌝ }
     ensures { λ r. ⌜ r ≡ least (bad-entry (book-in (now (image .entry)) (entries-from (now (text .entry)) first n))) n ⌝ }
 {
-    let p = book::permanent(image);
+    let p = image::permanent(image);
     let mut i: u32 = 0;
     let mut low: u64 = 0;
     while i < n {
@@ -78,8 +78,8 @@ fn bad_entries<'a>(text: &'a [u8], image: &'a [u32], first: u32, n: u32, roll: &
         if !in_bounds(image, x) {
             return Found::Here(i);
         }
-        let f = book::function_at(image, x.function);
-        let place = book::location(image, x.function, x.arg1, x.arg2);
+        let f = image::function_at(image, x.function);
+        let place = image::location(image, x.function, x.arg1, x.arg2);
         if !(in_form(p, x, f) & (low <= place) & no_trace(roll, x)) {
             return Found::Here(i);
         }
@@ -94,7 +94,7 @@ fn bad_entries<'a>(text: &'a [u8], image: &'a [u32], first: u32, n: u32, roll: &
 pub fn bad_contents<'a>(text: &'a [u8], image: &'a [u32], first: u32, n: u32) -> Found
     ensures { λ r. ⌜ r ≡ least (bad-entry (book-in (now (image .entry)) (entries-from (now (text .entry)) first n))) n ⌝ }
 {
-    if book::elements(image) <= 256 {
+    if image::elements(image) <= 256 {
         let mut roll = [0u8; 256];
         bad_entries(text, image, first, n, &mut roll)
     } else {

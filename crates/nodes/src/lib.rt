@@ -183,12 +183,12 @@ fn fits_other(image: &[u32], n: u32, s: u8, x: u32) -> bool
     ensures { λ r. ⌜ r ≡ fits (book-in (now (image .entry)) []) n s x ⌝ }
 {
     if s < 4 {
-        fits_plain(s, x, book::permanent(image))
+        fits_plain(s, x, image::permanent(image))
     } else if s < 9 {
-        fits_function(s, x, book::functions(image), book::function_at(image, x))
+        fits_function(s, x, image::functions(image), image::function_at(image, x))
     } else {
-        let y = book::node_at(image, x);
-        fits_target(s, x, n, y.kind, book::function_at(image, y.a))
+        let y = image::node_at(image, x);
+        fits_target(s, x, n, y.kind, image::function_at(image, y.a))
     }
 }
 
@@ -201,7 +201,7 @@ fn fits(image: &[u32], n: u32, s: u8, x: u32) -> bool
     } else if s < 9 {
         fits_other(image, n, s, x)
     } else if s < 11 {
-        let y = book::node_at(image, x);
+        let y = image::node_at(image, x);
         fits_node(s, x, n, y.kind)
     } else {
         fits_other(image, n, s, x)
@@ -213,7 +213,7 @@ fn bad_node(image: &[u32], table: &[u8; 84], n: u32) -> bool
     requires { ⌜ now table ≡ sort-table ⌝ }
     ensures { λ r. ⌜ r ≡ bad-node (book-in (now (image .entry)) []) n ⌝ }
 {
-    let y = book::node_at(image, n);
+    let y = image::node_at(image, n);
     let s = sorts_of(table, y.kind);
     let a = fits(image, n, s.a, y.a);
     let b = fits(image, n, s.b, y.b);
@@ -247,10 +247,10 @@ fn before(i: u32) -> u32
 fn bad_agent(image: &[u32], l: Line, i: u32) -> bool
     ensures { λ r. ⌜ r ≡ bad-agent (book-in (now (image .entry)) []) l i ⌝ }
 {
-    let n = book::nodes(image);
-    let p = book::permanent(image);
-    let root = book::node_at(image, l.a);
-    let last = book::agent_at(image, before(i));
+    let n = image::nodes(image);
+    let p = image::permanent(image);
+    let root = image::node_at(image, l.a);
+    let last = image::agent_at(image, before(i));
     !((l.a < n)
         & is_rule(root.kind)
         & (l.b < p)

@@ -76,9 +76,9 @@ fn print_function(image: &[u32], contents: &[u16], k: u32, n: u32, out: &mut [u8
     requires { ⌜ n ≤ 3100000000 ⌝ }
     ensures { λ r. ⌜ (r ≡ n + length (function-lines (book-in (now (image .entry)) []) (now (contents .entry)) k)) × (now (out .exit) ≡ lines-put n (function-lines (book-in (now (image .entry)) []) (now (contents .entry)) k) (now (out .entry))) × (r ≤ n + 100000000) ⌝ }
 {
-    let f = book::function_at(image, k);
-    let e = book::elements(image);
-    let all = book::size(e, f.arity) as u32;
+    let f = image::function_at(image, k);
+    let e = image::elements(image);
+    let all = image::size(e, f.arity) as u32;
     let first = f.first as usize;
     let mut lines = n;
     let mut i: u32 = 0;
@@ -94,7 +94,7 @@ fn print_function(image: &[u32], contents: &[u16], k: u32, n: u32, out: &mut [u8
 pub fn print_contents(image: &[u32], contents: &[u16], out: &mut [u8]) -> u32
     ensures { λ r. ⌜ (r ≡ length (contents-lines (book-in (now (image .entry)) []) (now (contents .entry)))) × (now (out .exit) ≡ lines-put 0 (contents-lines (book-in (now (image .entry)) []) (now (contents .entry))) (now (out .entry))) ⌝ }
 {
-    let all = book::functions(image);
+    let all = image::functions(image);
     let mut lines: u32 = 0;
     let mut k: u32 = 0;
     while k < all {

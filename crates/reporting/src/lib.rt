@@ -66,8 +66,8 @@ fn print_accepted(book: &[u8], contents: &[u16], answer: Answer, output: &mut [u
 {
     let h = header(book);
     let mut image = [0u32; 4296];
-    book::decode(book, h, &mut image);
-    let n = smaller(book::fetch(&image, 6) as usize, contents.len());
+    image::decode(book, h, &mut image);
+    let n = smaller(image::fetch(&image, 6) as usize, contents.len());
     print::print_answer(&image, &contents[..n], answer, output)
 }
 

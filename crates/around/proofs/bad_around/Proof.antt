@@ -13,7 +13,7 @@ use Rattle.around.proofs.bad_around.Reads as reads
 use Rattle.around.proofs.bad_around.Lts as lts
 use Rattle.around.proofs.hand_down.Reads as hand-down-reads
 use Rattle.around.proofs.misplaced_in.Reads as misplaced-in-reads
-use Rattle.book.proofs.nodes.Reads as nodes-reads
+use Rattle.image.proofs.nodes.Reads as nodes-reads
 
 -- src/lib.rt:202:9
 nodes-requires : tie.Need-nodes-requires

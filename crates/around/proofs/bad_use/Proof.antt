@@ -16,8 +16,8 @@ use Rattle.around.proofs.bad_use.Lts as lts
 use Rattle.around.proofs.mark_roots.Reads as mark-roots-reads
 use Rattle.around.proofs.not_once.Reads as not-once-reads
 use Rattle.around.proofs.tally.Reads as tally-reads
-use Rattle.book.proofs.agents.Reads as agents-reads
-use Rattle.book.proofs.nodes.Reads as nodes-reads
+use Rattle.image.proofs.agents.Reads as agents-reads
+use Rattle.image.proofs.nodes.Reads as nodes-reads
 
 -- src/lib.rt:90:9
 agents-requires : tie.Need-agents-requires

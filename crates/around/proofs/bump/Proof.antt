@@ -5,8 +5,8 @@ use Rattle.around.proofs.bump.Tie as tie
 use Rattle.around.proofs.bump.Reads as reads
 use Rattle.around.proofs.bump.Lts as lts
 use Rattle.around.proofs.one_more.Reads as one-more-reads
-use Rattle.book.proofs.fetch_byte.Reads as fetch-byte-reads
-use Rattle.book.proofs.put_byte.Reads as put-byte-reads
+use Rattle.image.proofs.fetch_byte.Reads as fetch-byte-reads
+use Rattle.image.proofs.put_byte.Reads as put-byte-reads
 
 -- src/lib.rt:35:13
 fetch-byte-requires : tie.Need-fetch-byte-requires

@@ -16,9 +16,9 @@ use Rattle.around.proofs.below.Reads as below-reads
 use Rattle.around.proofs.hand.Reads as hand-reads
 use Rattle.around.proofs.in_binder.Reads as in-binder-reads
 use Rattle.around.proofs.in_forall.Reads as in-forall-reads
-use Rattle.book.proofs.fetch.Reads as fetch-reads
-use Rattle.book.proofs.node_at.Reads as node-at-reads
-use Rattle.book.proofs.nodes.Reads as nodes-reads
+use Rattle.image.proofs.fetch.Reads as fetch-reads
+use Rattle.image.proofs.node_at.Reads as node-at-reads
+use Rattle.image.proofs.nodes.Reads as nodes-reads
 
 abbrev Inv-loop : tie.InvT-loop
 Inv-loop image s₀ table n k₀ s k =

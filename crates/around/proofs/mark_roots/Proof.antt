@@ -11,8 +11,8 @@ use Rattle.around.proofs.mark_roots.Statement.{statement}
 use Rattle.around.proofs.mark_roots.Tie as tie
 use Rattle.around.proofs.mark_roots.Reads as reads
 use Rattle.around.proofs.mark_roots.Lts as lts
-use Rattle.book.proofs.agent_at.Reads as agent-at-reads
-use Rattle.book.proofs.put_byte.Reads as put-byte-reads
+use Rattle.image.proofs.agent_at.Reads as agent-at-reads
+use Rattle.image.proofs.put_byte.Reads as put-byte-reads
 
 abbrev Inv-loop : tie.InvT-loop
 Inv-loop image n s₀ i₀ s i =

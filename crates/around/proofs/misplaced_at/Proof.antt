@@ -5,8 +5,8 @@ use Rattle.around.proofs.misplaced_at.Tie as tie
 use Rattle.around.proofs.misplaced_at.Reads as reads
 use Rattle.around.proofs.misplaced_at.Lts as lts
 use Rattle.around.proofs.is_misplaced.Reads as is-misplaced-reads
-use Rattle.book.proofs.fetch.Reads as fetch-reads
-use Rattle.book.proofs.node_at.Reads as node-at-reads
+use Rattle.image.proofs.fetch.Reads as fetch-reads
+use Rattle.image.proofs.node_at.Reads as node-at-reads
 
 -- src/lib.rt:179:9
 node-at-requires : tie.Need-node-at-requires

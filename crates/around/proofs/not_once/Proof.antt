@@ -10,7 +10,7 @@ use Rattle.around.proofs.not_once.Statement.{statement}
 use Rattle.around.proofs.not_once.Tie as tie
 use Rattle.around.proofs.not_once.Reads as reads
 use Rattle.around.proofs.not_once.Lts as lts
-use Rattle.book.proofs.fetch_byte.Reads as fetch-byte-reads
+use Rattle.image.proofs.fetch_byte.Reads as fetch-byte-reads
 
 abbrev Inv-loop : tie.InvT-loop
 Inv-loop s n i₀ i = (i ≤ (n)) × (least-from (λ i. not (eqb (getD s i 0) 1)) ((n) - i) i ≡ least (λ i. not (eqb (getD s i 0) 1)) (n))

@@ -3,7 +3,7 @@ use Rattle.around.proofs.put_if.Statement.{statement}
 use Rattle.around.proofs.put_if.Tie as tie
 use Rattle.around.proofs.put_if.Reads as reads
 use Rattle.around.proofs.put_if.Lts as lts
-use Rattle.book.proofs.put.Reads as put-reads
+use Rattle.image.proofs.put.Reads as put-reads
 
 -- src/lib.rt:134:9
 put-requires : tie.Need-put-requires

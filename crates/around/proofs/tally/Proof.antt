@@ -12,7 +12,7 @@ use Rattle.around.proofs.tally.Tie as tie
 use Rattle.around.proofs.tally.Reads as reads
 use Rattle.around.proofs.tally.Lts as lts
 use Rattle.around.proofs.count.Reads as count-reads
-use Rattle.book.proofs.node_at.Reads as node-at-reads
+use Rattle.image.proofs.node_at.Reads as node-at-reads
 
 abbrev Inv-loop : tie.InvT-loop
 Inv-loop image n s₀ table i₀ s i =

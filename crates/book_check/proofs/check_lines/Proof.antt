@@ -10,7 +10,7 @@ use Rattle.book_check.proofs.check_lines.Statement.{statement}
 use Rattle.book_check.proofs.check_lines.Tie as tie
 use Rattle.book_check.proofs.check_lines.Reads as reads
 use Rattle.book_check.proofs.check_lines.Lts as lts
-use Rattle.book.proofs.decode.Reads as decode-reads
+use Rattle.image.proofs.decode.Reads as decode-reads
 use Rattle.book_check.proofs.check_functions.Reads as check-functions-reads
 
 -- src/lib.rt:141:5

@@ -9,7 +9,7 @@ use Rattle.book_check.proofs.check_locations.Statement.{statement}
 use Rattle.book_check.proofs.check_locations.Tie as tie
 use Rattle.book_check.proofs.check_locations.Reads as reads
 use Rattle.book_check.proofs.check_locations.Lts as lts
-use Rattle.book.proofs.fetch.Reads as fetch-reads
+use Rattle.image.proofs.fetch.Reads as fetch-reads
 use Rattle.book_check.proofs.check_nodes.Reads as check-nodes-reads
 use Rattle.book_check.proofs.refuse.Reads as refuse-reads
 

@@ -8,7 +8,7 @@ use Rattle.contents.proofs.bad_contents.Statement.{statement}
 use Rattle.contents.proofs.bad_contents.Tie as tie
 use Rattle.contents.proofs.bad_contents.Reads as reads
 use Rattle.contents.proofs.bad_contents.Lts as lts
-use Rattle.book.proofs.elements.Reads as elements-reads
+use Rattle.image.proofs.elements.Reads as elements-reads
 use Rattle.contents.proofs.bad_entries.Reads as bad-entries-reads
 
 -- src/lib.rt:97:8

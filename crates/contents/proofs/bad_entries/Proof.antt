@@ -19,9 +19,9 @@ use Rattle.contents.proofs.bad_entries.Statement.{statement}
 use Rattle.contents.proofs.bad_entries.Tie as tie
 use Rattle.contents.proofs.bad_entries.Reads as reads
 use Rattle.contents.proofs.bad_entries.Lts as lts
-use Rattle.book.proofs.function_at.Reads as function-at-reads
-use Rattle.book.proofs.location.Reads as location-reads
-use Rattle.book.proofs.permanent.Reads as permanent-reads
+use Rattle.image.proofs.function_at.Reads as function-at-reads
+use Rattle.image.proofs.location.Reads as location-reads
+use Rattle.image.proofs.permanent.Reads as permanent-reads
 use Rattle.contents.proofs.in_bounds.Reads as in-bounds-reads
 use Rattle.contents.proofs.in_form.Reads as in-form-reads
 use Rattle.contents.proofs.mark.Reads as mark-reads

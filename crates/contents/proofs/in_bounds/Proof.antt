@@ -4,8 +4,8 @@ use Rattle.contents.proofs.in_bounds.Statement.{statement}
 use Rattle.contents.proofs.in_bounds.Tie as tie
 use Rattle.contents.proofs.in_bounds.Reads as reads
 use Rattle.contents.proofs.in_bounds.Lts as lts
-use Rattle.book.proofs.elements.Reads as elements-reads
-use Rattle.book.proofs.functions.Reads as functions-reads
+use Rattle.image.proofs.elements.Reads as elements-reads
+use Rattle.image.proofs.functions.Reads as functions-reads
 
 -- src/lib.rt:32:9
 functions-requires : tie.Need-functions-requires

@@ -4,7 +4,7 @@ use Rattle.contents.proofs.mark.Statement.{statement}
 use Rattle.contents.proofs.mark.Tie as tie
 use Rattle.contents.proofs.mark.Reads as reads
 use Rattle.contents.proofs.mark.Lts as lts
-use Rattle.book.proofs.put_byte.Reads as put-byte-reads
+use Rattle.image.proofs.put_byte.Reads as put-byte-reads
 
 -- src/lib.rt:55:25
 cast-put-byte : tie.Need-cast-put-byte

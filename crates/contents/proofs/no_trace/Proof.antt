@@ -3,7 +3,7 @@ use Rattle.contents.proofs.no_trace.Statement.{statement}
 use Rattle.contents.proofs.no_trace.Tie as tie
 use Rattle.contents.proofs.no_trace.Reads as reads
 use Rattle.contents.proofs.no_trace.Lts as lts
-use Rattle.book.proofs.fetch_byte.Reads as fetch-byte-reads
+use Rattle.image.proofs.fetch_byte.Reads as fetch-byte-reads
 
 -- src/lib.rt:63:31
 cast-fetch-byte : tie.Need-cast-fetch-byte

@@ -4,10 +4,10 @@ use Rattle.nodes.proofs.bad_agent.Statement.{statement}
 use Rattle.nodes.proofs.bad_agent.Tie as tie
 use Rattle.nodes.proofs.bad_agent.Reads as reads
 use Rattle.nodes.proofs.bad_agent.Lts as lts
-use Rattle.book.proofs.agent_at.Reads as agent-at-reads
-use Rattle.book.proofs.node_at.Reads as node-at-reads
-use Rattle.book.proofs.nodes.Reads as nodes-reads
-use Rattle.book.proofs.permanent.Reads as permanent-reads
+use Rattle.image.proofs.agent_at.Reads as agent-at-reads
+use Rattle.image.proofs.node_at.Reads as node-at-reads
+use Rattle.image.proofs.nodes.Reads as nodes-reads
+use Rattle.image.proofs.permanent.Reads as permanent-reads
 use Rattle.nodes.proofs.before.Reads as before-reads
 use Rattle.nodes.proofs.is_rule.Reads as is-rule-reads
 

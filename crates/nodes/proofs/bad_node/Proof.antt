@@ -4,7 +4,7 @@ use Rattle.nodes.proofs.bad_node.Statement.{statement}
 use Rattle.nodes.proofs.bad_node.Tie as tie
 use Rattle.nodes.proofs.bad_node.Reads as reads
 use Rattle.nodes.proofs.bad_node.Lts as lts
-use Rattle.book.proofs.node_at.Reads as node-at-reads
+use Rattle.image.proofs.node_at.Reads as node-at-reads
 use Rattle.nodes.proofs.fits.Reads as fits-reads
 use Rattle.nodes.proofs.sorts_of.Reads as sorts-of-reads
 

@@ -9,7 +9,7 @@ use Rattle.nodes.proofs.fits.Statement.{statement}
 use Rattle.nodes.proofs.fits.Tie as tie
 use Rattle.nodes.proofs.fits.Reads as reads
 use Rattle.nodes.proofs.fits.Lts as lts
-use Rattle.book.proofs.node_at.Reads as node-at-reads
+use Rattle.image.proofs.node_at.Reads as node-at-reads
 use Rattle.nodes.proofs.fits_node.Reads as fits-node-reads
 use Rattle.nodes.proofs.fits_other.Reads as fits-other-reads
 

@@ -9,10 +9,10 @@ use Rattle.nodes.proofs.fits_other.Statement.{statement}
 use Rattle.nodes.proofs.fits_other.Tie as tie
 use Rattle.nodes.proofs.fits_other.Reads as reads
 use Rattle.nodes.proofs.fits_other.Lts as lts
-use Rattle.book.proofs.function_at.Reads as function-at-reads
-use Rattle.book.proofs.functions.Reads as functions-reads
-use Rattle.book.proofs.node_at.Reads as node-at-reads
-use Rattle.book.proofs.permanent.Reads as permanent-reads
+use Rattle.image.proofs.function_at.Reads as function-at-reads
+use Rattle.image.proofs.functions.Reads as functions-reads
+use Rattle.image.proofs.node_at.Reads as node-at-reads
+use Rattle.image.proofs.permanent.Reads as permanent-reads
 use Rattle.nodes.proofs.fits_function.Reads as fits-function-reads
 use Rattle.nodes.proofs.fits_plain.Reads as fits-plain-reads
 use Rattle.nodes.proofs.fits_target.Reads as fits-target-reads

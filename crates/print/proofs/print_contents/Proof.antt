@@ -14,7 +14,7 @@ use Rattle.print.proofs.print_contents.Statement.{statement}
 use Rattle.print.proofs.print_contents.Tie as tie
 use Rattle.print.proofs.print_contents.Reads as reads
 use Rattle.print.proofs.print_contents.Lts as lts
-use Rattle.book.proofs.functions.Reads as functions-reads
+use Rattle.image.proofs.functions.Reads as functions-reads
 use Rattle.print.proofs.print_function.Reads as print-function-reads
 
 abbrev Inv-loop : tie.InvT-loop

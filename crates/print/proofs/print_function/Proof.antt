@@ -13,9 +13,9 @@ use Rattle.print.proofs.print_function.Statement.{statement}
 use Rattle.print.proofs.print_function.Tie as tie
 use Rattle.print.proofs.print_function.Reads as reads
 use Rattle.print.proofs.print_function.Lts as lts
-use Rattle.book.proofs.elements.Reads as elements-reads
-use Rattle.book.proofs.function_at.Reads as function-at-reads
-use Rattle.book.proofs.size.Reads as size-reads
+use Rattle.image.proofs.elements.Reads as elements-reads
+use Rattle.image.proofs.function_at.Reads as function-at-reads
+use Rattle.image.proofs.size.Reads as size-reads
 use Rattle.print.proofs.fetch.Reads as fetch-reads
 use Rattle.print.proofs.print_location.Reads as print-location-reads
 

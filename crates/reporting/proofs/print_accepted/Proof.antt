@@ -10,8 +10,8 @@ use Rattle.reporting.proofs.print_accepted.Statement.{statement}
 use Rattle.reporting.proofs.print_accepted.Tie as tie
 use Rattle.reporting.proofs.print_accepted.Reads as reads
 use Rattle.reporting.proofs.print_accepted.Lts as lts
-use Rattle.book.proofs.decode.Reads as decode-reads
-use Rattle.book.proofs.fetch.Reads as fetch-reads
+use Rattle.image.proofs.decode.Reads as decode-reads
+use Rattle.image.proofs.fetch.Reads as fetch-reads
 use Rattle.print.proofs.print_answer.Reads as print-answer-reads
 use Rattle.reporting.proofs.header.Reads as header-reads
 use Rattle.reporting.proofs.smaller.Reads as smaller-reads
