@@ -2,7 +2,6 @@
 use book::Header;
 use text::Answer;
 use text::Found;
-use text::Line;
 ghost use mathlib.Core.Path.{_≡_};
 ghost use mathlib.Core.List.{[]};
 ghost use Prim.Native.Nat.{_+_};
@@ -10,7 +9,6 @@ ghost use lib.ListN.{length};
 ghost use Rattle.text.specs.declared.Found.the-variants.{Nowhere};
 ghost use Rattle.text.specs.Words.{least, answer-of};
 ghost use Rattle.text.specs.Text.{line, bad-line};
-ghost use Rattle.book.specs.Lines.{bad-field, bad-function};
 ghost use Rattle.book.specs.Image.{Holds, Room};
 ghost use Rattle.book.specs.Check.{check-lines, check-book, packed};
 ghost use Rattle.book_check.specs.Opened.{Opened};
@@ -99,34 +97,12 @@ fn check_locations<'a>(text: &'a [u8], image: &'a [u32], h: Header) -> Answer
     }
 }
 
-// 4: function line f is at fault.
-fn bad_function(l: Line, f: u32) -> bool
-    ensures { λ r. ⌜ r ≡ bad-function l f ⌝ }
-{
-    !((l.a <= 2) & (l.b <= 3) & (l.c == 0) & (l.d == 0) & (!(f == 0) | ((l.a == 1) & (l.b == 3))))
-}
-
-// 4: the least of n functions that is at fault.
-fn bad_functions(text: &[u8], n: u32) -> Found
-    ensures { λ r. ⌜ r ≡ least (λ f. bad-function (line (now (text .entry)) (2 + f)) f) n ⌝ }
-{
-    let mut i: u32 = 0;
-    while i < n {
-        let l = text::read_line(text, 2, i);
-        if bad_function(l, i) {
-            return Found::Here(i);
-        }
-        i += 1;
-    }
-    Found::Nowhere
-}
-
 // 4, and what follows.
 fn check_functions<'a>(text: &'a [u8], image: &'a [u32], h: Header) -> Answer
     requires { ⌜ (Room h) × (Holds (now image) h (now text)) ⌝ }
     ensures { λ r. ⌜ r ≡ answer-of (from-functions h (now (text .entry))) ⌝ }
 {
-    let found = bad_functions(text, h.functions);
+    let found = header::bad_functions(text, h.functions);
     match found {
         Found::Here(i) => refuse(text::FUNCTION_LINE, i),
         Found::Nowhere => check_locations(text, image, h),
@@ -161,34 +137,6 @@ fn check_form(text: &[u8], h: Header, image: &mut [u32; 4296]) -> Answer
     }
 }
 
-// Field i of the header, whose lines are k and l, is outside its bounds.
-fn bad_field(k: Line, l: Line, i: u32) -> bool
-    ensures { λ r. ⌜ r ≡ bad-field k l i ⌝ }
-{
-    ((i == 0) & !((4 <= k.a) & (k.a <= 10000)))
-        | ((i == 1) & !((4 <= k.b) & (k.b <= k.a)))
-        | ((i == 2) & !((1 <= k.c) & (k.c <= 32)))
-        | ((i == 3) & !((1 <= k.d) & (k.d <= 1024)))
-        | ((i == 4) & !((1 <= l.a) & (l.a <= 16)))
-        | ((i == 5) & !(l.b <= 65536))
-        | ((i == 6) & !(l.c == 0))
-        | ((i == 7) & !(l.d == 0))
-}
-
-// 3: the least field of the header that is outside its bounds.
-fn bad_header(k: Line, l: Line) -> Found
-    ensures { λ r. ⌜ r ≡ least (bad-field k l) 8 ⌝ }
-{
-    let mut i: u32 = 0;
-    while i < 8 {
-        if bad_field(k, l, i) {
-            return Found::Here(i);
-        }
-        i += 1;
-    }
-    Found::Nowhere
-}
-
 // 3 on header lines that are in form, and what follows.
 fn check_header(text: &[u8], image: &mut [u32; 4296]) -> Answer
     requires { ⌜ least (bad-line (now text)) 2 ≡ Nowhere ⌝ }
@@ -196,7 +144,7 @@ fn check_header(text: &[u8], image: &mut [u32; 4296]) -> Answer
 {
     let k = text::read_line(text, 0, 0);
     let l = text::read_line(text, 0, 1);
-    let found = bad_header(k, l);
+    let found = header::bad_header(k, l);
     match found {
         Found::Here(i) => refuse(text::HEADER_BOUNDS, i),
         Found::Nowhere => {

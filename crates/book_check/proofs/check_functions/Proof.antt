@@ -6,7 +6,7 @@ use Rattle.book_check.proofs.check_functions.Statement.{statement}
 use Rattle.book_check.proofs.check_functions.Tie as tie
 use Rattle.book_check.proofs.check_functions.Reads as reads
 use Rattle.book_check.proofs.check_functions.Lts as lts
-use Rattle.book_check.proofs.bad_functions.Reads as bad-functions-reads
+use Rattle.header.proofs.bad_functions.Reads as bad-functions-reads
 use Rattle.book_check.proofs.check_locations.Reads as check-locations-reads
 use Rattle.book_check.proofs.refuse.Reads as refuse-reads
 

@@ -6,7 +6,7 @@ use Rattle.book_check.proofs.check_header.Statement.{statement}
 use Rattle.book_check.proofs.check_header.Tie as tie
 use Rattle.book_check.proofs.check_header.Reads as reads
 use Rattle.book_check.proofs.check_header.Lts as lts
-use Rattle.book_check.proofs.bad_header.Reads as bad-header-reads
+use Rattle.header.proofs.bad_header.Reads as bad-header-reads
 use Rattle.book_check.proofs.check_form.Reads as check-form-reads
 use Rattle.book_check.proofs.refuse.Reads as refuse-reads
 use Rattle.text.proofs.read_line.Reads as read-line-reads

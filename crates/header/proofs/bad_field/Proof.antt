@@ -1,9 +1,9 @@
 use Rattle.book.specs.Lines.{bad-field}
 use mathlib.Core.Path.{refl}
-use Rattle.book_check.proofs.bad_field.Statement.{statement}
-use Rattle.book_check.proofs.bad_field.Tie as tie
-use Rattle.book_check.proofs.bad_field.Reads as reads
-use Rattle.book_check.proofs.bad_field.Lts as lts
+use Rattle.header.proofs.bad_field.Statement.{statement}
+use Rattle.header.proofs.bad_field.Tie as tie
+use Rattle.header.proofs.bad_field.Reads as reads
+use Rattle.header.proofs.bad_field.Lts as lts
 
 -- src/lib.rt:169:1
 returns : tie.Need-returns

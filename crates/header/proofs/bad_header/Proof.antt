@@ -4,11 +4,11 @@ use mathlib.Core.Path.{_≡_}
 use Prim.Native.Nat.{_≤_, _-_}
 use borrow.Author.Needs.{needs}
 use Rattle.book.specs.Lines.{bad-field}
-use Rattle.book_check.proofs.bad_header.Statement.{statement}
-use Rattle.book_check.proofs.bad_header.Tie as tie
-use Rattle.book_check.proofs.bad_header.Reads as reads
-use Rattle.book_check.proofs.bad_header.Lts as lts
-use Rattle.book_check.proofs.bad_field.Reads as bad-field-reads
+use Rattle.header.proofs.bad_header.Statement.{statement}
+use Rattle.header.proofs.bad_header.Tie as tie
+use Rattle.header.proofs.bad_header.Reads as reads
+use Rattle.header.proofs.bad_header.Lts as lts
+use Rattle.header.proofs.bad_field.Reads as bad-field-reads
 
 abbrev Inv-loop : tie.InvT-loop
 Inv-loop k l i₀ i = (i ≤ (8)) × (least-from (bad-field k l) ((8) - i) i ≡ least (bad-field k l) (8))

@@ -1,9 +1,9 @@
 use Rattle.book.specs.Lines.{bad-function}
 use mathlib.Core.Path.{refl}
-use Rattle.book_check.proofs.bad_function.Statement.{statement}
-use Rattle.book_check.proofs.bad_function.Tie as tie
-use Rattle.book_check.proofs.bad_function.Reads as reads
-use Rattle.book_check.proofs.bad_function.Lts as lts
+use Rattle.header.proofs.bad_function.Statement.{statement}
+use Rattle.header.proofs.bad_function.Tie as tie
+use Rattle.header.proofs.bad_function.Reads as reads
+use Rattle.header.proofs.bad_function.Lts as lts
 
 -- src/lib.rt:102:1
 returns : tie.Need-returns

@@ -5,11 +5,11 @@ use Prim.Native.Nat.{_≤_, _-_, _+_}
 use borrow.Author.Needs.{needs}
 use Rattle.book.specs.Lines.{bad-function}
 use Rattle.text.specs.Text.{line}
-use Rattle.book_check.proofs.bad_functions.Statement.{statement}
-use Rattle.book_check.proofs.bad_functions.Tie as tie
-use Rattle.book_check.proofs.bad_functions.Reads as reads
-use Rattle.book_check.proofs.bad_functions.Lts as lts
-use Rattle.book_check.proofs.bad_function.Reads as bad-function-reads
+use Rattle.header.proofs.bad_functions.Statement.{statement}
+use Rattle.header.proofs.bad_functions.Tie as tie
+use Rattle.header.proofs.bad_functions.Reads as reads
+use Rattle.header.proofs.bad_functions.Lts as lts
+use Rattle.header.proofs.bad_function.Reads as bad-function-reads
 use Rattle.text.proofs.read_line.Reads as read-line-reads
 
 abbrev Inv-loop : tie.InvT-loop
