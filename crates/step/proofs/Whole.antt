@@ -3,7 +3,6 @@ use mathlib.Core.Path.{_≡_, refl, sym, ap, subst, _∙_}
 use mathlib.Core.Logic.{_≢_}
 use mathlib.Core.List.{List, []}
 use Prim.Native.Nat.{ℕ, _≤_}
-use native.Mathlib.Omega.{arith}
 use lib.ListN.{length, take}
 use lib.Seq.{length-take-le}
 use Rattle.text.specs.declared.Answer.{Answer}
@@ -31,12 +30,12 @@ module _ (c l : List ℕ) (k : ℕ) where
   book-stops : (x : Checked Book) (f : Book → Checked Book) → answer-of x .number ≢ 0 → Tells (none (answer-of x)) l c (step-answer c k (x >>= f))
   unfolding _>>=_
   book-stops (good B) f h = absurd (h refl)
-  book-stops (refused n p q) f h = record { answer = refl; instructions = refl; room = omega arith; contents = refl }
+  book-stops (refused n p q) f h = record { answer = refl; instructions = refl; contents = refl }
 
   call-stops : (x : Checked (Unit {0})) (B : Book) → answer-of x .number ≢ 0 → Tells (none (answer-of x)) l c (step-answer c k (x >> good B))
   unfolding _>>_
   call-stops (good u) B h = absurd (h refl)
-  call-stops (refused n p q) B h = record { answer = refl; instructions = refl; room = omega arith; contents = refl }
+  call-stops (refused n p q) B h = record { answer = refl; instructions = refl; contents = refl }
 
   call-goes : (x : Checked (Unit {0})) (u : Unit {0}) (B : Book) → x ≡ good u → step-answer c k (x >> good B) ≡ step-move B c k
   unfolding _>>_

@@ -12,14 +12,15 @@ ghost use lib.ListN.{length, take};
 ghost use Rattle.text.specs.Words.{answer-of};
 ghost use Rattle.book.specs.Book.{L};
 ghost use Rattle.book.specs.Image.{book-in};
-ghost use Rattle.engine.specs.Single.{check-agent, check-lent-step, check-contents, step-move, step-call};
+ghost use Rattle.engine.specs.Single.{check-agent, check-lent-step, check-contents, step-call};
 ghost use Rattle.records.specs.Items.{listed};
 ghost use Rattle.lent.specs.Written.{written};
-ghost use Rattle.step.specs.Halves.{given-of, On, Halfway};
-ghost use Rattle.step.specs.Stages.{check-call, first-of, Ready, Moves, Tells, packed};
+ghost use Rattle.moves.specs.Count.{given-of};
+ghost use Rattle.step.specs.Halves.{On, Halfway};
+ghost use Rattle.step.specs.Stages.{check-call, first-of, Ready, Tells, packed};
 
 // Records in a list of instructions.
-pub const MOST_INSTRUCTIONS: usize = 256;
+const MOST_INSTRUCTIONS: usize = 256;
 
 // Agents in a book, at most.
 const MOST_AGENTS: u16 = 16;
@@ -104,85 +105,7 @@ fn check_call(image: &[u16; 4296], contents: &[u16], agent: usize, lent: usize) 
     first_of(nine, first_of(two, eight))
 }
 
-// ---- the move
-
-// An answer with no instruction.
-fn refused(a: Answer) -> Told
-    ensures { λ r. ⌜ r ≡ record { answer = a; len = 0 } ⌝ }
-{
-    Told { answer: a, len: 0 }
-}
-
-// The move, with no marks, on a table of exactly L records; its instructions are left in the list.
-fn fire(image: &[u16; 4296], contents: &mut [u16], agent: u32, list: &mut [u64; 256]) -> Told
-    requires { ⌜ Ready (book-in (now image) []) (now contents) agent ⌝ }
-    ensures { λ r. ⌜ Moves (book-in (now (image .entry)) []) (now (contents .entry)) agent r (now (list .exit)) (now (contents .exit)) ⌝ }
-{
-    let mut readers = [0u64; 1];
-    let mut writers = [0u64; 1];
-    let v = moves::fire_move(
-        image,
-        contents,
-        &mut readers[..0],
-        &mut writers[..0],
-        1,
-        agent,
-        list,
-    );
-    let a = answer(v.number, 0, v.q);
-    Told {
-        answer: a,
-        len: v.len,
-    }
-}
-
-// The move on the first L records of a lent table.
-fn fire_first(image: &[u16; 4296], contents: &mut [u16], agent: u32, list: &mut [u64; 256]) -> Told
-    requires { ⌜ (L (book-in (now image) []) ≤ length (now contents)) × (Ready (book-in (now image) []) (take (L (book-in (now image) [])) (now contents)) agent) ⌝ }
-    ensures { λ r. ⌜ Tells r (now (list .exit)) (now (contents .exit)) (step-move (book-in (now (image .entry)) []) (now (contents .entry)) agent) ⌝ }
-{
-    let all = table::total(image) as usize;
-    fire(image, &mut contents[..all], agent, list)
-}
-
-// ---- the entry
-
-// The call, its instructions left in the list as numbers.
-fn step_into(
-    book: &[u8],
-    contents: &mut [u16],
-    agent: usize,
-    lent: usize,
-    list: &mut [u64; 256],
-) -> Told
-    ensures { λ r. ⌜ Tells r (now (list .exit)) (now (contents .exit)) (step-call (now (book .entry)) (now (contents .entry)) agent lent) ⌝ }
-    ensures { λ r. ⌜ r .len ≤ lent ⌝ }
-{
-    let mut image = [0u16; 4296];
-    let a = open::open(book, &mut image);
-    if a.number != 0 {
-        return refused(a);
-    }
-    let b = check_call(&image, contents, agent, lent);
-    if b.number != 0 {
-        return refused(b);
-    }
-    fire_first(&image, contents, agent as u32, list)
-}
-
-// A book, a contents table, an agent, and how many instruction records are lent; the list fits those.
-pub fn step_core(book: &[u8], contents: &mut [u16], agent: usize, lent: usize) -> Outcome
-    ensures { λ r. ⌜ r .answer ≡ step-call (now (book .entry)) (now (contents .entry)) agent lent .answer ⌝ }
-    ensures { λ r. ⌜ listed (r .list) ≡ step-call (now (book .entry)) (now (contents .entry)) agent lent .instructions ⌝ }
-    ensures { λ r. ⌜ (r .list .len ≤ lent) × (r .list .len ≤ 256) ⌝ }
-    ensures { λ _. ⌜ now (contents .exit) ≡ step-call (now (book .entry)) (now (contents .entry)) agent lent .contents ⌝ }
-{
-    let mut list = [0u64; 256];
-    let t = step_into(book, contents, agent, lent, &mut list);
-    records::with_list(t, &list)
-}
-
-// ---- the same in two halves, between which the instructions go through a lent list
+// ---- the call in two halves, between which the instructions may go through a lent list
 
 // A call up to the list: its answer if it is refused before the move, else how the move's walk
 // ended; and how many instructions there are.
@@ -190,19 +113,6 @@ pub struct Paused {
     pub answer: Answer,
     pub walk: State,
     pub count: usize,
-}
-
-// How many instructions a walk gave: none if it was refused.
-pub fn given(s: State) -> usize
-    ensures { λ r. ⌜ r ≡ given-of s ⌝ }
-{
-    if s.refused != 0 {
-        return 0;
-    }
-    if s.len < MOST_INSTRUCTIONS {
-        return s.len;
-    }
-    MOST_INSTRUCTIONS
 }
 
 fn held_back(a: Answer) -> Paused
@@ -231,7 +141,7 @@ fn walk_first(image: &[u16; 4296], contents: &[u16], agent: u32, work: &mut [u64
     let mut readers = [0u64; 1];
     let s = walk::gather(image, &contents[..all], &mut readers[..0], 1, work, agent);
     let none = answer(0, 0, 0);
-    let count = given(s);
+    let count = moves::given(s);
     Paused {
         answer: none,
         walk: s,
@@ -240,7 +150,7 @@ fn walk_first(image: &[u16; 4296], contents: &[u16], agent: u32, work: &mut [u64
 }
 
 // The checks, and the walk of the move.
-pub fn first_half(
+fn first_half(
     book: &[u8],
     contents: &[u16],
     agent: usize,
@@ -268,13 +178,8 @@ fn smaller(a: usize, b: usize) -> usize
 }
 
 // The rest of the move, by the instructions that came back from the list.
-pub fn second_half(
-    contents: &mut [u16],
-    image: &[u16; 4296],
-    work: &[u64; 256],
-    p: Paused,
-) -> Answer
-    ensures { λ r. ⌜ ((text : List ℕ) (k n : ℕ) → Halfway text (now (contents .entry)) k n (now (image .entry)) (now (work .entry)) p → (r ≡ step-call text (now (contents .entry)) k n .answer) × (now (contents .exit) ≡ step-call text (now (contents .entry)) k n .contents)) ⌝ }
+fn second_half(contents: &mut [u16], image: &[u16; 4296], work: &[u64; 256], p: Paused) -> Answer
+    ensures { λ r. ⌜ ((text : List ℕ) (k n : ℕ) → Halfway text (now (contents .entry)) k n (now (image .entry)) (now (work .entry)) p → Tells (record { answer = r; len = p .count }) (now (work .entry)) (now (contents .exit)) (step-call text (now (contents .entry)) k n)) ⌝ }
 {
     let a = p.answer;
     if a.number != 0 {
@@ -295,6 +200,41 @@ pub fn second_half(
         s,
     );
     answer(v.number, 0, v.q)
+}
+
+// ---- the entries
+
+// The call, its instructions left in the list as numbers.
+fn step_into(
+    book: &[u8],
+    contents: &mut [u16],
+    agent: usize,
+    lent: usize,
+    list: &mut [u64; 256],
+) -> Told
+    ensures { λ r. ⌜ Tells r (now (list .exit)) (now (contents .exit)) (step-call (now (book .entry)) (now (contents .entry)) agent lent) ⌝ }
+    ensures { λ r. ⌜ r .len ≤ lent ⌝ }
+{
+    let mut image = [0u16; 4296];
+    let p = first_half(book, contents, agent, lent, &mut image, list);
+    let count = p.count;
+    let a = second_half(contents, &image, list, p);
+    Told {
+        answer: a,
+        len: count,
+    }
+}
+
+// A book, a contents table, an agent, and how many instruction records are lent; the list fits those.
+pub fn step_core(book: &[u8], contents: &mut [u16], agent: usize, lent: usize) -> Outcome
+    ensures { λ r. ⌜ r .answer ≡ step-call (now (book .entry)) (now (contents .entry)) agent lent .answer ⌝ }
+    ensures { λ r. ⌜ listed (r .list) ≡ step-call (now (book .entry)) (now (contents .entry)) agent lent .instructions ⌝ }
+    ensures { λ r. ⌜ (r .list .len ≤ lent) × (r .list .len ≤ 256) ⌝ }
+    ensures { λ _. ⌜ now (contents .exit) ≡ step-call (now (book .entry)) (now (contents .entry)) agent lent .contents ⌝ }
+{
+    let mut list = [0u64; 256];
+    let t = step_into(book, contents, agent, lent, &mut list);
+    records::with_list(t, &list)
 }
 
 // The single-move entry: a book, a contents table, an agent, and a list of instruction records. The
