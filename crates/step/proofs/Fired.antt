@@ -25,17 +25,20 @@ fit B c k r = record {
   unmarked = λ l. omega arith;
 }
 
+abbrev pub answer-by : Verdict → Answer
+answer-by v = record { number = v .number; p = 0; q = v .q }
+
 -- on the first j records of the table c, all that the book has
 pub moved-step : (B : Book) (c : List ℕ) (k j : ℕ) → j ≡ L B → j ≤ length c → (v : Verdict) (l d rs ws : List ℕ)
-    → Effect B k 1 (tables (take j c) [] []) v l (tables d rs ws) → (a : Answer) → a ≡ record { number = v .number; p = 0; q = v .q }
-    → (a ≡ step-move B c k .answer) × (d ++ drop j c ≡ step-move B c k .contents)
-moved-step B c k j e h v l d rs ws f a ha =
+    → Effect B k 1 (tables (take j c) [] []) v l (tables d rs ws)
+    → (answer-by v ≡ step-move B c k .answer) × (d ++ drop j c ≡ step-move B c k .contents)
+moved-step B c k j e h v l d rs ws f =
     let i : Input = record { agent = k } in
     let s : ℕ → Stepped = λ n. stepped c (take n c) (made-by (walked B (take n c) i)) (move B (take n c) i) in
-    subst (λ (n : ℕ). (a ≡ s n .answer) × (d ++ drop j c ≡ s n .contents)) e
+    subst (λ (n : ℕ). (answer-by v ≡ s n .answer) × (d ++ drop j c ≡ s n .contents)) e
     (go (made-by (walked B (take j c) i)) (move B (take j c) i) (f .number) (f .q) (ap (λ (t : Tables). t .contents ++ drop j c) (f .tables)))
   where
     go : (is : List Instruction) (m : Moved) → v .number ≡ number-of m → v .q ≡ q-of m → d ++ drop j c ≡ left 1 (tables (take j c) [] []) m .contents ++ drop j c
-        → (a ≡ stepped c (take j c) is m .answer) × (d ++ drop j c ≡ stepped c (take j c) is m .contents)
-    go is (fires f) n q t = (ha ∙ rw (n, q), t ∙ rw (fire-length (f .updates) (take j c), length-take-le j c h))
-    go is (stopped m x) n q t = (ha ∙ rw (n, q), t ∙ take-append-drop j c)
+        → (answer-by v ≡ stepped c (take j c) is m .answer) × (d ++ drop j c ≡ stepped c (take j c) is m .contents)
+    go is (fires f) n q t = (rw (n, q), t ∙ rw (fire-length (f .updates) (take j c), length-take-le j c h))
+    go is (stopped m x) n q t = (rw (n, q), t ∙ take-append-drop j c)

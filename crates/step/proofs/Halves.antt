@@ -22,7 +22,7 @@ use Rattle.moves.proofs.Count.{given-few, made-of, same-outcome}
 use Rattle.step.specs.declared.Paused.{Paused}
 use Rattle.step.specs.Stages.{Ready, Tells}
 use Rattle.step.specs.Halves.{On, Walks, Halfway}
-use Rattle.step.proofs.Fired.{fit, moved-step}
+use Rattle.step.proofs.Fired.{fit, answer-by, moved-step}
 
 -- ---- the first half
 
@@ -119,13 +119,12 @@ module _ (text c : List ℕ) (k n : ℕ) (m l : List ℕ) (p : Paused) (h : Half
 
   pub second-moves : p .answer .number ≡ 0 → (all j : ℕ) → all ≡ L A → j ≡ min all (length c) → (v : Verdict) (d rs ws : List ℕ)
       → ((i : ℕ) (t : Tables) → After A i 1 t (p .walk) l (tables (take j c) [] []) → Effect A i 1 t v l (tables d rs ws))
-      → (a : Answer) → a ≡ record { number = v .number; p = 0; q = v .q }
-      → Tells (record { answer = a; len = p .count }) l (d ++ drop j c) (step-call text c k n)
-  second-moves z all j ea ej v d rs ws does a ha =
+      → Tells (record { answer = answer-by v; len = p .count }) l (d ++ drop j c) (step-call text c k n)
+  second-moves z all j ea ej v d rs ws does =
       let w = h .walks z .1 in
       let o = w .on in
       let e : j ≡ L A = omega (arith, ea, ej, o .long) in
       let after : After A k 1 (tables (take j c) [] []) (p .walk) l (tables (take j c) [] []) =
       subst (λ (i : ℕ). After A k 1 (tables (take i c) [] []) (p .walk) l (tables (take i c) [] [])) (sym e) (o .after) in
-      let t = moved-step A c k j e (omega (arith, e, o .long)) v l d rs ws (does k (tables (take j c) [] []) after) a ha in
-      half-tells a (d ++ drop j c) (t .0 ∙ ap (λ (s : Stepped). s .answer) (w .whole), t .1 ∙ ap (λ (s : Stepped). s .contents) (w .whole))
+      let t = moved-step A c k j e (omega (arith, e, o .long)) v l d rs ws (does k (tables (take j c) [] []) after) in
+      half-tells (answer-by v) (d ++ drop j c) (t .0 ∙ ap (λ (s : Stepped). s .answer) (w .whole), t .1 ∙ ap (λ (s : Stepped). s .contents) (w .whole))

@@ -17,10 +17,11 @@ use Rattle.book.proofs.Claims.{accepted-table}
 use Rattle.engine.specs.Move.{Input}
 use Rattle.engine.specs.Single.{check-agent, check-lent-step, check-contents, check-step, step-move, step-answer, step-call}
 use Rattle.records.specs.declared.Told.{Told}
-use Rattle.step.specs.Stages.{check-call, Ready, Tells}
-use Rattle.step.proofs.Numbered.{book-numbered, call-numbered, accepts}
-use Rattle.step.proofs.Checks.{Passed, call-passed}
-use Rattle.step.proofs.Same.{lawful-same, walked-same, move-same, L-same, call-same}
+use Rattle.calls.specs.Call.{check-call}
+use Rattle.step.specs.Stages.{Ready, Tells}
+use Rattle.calls.proofs.Numbered.{book-numbered, call-numbered, accepts}
+use Rattle.calls.proofs.Checks.{Passed, call-passed}
+use Rattle.calls.proofs.Same.{lawful-same, walked-same, move-same, L-same, call-same}
 
 -- a refusal before the move: no instruction, and the contents as they were
 abbrev none : Answer → Told

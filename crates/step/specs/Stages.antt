@@ -1,24 +1,14 @@
--- The single-move entry in stages: its checks after the book's, the earlier of two answers, what the move is made on, and what a call leaves (01, "Refused, and how").
+-- The single-move entry in stages: what the move is made on, and what a call leaves (01, "Refused, and how").
 use mathlib.Core.Path.{_≡_}
 use mathlib.Core.List.{List}
 use Prim.Native.Nat.{ℕ, _+_, _*_, _<_}
-use lib.Dec.{eqb}
-use lib.ListN.{length, take}
+use lib.ListN.{length}
 use Rattle.text.specs.declared.Answer.{Answer}
-use Rattle.text.specs.Words.{if_then_else_, Checked, _>>_}
-use Rattle.book.specs.Book.{Book, L}
+use Rattle.book.specs.Book.{Book}
 use Rattle.book.specs.Sound.{Lawful, Sound}
-use Rattle.engine.specs.Single.{check-agent, check-lent-step, check-contents, Stepped}
+use Rattle.engine.specs.Single.{Stepped}
 use Rattle.records.specs.declared.Told.{Told}
 use Rattle.records.specs.Code.{items}
-
--- 9, 2 and 8 of an accepted book
-unfoldable pub check-call : Book → List ℕ → ℕ → ℕ → Checked (Unit {0})
-check-call B c k n = check-agent B k >> (check-lent-step B c n >> check-contents B (take (L B) c))
-
--- the answer a if it refuses, and b otherwise
-abbrev pub first-of : Answer → Answer → Answer
-first-of a b = if eqb (a .number) 0 then b else a
 
 -- what the move is made on: an accepted book, sound contents and one of its agents
 pub record Ready (B : Book) (c : List ℕ) (k : ℕ) : Type 0 where

@@ -3,116 +3,28 @@ use engine::Record;
 use records::Outcome;
 use records::Told;
 use text::Answer;
-use text::Found;
 use walk::State;
 ghost use mathlib.Core.Path.{_≡_};
 ghost use mathlib.Core.List.{List, []};
 ghost use Prim.Native.Nat.{ℕ, _<_, _≤_, min};
 ghost use lib.ListN.{length, take};
-ghost use Rattle.text.specs.Words.{answer-of};
 ghost use Rattle.book.specs.Book.{L};
 ghost use Rattle.book.specs.Image.{book-in};
-ghost use Rattle.engine.specs.Single.{check-agent, check-lent-step, check-contents, step-call};
+ghost use Rattle.engine.specs.Single.{step-call};
 ghost use Rattle.records.specs.Items.{listed};
 ghost use Rattle.lent.specs.Written.{written};
 ghost use Rattle.moves.specs.Count.{given-of};
 ghost use Rattle.step.specs.Halves.{On, Halfway};
-ghost use Rattle.step.specs.Stages.{check-call, first-of, Ready, Tells, packed};
-
-// Records in a list of instructions.
-const MOST_INSTRUCTIONS: usize = 256;
-
-// Agents in a book, at most.
-const MOST_AGENTS: u16 = 16;
-
-// The lent tables, as the q of 2.
-const CONTENTS: u32 = 0;
-
-const INSTRUCTIONS: u32 = 3;
-
-// ---- answers
-
-fn answer(number: u32, p: u32, q: u32) -> Answer
-    ensures { λ r. ⌜ r ≡ record { number = number; p = p; q = q } ⌝ }
-{
-    Answer {
-        number: number,
-        p: p,
-        q: q,
-    }
-}
-
-// a if it refuses, and b otherwise.
-fn first_of(a: Answer, b: Answer) -> Answer
-    ensures { λ r. ⌜ r ≡ first-of a b ⌝ }
-{
-    if a.number == 0 { b } else { a }
-}
-
-// ---- the checks after the book's
-
-// How many agents there are.
-fn agents(image: &[u16; 4296]) -> u16
-    ensures { λ r. ⌜ (r ≡ length (book-in (now (image .entry)) [] .agents)) × (r ≤ 16) ⌝ }
-{
-    let n = table::word(image, 4);
-    if n < MOST_AGENTS { n } else { MOST_AGENTS }
-}
-
-// 9.
-fn check_agent(image: &[u16; 4296], agent: usize) -> Answer
-    ensures { λ r. ⌜ r ≡ answer-of (check-agent (book-in (now (image .entry)) []) agent) ⌝ }
-{
-    if agent < agents(image) as usize {
-        answer(0, 0, 0)
-    } else {
-        answer(text::LOG_LINE, 0, 0)
-    }
-}
-
-// 2, of contents and then of instructions.
-fn check_lent(image: &[u16; 4296], contents: &[u16], lent: usize) -> Answer
-    ensures { λ r. ⌜ r ≡ answer-of (check-lent-step (book-in (now (image .entry)) []) (now (contents .entry)) lent) ⌝ }
-{
-    let all = table::total(image);
-    if contents.len() < all as usize {
-        return answer(text::LENT_SHORT, all, CONTENTS);
-    }
-    if lent < MOST_INSTRUCTIONS {
-        return answer(text::LENT_SHORT, 256, INSTRUCTIONS);
-    }
-    answer(0, 0, 0)
-}
-
-// 8.
-fn check_contents(image: &[u16; 4296], contents: &[u16]) -> Answer
-    ensures { λ r. ⌜ r ≡ answer-of (check-contents (book-in (now (image .entry)) []) (take (L (book-in (now (image .entry)) [])) (now (contents .entry)))) ⌝ }
-{
-    let found = table::bad_value(image, contents);
-    match found {
-        Found::Here(l) => answer(text::CONTENTS_RULE, l, 0),
-        Found::Nowhere => answer(0, 0, 0),
-    }
-}
-
-// 9, 2 and 8.
-fn check_call(image: &[u16; 4296], contents: &[u16], agent: usize, lent: usize) -> Answer
-    ensures { λ r. ⌜ r ≡ answer-of (check-call (book-in (now (image .entry)) []) (now (contents .entry)) agent lent) ⌝ }
-{
-    let nine = check_agent(image, agent);
-    let two = check_lent(image, contents, lent);
-    let eight = check_contents(image, contents);
-    first_of(nine, first_of(two, eight))
-}
+ghost use Rattle.step.specs.Stages.{Ready, Tells, packed};
 
 // ---- the call in two halves, between which the instructions may go through a lent list
 
 // A call up to the list: its answer if it is refused before the move, else how the move's walk
 // ended; and how many instructions there are.
-pub struct Paused {
-    pub answer: Answer,
-    pub walk: State,
-    pub count: usize,
+struct Paused {
+    answer: Answer,
+    walk: State,
+    count: usize,
 }
 
 fn held_back(a: Answer) -> Paused
@@ -140,7 +52,11 @@ fn walk_first(image: &[u16; 4296], contents: &[u16], agent: u32, work: &mut [u64
     let all = table::total(image) as usize;
     let mut readers = [0u64; 1];
     let s = walk::gather(image, &contents[..all], &mut readers[..0], 1, work, agent);
-    let none = answer(0, 0, 0);
+    let none = Answer {
+        number: 0,
+        p: 0,
+        q: 0,
+    };
     let count = moves::given(s);
     Paused {
         answer: none,
@@ -164,7 +80,7 @@ fn first_half(
     if a.number != 0 {
         return held_back(a);
     }
-    let b = check_call(image, contents, agent, lent);
+    let b = calls::check_call(image, contents, agent, lent);
     if b.number != 0 {
         return held_back(b);
     }
@@ -199,7 +115,11 @@ fn second_half(contents: &mut [u16], image: &[u16; 4296], work: &[u64; 256], p: 
         work,
         s,
     );
-    answer(v.number, 0, v.q)
+    Answer {
+        number: v.number,
+        p: 0,
+        q: v.q,
+    }
 }
 
 // ---- the entries

@@ -1,8 +1,9 @@
+-- `first_half` meets its contract.
 use borrow.Author.Needs.{needs}
 use mathlib.Core.Path.{_≡_}
 use native.Mathlib.Omega.{arith}
 use Rattle.step.proofs.Halves.{halted-half, walked-half}
-use Rattle.step.proofs.Checks.{agents-low}
+use Rattle.calls.proofs.Checks.{agents-low}
 use Rattle.step.proofs.Whole.{refused-book, refused-call, shown, ready, moved}
 use Rattle.step.proofs.first_half.Statement.{statement}
 use Rattle.step.proofs.first_half.Tie as tie

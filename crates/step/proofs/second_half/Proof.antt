@@ -1,3 +1,4 @@
+-- `second_half` meets its contract.
 use native.Mathlib.Omega.{arith}
 use lib.Seq.{length-take-le}
 use mathlib.Core.Path.{sym}
@@ -39,14 +40,16 @@ slice-aggregate-settle-move-3 c = search needs
 settle-move-requires : tie.Need-settle-move-requires
 settle-move-requires c κs = search needs
 
-answer-requires : tie.Need-answer-requires
-answer-requires c κs = search needs
-
 same-length : tie.Need-same-length
 same-length c = search needs
 
 returns-2 : tie.Need-returns-2
-returns-2 c = let a = c .before .before .before .before .before .before .before .before .before .before .before .before .before .before .before .before .args in let m = c .before .before .before .before .before .settle-move in λ text k n h. second-moves text (a .contents .now) k n (a .image .now) (a .work .now) (a .p) h (c .before .before .before .before .before .before .before .before .before .before .before .before .if1 .left) (c .before .before .before .before .before .before .before .before .before .before .before .total .result) (c .before .before .before .before .before .before .before .before .before .before .smaller .result) (c .before .before .before .before .before .before .before .before .before .before .before .total .ensures) (c .before .before .before .before .before .before .before .before .before .before .smaller .ensures) (m .result) (m .last .1 .0) (m .last .1 .1 .0) (m .last .1 .1 .1 .0) (m .ensures .0) (c .answer .result) (c .answer .ensures)
+returns-2 c =
+    let a = c .before .before .before .before .before .before .before .before .before .before .before .before .before .before .before .args in
+    let t = c .before .before .before .before .before .before .before .before .before .before .total in
+    let n = c .before .before .before .before .before .before .before .before .before .smaller in
+    let m = c .before .before .before .before .settle-move in
+    λ text k i h. second-moves text (a .contents .now) k i (a .image .now) (a .work .now) (a .p) h (c .before .before .before .before .before .before .before .before .before .before .before .if1 .left) (t .result) (n .result) (t .ensures) (n .ensures) (m .result) (m .last .1 .0) (m .last .1 .1 .0) (m .last .1 .1 .1 .0) (m .ensures .0)
 
 pub second-half-spec : {M : Type 1} → statement M
 second-half-spec =
@@ -63,6 +66,5 @@ second-half-spec =
     array-borrow-prefix-writers
     slice-aggregate-settle-move-3
     settle-move-requires
-    answer-requires
     same-length
     returns-2)

@@ -1,12 +1,11 @@
-use Prim.Native.Nat.{ℕ}
-use lib.ListN.{length}
+-- `walk_first` meets its contract.
+use mathlib.Core.Path.{_≡_, refl, sym, _∙_}
 use mathlib.Core.List.{[]}
-use Rattle.book.specs.Image.{book-in}
-use Rattle.text.specs.declared.Answer.{Answer}
-use Rattle.step.proofs.Halves.{on}
 use native.Mathlib.Omega.{arith}
+use lib.ListN.{length}
 use lib.Seq.{length-take-le}
-use mathlib.Core.Path.{_≡_, sym, ap, _∙_}
+use Rattle.book.specs.Image.{book-in}
+use Rattle.step.proofs.Halves.{on}
 use borrow.Author.Needs.{needs}
 use Rattle.step.proofs.walk_first.Statement.{statement}
 use Rattle.step.proofs.walk_first.Tie as tie
@@ -29,14 +28,17 @@ slice-aggregate-gather-2 c = search needs
 gather-requires : tie.Need-gather-requires
 gather-requires c κs = search needs
 
-answer-requires : tie.Need-answer-requires
-answer-requires c κs = search needs
-
 given-requires : tie.Need-given-requires
 given-requires c κs = search needs
 
 returns : tie.Need-returns
-returns c = let a = c .before .before .before .before .before .before .before .before .before .args in let g = c .before .before .before .gather in let long : length (a .work .now) ≡ 256 = omega (arith, c .before .before .before .before .before .before .before .before .before .good) in let p = c .before .before .before .before .before .before .before .before .before .pre in ((ap (λ (r : Answer). r .number) (c .before .answer .ensures), c .given .ensures), on (book-in (a .image .now) []) (a .contents .now) (a .agent) (c .before .before .before .before .before .before .before .total .result) (g .last .1 .1 .1 .1 .0) (g .result) (g .last .1 .1 .0) (c .before .before .before .before .before .before .before .total .ensures) (p .0) (p .1) (g .kept .1 .1 .0) (g .kept .1 .1 .1 .1 .0 ∙ long) (g .ensures (omega (arith, c .before .before .before .before .before .before .before .before .before .good))))
+returns c =
+    let s = c .before .before .before .before .before .before .before .before in
+    let a = s .args in
+    let t = c .before .before .before .before .before .before .total in
+    let g = c .before .before .gather in
+    let long : length (a .work .now) ≡ 256 = omega (arith, s .good) in
+    ((refl, c .given .ensures), on (book-in (a .image .now) []) (a .contents .now) (a .agent) (t .result) (g .last .1 .1 .1 .1 .0) (g .result) (g .last .1 .1 .0) (t .ensures) (s .pre .0) (s .pre .1) (g .kept .1 .1 .0) (g .kept .1 .1 .1 .1 .0 ∙ long) (g .ensures (omega (arith, long))))
 
 pub walk-first-spec : {M : Type 1} → statement M
 walk-first-spec =
@@ -48,6 +50,5 @@ walk-first-spec =
     array-borrow-prefix-readers
     slice-aggregate-gather-2
     gather-requires
-    answer-requires
     given-requires
     returns)

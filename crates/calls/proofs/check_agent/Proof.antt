@@ -1,11 +1,12 @@
-use Rattle.step.proofs.Checks.{agent-there, agent-missing}
+-- `check_agent` meets its contract.
+use Rattle.calls.proofs.Checks.{agent-there, agent-missing}
 use Rattle.book.specs.Image.{book-in}
 use native.Mathlib.Omega.{arith}
 use mathlib.Core.List.{[]}
 use mathlib.Core.Path.{_∙_}
 use borrow.Author.Needs.{needs}
-use Rattle.step.proofs.check_agent.Statement.{statement}
-use Rattle.step.proofs.check_agent.Tie as tie
+use Rattle.calls.proofs.check_agent.Statement.{statement}
+use Rattle.calls.proofs.check_agent.Tie as tie
 
 agents-requires : tie.Need-agents-requires
 agents-requires c κs = search needs

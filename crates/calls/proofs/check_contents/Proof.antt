@@ -1,12 +1,13 @@
-use Rattle.step.proofs.Checks.{value-bad, values-fine}
+-- `check_contents` meets its contract.
+use Rattle.calls.proofs.Checks.{value-bad, values-fine}
 use Rattle.book.specs.Book.{L}
 use Rattle.book.specs.Image.{book-in}
 use lib.ListN.{take}
 use mathlib.Core.List.{[]}
 use mathlib.Core.Path.{_∙_, sym}
 use borrow.Author.Needs.{needs}
-use Rattle.step.proofs.check_contents.Statement.{statement}
-use Rattle.step.proofs.check_contents.Tie as tie
+use Rattle.calls.proofs.check_contents.Statement.{statement}
+use Rattle.calls.proofs.check_contents.Tie as tie
 
 bad-value-requires : tie.Need-bad-value-requires
 bad-value-requires c κs = search needs

@@ -1,8 +1,9 @@
-use Rattle.step.proofs.Checks.{agents-few, agents-most}
+-- `agents` meets its contract.
+use Rattle.calls.proofs.Checks.{agents-few, agents-most}
 use native.Mathlib.Omega.{arith}
 use borrow.Author.Needs.{needs}
-use Rattle.step.proofs.agents.Statement.{statement}
-use Rattle.step.proofs.agents.Tie as tie
+use Rattle.calls.proofs.agents.Statement.{statement}
+use Rattle.calls.proofs.agents.Tie as tie
 
 word-requires : tie.Need-word-requires
 word-requires c κs = search needs

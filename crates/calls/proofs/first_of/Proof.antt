@@ -1,7 +1,8 @@
+-- `first_of` meets its contract.
 use borrow.Author.Tests.{eq-eqb, ne-eqb}
 use native.Mathlib.Omega.{arith}
-use Rattle.step.proofs.first_of.Statement.{statement}
-use Rattle.step.proofs.first_of.Tie as tie
+use Rattle.calls.proofs.first_of.Statement.{statement}
+use Rattle.calls.proofs.first_of.Tie as tie
 
 returns : tie.Need-returns
 returns c = let a = c .before .before .args .a in rw (eq-eqb (a .number) 0 (omega (arith, c .if1 .taken)))

@@ -17,8 +17,8 @@ use Rattle.book.specs.Book.{Book, L}
 use Rattle.book.specs.Contents.{bad-value}
 use Rattle.book.specs.Image.{word, capped, book-in}
 use Rattle.engine.specs.Single.{check-agent, check-lent-step, check-contents}
-use Rattle.step.specs.Stages.{check-call, first-of}
-use Rattle.step.proofs.Numbered.{Numbered, agent-numbered, lent-numbered}
+use Rattle.calls.specs.Call.{check-call, first-of}
+use Rattle.calls.proofs.Numbered.{Numbered, agent-numbered, lent-numbered}
 
 abbrev pub Refusal : ℕ → ℕ → ℕ → Answer
 Refusal n p q = record { number = n; p = p; q = q }

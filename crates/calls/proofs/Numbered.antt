@@ -16,7 +16,7 @@ use Rattle.engine.specs.declared.Instruction.{Instruction}
 use Rattle.engine.specs.Move.{Input, Moved, fires, stopped, walked, made-by, move}
 use Rattle.engine.specs.Single.{check-agent, check-lent-step, check-contents, check-step, stepped, step-answer, step-call}
 use Rattle.engine.proofs.Numbers.{move-number}
-use Rattle.step.specs.Stages.{check-call}
+use Rattle.calls.specs.Call.{check-call}
 
 abbrev Between : {A : Type 0} → Checked A → Type 0
 Between (good a) = Unit {0}

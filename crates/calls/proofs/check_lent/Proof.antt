@@ -1,12 +1,13 @@
-use Rattle.step.proofs.Checks.{Refusal, contents-short, list-short, both-lent}
+-- `check_lent` meets its contract.
+use Rattle.calls.proofs.Checks.{Refusal, contents-short, list-short, both-lent}
 use Rattle.book.specs.Image.{book-in}
 use native.Mathlib.Omega.{arith}
 use Prim.Native.Nat.{ℕ}
 use mathlib.Core.List.{[]}
 use mathlib.Core.Path.{_∙_, ap}
 use borrow.Author.Needs.{needs}
-use Rattle.step.proofs.check_lent.Statement.{statement}
-use Rattle.step.proofs.check_lent.Tie as tie
+use Rattle.calls.proofs.check_lent.Statement.{statement}
+use Rattle.calls.proofs.check_lent.Tie as tie
 
 total-requires : tie.Need-total-requires
 total-requires c κs = search needs

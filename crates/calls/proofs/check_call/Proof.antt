@@ -1,9 +1,10 @@
-use Rattle.step.proofs.Checks.{all-three}
+-- `check_call` meets its contract.
+use Rattle.calls.proofs.Checks.{all-three}
 use Rattle.book.specs.Image.{book-in}
 use mathlib.Core.List.{[]}
 use borrow.Author.Needs.{needs}
-use Rattle.step.proofs.check_call.Statement.{statement}
-use Rattle.step.proofs.check_call.Tie as tie
+use Rattle.calls.proofs.check_call.Statement.{statement}
+use Rattle.calls.proofs.check_call.Tie as tie
 
 check-agent-requires : tie.Need-check-agent-requires
 check-agent-requires c κs = search needs
