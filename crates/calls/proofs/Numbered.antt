@@ -1,6 +1,5 @@
 -- Each check refuses with a number from 1 to 10, so an answer of number 0 accepts; and a whole call answers at most 16.
-use mathlib.Core.Path.{_≡_, refl, ap, _∙_}
-use mathlib.Core.Logic.{_≢_}
+use mathlib.Core.Path.{_≡_, refl}
 use mathlib.Core.Bool.{Bool, true, false}
 use mathlib.Core.List.{List}
 use Prim.Native.Nat.{ℕ, _≤_}

@@ -9,7 +9,7 @@ use lib.ListN.{length, take, drop}
 use Rattle.text.specs.declared.Answer.{Answer}
 use Rattle.book.specs.Book.{Book, L}
 use Rattle.book.specs.Image.{book-in}
-use Rattle.engine.specs.Move.{Input, Moved, fires, stopped, walked, made-by, move}
+use Rattle.engine.specs.Move.{Moved, fires, stopped, walked, made-by, move}
 use Rattle.engine.specs.Single.{Stepped, stepped, step-move, step-call}
 use Rattle.records.specs.Code.{items}
 use Rattle.walk.specs.declared.State.{State}
@@ -21,7 +21,7 @@ use Rattle.moves.specs.Effect.{Tables, tables, Effect, After}
 use Rattle.moves.proofs.Count.{given-few, made-of, same-outcome}
 use Rattle.step.specs.declared.Paused.{Paused}
 use Rattle.step.specs.Stages.{Ready, Tells}
-use Rattle.step.specs.Halves.{On, Walks, Halfway}
+use Rattle.step.specs.Halves.{On, Halfway}
 use Rattle.step.proofs.Fired.{fit, answer-by, moved-step}
 
 -- ---- the first half

@@ -1,7 +1,6 @@
 -- `given` meets its contract.
 use native.Mathlib.Omega.{arith}
 use Rattle.moves.proofs.Count.{given-none, given-some}
-use borrow.Author.Needs.{needs}
 use Rattle.moves.proofs.given.Statement.{statement}
 use Rattle.moves.proofs.given.Tie as tie
 
