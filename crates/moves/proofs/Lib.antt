@@ -1,3 +1,4 @@
 pub mod Marks
 pub mod Effect
 pub mod Releases
+pub mod Count

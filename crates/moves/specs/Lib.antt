@@ -1,2 +1,3 @@
 pub mod Effect
 pub mod Close
+pub mod Count

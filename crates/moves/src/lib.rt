@@ -13,12 +13,29 @@ ghost use Rattle.term.specs.Marks.{marked};
 ghost use Rattle.walk.specs.Gather.{cleared};
 ghost use Rattle.moves.specs.Effect.{Fit, Effect, Tables, tables, After};
 ghost use Rattle.moves.specs.Close.{told, verdict-of, closed, Finished};
+ghost use Rattle.moves.specs.Count.{given-of};
+
+// Instructions of a move, at most.
+const MOST_INSTRUCTIONS: usize = 256;
 
 // A move's number, 0 if it fired, its q, and how many instructions the list holds: those of a walk that came to its end.
 pub struct Verdict {
     pub number: u32,
     pub q: u32,
     pub len: usize,
+}
+
+// How many instructions a walk gave: none if it was refused.
+pub fn given(s: State) -> usize
+    ensures { λ r. ⌜ r ≡ given-of s ⌝ }
+{
+    if s.refused != 0 {
+        return 0;
+    }
+    if s.len < MOST_INSTRUCTIONS {
+        return s.len;
+    }
+    MOST_INSTRUCTIONS
 }
 
 fn is_release(what: Instruction) -> bool

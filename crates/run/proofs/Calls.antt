@@ -37,7 +37,7 @@ use Rattle.walk.specs.Walk.{outcome}
 use Rattle.walk.specs.Gather.{Gathered}
 use Rattle.engine.specs.Rule.{Walked}
 use Rattle.text.specs.Text.{line}
-use Rattle.step.proofs.Halves.{given-few, same-outcome}
+use Rattle.moves.proofs.Count.{given-few, same-outcome}
 use Rattle.run.proofs.Laps.{walking-lists}
 
 -- ---- what a call gives

@@ -24,8 +24,8 @@ use Rattle.order.specs.Log.{Log, move-at, input-of, log-of}
 use Rattle.order.specs.Run.{Run, Ran, ran, halted, moved, run, last-made, touching, order-checked, run-log}
 use Rattle.order.specs.Lists.{lists-after, lists-from}
 use Rattle.log.proofs.Pass.{agent-at}
-use Rattle.step.specs.Halves.{given-of}
-use Rattle.step.proofs.Halves.{made-of}
+use Rattle.moves.specs.Count.{given-of}
+use Rattle.moves.proofs.Count.{made-of}
 use Rattle.run.specs.declared.Turn.{Turn}
 use Rattle.run.specs.Turns.{log-in, Begun, Holds, Done, Passed, RowsOf, answered}
 use Rattle.run.specs.Laps.{Before, Walking, Stage}

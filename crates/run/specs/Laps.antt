@@ -16,7 +16,7 @@ use Rattle.order.specs.Log.{Log}
 use Rattle.order.specs.Run.{Run, Ran, ran, halted, run, last-made, run-log}
 use Rattle.order.specs.Lists.{lists-from}
 use Rattle.order.specs.Call.{Tables, left-in, log-call}
-use Rattle.step.specs.Halves.{given-of}
+use Rattle.moves.specs.Count.{given-of}
 use Rattle.run.specs.declared.Turn.{Turn}
 use Rattle.run.specs.Turns.{log-in, Begun, Holds, Passed, answered}
 

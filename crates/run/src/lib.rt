@@ -329,7 +329,7 @@ fn walk_on(
         let agent = log::agent_of(log, i);
         let bit = bit_of(i);
         let s = walk::gather(image, contents, readers, bit, work, agent);
-        let count = step::given(s);
+        let count = moves::given(s);
         let none = triple(0, 0, 0);
         return Turn {
             more: true,

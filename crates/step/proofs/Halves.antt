@@ -6,54 +6,23 @@ use Prim.Native.Nat.{ℕ, _≤_, min}
 use native.Mathlib.Decide.{ℕ-discrete}
 use native.Mathlib.Omega.{arith}
 use lib.ListN.{length, take, drop}
-use borrow.Author.Tests.{eq-eqb, ne-eqb}
 use Rattle.text.specs.declared.Answer.{Answer}
 use Rattle.book.specs.Book.{Book, L}
 use Rattle.book.specs.Image.{book-in}
-use Rattle.engine.specs.declared.Instruction.{Instruction}
-use Rattle.engine.specs.Rule.{Walked, going, met}
-use Rattle.engine.specs.Move.{Input, Moved, fires, stopped, walked, made-by, move}
+use Rattle.engine.specs.Move.{Moved, fires, stopped, walked, made-by, move}
 use Rattle.engine.specs.Single.{Stepped, stepped, step-move, step-call}
 use Rattle.records.specs.Code.{items}
-use Rattle.records.proofs.Lists.{clipped}
 use Rattle.walk.specs.declared.State.{State}
 use Rattle.walk.specs.Walk.{outcome}
 use Rattle.walk.specs.Gather.{Gathered}
-use Rattle.walk.proofs.Steps.{outcome-going, outcome-met}
 use Rattle.moves.specs.declared.Verdict.{Verdict}
+use Rattle.moves.specs.Count.{given-of}
 use Rattle.moves.specs.Effect.{Tables, tables, Effect, After}
+use Rattle.moves.proofs.Count.{given-few, made-of, same-outcome}
 use Rattle.step.specs.declared.Paused.{Paused}
 use Rattle.step.specs.Stages.{Ready, Tells}
-use Rattle.step.specs.Halves.{given-of, On, Walks, Halfway}
-use Rattle.step.proofs.Fired.{fit, effect-told, first-step}
-
--- ---- how many there are
-
-pub given-none : (s : State) → s .refused ≢ 0 → 0 ≡ given-of s
-given-none s h = rw (ne-eqb (s .refused) 0 h)
-
-pub given-some : (s : State) (n : ℕ) → s .refused ≡ 0 → n ≡ min (s .len) 256 → n ≡ given-of s
-given-some s n h e = rw (eq-eqb (s .refused) 0 h) e
-
-pub given-few : (s : State) → given-of s ≤ 256
-given-few s = dite (ℕ-discrete (s .refused) 0)
-    (λ (h : s .refused ≡ 0). rw (eq-eqb (s .refused) 0 h) (omega arith))
-    (λ (h : s .refused ≢ 0). rw (ne-eqb (s .refused) 0 h) (omega arith))
-
--- what the list holds
-pub made-of : (s : State) (l : List ℕ) → length l ≡ 256 → items l (given-of s) ≡ made-by (outcome s l)
-made-of s l e = dite (ℕ-discrete (s .refused) 0)
-    (λ (h : s .refused ≡ 0). rw (outcome-going s l h, eq-eqb (s .refused) 0 h) (clipped l (s .len) (min (s .len) 256) (omega arith)))
-    (λ (h : s .refused ≢ 0). rw (outcome-met s l h, ne-eqb (s .refused) 0 h))
-
--- and another list that holds the same
-pub same-outcome : (s : State) (l l′ : List ℕ) → length l ≡ 256 → length l′ ≡ 256 → items l′ (given-of s) ≡ items l (given-of s) → outcome s l′ ≡ outcome s l
-same-outcome s l l′ e e′ q = dite (ℕ-discrete (s .refused) 0)
-    (λ (h : s .refused ≡ 0).
-    let i : items l′ (s .len) ≡ items l (s .len) =
-    sym (clipped l′ (s .len) (min (s .len) 256) (omega arith)) ∙ (rw (eq-eqb (s .refused) 0 h) at q) ∙ clipped l (s .len) (min (s .len) 256) (omega arith) in
-    outcome-going s l′ h ∙ ap (λ (is : List Instruction). going (record { made = is; next = s .label })) i ∙ sym (outcome-going s l h))
-    (λ (h : s .refused ≢ 0). outcome-met s l′ h ∙ sym (outcome-met s l h))
+use Rattle.step.specs.Halves.{On, Halfway}
+use Rattle.step.proofs.Fired.{fit, answer-by, moved-step}
 
 -- ---- the first half
 
@@ -61,10 +30,11 @@ nil-of : (xs : List ℕ) → length xs ≡ 0 → xs ≡ []
 nil-of [] e = refl
 nil-of (x ∷ xs) e = absurd (omega (arith, e))
 
-pub on : (B : Book) (c : List ℕ) (k n : ℕ) (l : List ℕ) (s : State) (rs : List ℕ) → n ≡ L B → L B ≤ length c → Ready B (take (L B) c) k → length rs ≡ 0
+pub on : (B : Book) (c : List ℕ) (k n : ℕ) (l : List ℕ) (s : State) (rs : List ℕ) → n ≡ L B → L B ≤ length c → Ready B (take (L B) c) k → length rs ≡ 0 → length l ≡ 256
     → Gathered B (take n c) 1 k (outcome s l) [] rs → On B c k l s
-on B c k n l s rs e h r z g = record {
+on B c k n l s rs e h r z f g = record {
   long = h;
+  room = f;
   after = record {
     fit = fit B (take (L B) c) k r;
     contents = refl;
@@ -98,13 +68,18 @@ module _ (text c : List ℕ) (k n : ℕ) (m l : List ℕ) (p : Paused) (h : Half
   A = book-in m []
 
   -- the instructions of the call
-  pub half-made : length l ≡ 256 → items l (p .count) ≡ step-call text c k n .instructions
-  half-made e = dite (ℕ-discrete (p .answer .number) 0)
+  pub half-made : items l (p .count) ≡ step-call text c k n .instructions
+  half-made = dite (ℕ-discrete (p .answer .number) 0)
       (λ (z : p .answer .number ≡ 0).
       let w = h .walks z in
       let o = w .1 .on in
-      ap (items l) (w .0) ∙ made-of (p .walk) l e ∙ ap made-by (o .after .readers .outcome) ∙ sym (step-instructions A c k) ∙ ap (λ (s : Stepped). s .instructions) (w .1 .whole))
+      ap (items l) (w .0) ∙ made-of (p .walk) l (o .room) ∙ ap made-by (o .after .readers .outcome) ∙ sym (step-instructions A c k) ∙ ap (λ (s : Stepped). s .instructions) (w .1 .whole))
       (λ (z : p .answer .number ≢ 0). ap (items l) (h .stops z .0) ∙ h .stops z .1 .instructions)
+
+  -- and its answer and contents
+  half-tells : (a : Answer) (d : List ℕ) → (a ≡ step-call text c k n .answer) × (d ≡ step-call text c k n .contents)
+      → Tells (record { answer = a; len = p .count }) l d (step-call text c k n)
+  half-tells a d s = record { answer = s .0; instructions = half-made; contents = s .1 }
 
   pub half-few : (p .count ≤ 256) × (p .count ≤ n)
   half-few = dite (ℕ-discrete (p .answer .number) 0)
@@ -112,18 +87,19 @@ module _ (text c : List ℕ) (k n : ℕ) (m l : List ℕ) (p : Paused) (h : Half
       (λ (z : p .answer .number ≢ 0). (omega (arith, h .stops z .0), omega (arith, h .stops z .0)))
 
   -- any list that holds the same will do
-  pub half-passed : (l′ : List ℕ) → length l ≡ 256 → length l′ ≡ 256 → items l′ (p .count) ≡ items l (p .count) → Halfway text c k n m l′ p
-  half-passed l′ e e′ q = record {
-    stops = λ z. let s = h .stops z in (s .0, record { answer = s .1 .answer; instructions = s .1 .instructions; room = s .1 .room; contents = s .1 .contents });
+  pub half-passed : (l′ : List ℕ) → length l′ ≡ 256 → items l′ (p .count) ≡ items l (p .count) → Halfway text c k n m l′ p
+  half-passed l′ e q = record {
+    stops = λ z. let s = h .stops z in (s .0, record { answer = s .1 .answer; instructions = s .1 .instructions; contents = s .1 .contents });
     walks = λ z.
         let w = h .walks z in
         let o = w .1 .on in
-        let i : outcome (p .walk) l′ ≡ outcome (p .walk) l = same-outcome (p .walk) l l′ e e′ (rw (w .0) at q) in (
+        let i : outcome (p .walk) l′ ≡ outcome (p .walk) l = same-outcome (p .walk) l l′ (o .room) e (rw (w .0) at q) in (
           w .0,
           record {
             lent = w .1 .lent;
             on = record {
               long = o .long;
+              room = e;
               after = record {
                 fit = o .after .fit;
                 contents = o .after .contents;
@@ -138,18 +114,17 @@ module _ (text c : List ℕ) (k n : ℕ) (m l : List ℕ) (p : Paused) (h : Half
 
   -- ---- the second half
 
-  pub second-stops : p .answer .number ≢ 0 → (p .answer ≡ step-call text c k n .answer) × (c ≡ step-call text c k n .contents)
-  second-stops z = let t = h .stops z .1 in (t .answer, t .contents)
+  pub second-stops : p .answer .number ≢ 0 → Tells (record { answer = p .answer; len = p .count }) l c (step-call text c k n)
+  second-stops z = let t = h .stops z .1 in half-tells (p .answer) c (t .answer, t .contents)
 
   pub second-moves : p .answer .number ≡ 0 → (all j : ℕ) → all ≡ L A → j ≡ min all (length c) → (v : Verdict) (d rs ws : List ℕ)
-      → ((i : ℕ) (t : Tables) → After A i 1 t (p .walk) l (tables (take j c) [] []) → Effect A i 1 t v l (tables d rs ws)) → v .len ≤ 256
-      → (a : Answer) → a ≡ record { number = v .number; p = 0; q = v .q }
-      → (a ≡ step-call text c k n .answer) × (d ++ drop j c ≡ step-call text c k n .contents)
-  second-moves z all j ea ej v d rs ws does few a ha =
+      → ((i : ℕ) (t : Tables) → After A i 1 t (p .walk) l (tables (take j c) [] []) → Effect A i 1 t v l (tables d rs ws))
+      → Tells (record { answer = answer-by v; len = p .count }) l (d ++ drop j c) (step-call text c k n)
+  second-moves z all j ea ej v d rs ws does =
       let w = h .walks z .1 in
       let o = w .on in
       let e : j ≡ L A = omega (arith, ea, ej, o .long) in
       let after : After A k 1 (tables (take j c) [] []) (p .walk) l (tables (take j c) [] []) =
       subst (λ (i : ℕ). After A k 1 (tables (take i c) [] []) (p .walk) l (tables (take i c) [] [])) (sym e) (o .after) in
-      let t = first-step A c k j e (omega (arith, e, o .long)) (record { answer = a; len = v .len }) l d (effect-told A k (take j c) [] [] v l d rs ws (does k (tables (take j c) [] []) after) few a ha) in
-      (t .answer ∙ ap (λ (s : Stepped). s .answer) (w .whole), t .contents ∙ ap (λ (s : Stepped). s .contents) (w .whole))
+      let t = moved-step A c k j e (omega (arith, e, o .long)) v l d rs ws (does k (tables (take j c) [] []) after) in
+      half-tells (answer-by v) (d ++ drop j c) (t .0 ∙ ap (λ (s : Stepped). s .answer) (w .whole), t .1 ∙ ap (λ (s : Stepped). s .contents) (w .whole))

@@ -2,9 +2,8 @@
 use mathlib.Core.Path.{_≡_, refl, sym, ap, subst, _∙_}
 use mathlib.Core.Logic.{_≢_}
 use mathlib.Core.List.{List, []}
-use Prim.Native.Nat.{ℕ, _≤_}
-use native.Mathlib.Omega.{arith}
-use lib.ListN.{length, take}
+use Prim.Native.Nat.{ℕ}
+use lib.ListN.{take}
 use lib.Seq.{length-take-le}
 use Rattle.text.specs.declared.Answer.{Answer}
 use Rattle.text.specs.Words.{Checked, good, refused, _>>=_, _>>_, answer-of}
@@ -18,10 +17,11 @@ use Rattle.book.proofs.Claims.{accepted-table}
 use Rattle.engine.specs.Move.{Input}
 use Rattle.engine.specs.Single.{check-agent, check-lent-step, check-contents, check-step, step-move, step-answer, step-call}
 use Rattle.records.specs.declared.Told.{Told}
-use Rattle.step.specs.Stages.{check-call, Ready, Tells}
-use Rattle.step.proofs.Numbered.{book-numbered, call-numbered, accepts}
-use Rattle.step.proofs.Checks.{Passed, call-passed}
-use Rattle.step.proofs.Same.{lawful-same, walked-same, move-same, L-same, call-same}
+use Rattle.calls.specs.Call.{check-call}
+use Rattle.step.specs.Stages.{Ready, Tells}
+use Rattle.calls.proofs.Numbered.{book-numbered, call-numbered, accepts}
+use Rattle.calls.proofs.Checks.{Passed, call-passed}
+use Rattle.calls.proofs.Same.{lawful-same, walked-same, move-same, L-same, call-same}
 
 -- a refusal before the move: no instruction, and the contents as they were
 abbrev none : Answer → Told
@@ -31,12 +31,12 @@ module _ (c l : List ℕ) (k : ℕ) where
   book-stops : (x : Checked Book) (f : Book → Checked Book) → answer-of x .number ≢ 0 → Tells (none (answer-of x)) l c (step-answer c k (x >>= f))
   unfolding _>>=_
   book-stops (good B) f h = absurd (h refl)
-  book-stops (refused n p q) f h = record { answer = refl; instructions = refl; room = omega arith; contents = refl }
+  book-stops (refused n p q) f h = record { answer = refl; instructions = refl; contents = refl }
 
   call-stops : (x : Checked (Unit {0})) (B : Book) → answer-of x .number ≢ 0 → Tells (none (answer-of x)) l c (step-answer c k (x >> good B))
   unfolding _>>_
   call-stops (good u) B h = absurd (h refl)
-  call-stops (refused n p q) B h = record { answer = refl; instructions = refl; room = omega arith; contents = refl }
+  call-stops (refused n p q) B h = record { answer = refl; instructions = refl; contents = refl }
 
   call-goes : (x : Checked (Unit {0})) (u : Unit {0}) (B : Book) → x ≡ good u → step-answer c k (x >> good B) ≡ step-move B c k
   unfolding _>>_
@@ -47,6 +47,12 @@ module _ (c l : List ℕ) (k : ℕ) where
       let d = take (L (book-in m es)) c in
       let i : Input = record { agent = k } in
       rw (L-same m es, walked-same m es d i, move-same m es d i)
+
+-- what a call has passed before its move, whose image is m, and that the move is all that is left of it
+pub record Cleared (text c : List ℕ) (k n : ℕ) (m : List ℕ) : Type 0 where
+  pub passed : Passed (book-in m []) c k n
+  pub ready : Ready (book-in m []) (take (L (book-in m [])) c) k
+  pub moved : step-move (book-in m []) c k ≡ step-call text c k n
 
 joined : {A : Type 0} (x y z : Checked (Unit {0})) (w : Checked A) → (x >> (y >> (z >> w))) ≡ ((x >> (y >> z)) >> w)
 unfolding _>>_
@@ -90,25 +96,28 @@ module _ (text c l : List ℕ) (k n : ℕ) where
         rw (e, step-good B (accepted-as .1)) (call-stops c l k (check-call B c k n) B (λ z. h (ap (λ (r : Answer). r .number) e ∙ z)))
 
     module _ (zero-b : b .number ≡ 0) where
-      passed : (u : Unit {0}) × (check-call (book-in m []) c k n ≡ good u)
-      passed = accepts (check-call (book-in m []) c k n) (call-numbered (book-in m []) c k n) (sym (ap (λ (r : Answer). r .number) call) ∙ zero-b)
+      goes : (u : Unit {0}) × (check-call (book-in m []) c k n ≡ good u)
+      goes = accepts (check-call (book-in m []) c k n) (call-numbered (book-in m []) c k n) (sym (ap (λ (r : Answer). r .number) call) ∙ zero-b)
 
-      pub shown : Passed (book-in m []) c k n
-      shown = call-passed (book-in m []) c k n (passed .0) (passed .1)
+      shown : Passed (book-in m []) c k n
+      shown = call-passed (book-in m []) c k n (goes .0) (goes .1)
 
       lawful : Lawful (book-in m [])
       lawful = lawful-same m (B .entries) (subst Lawful (sym held) (accepted text B (accepted-as .1)))
 
-      pub ready : Ready (book-in m []) (take (L (book-in m [])) c) k
+      ready : Ready (book-in m []) (take (L (book-in m [])) c) k
       ready = record {
         lawful = lawful;
         sound = accepted-table (book-in m []) lawful (take (L (book-in m [])) c) (length-take-le (L (book-in m [])) c (shown .long)) (shown .fine);
         agent = shown .agent;
       }
 
-      pub moved : step-move (book-in m []) c k ≡ step-call text c k n
+      moved : step-move (book-in m []) c k ≡ step-call text c k n
       moved =
           step-same c l k m (B .entries)
           ∙ ap (λ (A : Book). step-move A c k) held
-          ∙ sym (call-goes c l k (check-call B c k n) (passed .0) B (sym call-held ∙ passed .1))
+          ∙ sym (call-goes c l k (check-call B c k n) (goes .0) B (sym call-held ∙ goes .1))
           ∙ sym (step-good B (accepted-as .1))
+
+      pub cleared : Cleared text c k n m
+      cleared = record { passed = shown; ready = ready; moved = moved }

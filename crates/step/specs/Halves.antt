@@ -2,26 +2,22 @@
 use mathlib.Core.Path.{_≡_}
 use mathlib.Core.Logic.{_≢_}
 use mathlib.Core.List.{List, []}
-use Prim.Native.Nat.{ℕ, _≤_, min}
-use lib.Dec.{eqb}
+use Prim.Native.Nat.{ℕ, _≤_}
 use lib.ListN.{length, take}
-use Rattle.text.specs.Words.{if_then_else_}
 use Rattle.book.specs.Book.{Book, L}
 use Rattle.book.specs.Image.{book-in}
 use Rattle.engine.specs.Rule.{most-instructions}
 use Rattle.engine.specs.Single.{step-move, step-call}
 use Rattle.walk.specs.declared.State.{State}
+use Rattle.moves.specs.Count.{given-of}
 use Rattle.moves.specs.Effect.{tables, After}
 use Rattle.step.specs.declared.Paused.{Paused}
 use Rattle.step.specs.Stages.{Tells}
 
--- how many instructions a walk gave: none if it was refused
-abbrev pub given-of : State → ℕ
-given-of s = if eqb (s .refused) 0 then min (s .len) most-instructions else 0
-
--- agent k's walk in the first records of the table c came to the state s with the list l
+-- agent k's walk in the first records of the table c came to the state s with the list l, which has room for every instruction
 pub record On (B : Book) (c : List ℕ) (k : ℕ) (l : List ℕ) (s : State) : Type 0 where
   pub long : L B ≤ length c
+  pub room : length l ≡ most-instructions
   pub after : After B k 1 (tables (take (L B) c) [] []) s l (tables (take (L B) c) [] [])
 
 -- the call that was not refused before its move, whose image is m

@@ -1,35 +1,14 @@
--- The single-move entry in stages: its checks after the book's, the earlier of two answers, and what the move leaves (01, "Refused, and how").
+-- The single-move entry in stages: what the move is made on, and what a call leaves (01, "Refused, and how").
 use mathlib.Core.Path.{_≡_}
 use mathlib.Core.List.{List}
-use Prim.Native.Nat.{ℕ, _+_, _*_, _<_, _≤_}
-use lib.Dec.{eqb}
-use lib.ListN.{length, take}
+use Prim.Native.Nat.{ℕ, _+_, _*_, _<_}
+use lib.ListN.{length}
 use Rattle.text.specs.declared.Answer.{Answer}
-use Rattle.text.specs.Words.{if_then_else_, Checked, _>>_}
-use Rattle.book.specs.Book.{Book, L}
+use Rattle.book.specs.Book.{Book}
 use Rattle.book.specs.Sound.{Lawful, Sound}
-use Rattle.engine.specs.Rule.{most-instructions}
-use Rattle.engine.specs.Move.{Moved, fires, stopped, walked, made-by, move, fire}
-use Rattle.engine.specs.Single.{check-agent, check-lent-step, check-contents, Stepped}
+use Rattle.engine.specs.Single.{Stepped}
 use Rattle.records.specs.declared.Told.{Told}
 use Rattle.records.specs.Code.{items}
-
--- 9, 2 and 8 of an accepted book
-unfoldable pub check-call : Book → List ℕ → ℕ → ℕ → Checked (Unit {0})
-check-call B c k n = check-agent B k >> (check-lent-step B c n >> check-contents B (take (L B) c))
-
--- the answer a if it refuses, and b otherwise
-abbrev pub first-of : Answer → Answer → Answer
-first-of a b = if eqb (a .number) 0 then b else a
-
--- a move as move 0: its answer, and the contents that it leaves
-abbrev pub told : Moved → Answer
-told (fires f) = record { number = 0; p = 0; q = 0 }
-told (stopped n q) = record { number = n; p = 0; q = q }
-
-abbrev pub left-of : List ℕ → Moved → List ℕ
-left-of c (fires f) = fire (f .updates) c
-left-of c (stopped n q) = c
 
 -- what the move is made on: an accepted book, sound contents and one of its agents
 pub record Ready (B : Book) (c : List ℕ) (k : ℕ) : Type 0 where
@@ -37,18 +16,10 @@ pub record Ready (B : Book) (c : List ℕ) (k : ℕ) : Type 0 where
   pub sound : Sound B c
   pub agent : k < length (B .agents)
 
--- the move of agent k in the contents c: its answer and length r, the list l of its instructions, and the contents d that it leaves
-pub record Moves (B : Book) (c : List ℕ) (k : ℕ) (r : Told) (l d : List ℕ) : Type 0 where
-  pub answer : r .answer ≡ told (move B c (record { agent = k }))
-  pub made : items l (r .len) ≡ made-by (walked B c (record { agent = k }))
-  pub room : r .len ≤ most-instructions
-  pub contents : d ≡ left-of c (move B c (record { agent = k }))
-
 -- the answer and length r, the list l of numbers and the contents d are those of a call
 pub record Tells (r : Told) (l d : List ℕ) (s : Stepped) : Type 0 where
   pub answer : r .answer ≡ s .answer
   pub instructions : items l (r .len) ≡ s .instructions
-  pub room : r .len ≤ most-instructions
   pub contents : d ≡ s .contents
 
 -- for C: number × 2^48 + p × 2^24 + q; the places of 01 are below 2^24

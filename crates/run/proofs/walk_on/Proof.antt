@@ -10,7 +10,7 @@ use Rattle.run.proofs.bit_of.Reads as bit-of-reads
 use Rattle.run.proofs.check_order.Reads as check-order-reads
 use Rattle.run.proofs.ended.Reads as ended-reads
 use Rattle.run.proofs.triple.Reads as triple-reads
-use Rattle.step.proofs.given.Reads as given-reads
+use Rattle.moves.proofs.given.Reads as given-reads
 use Rattle.walk.proofs.gather.Reads as gather-reads
 
 -- src/lib.rt:171:13

@@ -1,53 +1,66 @@
-use borrow.Author.Needs.{needs}
+-- `first_half` meets its contract.
 use mathlib.Core.Path.{_≡_}
 use native.Mathlib.Omega.{arith}
+use Rattle.calls.proofs.Checks.{agents-low}
+use Rattle.step.proofs.Whole.{refused-book, refused-call, cleared}
 use Rattle.step.proofs.Halves.{halted-half, walked-half}
-use Rattle.step.proofs.Checks.{agents-low}
-use Rattle.step.proofs.Whole.{refused-book, refused-call, shown, ready, moved}
+use borrow.Author.Needs.{needs}
 use Rattle.step.proofs.first_half.Statement.{statement}
 use Rattle.step.proofs.first_half.Tie as tie
-use Rattle.step.proofs.first_half.Reads as reads
-use Rattle.step.proofs.first_half.Lts as lts
-use Rattle.open.proofs.open.Reads as open-reads
-use Rattle.step.proofs.check_call.Reads as check-call-reads
-use Rattle.step.proofs.held_back.Reads as held-back-reads
-use Rattle.step.proofs.walk_first.Reads as walk-first-reads
 
--- src/lib.rt:256:9
 open-requires : tie.Need-open-requires
 open-requires c κs = search needs
 
--- src/lib.rt:258:9
 held-back-requires : tie.Need-held-back-requires
 held-back-requires c κs = search needs
 
--- src/lib.rt:258:9
 returns : tie.Need-returns
-returns c = let a = c .before .before .before .before .before .before .before .args in let o = c .before .before .before .«open» in let z : (o .result .number ≡ 0) → ⊥ = λ e. omega (arith, c .before .if1 .taken, e) in halted-half (a .book .now) (a .contents .now) (a .agent) (a .lent) (o .last .1 .0) (a .work .now) (c .held-back .result) (o .result) (c .held-back .ensures .0) (c .held-back .ensures .1) z (refused-book (a .book .now) (a .contents .now) (a .work .now) (a .agent) (a .lent) (o .result) (o .ensures .0) z)
+returns c =
+    let a = c .before .before .before .before .before .before .before .args in
+    let o = c .before .before .before .«open» in
+    let h = c .held-back in
+    let z : (o .result .number ≡ 0) → ⊥ = λ e. omega (arith, c .before .if1 .taken, e) in
+    halted-half (a .book .now) (a .contents .now) (a .agent) (a .lent) (o .last .1 .0) (a .work .now) (h .result) (o .result) (h .ensures .0) (h .ensures .1) z (refused-book (a .book .now) (a .contents .now) (a .work .now) (a .agent) (a .lent) (o .result) (o .ensures .0) z)
 
--- src/lib.rt:260:9
 check-call-requires : tie.Need-check-call-requires
 check-call-requires c κs = search needs
 
--- src/lib.rt:262:9
 held-back-requires-2 : tie.Need-held-back-requires-2
 held-back-requires-2 c κs = search needs
 
--- src/lib.rt:262:9
 returns-2 : tie.Need-returns-2
-returns-2 c = let a = c .before .before .before .before .before .before .before .before .before .before .before .args in let o = c .before .before .before .before .before .before .before .«open» in let d = c .before .before .before .check-call in let z : (d .result .number ≡ 0) → ⊥ = λ e. omega (arith, c .before .if2 .taken, e) in halted-half (a .book .now) (a .contents .now) (a .agent) (a .lent) (o .last .1 .0) (a .work .now) (c .held-back2 .result) (d .result) (c .held-back2 .ensures .0) (c .held-back2 .ensures .1) z (refused-call (a .book .now) (a .contents .now) (a .work .now) (a .agent) (a .lent) (o .last .1 .0) (o .ensures .1) (o .result) (o .ensures .0) (omega (arith, c .before .before .before .before .before .if1 .left)) (d .result) (d .ensures) z)
+returns-2 c =
+    let a = c .before .before .before .before .before .before .before .before .before .before .before .args in
+    let o = c .before .before .before .before .before .before .before .«open» in
+    let d = c .before .before .before .check-call in
+    let h = c .held-back2 in
+    let z : (d .result .number ≡ 0) → ⊥ = λ e. omega (arith, c .before .if2 .taken, e) in
+    halted-half (a .book .now) (a .contents .now) (a .agent) (a .lent) (o .last .1 .0) (a .work .now) (h .result) (d .result) (h .ensures .0) (h .ensures .1) z (refused-call (a .book .now) (a .contents .now) (a .work .now) (a .agent) (a .lent) (o .last .1 .0) (o .ensures .1) (o .result) (o .ensures .0) (omega (arith, c .before .before .before .before .before .if1 .left)) (d .result) (d .ensures) z)
 
--- src/lib.rt:264:33
 cast-walk-first : tie.Need-cast-walk-first
-cast-walk-first c = let a = c .before .before .before .before .before .before .before .before .before .before .before .args in let o = c .before .before .before .before .before .before .before .«open» in let d = c .before .before .before .check-call in record { fits = omega (arith, shown (a .book .now) (a .contents .now) (a .work .now) (a .agent) (a .lent) (o .last .1 .0) (o .ensures .1) (o .result) (o .ensures .0) (omega (arith, c .before .before .before .before .before .if1 .left)) (d .result) (d .ensures) (omega (arith, c .before .if2 .left)) .agent, agents-low (o .last .1 .0)) }
+cast-walk-first c =
+    let a = c .before .before .before .before .before .before .before .before .before .before .before .args in
+    let o = c .before .before .before .before .before .before .before .«open» in
+    let d = c .before .before .before .check-call in
+    let e = cleared (a .book .now) (a .contents .now) (a .work .now) (a .agent) (a .lent) (o .last .1 .0) (o .ensures .1) (o .result) (o .ensures .0) (omega (arith, c .before .before .before .before .before .if1 .left)) (d .result) (d .ensures) (omega (arith, c .before .if2 .left)) in
+    record { fits = omega (arith, e .passed .agent, agents-low (o .last .1 .0)) }
 
--- src/lib.rt:264:5
 walk-first-requires : tie.Need-walk-first-requires
-walk-first-requires c κs = let a = c .before .before .before .before .before .before .before .before .before .before .before .before .args in let o = c .before .before .before .before .before .before .before .before .«open» in let d = c .before .before .before .before .check-call in (shown (a .book .now) (a .contents .now) (a .work .now) (a .agent) (a .lent) (o .last .1 .0) (o .ensures .1) (o .result) (o .ensures .0) (omega (arith, c .before .before .before .before .before .before .if1 .left)) (d .result) (d .ensures) (omega (arith, c .before .before .if2 .left)) .long, ready (a .book .now) (a .contents .now) (a .work .now) (a .agent) (a .lent) (o .last .1 .0) (o .ensures .1) (o .result) (o .ensures .0) (omega (arith, c .before .before .before .before .before .before .if1 .left)) (d .result) (d .ensures) (omega (arith, c .before .before .if2 .left)))
+walk-first-requires c κs =
+    let a = c .before .before .before .before .before .before .before .before .before .before .before .before .args in
+    let o = c .before .before .before .before .before .before .before .before .«open» in
+    let d = c .before .before .before .before .check-call in
+    let e = cleared (a .book .now) (a .contents .now) (a .work .now) (a .agent) (a .lent) (o .last .1 .0) (o .ensures .1) (o .result) (o .ensures .0) (omega (arith, c .before .before .before .before .before .before .if1 .left)) (d .result) (d .ensures) (omega (arith, c .before .before .if2 .left)) in
+    (e .passed .long, e .ready)
 
--- src/lib.rt:246:1
 returns-3 : tie.Need-returns-3
-returns-3 c = let a = c .before .before .before .before .before .before .before .before .before .before .before .before .before .args in let o = c .before .before .before .before .before .before .before .before .before .«open» in let d = c .before .before .before .before .before .check-call in let w = c .walk-first in walked-half (a .book .now) (a .contents .now) (a .agent) (a .lent) (o .last .1 .0) (w .last .1 .1 .1 .0) (w .result) (w .ensures .0 .0) (w .ensures .0 .1) (shown (a .book .now) (a .contents .now) (a .work .now) (a .agent) (a .lent) (o .last .1 .0) (o .ensures .1) (o .result) (o .ensures .0) (omega (arith, c .before .before .before .before .before .before .before .if1 .left)) (d .result) (d .ensures) (omega (arith, c .before .before .before .if2 .left)) .records) (w .ensures .1) (moved (a .book .now) (a .contents .now) (a .work .now) (a .agent) (a .lent) (o .last .1 .0) (o .ensures .1) (o .result) (o .ensures .0) (omega (arith, c .before .before .before .before .before .before .before .if1 .left)) (d .result) (d .ensures) (omega (arith, c .before .before .before .if2 .left)))
+returns-3 c =
+    let a = c .before .before .before .before .before .before .before .before .before .before .before .before .before .args in
+    let o = c .before .before .before .before .before .before .before .before .before .«open» in
+    let d = c .before .before .before .before .before .check-call in
+    let e = cleared (a .book .now) (a .contents .now) (a .work .now) (a .agent) (a .lent) (o .last .1 .0) (o .ensures .1) (o .result) (o .ensures .0) (omega (arith, c .before .before .before .before .before .before .before .if1 .left)) (d .result) (d .ensures) (omega (arith, c .before .before .before .if2 .left)) in
+    let w = c .walk-first in
+    walked-half (a .book .now) (a .contents .now) (a .agent) (a .lent) (o .last .1 .0) (w .last .1 .1 .1 .0) (w .result) (w .ensures .0 .0) (w .ensures .0 .1) (e .passed .records) (w .ensures .1) (e .moved)
 
 pub first-half-spec : {M : Type 1} → statement M
 first-half-spec =

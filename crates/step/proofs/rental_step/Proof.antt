@@ -3,7 +3,7 @@ use mathlib.Core.Path.{ap}
 use native.Mathlib.Omega.{arith}
 use Rattle.text.specs.declared.Answer.{Answer}
 use Rattle.step.specs.Stages.{packed}
-use Rattle.step.proofs.Numbered.{low}
+use Rattle.calls.proofs.Numbered.{low}
 use borrow.Author.Needs.{needs}
 use Rattle.step.proofs.rental_step.Statement.{statement}
 use Rattle.step.proofs.rental_step.Tie as tie

@@ -1,57 +1,44 @@
-use Prim.Native.Nat.{ℕ}
-use lib.ListN.{length-replicate}
+-- `walk_first` meets its contract.
+use mathlib.Core.Path.{_≡_, refl, sym, _∙_}
 use mathlib.Core.List.{[]}
-use Rattle.book.specs.Image.{book-in}
-use Rattle.text.specs.declared.Answer.{Answer}
-use Rattle.step.proofs.Halves.{on}
 use native.Mathlib.Omega.{arith}
+use lib.ListN.{length}
 use lib.Seq.{length-take-le}
-use mathlib.Core.Path.{sym, ap, _∙_}
+use Rattle.book.specs.Image.{book-in}
+use Rattle.step.proofs.Halves.{on}
 use borrow.Author.Needs.{needs}
 use Rattle.step.proofs.walk_first.Statement.{statement}
 use Rattle.step.proofs.walk_first.Tie as tie
-use Rattle.step.proofs.walk_first.Reads as reads
-use Rattle.step.proofs.walk_first.Lts as lts
-use Rattle.step.proofs.answer.Reads as answer-reads
-use Rattle.step.proofs.given.Reads as given-reads
-use Rattle.table.proofs.total.Reads as total-reads
-use Rattle.walk.proofs.gather.Reads as gather-reads
 
--- src/lib.rt:233:15
 total-requires : tie.Need-total-requires
 total-requires c κs = search needs
 
--- src/lib.rt:233:15
 cast-all : tie.Need-cast-all
 cast-all c = search needs
 
--- src/lib.rt:235:33
 slice-aggregate-gather : tie.Need-slice-aggregate-gather
 slice-aggregate-gather c = sym (length-take-le (c .before .total .result) (c .before .before .before .args .contents .now) (omega (arith, c .before .before .before .pre .0, c .before .total .ensures)))
 
--- src/lib.rt:235:51
 array-borrow-prefix-readers : tie.Need-array-borrow-prefix-readers
 array-borrow-prefix-readers c = search needs
 
--- src/lib.rt:235:51
 slice-aggregate-gather-2 : tie.Need-slice-aggregate-gather-2
 slice-aggregate-gather-2 c = search needs
 
--- src/lib.rt:235:9
 gather-requires : tie.Need-gather-requires
 gather-requires c κs = search needs
 
--- src/lib.rt:236:9
-answer-requires : tie.Need-answer-requires
-answer-requires c κs = search needs
-
--- src/lib.rt:237:9
 given-requires : tie.Need-given-requires
 given-requires c κs = search needs
 
--- src/lib.rt:228:1
 returns : tie.Need-returns
-returns c = let a = c .before .before .before .before .before .before .before .before .before .args in let g = c .before .before .before .gather in let p = c .before .before .before .before .before .before .before .before .before .pre in ((ap (λ (r : Answer). r .number) (c .before .answer .ensures), c .given .ensures), on (book-in (a .image .now) []) (a .contents .now) (a .agent) (c .before .before .before .before .before .before .before .total .result) (g .last .1 .1 .1 .1 .0) (g .result) (g .last .1 .1 .0) (c .before .before .before .before .before .before .before .total .ensures) (p .0) (p .1) (g .kept .1 .1 .0) (g .ensures (omega (arith, c .before .before .before .before .before .before .before .before .before .good))))
+returns c =
+    let s = c .before .before .before .before .before .before .before .before in
+    let a = s .args in
+    let t = c .before .before .before .before .before .before .total in
+    let g = c .before .before .gather in
+    let long : length (a .work .now) ≡ 256 = omega (arith, s .good) in
+    ((refl, c .given .ensures), on (book-in (a .image .now) []) (a .contents .now) (a .agent) (t .result) (g .last .1 .1 .1 .1 .0) (g .result) (g .last .1 .1 .0) (t .ensures) (s .pre .0) (s .pre .1) (g .kept .1 .1 .0) (g .kept .1 .1 .1 .1 .0 ∙ long) (g .ensures (omega (arith, long))))
 
 pub walk-first-spec : {M : Type 1} → statement M
 walk-first-spec =
@@ -63,6 +50,5 @@ walk-first-spec =
     array-borrow-prefix-readers
     slice-aggregate-gather-2
     gather-requires
-    answer-requires
     given-requires
     returns)

@@ -1,37 +1,28 @@
-use Rattle.step.proofs.Checks.{agent-there, agent-missing}
+-- `check_agent` meets its contract.
+use Rattle.calls.proofs.Checks.{agent-there, agent-missing}
 use Rattle.book.specs.Image.{book-in}
 use native.Mathlib.Omega.{arith}
 use mathlib.Core.List.{[]}
 use mathlib.Core.Path.{_∙_}
 use borrow.Author.Needs.{needs}
-use Rattle.step.proofs.check_agent.Statement.{statement}
-use Rattle.step.proofs.check_agent.Tie as tie
-use Rattle.step.proofs.check_agent.Reads as reads
-use Rattle.step.proofs.check_agent.Lts as lts
-use Rattle.step.proofs.agents.Reads as agents-reads
-use Rattle.step.proofs.answer.Reads as answer-reads
+use Rattle.calls.proofs.check_agent.Statement.{statement}
+use Rattle.calls.proofs.check_agent.Tie as tie
 
--- src/lib.rt:59:16
 agents-requires : tie.Need-agents-requires
 agents-requires c κs = search needs
 
--- src/lib.rt:59:16
 cast-if1 : tie.Need-cast-if1
 cast-if1 c = search needs
 
--- src/lib.rt:60:9
 answer-requires : tie.Need-answer-requires
 answer-requires c κs = search needs
 
--- src/lib.rt:62:9
 answer-requires-2 : tie.Need-answer-requires-2
 answer-requires-2 c κs = search needs
 
--- src/lib.rt:56:1
 returns : tie.Need-returns
 returns c = let a = c .before .before .before .args in c .answer .ensures ∙ agent-there (book-in (a .image .now) []) (a .agent) (omega (arith, c .before .if1 .taken, c .before .before .agents .ensures .0))
 
--- src/lib.rt:56:1
 returns-2 : tie.Need-returns-2
 returns-2 c = let a = c .before .before .before .args in c .answer2 .ensures ∙ agent-missing (book-in (a .image .now) []) (a .agent) (omega (arith, c .before .if1 .left, c .before .before .agents .ensures .0))
 

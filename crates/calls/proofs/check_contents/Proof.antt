@@ -1,42 +1,32 @@
-use Rattle.step.proofs.Checks.{value-bad, values-fine}
+-- `check_contents` meets its contract.
+use Rattle.calls.proofs.Checks.{value-bad, values-fine}
 use Rattle.book.specs.Book.{L}
 use Rattle.book.specs.Image.{book-in}
 use lib.ListN.{take}
 use mathlib.Core.List.{[]}
 use mathlib.Core.Path.{_∙_, sym}
 use borrow.Author.Needs.{needs}
-use Rattle.step.proofs.check_contents.Statement.{statement}
-use Rattle.step.proofs.check_contents.Tie as tie
-use Rattle.step.proofs.check_contents.Reads as reads
-use Rattle.step.proofs.check_contents.Lts as lts
-use Rattle.step.proofs.answer.Reads as answer-reads
-use Rattle.table.proofs.bad_value.Reads as bad-value-reads
+use Rattle.calls.proofs.check_contents.Statement.{statement}
+use Rattle.calls.proofs.check_contents.Tie as tie
 
--- src/lib.rt:84:9
 bad-value-requires : tie.Need-bad-value-requires
 bad-value-requires c κs = search needs
 
--- src/lib.rt:86:21
 enum-known-found : tie.Need-enum-known-found
 enum-known-found c = search needs
 
--- src/lib.rt:86:27
 answer-requires : tie.Need-answer-requires
 answer-requires c κs = search needs
 
--- src/lib.rt:87:27
 enum-told : tie.Need-enum-told
 enum-told c = search needs
 
--- src/lib.rt:87:27
 answer-requires-2 : tie.Need-answer-requires-2
 answer-requires-2 c κs = search needs
 
--- src/lib.rt:81:1
 returns : tie.Need-returns
 returns c = let a = c .before .before .before .before .before .before .args in let B = book-in (a .image .now) [] in c .answer .ensures ∙ value-bad B (take (L B) (a .contents .now)) _ (sym (c .before .before .before .before .bad-value .ensures) ∙ c .before .before .found .given .1)
 
--- src/lib.rt:81:1
 returns-2 : tie.Need-returns-2
 returns-2 c = let a = c .before .before .before .before .before .args in let B = book-in (a .image .now) [] in c .answer2 .ensures ∙ values-fine B (take (L B) (a .contents .now)) (sym (c .before .before .before .bad-value .ensures) ∙ c .before .enum-told .given .1)
 

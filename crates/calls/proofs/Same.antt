@@ -14,7 +14,7 @@ use Rattle.book.proofs.Bare.{bare-image, bad-value-bare, lawful-bare}
 use Rattle.engine.specs.Move.{Input, walked, move}
 use Rattle.engine.specs.Single.{check-agent, check-lent-step, check-contents}
 use Rattle.engine.proofs.Entries.{walked-bare, move-bare}
-use Rattle.step.specs.Stages.{check-call}
+use Rattle.calls.specs.Call.{check-call}
 
 module _ (m : List ℕ) (es : List Entry) where
   pub lawful-same : Lawful (book-in m es) → Lawful (book-in m [])

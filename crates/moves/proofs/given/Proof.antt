@@ -1,9 +1,8 @@
 -- `given` meets its contract.
 use native.Mathlib.Omega.{arith}
-use Rattle.step.proofs.Halves.{given-none, given-some}
-use borrow.Author.Needs.{needs}
-use Rattle.step.proofs.given.Statement.{statement}
-use Rattle.step.proofs.given.Tie as tie
+use Rattle.moves.proofs.Count.{given-none, given-some}
+use Rattle.moves.proofs.given.Statement.{statement}
+use Rattle.moves.proofs.given.Tie as tie
 
 returns : tie.Need-returns
 returns c = given-none (c .before .before .args .s) (c .if1 .taken)

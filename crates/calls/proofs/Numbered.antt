@@ -1,6 +1,5 @@
 -- Each check refuses with a number from 1 to 10, so an answer of number 0 accepts; and a whole call answers at most 16.
-use mathlib.Core.Path.{_≡_, refl, ap, _∙_}
-use mathlib.Core.Logic.{_≢_}
+use mathlib.Core.Path.{_≡_, refl}
 use mathlib.Core.Bool.{Bool, true, false}
 use mathlib.Core.List.{List}
 use Prim.Native.Nat.{ℕ, _≤_}
@@ -16,7 +15,7 @@ use Rattle.engine.specs.declared.Instruction.{Instruction}
 use Rattle.engine.specs.Move.{Input, Moved, fires, stopped, walked, made-by, move}
 use Rattle.engine.specs.Single.{check-agent, check-lent-step, check-contents, check-step, stepped, step-answer, step-call}
 use Rattle.engine.proofs.Numbers.{move-number}
-use Rattle.step.specs.Stages.{check-call}
+use Rattle.calls.specs.Call.{check-call}
 
 abbrev Between : {A : Type 0} → Checked A → Type 0
 Between (good a) = Unit {0}

@@ -1,15 +1,12 @@
+-- `first_of` meets its contract.
 use borrow.Author.Tests.{eq-eqb, ne-eqb}
 use native.Mathlib.Omega.{arith}
-use Rattle.step.proofs.first_of.Statement.{statement}
-use Rattle.step.proofs.first_of.Tie as tie
-use Rattle.step.proofs.first_of.Reads as reads
-use Rattle.step.proofs.first_of.Lts as lts
+use Rattle.calls.proofs.first_of.Statement.{statement}
+use Rattle.calls.proofs.first_of.Tie as tie
 
--- src/lib.rt:39:1
 returns : tie.Need-returns
 returns c = let a = c .before .before .args .a in rw (eq-eqb (a .number) 0 (omega (arith, c .if1 .taken)))
 
--- src/lib.rt:39:1
 returns-2 : tie.Need-returns-2
 returns-2 c = let a = c .before .before .args .a in rw (ne-eqb (a .number) 0 (λ e. omega (arith, c .if1 .left, e)))
 

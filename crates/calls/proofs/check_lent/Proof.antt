@@ -1,46 +1,35 @@
-use Rattle.step.proofs.Checks.{Refusal, contents-short, list-short, both-lent}
+-- `check_lent` meets its contract.
+use Rattle.calls.proofs.Checks.{Refusal, contents-short, list-short, both-lent}
 use Rattle.book.specs.Image.{book-in}
 use native.Mathlib.Omega.{arith}
 use Prim.Native.Nat.{ℕ}
 use mathlib.Core.List.{[]}
 use mathlib.Core.Path.{_∙_, ap}
 use borrow.Author.Needs.{needs}
-use Rattle.step.proofs.check_lent.Statement.{statement}
-use Rattle.step.proofs.check_lent.Tie as tie
-use Rattle.step.proofs.check_lent.Reads as reads
-use Rattle.step.proofs.check_lent.Lts as lts
-use Rattle.step.proofs.answer.Reads as answer-reads
-use Rattle.table.proofs.total.Reads as total-reads
+use Rattle.calls.proofs.check_lent.Statement.{statement}
+use Rattle.calls.proofs.check_lent.Tie as tie
 
--- src/lib.rt:70:9
 total-requires : tie.Need-total-requires
 total-requires c κs = search needs
 
--- src/lib.rt:71:25
 cast-if1 : tie.Need-cast-if1
 cast-if1 c = search needs
 
--- src/lib.rt:72:9
 answer-requires : tie.Need-answer-requires
 answer-requires c κs = search needs
 
--- src/lib.rt:72:9
 returns : tie.Need-returns
 returns c = let a = c .before .before .before .before .args in let t = c .before .before .total .ensures in c .answer .ensures ∙ ap (λ (x : ℕ). Refusal 2 x 0) t ∙ contents-short (book-in (a .image .now) []) (a .contents .now) (a .lent) (omega (arith, c .before .if1 .taken, t))
 
--- src/lib.rt:75:9
 answer-requires-2 : tie.Need-answer-requires-2
 answer-requires-2 c κs = search needs
 
--- src/lib.rt:75:9
 returns-2 : tie.Need-returns-2
 returns-2 c = let a = c .before .before .before .before .before .args in let t = c .before .before .before .total .ensures in c .answer2 .ensures ∙ list-short (book-in (a .image .now) []) (a .contents .now) (a .lent) (omega (arith, c .before .before .if1 .left, t)) (omega (arith, c .before .if2 .taken))
 
--- src/lib.rt:77:5
 answer-requires-3 : tie.Need-answer-requires-3
 answer-requires-3 c κs = search needs
 
--- src/lib.rt:67:1
 returns-3 : tie.Need-returns-3
 returns-3 c = let a = c .before .before .before .before .before .args in let t = c .before .before .before .total .ensures in c .answer3 .ensures ∙ both-lent (book-in (a .image .now) []) (a .contents .now) (a .lent) (omega (arith, c .before .before .if1 .left, t)) (omega (arith, c .before .if2 .left))
 

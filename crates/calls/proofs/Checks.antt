@@ -1,5 +1,5 @@
 -- The checks 9, 2 and 8: what each answers, that the earlier of two answers is that of both in turn, and what they show when all pass.
-use mathlib.Core.Path.{_≡_, refl, ap, _∙_}
+use mathlib.Core.Path.{_≡_, refl, ap}
 use mathlib.Core.Bool.{Bool, true, false}
 use mathlib.Core.List.{List, []}
 use Prim.Native.Nat.{ℕ, _≤_, _<_}
@@ -9,7 +9,6 @@ use lib.Dec.{ltb, leb}
 use lib.ListN.{length, take}
 use borrow.Author.Tests.{ltb-true, leb-true, lt-ltb, le-ltb, le-leb, lt-leb, ne-eqb}
 use Rattle.text.specs.declared.Answer.{Answer}
-use Rattle.text.specs.declared.Found.{Found}
 use Rattle.text.specs.declared.Found.the-variants.{Nowhere, Here}
 use Rattle.text.specs.Words.{if_then_else_, Checked, good, refused, _>>_, none-at, must, answer-of, least}
 use Rattle.text.proofs.Words.{then-good, none-good, test-good, length-table-from}
@@ -17,8 +16,8 @@ use Rattle.book.specs.Book.{Book, L}
 use Rattle.book.specs.Contents.{bad-value}
 use Rattle.book.specs.Image.{word, capped, book-in}
 use Rattle.engine.specs.Single.{check-agent, check-lent-step, check-contents}
-use Rattle.step.specs.Stages.{check-call, first-of}
-use Rattle.step.proofs.Numbered.{Numbered, agent-numbered, lent-numbered}
+use Rattle.calls.specs.Call.{check-call, first-of}
+use Rattle.calls.proofs.Numbered.{Numbered, agent-numbered, lent-numbered}
 
 abbrev pub Refusal : ℕ → ℕ → ℕ → Answer
 Refusal n p q = record { number = n; p = p; q = q }

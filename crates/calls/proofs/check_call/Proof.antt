@@ -1,37 +1,26 @@
-use Rattle.step.proofs.Checks.{all-three}
+-- `check_call` meets its contract.
+use Rattle.calls.proofs.Checks.{all-three}
 use Rattle.book.specs.Image.{book-in}
 use mathlib.Core.List.{[]}
 use borrow.Author.Needs.{needs}
-use Rattle.step.proofs.check_call.Statement.{statement}
-use Rattle.step.proofs.check_call.Tie as tie
-use Rattle.step.proofs.check_call.Reads as reads
-use Rattle.step.proofs.check_call.Lts as lts
-use Rattle.step.proofs.check_agent.Reads as check-agent-reads
-use Rattle.step.proofs.check_contents.Reads as check-contents-reads
-use Rattle.step.proofs.check_lent.Reads as check-lent-reads
-use Rattle.step.proofs.first_of.Reads as first-of-reads
+use Rattle.calls.proofs.check_call.Statement.{statement}
+use Rattle.calls.proofs.check_call.Tie as tie
 
--- src/lib.rt:95:9
 check-agent-requires : tie.Need-check-agent-requires
 check-agent-requires c κs = search needs
 
--- src/lib.rt:96:9
 check-lent-requires : tie.Need-check-lent-requires
 check-lent-requires c κs = search needs
 
--- src/lib.rt:97:9
 check-contents-requires : tie.Need-check-contents-requires
 check-contents-requires c κs = search needs
 
--- src/lib.rt:98:20
 first-of-requires : tie.Need-first-of-requires
 first-of-requires c κs = search needs
 
--- src/lib.rt:98:5
 first-of-requires-2 : tie.Need-first-of-requires-2
 first-of-requires-2 c κs = search needs
 
--- src/lib.rt:92:1
 returns : tie.Need-returns
 returns c = let a = c .before .before .before .before .before .before .args in all-three (book-in (a .image .now) []) (a .contents .now) (a .agent) (a .lent) _ _ _ _ _ (c .first-of2 .ensures) (c .before .first-of .ensures) (c .before .before .before .before .check-agent .ensures) (c .before .before .before .check-lent .ensures) (c .before .before .check-contents .ensures)
 

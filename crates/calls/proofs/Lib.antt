@@ -1,0 +1,3 @@
+pub mod Numbered
+pub mod Checks
+pub mod Same

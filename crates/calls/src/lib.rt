@@ -1,0 +1,98 @@
+// The checks of a single move's call after the book's: 9, 2 and 8.
+use text::Answer;
+use text::Found;
+ghost use mathlib.Core.Path.{_≡_};
+ghost use mathlib.Core.List.{[]};
+ghost use Prim.Native.Nat.{_≤_};
+ghost use lib.ListN.{length, take};
+ghost use Rattle.text.specs.Words.{answer-of};
+ghost use Rattle.book.specs.Book.{L};
+ghost use Rattle.book.specs.Image.{book-in};
+ghost use Rattle.engine.specs.Single.{check-agent, check-lent-step, check-contents};
+ghost use Rattle.calls.specs.Call.{check-call, first-of};
+
+// Records in a list of instructions.
+const MOST_INSTRUCTIONS: usize = 256;
+
+// Agents in a book, at most.
+const MOST_AGENTS: u16 = 16;
+
+// The lent tables, as the q of 2.
+const CONTENTS: u32 = 0;
+
+const INSTRUCTIONS: u32 = 3;
+
+// ---- answers
+
+fn answer(number: u32, p: u32, q: u32) -> Answer
+    ensures { λ r. ⌜ r ≡ record { number = number; p = p; q = q } ⌝ }
+{
+    Answer {
+        number: number,
+        p: p,
+        q: q,
+    }
+}
+
+// a if it refuses, and b otherwise.
+fn first_of(a: Answer, b: Answer) -> Answer
+    ensures { λ r. ⌜ r ≡ first-of a b ⌝ }
+{
+    if a.number == 0 { b } else { a }
+}
+
+// ---- the checks
+
+// How many agents there are.
+fn agents(image: &[u16; 4296]) -> u16
+    ensures { λ r. ⌜ (r ≡ length (book-in (now (image .entry)) [] .agents)) × (r ≤ 16) ⌝ }
+{
+    let n = table::word(image, 4);
+    if n < MOST_AGENTS { n } else { MOST_AGENTS }
+}
+
+// 9.
+fn check_agent(image: &[u16; 4296], agent: usize) -> Answer
+    ensures { λ r. ⌜ r ≡ answer-of (check-agent (book-in (now (image .entry)) []) agent) ⌝ }
+{
+    if agent < agents(image) as usize {
+        answer(0, 0, 0)
+    } else {
+        answer(text::LOG_LINE, 0, 0)
+    }
+}
+
+// 2, of contents and then of instructions.
+fn check_lent(image: &[u16; 4296], contents: &[u16], lent: usize) -> Answer
+    ensures { λ r. ⌜ r ≡ answer-of (check-lent-step (book-in (now (image .entry)) []) (now (contents .entry)) lent) ⌝ }
+{
+    let all = table::total(image);
+    if contents.len() < all as usize {
+        return answer(text::LENT_SHORT, all, CONTENTS);
+    }
+    if lent < MOST_INSTRUCTIONS {
+        return answer(text::LENT_SHORT, 256, INSTRUCTIONS);
+    }
+    answer(0, 0, 0)
+}
+
+// 8.
+fn check_contents(image: &[u16; 4296], contents: &[u16]) -> Answer
+    ensures { λ r. ⌜ r ≡ answer-of (check-contents (book-in (now (image .entry)) []) (take (L (book-in (now (image .entry)) [])) (now (contents .entry)))) ⌝ }
+{
+    let found = table::bad_value(image, contents);
+    match found {
+        Found::Here(l) => answer(text::CONTENTS_RULE, l, 0),
+        Found::Nowhere => answer(0, 0, 0),
+    }
+}
+
+// 9, 2 and 8.
+pub fn check_call(image: &[u16; 4296], contents: &[u16], agent: usize, lent: usize) -> Answer
+    ensures { λ r. ⌜ r ≡ answer-of (check-call (book-in (now (image .entry)) []) (now (contents .entry)) agent lent) ⌝ }
+{
+    let nine = check_agent(image, agent);
+    let two = check_lent(image, contents, lent);
+    let eight = check_contents(image, contents);
+    first_of(nine, first_of(two, eight))
+}
