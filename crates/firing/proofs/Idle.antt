@@ -16,9 +16,10 @@ use Rattle.engine.specs.declared.Instruction.the-variants.{Update, Release}
 use Rattle.engine.specs.Move.{given, values, updates, values-at, label-of, released, other, idle}
 use Rattle.engine.proofs.Values.{length-updates, updates-at}
 use Rattle.firing.specs.Outcome.{OffRoll}
-use Rattle.firing.specs.Steps.{own, gets, any, change}
-use Rattle.firing.proofs.Laws.{other-append}
-use Rattle.firing.proofs.Best.{no, own-given}
+use Rattle.traces.specs.Traces.{own, gets, any}
+use Rattle.firing.specs.Steps.{change}
+use Rattle.traces.proofs.Laws.{other-append}
+use Rattle.traces.proofs.Laws.{no, own-given}
 
 module _ (B : Book) (c : List ℕ) where
   abbrev Quiet : List Instruction → Type 0

@@ -8,7 +8,8 @@ use Rattle.text.specs.Refusals.{clash, idle-move}
 use Rattle.engine.specs.Move.{Moved, fires, stopped, unless-clash, unless-idle, fire, idle, judged}
 use Rattle.engine.specs.Move as move
 use Rattle.firing.specs.declared.Outcome.the-variants.{Fired, Clash, Idle}
-use Rattle.firing.specs.Outcome.{updates-by, clash-by, move-by, marked, contents-after, marks-after, Settled}
+use Rattle.clash.specs.Clash.{updates-by, clash-by}
+use Rattle.firing.specs.Outcome.{move-by, marked, contents-after, marks-after, Settled}
 
 module _ (image c list : List ℕ) (n : ℕ) (ls : List ℕ) (bit : ℕ) (ms : List ℕ) where
   abbrev f : move.Fired

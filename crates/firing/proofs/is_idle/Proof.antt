@@ -1,6 +1,7 @@
 use Rattle.book.specs.Book.{L}
 use Rattle.records.specs.Code.{items}
-use Rattle.firing.specs.Steps.{any, change}
+use Rattle.traces.specs.Traces.{any}
+use Rattle.firing.specs.Steps.{change}
 use mathlib.Core.Path.{_≡_, refl, sym, ap, ap₂, _∙_}
 use mathlib.Core.Bool.{Bool, true, false, _&&_, _||_, not}
 use mathlib.Core.List.{List, []}
@@ -16,18 +17,14 @@ use Rattle.firing.proofs.is_idle.Statement.{statement}
 use Rattle.firing.proofs.is_idle.Tie as tie
 use Rattle.firing.proofs.is_idle.Reads as reads
 use Rattle.firing.proofs.is_idle.Lts as lts
-use Rattle.firing.proofs.has_change.Reads as has-change-reads
 use Rattle.table.proofs.total.Reads as total-reads
 
--- src/lib.rt:300:17
 total-requires : tie.Need-total-requires
 total-requires c κs = search needs
 
--- src/lib.rt:300:6
 has-change-requires : tie.Need-has-change-requires
 has-change-requires c κs = search needs
 
--- src/lib.rt:297:1
 returns : tie.Need-returns
 returns c = λ h. let a = c .before .before .before .before .args in let B = book-in (a .image .now) [] in let is = items (a .list .now) (a .len) in let q : c .has-change .result ≡ any (change (L B) (a .contents .now)) is = c .has-change .ensures ∙ rw (c .before .total .ensures) in ap not q ∙ idle-is B (a .contents .now) is h
 

@@ -7,9 +7,9 @@ use Rattle.text.specs.declared.Found.the-variants.{Nowhere, Here}
 use Rattle.book.specs.Book.{L}
 use Rattle.book.specs.Image.{book-in}
 use Rattle.records.specs.Code.{items}
-use Rattle.firing.specs.Outcome.{clash-by}
-use Rattle.firing.specs.Steps.{best}
-use Rattle.firing.proofs.Best.{best-least, best-none}
+use Rattle.clash.specs.Clash.{clash-by}
+use Rattle.clash.specs.Steps.{best}
+use Rattle.clash.proofs.Best.{best-least, best-none}
 use Rattle.firing.proofs.Judged.{clash-settled, idle-settled, fire-settled}
 use Rattle.firing.proofs.settle.Statement.{statement}
 use Rattle.firing.proofs.settle.Tie as tie
