@@ -20,11 +20,12 @@ use Rattle.engine.specs.declared.Instruction.the-variants.{Update, Release}
 use Rattle.engine.specs.Move.{values, label-of, released, other}
 use Rattle.records.specs.Code.{decode-of, items}
 use Rattle.traces.specs.Traces.{any}
-use Rattle.clash.specs.Steps.{spot, gives, best, releases, location-of, slot-of, Last, Linked, Chain, nearer}
+use Rattle.against.specs.Steps.{spot, gives, best}
+use Rattle.clash.specs.Steps.{releases, location-of, slot-of, Last, Linked, Chain, nearer}
 use Rattle.traces.proofs.Laws.{or-assoc}
-use Rattle.clash.proofs.Laws.{other-any, has-any}
+use Rattle.against.proofs.Laws.{other-any, has-any}
 use Rattle.traces.proofs.Laws.{no}
-use Rattle.clash.proofs.Best.{bad-one, best-le, best-here, best-trouble}
+use Rattle.against.proofs.Best.{bad-one, best-le, best-here, best-trouble}
 
 slot-low : (c : ℕ) → slot-of c < 512
 slot-low c = mod-lt (location-of c) (omega arith)

@@ -8,8 +8,8 @@ use Rattle.book.specs.Book.{L}
 use Rattle.book.specs.Image.{book-in}
 use Rattle.records.specs.Code.{items}
 use Rattle.clash.specs.Clash.{clash-by}
-use Rattle.clash.specs.Steps.{best}
-use Rattle.clash.proofs.Best.{best-least, best-none}
+use Rattle.against.specs.Steps.{best}
+use Rattle.against.proofs.Best.{best-least, best-none}
 use Rattle.firing.proofs.Judged.{clash-settled, idle-settled, fire-settled}
 use Rattle.firing.proofs.settle.Statement.{statement}
 use Rattle.firing.proofs.settle.Tie as tie

@@ -10,12 +10,12 @@ use lib.ListN.{length, getD, take, drop, set, length-set}
 use Rattle.book.specs.Image.{book-in}
 use Rattle.engine.specs.declared.Instruction.{Instruction}
 use Rattle.records.specs.Code.{decode-of, items}
-use Rattle.clash.specs.Steps.{better, best}
+use Rattle.against.specs.Steps.{better, best}
 use Rattle.traces.proofs.Laws.{items-cons, items-end}
-use Rattle.clash.proofs.first_of_all.Statement.{statement}
-use Rattle.clash.proofs.first_of_all.Tie as tie
-use Rattle.clash.proofs.first_of_all.Reads as reads
-use Rattle.clash.proofs.first_of_all.Lts as lts
+use Rattle.against.proofs.first_of_all.Statement.{statement}
+use Rattle.against.proofs.first_of_all.Tie as tie
+use Rattle.against.proofs.first_of_all.Reads as reads
+use Rattle.against.proofs.first_of_all.Lts as lts
 use Rattle.records.proofs.decode.Reads as decode-reads
 use Rattle.table.proofs.smaller.Reads as smaller-reads
 

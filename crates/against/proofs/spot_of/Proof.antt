@@ -12,11 +12,11 @@ use lib.ListN.{length, getD, take, drop, set, length-set}
 use Rattle.book.specs.Book.{L, size, function-at}
 use Rattle.book.specs.Image.{book-in}
 use Rattle.table.proofs.Places.{From, from-start, from-at, from-next, from-past}
-use Rattle.clash.proofs.Laws.{spot-is}
-use Rattle.clash.proofs.spot_of.Statement.{statement}
-use Rattle.clash.proofs.spot_of.Tie as tie
-use Rattle.clash.proofs.spot_of.Reads as reads
-use Rattle.clash.proofs.spot_of.Lts as lts
+use Rattle.against.proofs.Laws.{spot-is}
+use Rattle.against.proofs.spot_of.Statement.{statement}
+use Rattle.against.proofs.spot_of.Tie as tie
+use Rattle.against.proofs.spot_of.Reads as reads
+use Rattle.against.proofs.spot_of.Lts as lts
 use Rattle.table.proofs.elements.Reads as elements-reads
 use Rattle.table.proofs.fetch.Reads as fetch-reads
 use Rattle.table.proofs.function_at.Reads as function-at-reads

@@ -8,12 +8,12 @@ use lib.Dec.{eqb, ltb, leb}
 use lib.ListN.{length, getD, take, drop, set, length-set}
 use mathlib.Core.Bool.{or-false}
 use Rattle.engine.specs.Move.{other}
-use Rattle.clash.specs.Steps.{gives}
+use Rattle.against.specs.Steps.{gives}
 use borrow.Author.Needs.{needs}
-use Rattle.clash.proofs.against.Statement.{statement}
-use Rattle.clash.proofs.against.Tie as tie
-use Rattle.clash.proofs.against.Reads as reads
-use Rattle.clash.proofs.against.Lts as lts
+use Rattle.against.proofs.against.Statement.{statement}
+use Rattle.against.proofs.against.Tie as tie
+use Rattle.against.proofs.against.Reads as reads
+use Rattle.against.proofs.against.Lts as lts
 use Rattle.table.proofs.default_of.Reads as default-of-reads
 
 enum-known-what : tie.Need-enum-known-what

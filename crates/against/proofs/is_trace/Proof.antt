@@ -8,10 +8,10 @@ use lib.Dec.{eqb, ltb, leb}
 use lib.ListN.{length, getD, take, drop, set, length-set}
 use native.Mathlib.Nat.{div-zero, mod-zero}
 use borrow.Author.Needs.{needs}
-use Rattle.clash.proofs.is_trace.Statement.{statement}
-use Rattle.clash.proofs.is_trace.Tie as tie
-use Rattle.clash.proofs.is_trace.Reads as reads
-use Rattle.clash.proofs.is_trace.Lts as lts
+use Rattle.against.proofs.is_trace.Statement.{statement}
+use Rattle.against.proofs.is_trace.Tie as tie
+use Rattle.against.proofs.is_trace.Reads as reads
+use Rattle.against.proofs.is_trace.Lts as lts
 
 is-trace-at-requires : tie.Need-is-trace-at-requires
 is-trace-at-requires c κs = search needs

@@ -2,10 +2,10 @@ use lib.Dec.{eqb}
 use mathlib.Core.Bool.{Bool, _||_, or-false}
 use mathlib.Core.Path.{sym, ap, _∙_}
 use borrow.Author.Needs.{needs}
-use Rattle.clash.proofs.releases.Statement.{statement}
-use Rattle.clash.proofs.releases.Tie as tie
-use Rattle.clash.proofs.releases.Reads as reads
-use Rattle.clash.proofs.releases.Lts as lts
+use Rattle.against.proofs.releases.Statement.{statement}
+use Rattle.against.proofs.releases.Tie as tie
+use Rattle.against.proofs.releases.Reads as reads
+use Rattle.against.proofs.releases.Lts as lts
 
 enum-told : tie.Need-enum-told
 enum-told c = search needs

@@ -13,8 +13,8 @@ use Rattle.engine.specs.declared.Instruction.the-variants.{Update, Release}
 use Rattle.engine.specs.Move.{given, values, label-of, released, other}
 use Rattle.traces.specs.Traces.{any}
 use Rattle.traces.proofs.Laws.{other-append}
-use Rattle.clash.specs.declared.Spot.{Spot}
-use Rattle.clash.specs.Steps.{gives, spot}
+use Rattle.against.specs.declared.Spot.{Spot}
+use Rattle.against.specs.Steps.{gives, spot}
 
 -- a location whose function and number within it are known
 pub spot-is :

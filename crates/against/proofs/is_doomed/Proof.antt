@@ -7,10 +7,10 @@ use borrow.Author.Tests.{le-ltb, lt-ltb, lt-leb, le-leb, eq-eqb, ne-eqb}
 use lib.Dec.{eqb, ltb, leb}
 use lib.ListN.{length, getD, take, drop, set, length-set}
 use borrow.Author.Needs.{needs}
-use Rattle.clash.proofs.is_doomed.Statement.{statement}
-use Rattle.clash.proofs.is_doomed.Tie as tie
-use Rattle.clash.proofs.is_doomed.Reads as reads
-use Rattle.clash.proofs.is_doomed.Lts as lts
+use Rattle.against.proofs.is_doomed.Statement.{statement}
+use Rattle.against.proofs.is_doomed.Tie as tie
+use Rattle.against.proofs.is_doomed.Reads as reads
+use Rattle.against.proofs.is_doomed.Lts as lts
 
 enum-known-what : tie.Need-enum-known-what
 enum-known-what c = search needs

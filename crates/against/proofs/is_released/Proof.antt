@@ -13,11 +13,11 @@ use Rattle.traces.specs.Traces.{any}
 use Rattle.traces.proofs.Laws.{next, found, ended}
 use Rattle.engine.specs.Move.{label-of}
 use Rattle.text.specs.Words.{has}
-use Rattle.clash.proofs.Laws.{has-any}
-use Rattle.clash.proofs.is_released.Statement.{statement}
-use Rattle.clash.proofs.is_released.Tie as tie
-use Rattle.clash.proofs.is_released.Reads as reads
-use Rattle.clash.proofs.is_released.Lts as lts
+use Rattle.against.proofs.Laws.{has-any}
+use Rattle.against.proofs.is_released.Statement.{statement}
+use Rattle.against.proofs.is_released.Tie as tie
+use Rattle.against.proofs.is_released.Reads as reads
+use Rattle.against.proofs.is_released.Lts as lts
 use Rattle.records.proofs.decode.Reads as decode-reads
 use Rattle.table.proofs.smaller.Reads as smaller-reads
 

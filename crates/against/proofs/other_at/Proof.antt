@@ -12,11 +12,11 @@ use Rattle.records.specs.Code.{items}
 use Rattle.traces.specs.Traces.{any}
 use Rattle.traces.proofs.Laws.{next, found, ended}
 use Rattle.engine.specs.Move.{other}
-use Rattle.clash.specs.Steps.{gives}
-use Rattle.clash.proofs.other_at.Statement.{statement}
-use Rattle.clash.proofs.other_at.Tie as tie
-use Rattle.clash.proofs.other_at.Reads as reads
-use Rattle.clash.proofs.other_at.Lts as lts
+use Rattle.against.specs.Steps.{gives}
+use Rattle.against.proofs.other_at.Statement.{statement}
+use Rattle.against.proofs.other_at.Tie as tie
+use Rattle.against.proofs.other_at.Reads as reads
+use Rattle.against.proofs.other_at.Lts as lts
 use Rattle.records.proofs.decode.Reads as decode-reads
 use Rattle.table.proofs.smaller.Reads as smaller-reads
 

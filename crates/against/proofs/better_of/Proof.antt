@@ -10,13 +10,13 @@ use Rattle.book.specs.Image.{book-in}
 use Rattle.engine.specs.Move.{other, values}
 use Rattle.records.specs.Code.{items}
 use Rattle.traces.specs.Traces.{own, gets, any}
-use Rattle.clash.specs.Steps.{gives, spot}
-use Rattle.clash.proofs.Laws.{other-any}
+use Rattle.against.specs.Steps.{gives, spot}
+use Rattle.against.proofs.Laws.{other-any}
 use borrow.Author.Needs.{needs}
-use Rattle.clash.proofs.better_of.Statement.{statement}
-use Rattle.clash.proofs.better_of.Tie as tie
-use Rattle.clash.proofs.better_of.Reads as reads
-use Rattle.clash.proofs.better_of.Lts as lts
+use Rattle.against.proofs.better_of.Statement.{statement}
+use Rattle.against.proofs.better_of.Tie as tie
+use Rattle.against.proofs.better_of.Reads as reads
+use Rattle.against.proofs.better_of.Lts as lts
 use Rattle.table.proofs.elements.Reads as elements-reads
 
 own-location-requires : tie.Need-own-location-requires

@@ -18,7 +18,7 @@ use Rattle.engine.specs.Move.{given, values, updates, released, other, two-valu
 use Rattle.engine.proofs.EqualReads.{has-append}
 use Rattle.engine.proofs.Values.{length-updates, updates-at}
 use Rattle.traces.specs.Traces.{own, gets, any}
-use Rattle.clash.specs.Steps.{doomed, trouble, better, best}
+use Rattle.against.specs.Steps.{doomed, trouble, better, best}
 use Rattle.traces.proofs.Laws.{and-none, no, other-append, own-given}
 
 -- ---- tests
