@@ -12,11 +12,12 @@ use Rattle.text.specs.Words.{if_then_else_}
 use Rattle.book.specs.declared.Function.{Function}
 use Rattle.book.specs.Book.{Book, L, size, no-function, function-at, place}
 use Rattle.table.proofs.Places.{From, from-start, from-at, from-next, from-past}
-use Rattle.clearing.specs.Marks.{each, mark}
+use Rattle.sweep.specs.Marks.{each, mark}
 use Rattle.traces.specs.Traces.{trace-in}
-use Rattle.clearing.specs.Steps.{wiped-in, between, part-cleared, part-marked, run-cleared, run-marked, trace, wiped, cleared, clear-marked}
+use Rattle.sweep.specs.Part.{wiped-in, part-cleared, part-marked}
+use Rattle.clearing.specs.Steps.{between, run-cleared, run-marked, trace, wiped, cleared, clear-marked}
 use Rattle.traces.proofs.Laws.{and-none}
-use Rattle.clearing.proofs.Sweep.{Swept, sweep-start, sweep-run, sweep-end, part-back}
+use Rattle.sweep.proofs.Sweep.{Swept, sweep-start, sweep-run, sweep-end, part-back}
 
 between-before : (a e k : ℕ) → k < a → between a e k ≡ false
 between-before a e k h = rw (lt-leb a k h)

@@ -1,4 +1,4 @@
--- The traces of a label cleared, step by step: a function's part, its run of the whole table, every function, one instruction after the other.
+-- The traces of a label x cleared, step by step: a function's run of the whole table, every function, one instruction after the other.
 use mathlib.Core.Bool.{Bool, _&&_}
 use mathlib.Core.List.{List, [], _∷_}
 use Prim.Native.Nat.{ℕ, _-_}
@@ -6,22 +6,12 @@ use lib.Dec.{ltb, leb}
 use lib.ListN.{length, getD}
 use Rattle.text.specs.Words.{if_then_else_}
 use Rattle.book.specs.declared.Function.{Function}
-use Rattle.book.specs.Book.{Book, default, place}
+use Rattle.book.specs.Book.{Book, place}
 use Rattle.engine.specs.declared.Instruction.{Instruction}
 use Rattle.engine.specs.declared.Instruction.the-variants.{Update, Release}
 use Rattle.traces.specs.Traces.{trace-in}
-use Rattle.clearing.specs.Marks.{each, mark}
-
--- what clearing the traces of x leaves of v at location i of f
-abbrev pub wiped-in : ℕ → Function → ℕ → ℕ → ℕ → ℕ
-wiped-in E f x i v = if trace-in E f i v x then default f else v
-
--- a function's part
-abbrev pub part-cleared : ℕ → Function → ℕ → List ℕ → List ℕ
-part-cleared E f x part = each (wiped-in E f x) 0 part
-
-abbrev pub part-marked : ℕ → ℕ → Function → ℕ → List ℕ → List ℕ → List ℕ
-part-marked bit E f x part ms = each (λ i m. mark bit (ltb i (length part) && trace-in E f i (getD part i 0) x) m) 0 ms
+use Rattle.sweep.specs.Marks.{each, mark}
+use Rattle.sweep.specs.Part.{wiped-in}
 
 -- a function's run of the whole table
 abbrev pub between : ℕ → ℕ → ℕ → Bool

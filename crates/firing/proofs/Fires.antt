@@ -19,13 +19,13 @@ use Rattle.engine.specs.declared.Instruction.the-variants.{Update, Release}
 use Rattle.engine.specs.Move.{given, values, updates, values-at, released, other, two-values, set-to-label, clashes, new-value, fire, is-some, writes}
 use Rattle.engine.proofs.Values.{length-updates, updates-at, updates-past, fire-at}
 use Rattle.engine.proofs.Moves.{fire-length}
-use Rattle.clearing.specs.Marks.{each, mark}
+use Rattle.sweep.specs.Marks.{each, mark}
 use Rattle.firing.specs.Outcome.{marked}
 use Rattle.traces.specs.Traces.{own, gets, any}
 use Rattle.clearing.specs.Steps.{trace, wiped, cleared, clear-marked, clear-of, clear-marks-of, clears, clear-marks}
 use Rattle.firing.specs.Steps.{puts, put-marks}
 use Rattle.traces.proofs.Laws.{or-assoc, and-none, other-append}
-use Rattle.clearing.proofs.Sweep.{length-each, getD-each, each-is}
+use Rattle.sweep.proofs.Sweep.{length-each, getD-each, each-is}
 use Rattle.traces.proofs.Laws.{own-given}
 
 -- ---- marks: a bit that is there stays

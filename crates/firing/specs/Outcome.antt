@@ -13,7 +13,7 @@ use Rattle.engine.specs.declared.Instruction.{Instruction}
 use Rattle.engine.specs.Move.{Moved, fires, stopped, released, fire, writes, fired-of, judged}
 use Rattle.engine.specs.Move as move
 use Rattle.records.specs.Code.{items}
-use Rattle.clearing.specs.Marks.{each, mark}
+use Rattle.sweep.specs.Marks.{each, mark}
 use Rattle.firing.specs.declared.Outcome.{Outcome}
 use Rattle.firing.specs.declared.Outcome.the-variants.{Fired, Clash, Idle}
 

@@ -6,7 +6,7 @@ use lib.Dec.{eqb, ltb}
 use lib.ListN.{getD, set}
 use Rattle.engine.specs.declared.Instruction.{Instruction}
 use Rattle.traces.specs.Traces.{own, gets}
-use Rattle.clearing.specs.Marks.{mark}
+use Rattle.sweep.specs.Marks.{mark}
 
 -- ---- 16
 

@@ -12,7 +12,7 @@ ghost use Rattle.engine.specs.Move.{idle, fire};
 ghost use Rattle.records.specs.Code.{items};
 ghost use Rattle.traces.specs.Traces.{any};
 ghost use Rattle.clash.specs.Clash.{updates-by, clash-by};
-ghost use Rattle.clearing.specs.Marks.{mark};
+ghost use Rattle.sweep.specs.Marks.{mark};
 ghost use Rattle.firing.specs.Outcome.{move-by, marked, OffRoll, Ready, Settled};
 ghost use Rattle.firing.specs.Steps.{change, puts, put-marks};
 
@@ -65,7 +65,7 @@ fn put(contents: &mut [u16], writers: &mut [u64], at: usize, v: u16, bit: u64)
 {
     if at < contents.len() {
         contents[at] = v;
-        clearing::or_at(writers, at, bit);
+        sweep::or_at(writers, at, bit);
     }
 }
 

@@ -9,7 +9,7 @@ use lib.Dec.{eqb, ltb, leb}
 use lib.ListN.{length, getD, take, drop, set, length-set}
 use Rattle.engine.specs.declared.Instruction.{Instruction}
 use Rattle.records.specs.Code.{decode-of, items}
-use Rattle.clearing.specs.Marks.{mark}
+use Rattle.sweep.specs.Marks.{mark}
 use Rattle.traces.specs.Traces.{own, gets}
 use Rattle.firing.specs.Steps.{puts, put-marks}
 use Rattle.traces.proofs.Laws.{items-cons, items-end}

@@ -9,10 +9,10 @@ use lib.ListN.{length, getD, take, drop, set, length-set}
 use lib.Seq.{set-out, set-getD}
 use Rattle.traces.specs.Traces.{trace-in}
 use borrow.Author.Needs.{needs}
-use Rattle.clearing.proofs.clear_one.Statement.{statement}
-use Rattle.clearing.proofs.clear_one.Tie as tie
-use Rattle.clearing.proofs.clear_one.Reads as reads
-use Rattle.clearing.proofs.clear_one.Lts as lts
+use Rattle.sweep.proofs.clear_one.Statement.{statement}
+use Rattle.sweep.proofs.clear_one.Tie as tie
+use Rattle.sweep.proofs.clear_one.Reads as reads
+use Rattle.sweep.proofs.clear_one.Lts as lts
 use Rattle.table.proofs.default_of.Reads as default-of-reads
 
 mul-held : tie.Need-mul-held

@@ -10,7 +10,7 @@ use borrow.Author.Tests.{eqb-true, eqb-false, ltb-true, ltb-false, eq-eqb, ne-eq
 use lib.Dec.{eqb, ltb, leb}
 use lib.ListN.{length, getD, set, take, drop, length-set, length-take, length-drop, take-append-drop, List·getD-eq-default}
 use lib.Seq.{ext-getD, getD-set-same, getD-set-other, length-take-le}
-use Rattle.clearing.specs.Marks.{each}
+use Rattle.sweep.specs.Marks.{each}
 
 pub length-each : (f : ℕ → ℕ → ℕ) (i : ℕ) (s : List ℕ) → length (each f i s) ≡ length s
 unfolding each

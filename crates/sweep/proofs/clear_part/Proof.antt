@@ -8,14 +8,14 @@ use borrow.Author.Tests.{le-ltb, lt-ltb, lt-leb, le-leb, eq-eqb, ne-eqb}
 use lib.Dec.{eqb, ltb, leb}
 use lib.ListN.{length, getD, take, drop, set, length-set}
 use native.Mathlib.Nat.{zero-div, zero-mod}
-use Rattle.clearing.specs.Marks.{mark}
+use Rattle.sweep.specs.Marks.{mark}
 use Rattle.traces.specs.Traces.{trace-in}
-use Rattle.clearing.specs.Steps.{wiped-in}
-use Rattle.clearing.proofs.Sweep.{Swept, sweep-start, sweep-next, sweep-end}
-use Rattle.clearing.proofs.clear_part.Statement.{statement}
-use Rattle.clearing.proofs.clear_part.Tie as tie
-use Rattle.clearing.proofs.clear_part.Reads as reads
-use Rattle.clearing.proofs.clear_part.Lts as lts
+use Rattle.sweep.specs.Part.{wiped-in}
+use Rattle.sweep.proofs.Sweep.{Swept, sweep-start, sweep-next, sweep-end}
+use Rattle.sweep.proofs.clear_part.Statement.{statement}
+use Rattle.sweep.proofs.clear_part.Tie as tie
+use Rattle.sweep.proofs.clear_part.Reads as reads
+use Rattle.sweep.proofs.clear_part.Lts as lts
 
 abbrev Inv-loop : tie.InvT-loop
 Inv-loop part₀ marks₀ e f x bit i₀ row₀ col₀ part marks i row col =

@@ -3,10 +3,10 @@ use mathlib.Core.Path.{sym}
 use lib.ListN.{getD}
 use lib.Bits.{bitOr}
 use borrow.Author.Needs.{needs}
-use Rattle.clearing.proofs.or_at.Statement.{statement}
-use Rattle.clearing.proofs.or_at.Tie as tie
-use Rattle.clearing.proofs.or_at.Reads as reads
-use Rattle.clearing.proofs.or_at.Lts as lts
+use Rattle.sweep.proofs.or_at.Statement.{statement}
+use Rattle.sweep.proofs.or_at.Tie as tie
+use Rattle.sweep.proofs.or_at.Reads as reads
+use Rattle.sweep.proofs.or_at.Lts as lts
 
 mul-s : tie.Need-mul-s
 mul-s c = search needs
