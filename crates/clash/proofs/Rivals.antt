@@ -4,7 +4,7 @@ use mathlib.Core.Path.{_≡_, refl, sym, ap, _∙_}
 use mathlib.Core.Logic.{dite}
 use mathlib.Core.Bool.{Bool, true, false, _&&_, _||_, not, or-false, false≢true}
 use mathlib.Core.List.{List, [], _∷_, _++_, map}
-use Prim.Native.Nat.{ℕ, zero, suc, _+_, _-_, _/_, _%_, _<_, _≤_}
+use Prim.Native.Nat.{ℕ, zero, suc, _+_, _-_, _%_, _<_, _≤_}
 use native.Mathlib.Nat.{mod-lt}
 use native.Mathlib.Omega.{arith}
 use native.Mathlib.Decide.{ℕ-discrete}
@@ -16,7 +16,7 @@ use Rattle.text.specs.Words.{if_then_else_, has, some-below}
 use Rattle.text.proofs.Words.{and-cases, some-below-true, some-below-from}
 use Rattle.book.specs.Book.{Book}
 use Rattle.engine.specs.declared.Instruction.{Instruction}
-use Rattle.engine.specs.declared.Instruction.the-variants.{Update, Release}
+use Rattle.engine.specs.declared.Instruction.the-variants.{Update}
 use Rattle.engine.specs.Move.{values, label-of, released, other}
 use Rattle.records.specs.Code.{decode-of, items}
 use Rattle.traces.specs.Traces.{any}

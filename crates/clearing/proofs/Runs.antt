@@ -1,18 +1,18 @@
 -- The traces of a label cleared function after function: what holds after each. Assumes nothing.
 use mathlib.Core.Path.{_≡_, refl, sym, ap, _∙_}
-use mathlib.Core.Bool.{Bool, true, false, _&&_, _||_, not}
-use mathlib.Core.List.{List, [], _∷_, _++_}
-use Prim.Native.Nat.{ℕ, zero, suc, _+_, _-_, _<_, _≤_, min}
+use mathlib.Core.Bool.{Bool, true, false, _&&_}
+use mathlib.Core.List.{List, _++_}
+use Prim.Native.Nat.{ℕ, _+_, _-_, _<_, _≤_, min}
 use native.Mathlib.Omega.{arith}
 use borrow.Author.Tests.{ltb-true, ltb-false, lt-ltb, le-ltb, lt-leb, le-leb}
-use lib.Dec.{eqb, ltb, leb}
+use lib.Dec.{ltb, leb}
 use lib.ListN.{length, getD, take, drop, length-take, length-drop}
 use lib.Seq.{getD-take, getD-drop}
 use Rattle.text.specs.Words.{if_then_else_}
 use Rattle.book.specs.declared.Function.{Function}
-use Rattle.book.specs.Book.{Book, L, size, no-function, function-at, place}
+use Rattle.book.specs.Book.{Book, size, function-at, place}
 use Rattle.table.proofs.Places.{From, from-start, from-at, from-next, from-past}
-use Rattle.sweep.specs.Marks.{each, mark}
+use Rattle.sweep.specs.Marks.{mark}
 use Rattle.traces.specs.Traces.{trace-in}
 use Rattle.sweep.specs.Part.{wiped-in, part-cleared, part-marked}
 use Rattle.clearing.specs.Steps.{between, run-cleared, run-marked, trace, wiped, cleared, clear-marked}

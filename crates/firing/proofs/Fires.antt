@@ -2,10 +2,10 @@
 use mathlib.Core.Path.{_≡_, refl, sym, ap, ap₂, _∙_}
 use mathlib.Core.Bool.{Bool, true, false, _&&_, _||_, not, or-true, or-false}
 use mathlib.Core.List.{List, [], _∷_, _++_}
-use Prim.Native.Nat.{ℕ, zero, suc, _+_, _*_, _-_, _/_, _%_, _<_, _≤_, max}
+use Prim.Native.Nat.{ℕ, _+_, _*_, _/_, _%_, _<_, _≤_, max}
 use native.Mathlib.Omega.{arith}
-use borrow.Author.Tests.{eqb-true, eqb-false, ltb-true, ltb-false, eq-eqb, ne-eqb, lt-ltb, le-ltb, not-false}
-use lib.Dec.{eqb, ltb, leb}
+use borrow.Author.Tests.{eqb-true, eqb-false, ltb-true, ltb-false, eq-eqb, lt-ltb, le-ltb, not-false}
+use lib.Dec.{eqb, ltb}
 use lib.Bits.{bitOr, or-step, or-self}
 use lib.Arith.{bin-ind}
 use lib.ListN.{length, getD, set, length-set}
@@ -22,9 +22,9 @@ use Rattle.engine.proofs.Moves.{fire-length}
 use Rattle.sweep.specs.Marks.{each, mark}
 use Rattle.firing.specs.Outcome.{marked}
 use Rattle.traces.specs.Traces.{own, gets, any}
-use Rattle.clearing.specs.Steps.{trace, wiped, cleared, clear-marked, clear-of, clear-marks-of, clears, clear-marks}
+use Rattle.clearing.specs.Steps.{trace, wiped, clear-of, clear-marks-of, clears, clear-marks}
 use Rattle.firing.specs.Steps.{puts, put-marks}
-use Rattle.traces.proofs.Laws.{or-assoc, and-none, other-append}
+use Rattle.traces.proofs.Laws.{and-none, other-append}
 use Rattle.sweep.proofs.Sweep.{length-each, getD-each, each-is}
 use Rattle.traces.proofs.Laws.{own-given}
 

@@ -1,11 +1,4 @@
-use mathlib.Core.Path.{_≡_, refl, sym, ap, ap₂, _∙_}
-use mathlib.Core.Bool.{Bool, true, false, _&&_, _||_, not}
-use mathlib.Core.List.{List, []}
-use Prim.Native.Nat.{ℕ, _+_, _≤_, _<_, _-_, _/_, _%_, min}
-use native.Mathlib.Omega.{arith}
-use borrow.Author.Tests.{le-ltb, lt-ltb, lt-leb, le-leb, eq-eqb, ne-eqb}
-use lib.Dec.{eqb, ltb, leb}
-use lib.ListN.{length, getD, take, drop, set, length-set}
+use borrow.Author.Tests.{eq-eqb, ne-eqb}
 use mathlib.Core.Bool.{or-false}
 use Rattle.engine.specs.Move.{other}
 use Rattle.against.specs.Steps.{gives}
@@ -14,7 +7,6 @@ use Rattle.against.proofs.against.Statement.{statement}
 use Rattle.against.proofs.against.Tie as tie
 use Rattle.against.proofs.against.Reads as reads
 use Rattle.against.proofs.against.Lts as lts
-use Rattle.table.proofs.default_of.Reads as default-of-reads
 
 enum-known-what : tie.Need-enum-known-what
 enum-known-what c = search needs

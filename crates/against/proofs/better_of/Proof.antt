@@ -1,23 +1,18 @@
-use mathlib.Core.Path.{_≡_, refl, sym, ap, ap₂, _∙_}
-use mathlib.Core.Bool.{Bool, true, false, _&&_, _||_, not}
-use mathlib.Core.List.{List, []}
-use Prim.Native.Nat.{ℕ, _+_, _≤_, _<_, _-_, _/_, _%_, min}
+use mathlib.Core.Path.{_≡_, sym, _∙_}
+use mathlib.Core.List.{[]}
+use Prim.Native.Nat.{_≤_, _<_}
 use native.Mathlib.Omega.{arith}
-use borrow.Author.Tests.{le-ltb, lt-ltb, lt-leb, le-leb, eq-eqb, ne-eqb}
-use lib.Dec.{eqb, ltb, leb}
-use lib.ListN.{length, getD, take, drop, set, length-set}
+use borrow.Author.Tests.{le-ltb, lt-ltb}
 use Rattle.book.specs.Image.{book-in}
 use Rattle.engine.specs.Move.{other, values}
 use Rattle.records.specs.Code.{items}
-use Rattle.traces.specs.Traces.{own, gets, any}
-use Rattle.against.specs.Steps.{gives, spot}
+use Rattle.traces.specs.Traces.{own, gets}
 use Rattle.against.proofs.Laws.{other-any}
 use borrow.Author.Needs.{needs}
 use Rattle.against.proofs.better_of.Statement.{statement}
 use Rattle.against.proofs.better_of.Tie as tie
 use Rattle.against.proofs.better_of.Reads as reads
 use Rattle.against.proofs.better_of.Lts as lts
-use Rattle.table.proofs.elements.Reads as elements-reads
 
 own-location-requires : tie.Need-own-location-requires
 own-location-requires c κs = search needs

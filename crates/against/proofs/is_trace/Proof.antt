@@ -1,11 +1,4 @@
-use mathlib.Core.Path.{_≡_, refl, sym, ap, ap₂, _∙_}
-use mathlib.Core.Bool.{Bool, true, false, _&&_, _||_, not}
-use mathlib.Core.List.{List, []}
-use Prim.Native.Nat.{ℕ, _+_, _≤_, _<_, _-_, _/_, _%_, min}
-use native.Mathlib.Omega.{arith}
-use borrow.Author.Tests.{le-ltb, lt-ltb, lt-leb, le-leb, eq-eqb, ne-eqb}
-use lib.Dec.{eqb, ltb, leb}
-use lib.ListN.{length, getD, take, drop, set, length-set}
+use mathlib.Core.Path.{_∙_}
 use native.Mathlib.Nat.{div-zero, mod-zero}
 use borrow.Author.Needs.{needs}
 use Rattle.against.proofs.is_trace.Statement.{statement}

@@ -1,6 +1,4 @@
-use lib.Dec.{eqb}
-use mathlib.Core.Bool.{Bool, _||_, or-false}
-use mathlib.Core.Path.{sym, ap, _∙_}
+use mathlib.Core.Bool.{or-false}
 use borrow.Author.Needs.{needs}
 use Rattle.against.proofs.releases.Statement.{statement}
 use Rattle.against.proofs.releases.Tie as tie

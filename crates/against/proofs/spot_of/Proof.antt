@@ -1,15 +1,12 @@
 use lib.ListN.{List·getD-eq-default}
 use Rattle.book.specs.Book.{no-function}
-use mathlib.Core.Path.{_≡_, refl, sym, ap, ap₂, _∙_}
-use mathlib.Core.Bool.{Bool, true, false, _&&_, _||_, not}
-use mathlib.Core.List.{List, []}
-use Prim.Native.Nat.{ℕ, _+_, _≤_, _<_, _-_, _/_, _%_, min}
+use mathlib.Core.Path.{_≡_, _∙_}
+use mathlib.Core.List.{[]}
+use Prim.Native.Nat.{_≤_, _<_, _-_}
 use native.Mathlib.Omega.{arith}
 use borrow.Author.Needs.{needs}
-use borrow.Author.Tests.{le-ltb, lt-ltb, lt-leb, le-leb, eq-eqb, ne-eqb}
-use lib.Dec.{eqb, ltb, leb}
-use lib.ListN.{length, getD, take, drop, set, length-set}
-use Rattle.book.specs.Book.{L, size, function-at}
+use lib.ListN.{length}
+use Rattle.book.specs.Book.{size, function-at}
 use Rattle.book.specs.Image.{book-in}
 use Rattle.table.proofs.Places.{From, from-start, from-at, from-next, from-past}
 use Rattle.against.proofs.Laws.{spot-is}
@@ -17,11 +14,6 @@ use Rattle.against.proofs.spot_of.Statement.{statement}
 use Rattle.against.proofs.spot_of.Tie as tie
 use Rattle.against.proofs.spot_of.Reads as reads
 use Rattle.against.proofs.spot_of.Lts as lts
-use Rattle.table.proofs.elements.Reads as elements-reads
-use Rattle.table.proofs.fetch.Reads as fetch-reads
-use Rattle.table.proofs.function_at.Reads as function-at-reads
-use Rattle.table.proofs.functions.Reads as functions-reads
-use Rattle.table.proofs.size.Reads as size-reads
 
 abbrev Inv-loop : tie.InvT-loop
 Inv-loop image contents l held e n first₀ g₀ first g =

@@ -1,9 +1,9 @@
-use mathlib.Core.Path.{_≡_, refl, sym, ap, _∙_}
+use mathlib.Core.Path.{_≡_}
 use mathlib.Core.List.{[]}
-use Prim.Native.Nat.{ℕ, _+_, _-_, _<_, _≤_, min}
+use Prim.Native.Nat.{_-_, _<_, _≤_}
 use native.Mathlib.Omega.{arith}
 use borrow.Author.Needs.{needs}
-use lib.ListN.{length, getD, set}
+use lib.ListN.{length, getD}
 use Rattle.book.specs.Image.{book-in}
 use Rattle.clash.specs.Steps.{location-of, slot-of, Last}
 use Rattle.traces.proofs.Laws.{take-min}
@@ -12,7 +12,6 @@ use Rattle.clash.proofs.first_clash.Statement.{statement}
 use Rattle.clash.proofs.first_clash.Tie as tie
 use Rattle.clash.proofs.first_clash.Reads as reads
 use Rattle.clash.proofs.first_clash.Lts as lts
-use Rattle.table.proofs.smaller.Reads as smaller-reads
 
 abbrev Inv-loop : tie.InvT-loop
 Inv-loop image contents list len most n last₀ prior₀ least₀ j₀ last prior least j =

@@ -1,25 +1,16 @@
-use mathlib.Core.Path.{_≡_, refl, sym, ap, ap₂, _∙_}
-use mathlib.Core.Bool.{Bool, true, false, _&&_, _||_, not}
-use mathlib.Core.List.{List, []}
-use Prim.Native.Nat.{ℕ, _+_, _≤_, _<_, _-_, _/_, _%_, min}
+use mathlib.Core.Path.{_≡_, ap, _∙_}
+use mathlib.Core.List.{[]}
+use Prim.Native.Nat.{ℕ, _+_, _≤_, _<_, _-_}
 use native.Mathlib.Omega.{arith}
 use borrow.Author.Needs.{needs}
-use borrow.Author.Tests.{le-ltb, lt-ltb, lt-leb, le-leb, eq-eqb, ne-eqb}
-use lib.Dec.{eqb, ltb, leb}
-use lib.ListN.{length, getD, take, drop, set, length-set}
-use Rattle.book.specs.Book.{L, size, function-at}
+use lib.ListN.{length}
+use Rattle.book.specs.Book.{size, function-at}
 use Rattle.book.specs.Image.{book-in}
-use Rattle.table.proofs.Places.{From, from-start, from-at, from-next, from-past}
-use Rattle.clearing.specs.Steps.{run-cleared, run-marked}
 use Rattle.clearing.proofs.Runs.{Upto, upto-start, upto-next, upto-end}
 use Rattle.clearing.proofs.clear.Statement.{statement}
 use Rattle.clearing.proofs.clear.Tie as tie
 use Rattle.clearing.proofs.clear.Reads as reads
 use Rattle.clearing.proofs.clear.Lts as lts
-use Rattle.table.proofs.elements.Reads as elements-reads
-use Rattle.table.proofs.function_at.Reads as function-at-reads
-use Rattle.table.proofs.functions.Reads as functions-reads
-use Rattle.table.proofs.size.Reads as size-reads
 
 abbrev Inv-loop : tie.InvT-loop
 Inv-loop image contents₀ writers₀ x bit e n first₀ g₀ contents writers first g =

@@ -1,18 +1,9 @@
-use mathlib.Core.Path.{_≡_, refl, sym, ap, ap₂, _∙_}
-use mathlib.Core.Bool.{Bool, true, false, _&&_, _||_, not}
-use mathlib.Core.List.{List, []}
-use Prim.Native.Nat.{ℕ, _+_, _≤_, _<_, _-_, _/_, _%_, min}
-use native.Mathlib.Omega.{arith}
-use borrow.Author.Tests.{le-ltb, lt-ltb, lt-leb, le-leb, eq-eqb, ne-eqb}
-use lib.Dec.{eqb, ltb, leb}
-use lib.ListN.{length, getD, take, drop, set, length-set}
 use Rattle.clearing.proofs.Runs.{run-contents, run-marks}
 use borrow.Author.Needs.{needs}
 use Rattle.clearing.proofs.clear_run.Statement.{statement}
 use Rattle.clearing.proofs.clear_run.Tie as tie
 use Rattle.clearing.proofs.clear_run.Reads as reads
 use Rattle.clearing.proofs.clear_run.Lts as lts
-use Rattle.table.proofs.smaller.Reads as smaller-reads
 
 smaller-requires : tie.Need-smaller-requires
 smaller-requires c κs = search needs

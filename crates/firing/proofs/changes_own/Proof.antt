@@ -1,17 +1,8 @@
-use mathlib.Core.Path.{_≡_, refl, sym, ap, ap₂, _∙_}
-use mathlib.Core.Bool.{Bool, true, false, _&&_, _||_, not}
-use mathlib.Core.List.{List, []}
-use Prim.Native.Nat.{ℕ, _+_, _≤_, _<_, _-_, _/_, _%_, min}
-use native.Mathlib.Omega.{arith}
-use borrow.Author.Tests.{le-ltb, lt-ltb, lt-leb, le-leb, eq-eqb, ne-eqb}
-use lib.Dec.{eqb, ltb, leb}
-use lib.ListN.{length, getD, take, drop, set, length-set}
 use borrow.Author.Needs.{needs}
 use Rattle.firing.proofs.changes_own.Statement.{statement}
 use Rattle.firing.proofs.changes_own.Tie as tie
 use Rattle.firing.proofs.changes_own.Reads as reads
 use Rattle.firing.proofs.changes_own.Lts as lts
-use Rattle.table.proofs.fetch.Reads as fetch-reads
 
 own-location-requires : tie.Need-own-location-requires
 own-location-requires c κs = search needs

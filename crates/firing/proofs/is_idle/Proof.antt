@@ -2,14 +2,9 @@ use Rattle.book.specs.Book.{L}
 use Rattle.records.specs.Code.{items}
 use Rattle.traces.specs.Traces.{any}
 use Rattle.firing.specs.Steps.{change}
-use mathlib.Core.Path.{_≡_, refl, sym, ap, ap₂, _∙_}
-use mathlib.Core.Bool.{Bool, true, false, _&&_, _||_, not}
-use mathlib.Core.List.{List, []}
-use Prim.Native.Nat.{ℕ, _+_, _≤_, _<_, _-_, _/_, _%_, min}
-use native.Mathlib.Omega.{arith}
-use borrow.Author.Tests.{le-ltb, lt-ltb, lt-leb, le-leb, eq-eqb, ne-eqb}
-use lib.Dec.{eqb, ltb, leb}
-use lib.ListN.{length, getD, take, drop, set, length-set}
+use mathlib.Core.Path.{_≡_, ap, _∙_}
+use mathlib.Core.Bool.{not}
+use mathlib.Core.List.{[]}
 use Rattle.book.specs.Image.{book-in}
 use Rattle.firing.proofs.Idle.{idle-is}
 use borrow.Author.Needs.{needs}
@@ -17,7 +12,6 @@ use Rattle.firing.proofs.is_idle.Statement.{statement}
 use Rattle.firing.proofs.is_idle.Tie as tie
 use Rattle.firing.proofs.is_idle.Reads as reads
 use Rattle.firing.proofs.is_idle.Lts as lts
-use Rattle.table.proofs.total.Reads as total-reads
 
 total-requires : tie.Need-total-requires
 total-requires c κs = search needs

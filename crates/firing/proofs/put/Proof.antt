@@ -1,5 +1,5 @@
 use borrow.Author.Tests.{le-ltb, lt-ltb}
-use mathlib.Core.Path.{_≡_, refl, _∙_, sym, ap}
+use mathlib.Core.Path.{refl, _∙_, sym}
 use lib.Seq.{set-out, set-getD}
 use lib.ListN.{length}
 use borrow.Author.Needs.{needs}

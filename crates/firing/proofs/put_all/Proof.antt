@@ -1,12 +1,9 @@
-use mathlib.Core.Path.{_≡_, refl, sym, ap, ap₂, _∙_}
-use mathlib.Core.Bool.{Bool, true, false, _&&_, _||_, not}
-use mathlib.Core.List.{List, []}
-use Prim.Native.Nat.{ℕ, _+_, _≤_, _<_, _-_, _/_, _%_, min}
-use native.Mathlib.Omega.{arith}
+use mathlib.Core.Path.{_≡_, refl, sym, ap, _∙_}
+use mathlib.Core.List.{List}
+use Prim.Native.Nat.{_+_, _-_}
 use borrow.Author.Needs.{needs}
-use borrow.Author.Tests.{le-ltb, lt-ltb, lt-leb, le-leb, eq-eqb, ne-eqb}
-use lib.Dec.{eqb, ltb, leb}
-use lib.ListN.{length, getD, take, drop, set, length-set}
+use lib.Dec.{ltb}
+use lib.ListN.{length, getD, drop, set, length-set}
 use Rattle.engine.specs.declared.Instruction.{Instruction}
 use Rattle.records.specs.Code.{decode-of, items}
 use Rattle.sweep.specs.Marks.{mark}
@@ -17,8 +14,6 @@ use Rattle.firing.proofs.put_all.Statement.{statement}
 use Rattle.firing.proofs.put_all.Tie as tie
 use Rattle.firing.proofs.put_all.Reads as reads
 use Rattle.firing.proofs.put_all.Lts as lts
-use Rattle.records.proofs.decode.Reads as decode-reads
-use Rattle.table.proofs.smaller.Reads as smaller-reads
 
 abbrev Inv-loop : tie.InvT-loop
 Inv-loop contents₀ writers₀ list len bit n j₀ contents writers j =

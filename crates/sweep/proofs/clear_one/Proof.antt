@@ -1,19 +1,13 @@
-use mathlib.Core.Path.{_≡_, refl, sym, ap, ap₂, _∙_}
-use mathlib.Core.Bool.{Bool, true, false, _&&_, _||_, not}
-use mathlib.Core.List.{List, []}
-use Prim.Native.Nat.{ℕ, _+_, _≤_, _<_, _-_, _/_, _%_, min}
-use native.Mathlib.Omega.{arith}
-use borrow.Author.Tests.{le-ltb, lt-ltb, lt-leb, le-leb, eq-eqb, ne-eqb}
-use lib.Dec.{eqb, ltb, leb}
-use lib.ListN.{length, getD, take, drop, set, length-set}
-use lib.Seq.{set-out, set-getD}
+use mathlib.Core.Path.{_≡_, sym, _∙_}
+use mathlib.Core.Bool.{true, false}
+use lib.ListN.{getD}
+use lib.Seq.{set-getD}
 use Rattle.traces.specs.Traces.{trace-in}
 use borrow.Author.Needs.{needs}
 use Rattle.sweep.proofs.clear_one.Statement.{statement}
 use Rattle.sweep.proofs.clear_one.Tie as tie
 use Rattle.sweep.proofs.clear_one.Reads as reads
 use Rattle.sweep.proofs.clear_one.Lts as lts
-use Rattle.table.proofs.default_of.Reads as default-of-reads
 
 mul-held : tie.Need-mul-held
 mul-held c = search needs

@@ -1,7 +1,7 @@
 use Rattle.table.proofs.Laws.{turn, along}
 use native.Mathlib.Omega.{arith}
-use native.Mathlib.Nat.{mod-le, div-le-self}
-use mathlib.Core.Path.{sym, ap, _∙_, _≡_}
+use native.Mathlib.Nat.{mod-le}
+use mathlib.Core.Path.{ap, _∙_, _≡_}
 use Prim.Native.Nat.{ℕ, _+_, _%_}
 use Rattle.sweep.proofs.next_col.Statement.{statement}
 use Rattle.sweep.proofs.next_col.Tie as tie

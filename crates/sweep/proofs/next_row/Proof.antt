@@ -1,8 +1,8 @@
 use Rattle.table.proofs.Laws.{turn, along}
 use native.Mathlib.Omega.{arith}
 use native.Mathlib.Nat.{mod-le, div-le-self}
-use mathlib.Core.Path.{sym, ap, _∙_, _≡_}
-use Prim.Native.Nat.{ℕ, _+_, _%_}
+use mathlib.Core.Path.{_∙_, _≡_}
+use Prim.Native.Nat.{_+_, _%_}
 use Rattle.sweep.proofs.next_row.Statement.{statement}
 use Rattle.sweep.proofs.next_row.Tie as tie
 use Rattle.sweep.proofs.next_row.Reads as reads

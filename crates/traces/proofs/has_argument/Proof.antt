@@ -1,7 +1,5 @@
 use borrow.Author.Tests.{eq-eqb, ne-eqb}
-use lib.Dec.{eqb}
-use mathlib.Core.Bool.{Bool, _||_, or-false}
-use mathlib.Core.Path.{sym, ap, _∙_}
+use mathlib.Core.Bool.{or-false}
 use Rattle.traces.proofs.has_argument.Statement.{statement}
 use Rattle.traces.proofs.has_argument.Tie as tie
 use Rattle.traces.proofs.has_argument.Reads as reads
