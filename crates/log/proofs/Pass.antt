@@ -23,17 +23,9 @@ use Rattle.order.specs.Sets.{bit}
 use Rattle.order.specs.Pairs.{Pair, rows}
 use Rattle.order.specs.Log.{no-input, move-at, ascends, bad-pair, input-of, log-of, log-header-ok}
 use Rattle.order.proofs.Masks.{shl-one, test-in, test-out}
-use Rattle.log.specs.Checks.{bad-pair-at, pair-at}
+use Rattle.lines.specs.Checks.{bad-pair-at}
+use Rattle.log.specs.Checks.{pair-at}
 use Rattle.log.proofs.Close.{Up, close, closed-rows}
-
--- ---- the header
-
-pub header-small : (h : Line) → log-header-ok h ≡ true → (h .a ≤ 64) × (h .b ≤ 2016)
-header-small h e =
-    let t2 = and-cases (leb (h .a) 64 && leb (h .b) 2016 && eqb (h .c) 0) (eqb (h .d) 0) e .0 in
-    let t1 = and-cases (leb (h .a) 64 && leb (h .b) 2016) (eqb (h .c) 0) t2 .0 in
-    let t0 = and-cases (leb (h .a) 64) (leb (h .b) 2016) t1 in
-    (leb-true (h .a) 64 (t0 .0), leb-true (h .b) 2016 (t0 .1))
 
 -- ---- the pairs
 

@@ -1,38 +1,32 @@
 use Rattle.order.specs.Log.{log-header-ok}
 use borrow.Author.Tests.{not-true, not-false}
-use Rattle.log.proofs.Stages.{header-ill, header-out, header-in}
+use Rattle.lines.proofs.Stages.{header-ill, header-out, header-in}
 use mathlib.Core.Path.{sym, ap, _∙_}
 use Prim.Native.Nat.{_-_}
 use borrow.Author.Needs.{needs}
-use Rattle.log.proofs.check_header.Statement.{statement}
-use Rattle.log.proofs.check_header.Tie as tie
-use Rattle.log.proofs.check_header.Reads as reads
-use Rattle.log.proofs.check_header.Lts as lts
-use Rattle.log.proofs.header_fits.Reads as header-fits-reads
+use Rattle.lines.proofs.check_header.Statement.{statement}
+use Rattle.lines.proofs.check_header.Tie as tie
+use Rattle.lines.proofs.check_header.Reads as reads
+use Rattle.lines.proofs.check_header.Lts as lts
+use Rattle.lines.proofs.header_fits.Reads as header-fits-reads
 use Rattle.text.proofs.read_line.Reads as read-line-reads
 use Rattle.text.proofs.sound.Reads as sound-reads
 
--- src/lib.rt:98:9
 sound-requires : tie.Need-sound-requires
 sound-requires c κs = search needs
 
--- src/lib.rt:99:9
 returns : tie.Need-returns
 returns c = header-ill (c .before .before .before .args .log .now) (sym (c .before .sound .ensures) ∙ not-true _ (c .if1 .taken))
 
--- src/lib.rt:105:21
 read-line-requires : tie.Need-read-line-requires
 read-line-requires c κs = search needs
 
--- src/lib.rt:105:9
 header-fits-requires : tie.Need-header-fits-requires
 header-fits-requires c κs = search needs
 
--- src/lib.rt:106:9
 returns-2 : tie.Need-returns-2
 returns-2 c = header-out (c .before .before .before .before .before .before .args .log .now) (sym (c .before .before .before .before .sound .ensures) ∙ not-false _ (c .before .before .before .if1 .left)) (ap log-header-ok (sym (c .before .before .read-line .ensures)) ∙ sym (c .before .header-fits .ensures) ∙ not-true _ (c .if2 .taken))
 
--- src/lib.rt:95:1
 returns-3 : tie.Need-returns-3
 returns-3 c = header-in (c .before .before .before .before .before .before .args .log .now) (sym (c .before .before .before .before .sound .ensures) ∙ not-false _ (c .before .before .before .if1 .left)) (ap log-header-ok (sym (c .before .before .read-line .ensures)) ∙ sym (c .before .header-fits .ensures) ∙ not-false _ (c .if2 .left))
 

@@ -6,9 +6,9 @@ use borrow.Author.Needs.{needs}
 use Rattle.text.specs.Text.{line}
 use Rattle.text.specs.Words.{least-from, least}
 use Rattle.text.proofs.Words.{least-start, least-pass, least-stop, least-end}
-use Rattle.log.specs.Checks.{bad-pair-at}
-use Rattle.log.proofs.bad_pair.Statement.{statement}
-use Rattle.log.proofs.bad_pair.Tie as tie
+use Rattle.lines.specs.Checks.{bad-pair-at}
+use Rattle.lines.proofs.bad_pair.Statement.{statement}
+use Rattle.lines.proofs.bad_pair.Tie as tie
 
 abbrev Inv-loop : tie.InvT-loop
 Inv-loop log m n before₀ i₀ before i =

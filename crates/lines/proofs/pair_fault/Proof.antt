@@ -1,6 +1,6 @@
 use mathlib.Core.Path.{refl}
-use Rattle.log.proofs.pair_fault.Statement.{statement}
-use Rattle.log.proofs.pair_fault.Tie as tie
+use Rattle.lines.proofs.pair_fault.Statement.{statement}
+use Rattle.lines.proofs.pair_fault.Tie as tie
 
 returns : tie.Need-returns
 returns c = refl

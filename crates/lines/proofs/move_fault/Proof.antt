@@ -1,6 +1,6 @@
 use mathlib.Core.Path.{refl}
-use Rattle.log.proofs.move_fault.Statement.{statement}
-use Rattle.log.proofs.move_fault.Tie as tie
+use Rattle.lines.proofs.move_fault.Statement.{statement}
+use Rattle.lines.proofs.move_fault.Tie as tie
 
 returns : tie.Need-returns
 returns c = refl

@@ -1,6 +1,6 @@
 use mathlib.Core.Path.{refl}
-use Rattle.log.proofs.header_fits.Statement.{statement}
-use Rattle.log.proofs.header_fits.Tie as tie
+use Rattle.lines.proofs.header_fits.Statement.{statement}
+use Rattle.lines.proofs.header_fits.Tie as tie
 
 returns : tie.Need-returns
 returns c = refl
