@@ -7,11 +7,11 @@ use Prim.Native.Nat.{ℕ, zero, suc, _+_, _-_, _*_, _/_, _%_, _^_, _≤_, _<_}
 use native.Mathlib.Numerals.{add-one}
 use native.Mathlib.Omega.{arith}
 use native.Mathlib.Decide.{ℕ-discrete}
-use lib.Dec.{eqb, ltb, leb}
+use lib.Dec.{eqb, ltb}
 use lib.Bits.{bitAnd, bitOr, and-mask}
 use lib.ListN.{length, getD, set, replicate}
 use lib.Seq.{getD-set-same, getD-set-other}
-use borrow.Author.Tests.{ltb-true, leb-true, eqb-true, not-false}
+use borrow.Author.Tests.{ltb-true, eqb-true, not-false}
 use Rattle.text.specs.declared.Line.{Line}
 use Rattle.text.specs.declared.Found.{Found}
 use Rattle.text.specs.declared.Found.the-variants.{Nowhere, Here}
@@ -21,7 +21,7 @@ use Rattle.text.proofs.Words.{and-cases, or-cases, least-none, getD-table}
 use Rattle.engine.specs.Move.{Input}
 use Rattle.order.specs.Sets.{bit}
 use Rattle.order.specs.Pairs.{Pair, rows}
-use Rattle.order.specs.Log.{no-input, move-at, ascends, bad-pair, input-of, log-of, log-header-ok}
+use Rattle.order.specs.Log.{no-input, move-at, ascends, bad-pair, input-of, log-of}
 use Rattle.order.proofs.Masks.{shl-one, test-in, test-out}
 use Rattle.lines.specs.Checks.{bad-pair-at}
 use Rattle.log.specs.Checks.{pair-at}
