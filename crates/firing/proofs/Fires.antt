@@ -2,10 +2,10 @@
 use mathlib.Core.Path.{_≡_, refl, sym, ap, ap₂, _∙_}
 use mathlib.Core.Bool.{Bool, true, false, _&&_, _||_, not, or-true, or-false}
 use mathlib.Core.List.{List, [], _∷_, _++_}
-use Prim.Native.Nat.{ℕ, zero, suc, _+_, _*_, _-_, _/_, _%_, _<_, _≤_, max}
+use Prim.Native.Nat.{ℕ, _+_, _*_, _/_, _%_, _<_, _≤_, max}
 use native.Mathlib.Omega.{arith}
-use borrow.Author.Tests.{eqb-true, eqb-false, ltb-true, ltb-false, eq-eqb, ne-eqb, lt-ltb, le-ltb, not-false}
-use lib.Dec.{eqb, ltb, leb}
+use borrow.Author.Tests.{eqb-true, eqb-false, ltb-true, ltb-false, eq-eqb, lt-ltb, le-ltb, not-false}
+use lib.Dec.{eqb, ltb}
 use lib.Bits.{bitOr, or-step, or-self}
 use lib.Arith.{bin-ind}
 use lib.ListN.{length, getD, set, length-set}
@@ -19,11 +19,14 @@ use Rattle.engine.specs.declared.Instruction.the-variants.{Update, Release}
 use Rattle.engine.specs.Move.{given, values, updates, values-at, released, other, two-values, set-to-label, clashes, new-value, fire, is-some, writes}
 use Rattle.engine.proofs.Values.{length-updates, updates-at, updates-past, fire-at}
 use Rattle.engine.proofs.Moves.{fire-length}
-use Rattle.firing.specs.Outcome.{each, mark, marked}
-use Rattle.firing.specs.Steps.{own, gets, any, trace, wiped, cleared, clear-marked, clear-of, clear-marks-of, clears, clear-marks, puts, put-marks}
-use Rattle.firing.proofs.Laws.{or-assoc, and-none, other-append}
-use Rattle.firing.proofs.Sweep.{length-each, getD-each, each-is}
-use Rattle.firing.proofs.Best.{own-given}
+use Rattle.sweep.specs.Marks.{each, mark}
+use Rattle.firing.specs.Outcome.{marked}
+use Rattle.traces.specs.Traces.{own, gets, any}
+use Rattle.clearing.specs.Steps.{trace, wiped, clear-of, clear-marks-of, clears, clear-marks}
+use Rattle.firing.specs.Steps.{puts, put-marks}
+use Rattle.traces.proofs.Laws.{and-none, other-append}
+use Rattle.sweep.proofs.Sweep.{length-each, getD-each, each-is}
+use Rattle.traces.proofs.Laws.{own-given}
 
 -- ---- marks: a bit that is there stays
 

@@ -1,24 +1,24 @@
 -- A move that changes no instruction's own location changes none, if each of its releases changes Reserve at its label. Assumes nothing.
 use mathlib.Core.Path.{_≡_, refl, sym, ap, _∙_}
-use mathlib.Core.Logic.{_≢_}
 use mathlib.Core.Bool.{Bool, true, false, _&&_, _||_, not, or-true, or-false}
-use mathlib.Core.List.{List, [], _∷_, _++_}
-use Prim.Native.Nat.{ℕ, zero, suc, _+_, _<_, _≤_}
+use mathlib.Core.List.{List, [], _∷_}
+use Prim.Native.Nat.{ℕ, _<_}
 use native.Mathlib.Omega.{arith}
-use borrow.Author.Tests.{eqb-true, eqb-false, ltb-true, ltb-false, eq-eqb, ne-eqb, lt-ltb, not-false}
+use borrow.Author.Tests.{eqb-true, ltb-true, eq-eqb, ne-eqb, lt-ltb, not-false}
 use lib.Dec.{eqb, ltb}
 use lib.ListN.{length, getD}
-use Rattle.text.specs.Words.{if_then_else_, has, some-below}
+use Rattle.text.specs.Words.{if_then_else_, some-below}
 use Rattle.text.proofs.Words.{or-no, some-below-true, some-below-from}
-use Rattle.book.specs.Book.{Book, L, true-element}
+use Rattle.book.specs.Book.{Book, L}
 use Rattle.engine.specs.declared.Instruction.{Instruction}
 use Rattle.engine.specs.declared.Instruction.the-variants.{Update, Release}
-use Rattle.engine.specs.Move.{given, values, updates, values-at, label-of, released, other, idle}
+use Rattle.engine.specs.Move.{given, values, updates, values-at, released, other, idle}
 use Rattle.engine.proofs.Values.{length-updates, updates-at}
 use Rattle.firing.specs.Outcome.{OffRoll}
-use Rattle.firing.specs.Steps.{own, gets, any, change}
-use Rattle.firing.proofs.Laws.{other-append}
-use Rattle.firing.proofs.Best.{no, own-given}
+use Rattle.traces.specs.Traces.{own, gets, any}
+use Rattle.firing.specs.Steps.{change}
+use Rattle.traces.proofs.Laws.{other-append}
+use Rattle.traces.proofs.Laws.{no, own-given}
 
 module _ (B : Book) (c : List ℕ) where
   abbrev Quiet : List Instruction → Type 0

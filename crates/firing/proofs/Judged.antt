@@ -1,14 +1,15 @@
 -- A move is settled by its clash, then by whether it is idle. Assumes nothing.
-use mathlib.Core.Path.{_≡_, refl, sym, ap, _∙_}
-use mathlib.Core.Bool.{Bool, true, false}
+use mathlib.Core.Path.{_≡_, sym, ap, _∙_}
+use mathlib.Core.Bool.{true, false}
 use mathlib.Core.List.{List}
 use Prim.Native.Nat.{ℕ}
 use Rattle.text.specs.declared.Found.the-variants.{Nowhere, Here}
 use Rattle.text.specs.Refusals.{clash, idle-move}
-use Rattle.engine.specs.Move.{Moved, fires, stopped, unless-clash, unless-idle, fire, idle, judged}
+use Rattle.engine.specs.Move.{fires, stopped, fire, idle, judged}
 use Rattle.engine.specs.Move as move
 use Rattle.firing.specs.declared.Outcome.the-variants.{Fired, Clash, Idle}
-use Rattle.firing.specs.Outcome.{updates-by, clash-by, move-by, marked, contents-after, marks-after, Settled}
+use Rattle.clash.specs.Clash.{updates-by, clash-by}
+use Rattle.firing.specs.Outcome.{move-by, marked, contents-after, marks-after, Settled}
 
 module _ (image c list : List ℕ) (n : ℕ) (ls : List ℕ) (bit : ℕ) (ms : List ℕ) where
   abbrev f : move.Fired

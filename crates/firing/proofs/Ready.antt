@@ -1,7 +1,7 @@
 -- What `settle` asks for holds for each walk that came to its end, of an agent of a lawful book on sound contents. Assumes nothing.
-use mathlib.Core.Path.{_≡_, refl}
+use mathlib.Core.Path.{_≡_}
 use mathlib.Core.Logic.{_⊎_, inl, inr}
-use mathlib.Core.Bool.{Bool, true, false, _||_, false≢true}
+use mathlib.Core.Bool.{true, false≢true}
 use mathlib.Core.List.{List, [], _∷_}
 use Prim.Native.Nat.{ℕ}
 use native.Mathlib.Omega.{arith}
@@ -19,7 +19,7 @@ use Rattle.engine.specs.Move.{released, Input, walked}
 use Rattle.engine.proofs.Values.{Frees}
 use Rattle.engine.proofs.Walks.{frees-fine}
 use Rattle.engine.proofs.Moves.{walked-made}
-use Rattle.firing.specs.Outcome.{OffRoll, Ready}
+use Rattle.firing.specs.Outcome.{Ready}
 
 has-frees : (is : List Instruction) (x : ℕ) → has (released is) x ≡ true → Frees x is
 unfolding released

@@ -1,33 +1,25 @@
 -- What becomes of a move whose walk came to its end: 15, 16 or the contents and writer marks after (01, "What a move does").
 use mathlib.Core.Path.{_≡_}
 use mathlib.Core.Logic.{_≢_}
-use mathlib.Core.Bool.{Bool, true, false}
-use mathlib.Core.List.{List, [], _∷_}
-use Prim.Native.Nat.{ℕ, zero, suc, _<_}
-use lib.Bits.{bitOr}
+use mathlib.Core.Bool.{true}
+use mathlib.Core.List.{List, []}
+use Prim.Native.Nat.{ℕ, _<_}
 use lib.ListN.{length, getD}
-use Rattle.text.specs.Words.{has, least}
-use Rattle.text.specs.declared.Found.{Found}
+use Rattle.text.specs.Words.{has}
 use Rattle.text.specs.Refusals.{clash, idle-move}
 use Rattle.book.specs.Book.{Book, L, true-element, reserve}
 use Rattle.book.specs.Image.{book-in}
 use Rattle.engine.specs.declared.Instruction.{Instruction}
-use Rattle.engine.specs.Move.{Moved, fires, stopped, updates, released, clashes, fire, writes, fired-of, judged}
+use Rattle.engine.specs.Move.{Moved, fires, stopped, released, fire, writes, fired-of, judged}
 use Rattle.engine.specs.Move as move
 use Rattle.records.specs.Code.{items}
+use Rattle.sweep.specs.Marks.{each, mark}
 use Rattle.firing.specs.declared.Outcome.{Outcome}
 use Rattle.firing.specs.declared.Outcome.the-variants.{Fired, Clash, Idle}
 
--- ---- what the first n instructions of a list give, in the contents c of the book that an image holds
+-- ---- the move of a list, in the contents c of the book that an image holds
 
-abbrev pub updates-by : List ℕ → List ℕ → List ℕ → ℕ → List (List ℕ)
-updates-by image c list n = updates (book-in image []) c (items list n)
-
--- the least location that clashes
-abbrev pub clash-by : List ℕ → List ℕ → List ℕ → ℕ → Found
-clash-by image c list n = least (clashes (items list n) (updates-by image c list n)) (length (updates-by image c list n))
-
--- the move, whose walk looked at ls
+-- its walk looked at ls
 abbrev pub move-by : List ℕ → List ℕ → List ℕ → ℕ → List ℕ → move.Fired
 move-by image c list n ls = fired-of (book-in image []) c ls (items list n)
 
@@ -44,15 +36,6 @@ moved-by f Idle = stopped idle-move 0
 abbrev pub contents-after : List ℕ → Moved → List ℕ
 contents-after c (fires f) = fire (f .updates) c
 contents-after c (stopped n q) = c
-
--- each element by its place, from i on
-unfoldable pub each : (ℕ → ℕ → ℕ) → ℕ → List ℕ → List ℕ
-each f i [] = []
-each f i (v ∷ vs) = f i v ∷ each f (suc i) vs
-
-abbrev pub mark : ℕ → Bool → ℕ → ℕ
-mark bit true m = bitOr m bit
-mark bit false m = m
 
 -- the bit is joined wherever the updates write
 abbrev pub marked : ℕ → List (List ℕ) → List ℕ → List ℕ

@@ -7,11 +7,11 @@ use Prim.Native.Nat.{ℕ, zero, suc, _+_, _-_, _*_, _/_, _%_, _^_, _≤_, _<_}
 use native.Mathlib.Numerals.{add-one}
 use native.Mathlib.Omega.{arith}
 use native.Mathlib.Decide.{ℕ-discrete}
-use lib.Dec.{eqb, ltb, leb}
+use lib.Dec.{eqb, ltb}
 use lib.Bits.{bitAnd, bitOr, and-mask}
 use lib.ListN.{length, getD, set, replicate}
 use lib.Seq.{getD-set-same, getD-set-other}
-use borrow.Author.Tests.{ltb-true, leb-true, eqb-true, not-false}
+use borrow.Author.Tests.{ltb-true, eqb-true, not-false}
 use Rattle.text.specs.declared.Line.{Line}
 use Rattle.text.specs.declared.Found.{Found}
 use Rattle.text.specs.declared.Found.the-variants.{Nowhere, Here}
@@ -21,19 +21,11 @@ use Rattle.text.proofs.Words.{and-cases, or-cases, least-none, getD-table}
 use Rattle.engine.specs.Move.{Input}
 use Rattle.order.specs.Sets.{bit}
 use Rattle.order.specs.Pairs.{Pair, rows}
-use Rattle.order.specs.Log.{no-input, move-at, ascends, bad-pair, input-of, log-of, log-header-ok}
+use Rattle.order.specs.Log.{no-input, move-at, ascends, bad-pair, input-of, log-of}
 use Rattle.order.proofs.Masks.{shl-one, test-in, test-out}
-use Rattle.log.specs.Checks.{bad-pair-at, pair-at}
+use Rattle.lines.specs.Checks.{bad-pair-at}
+use Rattle.log.specs.Checks.{pair-at}
 use Rattle.log.proofs.Close.{Up, close, closed-rows}
-
--- ---- the header
-
-pub header-small : (h : Line) → log-header-ok h ≡ true → (h .a ≤ 64) × (h .b ≤ 2016)
-header-small h e =
-    let t2 = and-cases (leb (h .a) 64 && leb (h .b) 2016 && eqb (h .c) 0) (eqb (h .d) 0) e .0 in
-    let t1 = and-cases (leb (h .a) 64 && leb (h .b) 2016) (eqb (h .c) 0) t2 .0 in
-    let t0 = and-cases (leb (h .a) 64) (leb (h .b) 2016) t1 in
-    (leb-true (h .a) 64 (t0 .0), leb-true (h .b) 2016 (t0 .1))
 
 -- ---- the pairs
 

@@ -5,31 +5,16 @@ use mathlib.Core.List.{List}
 use Prim.Native.Nat.{ℕ, _+_}
 use lib.Dec.{eqb}
 use lib.ListN.{length, getD}
-use Rattle.text.specs.declared.Line.{Line}
-use Rattle.text.specs.Words.{least, Checked, good, _>>_, none-at, answer-of}
-use Rattle.text.specs.Refusals.{log-line}
+use Rattle.text.specs.Words.{good, answer-of}
 use Rattle.text.specs.Text.{line}
 use Rattle.book.specs.Book.{Book}
 use Rattle.order.specs.Pairs.{Pair, rows, ordered-by}
-use Rattle.order.specs.Log.{Log, bad-move, bad-pair, pair-of, check-log}
+use Rattle.order.specs.Log.{Log, pair-of, check-log}
 use Rattle.log.specs.declared.LogCheck.{LogCheck}
 
--- move line i is at fault, A being how many agents there are
-abbrev pub bad-move-at : ℕ → List ℕ → ℕ → Bool
-bad-move-at A text i = bad-move A (line text (1 + i))
-
--- pair line i, of m moves, is at fault
-abbrev pub bad-pair-at : ℕ → List ℕ → ℕ → Bool
-bad-pair-at m text i = bad-pair m (line text (m + i)) (line text (1 + m + i)) i
-
+-- the pair of line i, of m moves
 abbrev pub pair-at : ℕ → List ℕ → ℕ → Pair
 pair-at m text i = pair-of (line text (1 + m + i))
-
--- 9: of the book only the number of agents matters
-unfoldable pub check-lines : ℕ → Line → List ℕ → Checked (Unit {0})
-check-lines A h text = do
-  none-at log-line 1 0 (least (bad-move-at A text) (h .a))
-  none-at log-line (1 + h .a) 0 (least (bad-pair-at (h .a) text) (h .b))
 
 -- 10 from tables: the agent of each move, and the set of the moves before it
 abbrev pub loose-by : List ℕ → List ℕ → ℕ → ℕ → Bool

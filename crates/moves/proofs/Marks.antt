@@ -14,8 +14,8 @@ use Rattle.book.specs.Book.{Book}
 use Rattle.book.specs.Sound.{Lawful}
 use Rattle.book.proofs.Places.{spot, roll-place}
 use Rattle.term.specs.Marks.{mark-one, marked, Placed}
-use Rattle.firing.specs.Outcome.{mark}
-use Rattle.firing.proofs.Sweep.{each-is}
+use Rattle.sweep.specs.Marks.{mark}
+use Rattle.sweep.proofs.Sweep.{each-is}
 use Rattle.firing.proofs.Fires.{mark-mark}
 use Rattle.moves.specs.Effect.{joined}
 

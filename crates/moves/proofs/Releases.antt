@@ -7,7 +7,7 @@ use Rattle.book.specs.Book.{Book}
 use Rattle.engine.specs.declared.Instruction.{Instruction}
 use Rattle.engine.specs.declared.Instruction.the-variants.{Update, Release}
 use Rattle.engine.specs.Move.{label-of, released, is-some, all-dynamic, if-releasing}
-use Rattle.firing.specs.Steps.{any}
+use Rattle.traces.specs.Traces.{any}
 use Rattle.term.specs.Marks.{marked}
 
 abbrev pub release : Instruction → Bool

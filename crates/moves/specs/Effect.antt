@@ -9,7 +9,7 @@ use Rattle.book.specs.Book.{Book}
 use Rattle.book.specs.Sound.{Lawful, Sound}
 use Rattle.engine.specs.Move.{Moved, fires, stopped, walked, made-by, move, fire, writes}
 use Rattle.records.specs.Code.{items}
-use Rattle.firing.specs.Outcome.{each, mark}
+use Rattle.sweep.specs.Marks.{each, mark}
 use Rattle.walk.specs.declared.State.{State}
 use Rattle.walk.specs.Walk.{outcome}
 use Rattle.walk.specs.Gather.{Gathered}

@@ -13,8 +13,8 @@ use lib.ListN.{length, getD, replicate}
 use Rattle.text.specs.Words.{if_then_else_, has, table-from, table}
 use Rattle.text.proofs.Words.{length-table-from, getD-table, getD-table-past}
 use Rattle.engine.specs.Move.{Fired, writes}
-use Rattle.firing.specs.Outcome.{each, mark}
-use Rattle.firing.proofs.Sweep.{each-is}
+use Rattle.sweep.specs.Marks.{each, mark}
+use Rattle.sweep.proofs.Sweep.{each-is}
 use Rattle.moves.specs.Effect.{joined}
 use Rattle.order.specs.Sets.{bit, with-move}
 use Rattle.order.specs.Run.{moves-that, reads-at, writes-at, readers, writers}

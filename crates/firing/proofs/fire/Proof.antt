@@ -1,11 +1,7 @@
-use mathlib.Core.Path.{_≡_, refl, sym, ap, ap₂, _∙_}
-use mathlib.Core.Bool.{Bool, true, false, _&&_, _||_, not}
+use mathlib.Core.Path.{ap, ap₂, _∙_}
 use mathlib.Core.List.{List, []}
-use Prim.Native.Nat.{ℕ, _+_, _≤_, _<_, _-_, _/_, _%_, min}
-use native.Mathlib.Omega.{arith}
-use borrow.Author.Tests.{le-ltb, lt-ltb, lt-leb, le-leb, eq-eqb, ne-eqb}
-use lib.Dec.{eqb, ltb, leb}
-use lib.ListN.{length, getD, take, drop, set, length-set}
+use Prim.Native.Nat.{ℕ}
+use lib.ListN.{length}
 use Rattle.book.specs.Image.{book-in}
 use Rattle.records.specs.Code.{items}
 use Rattle.firing.specs.Steps.{puts, put-marks}
@@ -15,26 +11,19 @@ use Rattle.firing.proofs.fire.Statement.{statement}
 use Rattle.firing.proofs.fire.Tie as tie
 use Rattle.firing.proofs.fire.Reads as reads
 use Rattle.firing.proofs.fire.Lts as lts
-use Rattle.firing.proofs.clear_all.Reads as clear-all-reads
-use Rattle.firing.proofs.put_all.Reads as put-all-reads
 
--- src/lib.rt:502:5
 clear-all-requires : tie.Need-clear-all-requires
 clear-all-requires c κs = search needs
 
--- src/lib.rt:503:5
 put-all-requires : tie.Need-put-all-requires
 put-all-requires c κs = search needs
 
--- src/lib.rt:491:1
 same-length : tie.Need-same-length
 same-length c = search needs
 
--- src/lib.rt:491:1
 same-length-2 : tie.Need-same-length-2
 same-length-2 c = search needs
 
--- src/lib.rt:491:1
 returns : tie.Need-returns
 returns c = let a = c .before .before .before .before .before .before .before .before .before .before .before .before .before .before .before .before .before .args in let B = book-in (a .image .now) [] in let is = items (a .list .now) (a .len) in (λ long free. c .before .before .before .before .put-all .ensures .0 ∙ ap (puts is) (c .before .before .before .before .before .before .before .before .before .before .before .clear-all .ensures .0) ∙ fired-is B is (a .contents .now) long free, λ long. c .before .before .before .before .put-all .ensures .1 ∙ ap₂ (λ (C W : List ℕ). put-marks (a .bit) (length C) is W) (c .before .before .before .before .before .before .before .before .before .before .before .clear-all .ensures .0) (c .before .before .before .before .before .before .before .before .before .before .before .clear-all .ensures .1) ∙ marked-is B is (a .contents .now) long (a .bit) (a .writers .now))
 

@@ -1,24 +1,17 @@
-use mathlib.Core.Path.{_≡_, refl, sym, ap, ap₂, _∙_}
-use mathlib.Core.Bool.{Bool, true, false, _&&_, _||_, not}
-use mathlib.Core.List.{List, []}
-use Prim.Native.Nat.{ℕ, _+_, _≤_, _<_, _-_, _/_, _%_, min}
-use native.Mathlib.Omega.{arith}
+use mathlib.Core.Path.{_≡_, refl, sym, ap, _∙_}
+use mathlib.Core.Bool.{Bool}
+use Prim.Native.Nat.{_-_}
 use borrow.Author.Needs.{needs}
-use borrow.Author.Tests.{le-ltb, lt-ltb, lt-leb, le-leb, eq-eqb, ne-eqb}
-use lib.Dec.{eqb, ltb, leb}
-use lib.ListN.{length, getD, take, drop, set, length-set}
+use lib.ListN.{drop}
 use Rattle.engine.specs.declared.Instruction.{Instruction}
 use Rattle.records.specs.Code.{items}
-use Rattle.firing.specs.Steps.{any}
-use Rattle.firing.proofs.Laws.{next, found, ended}
+use Rattle.traces.specs.Traces.{any}
+use Rattle.traces.proofs.Laws.{next, found, ended}
 use Rattle.firing.specs.Steps.{change}
 use Rattle.firing.proofs.has_change.Statement.{statement}
 use Rattle.firing.proofs.has_change.Tie as tie
 use Rattle.firing.proofs.has_change.Reads as reads
 use Rattle.firing.proofs.has_change.Lts as lts
-use Rattle.firing.proofs.changes_own.Reads as changes-own-reads
-use Rattle.records.proofs.decode.Reads as decode-reads
-use Rattle.table.proofs.smaller.Reads as smaller-reads
 
 abbrev Inv-loop : tie.InvT-loop
 Inv-loop n contents list len m j₀ j =
@@ -27,47 +20,36 @@ Inv-loop n contents list len m j₀ j =
 abbrev μ-loop : tie.MeasureT-loop
 μ-loop n contents list len m j₀ j = m - j
 
--- src/lib.rt:284:9
 smaller-requires : tie.Need-smaller-requires Inv-loop μ-loop
 smaller-requires c κs = search needs
 
--- src/lib.rt:286:5
 loop-holds : tie.Need-loop-holds Inv-loop μ-loop
 loop-holds c = refl
 
--- src/lib.rt:287:27
 mul-decode : tie.Need-mul-decode Inv-loop μ-loop
 mul-decode c = search needs
 
--- src/lib.rt:287:27
 shared-slice-read-decode : tie.Need-shared-slice-read-decode Inv-loop μ-loop
 shared-slice-read-decode c = search needs
 
--- src/lib.rt:287:13
 decode-requires : tie.Need-decode-requires Inv-loop μ-loop
 decode-requires c κs = search needs
 
--- src/lib.rt:288:12
 changes-own-requires : tie.Need-changes-own-requires Inv-loop μ-loop
 changes-own-requires c κs = search needs
 
--- src/lib.rt:289:13
 returns : tie.Need-returns Inv-loop μ-loop
 returns c = let a = c .before .before .before .before .before .before .before .before .before .args in let P : Instruction → Bool = change (a .n) (a .contents .now) in let l = c .before .before .before .before .before .loop in let n = c .before .before .before .before .before .before .smaller in sym (found (a .list .now) (a .len) (n .result) (n .ensures) P (l .j) (c .before .before .before .before .loop-test .taken) (sym (ap P (c .before .before .decode .ensures)) ∙ sym (c .before .changes-own .ensures) ∙ c .if1 .taken)) ∙ l .inv
 
--- src/lib.rt:291:13
 add-j : tie.Need-add-j Inv-loop μ-loop
 add-j c = search needs
 
--- src/lib.rt:286:5
 loop-less : tie.Need-loop-less Inv-loop μ-loop
 loop-less c = search needs
 
--- src/lib.rt:286:5
 loop-again : tie.Need-loop-again Inv-loop μ-loop
 loop-again c = let a = c .before .before .before .before .before .before .before .before .before .args in let P : Instruction → Bool = change (a .n) (a .contents .now) in let l = c .before .before .before .before .before .loop in let n = c .before .before .before .before .before .before .smaller in next (a .list .now) (a .len) (n .result) (n .ensures) P (l .j) (c .before .before .before .before .loop-test .taken) (sym (ap P (c .before .before .decode .ensures)) ∙ sym (c .before .changes-own .ensures) ∙ c .if1 .left) ∙ l .inv
 
--- src/lib.rt:281:1
 returns-2 : tie.Need-returns-2 Inv-loop μ-loop
 returns-2 c = let a = c .before .before .before .before .before .args in let P : Instruction → Bool = change (a .n) (a .contents .now) in let l = c .before .loop in let n = c .before .before .smaller in sym (ended (a .list .now) (a .len) (n .result) (n .ensures) P (l .j) (c .loop-test .left)) ∙ l .inv
 

@@ -1,5 +1,5 @@
 use borrow.Author.Tests.{le-ltb, lt-ltb}
-use mathlib.Core.Path.{_≡_, refl, _∙_, sym, ap}
+use mathlib.Core.Path.{refl, _∙_, sym}
 use lib.Seq.{set-out, set-getD}
 use lib.ListN.{length}
 use borrow.Author.Needs.{needs}
@@ -7,33 +7,25 @@ use Rattle.firing.proofs.put.Statement.{statement}
 use Rattle.firing.proofs.put.Tie as tie
 use Rattle.firing.proofs.put.Reads as reads
 use Rattle.firing.proofs.put.Lts as lts
-use Rattle.firing.proofs.or_at.Reads as or-at-reads
 
--- src/lib.rt:465:9
 mul-contents : tie.Need-mul-contents
 mul-contents c = search needs
 
--- src/lib.rt:465:9
 slice-write-contents : tie.Need-slice-write-contents
 slice-write-contents c = search needs
 
--- src/lib.rt:466:9
 or-at-requires : tie.Need-or-at-requires
 or-at-requires c κs = search needs
 
--- src/lib.rt:460:1
 same-length : tie.Need-same-length
 same-length c = search needs
 
--- src/lib.rt:460:1
 same-length-2 : tie.Need-same-length-2
 same-length-2 c = search needs
 
--- src/lib.rt:460:1
 returns : tie.Need-returns
 returns c = let a = c .before .before .before .before .before .before .before .args in (refl, c .before .before .or-at .ensures ∙ rw (lt-ltb (a .at) (length (a .contents .now)) (c .before .before .before .before .if1 .taken)))
 
--- src/lib.rt:460:1
 returns-2 : tie.Need-returns-2
 returns-2 c = let a = c .before .before .before .args in (sym (set-out (a .contents .now) (a .at) (a .v) (c .if1 .left)), rw (le-ltb (a .at) (length (a .contents .now)) (c .if1 .left)) (sym (set-getD (a .writers .now) (a .at) 0)))
 

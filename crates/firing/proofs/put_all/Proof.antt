@@ -1,26 +1,19 @@
-use mathlib.Core.Path.{_≡_, refl, sym, ap, ap₂, _∙_}
-use mathlib.Core.Bool.{Bool, true, false, _&&_, _||_, not}
-use mathlib.Core.List.{List, []}
-use Prim.Native.Nat.{ℕ, _+_, _≤_, _<_, _-_, _/_, _%_, min}
-use native.Mathlib.Omega.{arith}
+use mathlib.Core.Path.{_≡_, refl, sym, ap, _∙_}
+use mathlib.Core.List.{List}
+use Prim.Native.Nat.{_+_, _-_}
 use borrow.Author.Needs.{needs}
-use borrow.Author.Tests.{le-ltb, lt-ltb, lt-leb, le-leb, eq-eqb, ne-eqb}
-use lib.Dec.{eqb, ltb, leb}
-use lib.ListN.{length, getD, take, drop, set, length-set}
+use lib.Dec.{ltb}
+use lib.ListN.{length, getD, drop, set, length-set}
 use Rattle.engine.specs.declared.Instruction.{Instruction}
 use Rattle.records.specs.Code.{decode-of, items}
-use Rattle.firing.specs.Outcome.{mark}
-use Rattle.firing.specs.Steps.{own, gets, puts, put-marks}
-use Rattle.firing.proofs.Laws.{items-cons, items-end}
+use Rattle.sweep.specs.Marks.{mark}
+use Rattle.traces.specs.Traces.{own, gets}
+use Rattle.firing.specs.Steps.{puts, put-marks}
+use Rattle.traces.proofs.Laws.{items-cons, items-end}
 use Rattle.firing.proofs.put_all.Statement.{statement}
 use Rattle.firing.proofs.put_all.Tie as tie
 use Rattle.firing.proofs.put_all.Reads as reads
 use Rattle.firing.proofs.put_all.Lts as lts
-use Rattle.records.proofs.decode.Reads as decode-reads
-use Rattle.firing.proofs.own_location.Reads as own-location-reads
-use Rattle.firing.proofs.own_value.Reads as own-value-reads
-use Rattle.firing.proofs.put.Reads as put-reads
-use Rattle.table.proofs.smaller.Reads as smaller-reads
 
 abbrev Inv-loop : tie.InvT-loop
 Inv-loop contents₀ writers₀ list len bit n j₀ contents writers j =
@@ -31,64 +24,49 @@ Inv-loop contents₀ writers₀ list len bit n j₀ contents writers j =
 abbrev μ-loop : tie.MeasureT-loop
 μ-loop contents₀ writers₀ list len bit n j₀ contents writers j = n - j
 
--- src/lib.rt:475:9
 smaller-requires : tie.Need-smaller-requires Inv-loop μ-loop
 smaller-requires c κs = search needs
 
--- src/lib.rt:477:5
 loop-holds : tie.Need-loop-holds Inv-loop μ-loop
 loop-holds c = (refl, refl, refl, refl)
 
--- src/lib.rt:478:27
 mul-decode : tie.Need-mul-decode Inv-loop μ-loop
 mul-decode c = search needs
 
--- src/lib.rt:478:27
 shared-slice-read-decode : tie.Need-shared-slice-read-decode Inv-loop μ-loop
 shared-slice-read-decode c = search needs
 
--- src/lib.rt:478:13
 decode-requires : tie.Need-decode-requires Inv-loop μ-loop
 decode-requires c κs = search needs
 
--- src/lib.rt:482:13
 own-location-requires : tie.Need-own-location-requires Inv-loop μ-loop
 own-location-requires c κs = search needs
 
--- src/lib.rt:482:13
 cast-put : tie.Need-cast-put Inv-loop μ-loop
 cast-put c = search needs
 
--- src/lib.rt:483:13
 own-value-requires : tie.Need-own-value-requires Inv-loop μ-loop
 own-value-requires c κs = search needs
 
--- src/lib.rt:479:9
 put-requires : tie.Need-put-requires Inv-loop μ-loop
 put-requires c κs = search needs
 
--- src/lib.rt:486:13
 add-j : tie.Need-add-j Inv-loop μ-loop
 add-j c = search needs
 
--- src/lib.rt:477:5
 loop-less : tie.Need-loop-less Inv-loop μ-loop
 loop-less c = search needs
 
--- src/lib.rt:477:5
 loop-again : tie.Need-loop-again Inv-loop μ-loop
 unfolding puts put-marks
 loop-again c = let a = c .before .before .before .before .before .before .before .before .before .before .before .before .before .before .before .before .before .args in let n = c .before .before .before .before .before .before .before .before .before .before .before .before .before .smaller in let l = c .before .before .before .before .before .before .before .before .before .before .before .before .loop in let w = decode-of (getD (a .list .now) (l .j) 0) in let d = items-cons (a .list .now) (a .len) (n .result) (n .ensures) (l .j) (c .before .before .before .before .before .before .before .before .before .before .before .loop-test .taken) in let at : c .before .before .before .before .before .before .own-location .result ≡ own w = c .before .before .before .before .before .before .own-location .ensures ∙ ap own (c .before .before .before .before .before .before .before .before .before .decode .ensures) in let q : c .before .before .before .before .put .last .0 ≡ set (l .contents) (own w) (gets w) = c .before .before .before .before .put .ensures .0 ∙ rw (at, c .before .before .before .before .before .own-value .ensures, c .before .before .before .before .before .before .before .before .before .decode .ensures) in let p : c .before .before .before .before .put .last .1 .0 ≡ set (l .writers) (own w) (mark (a .bit) (ltb (own w) (length (a .contents .now))) (getD (l .writers) (own w) 0)) = c .before .before .before .before .put .ensures .1 ∙ rw (at, l .inv .2) in (ap (puts (drop (l .j + 1) (items (a .list .now) (a .len)))) q ∙ sym (ap (λ (is : List Instruction). puts is (l .contents)) d) ∙ l .inv .0, ap (put-marks (a .bit) (length (a .contents .now)) (drop (l .j + 1) (items (a .list .now) (a .len)))) p ∙ sym (ap (λ (is : List Instruction). put-marks (a .bit) (length (a .contents .now)) is (l .writers)) d) ∙ l .inv .1, ap length q ∙ length-set (l .contents) (own w) (gets w) ∙ l .inv .2, ap length p ∙ simp length-set (l .inv .3))
 
--- src/lib.rt:471:1
 same-length : tie.Need-same-length Inv-loop μ-loop
 same-length c = c .before .loop .inv .2
 
--- src/lib.rt:471:1
 same-length-2 : tie.Need-same-length-2 Inv-loop μ-loop
 same-length-2 c = c .before .loop .inv .3
 
--- src/lib.rt:471:1
 returns : tie.Need-returns Inv-loop μ-loop
 unfolding puts put-marks
 returns c = let a = c .before .before .before .before .before .before .args in let n = c .before .before .smaller in let l = c .before .loop in let d = items-end (a .list .now) (a .len) (n .result) (n .ensures) (l .j) (c .loop-test .left) in (sym (ap (λ (is : List Instruction). puts is (l .contents)) d) ∙ l .inv .0, sym (ap (λ (is : List Instruction). put-marks (a .bit) (length (a .contents .now)) is (l .writers)) d) ∙ l .inv .1)

@@ -1,15 +1,15 @@
-use mathlib.Core.Path.{_≡_, refl, sym, ap, _∙_}
-use mathlib.Core.List.{List, []}
-use Prim.Native.Nat.{ℕ, _<_, _≤_}
+use mathlib.Core.Path.{_≡_, sym, ap, _∙_}
+use mathlib.Core.List.{[]}
+use Prim.Native.Nat.{_<_, _≤_}
 use native.Mathlib.Omega.{arith}
 use borrow.Author.Needs.{needs}
 use Rattle.text.specs.declared.Found.the-variants.{Nowhere, Here}
 use Rattle.book.specs.Book.{L}
 use Rattle.book.specs.Image.{book-in}
 use Rattle.records.specs.Code.{items}
-use Rattle.firing.specs.Outcome.{clash-by}
-use Rattle.firing.specs.Steps.{best}
-use Rattle.firing.proofs.Best.{best-least, best-none}
+use Rattle.clash.specs.Clash.{clash-by}
+use Rattle.against.specs.Steps.{best}
+use Rattle.against.proofs.Best.{best-least, best-none}
 use Rattle.firing.proofs.Judged.{clash-settled, idle-settled, fire-settled}
 use Rattle.firing.proofs.settle.Statement.{statement}
 use Rattle.firing.proofs.settle.Tie as tie

@@ -3,8 +3,8 @@ use Prim.Native.Nat.{_-_}
 use borrow.Author.Needs.{needs}
 use lib.ListN.{drop}
 use Rattle.records.specs.Code.{items}
-use Rattle.firing.specs.Steps.{any}
-use Rattle.firing.proofs.Laws.{next, found, ended}
+use Rattle.traces.specs.Traces.{any}
+use Rattle.traces.proofs.Laws.{next, found, ended}
 use Rattle.moves.proofs.Releases.{release, released-any}
 use Rattle.moves.proofs.has_release.Statement.{statement}
 use Rattle.moves.proofs.has_release.Tie as tie

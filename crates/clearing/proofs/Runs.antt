@@ -1,0 +1,123 @@
+-- The traces of a label cleared function after function: what holds after each. Assumes nothing.
+use mathlib.Core.Path.{_≡_, refl, sym, ap, _∙_}
+use mathlib.Core.Bool.{Bool, true, false, _&&_}
+use mathlib.Core.List.{List, _++_}
+use Prim.Native.Nat.{ℕ, _+_, _-_, _<_, _≤_, min}
+use native.Mathlib.Omega.{arith}
+use borrow.Author.Tests.{ltb-true, ltb-false, lt-ltb, le-ltb, lt-leb, le-leb}
+use lib.Dec.{ltb, leb}
+use lib.ListN.{length, getD, take, drop, length-take, length-drop}
+use lib.Seq.{getD-take, getD-drop}
+use Rattle.text.specs.Words.{if_then_else_}
+use Rattle.book.specs.declared.Function.{Function}
+use Rattle.book.specs.Book.{Book, size, function-at, place}
+use Rattle.table.proofs.Places.{From, from-start, from-at, from-next, from-past}
+use Rattle.sweep.specs.Marks.{mark}
+use Rattle.traces.specs.Traces.{trace-in}
+use Rattle.sweep.specs.Part.{wiped-in, part-cleared, part-marked}
+use Rattle.clearing.specs.Steps.{between, run-cleared, run-marked, trace, wiped, cleared, clear-marked}
+use Rattle.traces.proofs.Laws.{and-none}
+use Rattle.sweep.proofs.Sweep.{Swept, sweep-start, sweep-run, sweep-end, part-back}
+
+between-before : (a e k : ℕ) → k < a → between a e k ≡ false
+between-before a e k h = rw (lt-leb a k h)
+
+between-inside : (a e k : ℕ) → a ≤ k → k < e → between a e k ≡ true
+between-inside a e k h l = rw (le-leb a k h, lt-ltb k e l)
+
+between-after : (a e k : ℕ) → e ≤ k → between a e k ≡ false
+between-after a e k h = rw (le-ltb k e h) (and-none (leb a k))
+
+-- the function's part of the contents is lent, and its part of the marks, each as far as the table goes
+module _ (E : ℕ) (f : Function) (x bit first end : ℕ) (c ms : List ℕ) (ordered : first ≤ end) (a b : ℕ) (a-is : a ≡ min first (length c))
+    (b-is : b ≡ min end (length c)) where
+  pub run-contents :
+      (ys : List ℕ) → ys ≡ part-cleared E f x (take (b - a) (drop a c)) →
+      take a c ++ (ys ++ drop (b - a) (drop a c)) ≡ run-cleared E f x first end c
+  run-contents ys q =
+      part-back (wiped-in E f x) (λ (l v : ℕ). if between first end l then wiped-in E f x (l - first) v else v) a b c ys (omega arith) (omega arith)
+      (λ k h v. rw (between-before first end k (omega arith)))
+      (λ k h l v.
+      let n : first ≡ a = omega arith in
+      rw (between-inside first end k (omega arith) (omega arith), n))
+      (λ k h l v. rw (between-after first end k (omega arith)))
+      q
+
+  abbrev part : List ℕ
+  part = take (b - a) (drop a c)
+
+  -- a place of the run, seen in the part
+  seen : (k : ℕ) → first ≤ k → k < end → (v : ℕ) (t : Bool) → ltb k (length c) ≡ t
+      → ltb (k - first) (length part) && trace-in E f (k - first) (getD part (k - first) 0) x ≡ t && trace-in E f (k - first) (getD c k 0) x
+  seen k h l v true e =
+      let i : k < length c = ltb-true k (length c) e in
+      let n : first ≡ a = omega arith in
+      let m : k - first < length part = rw (length-take, length-drop) (omega arith) in
+      let g : getD part (k - first) 0 ≡ getD c k 0 = getD-take (b - a) (drop a c) (k - first) 0 (omega arith) ∙ getD-drop a c (k - first) 0 ∙ ap (λ (z : ℕ). getD c z 0) (omega arith) in
+      rw (lt-ltb (k - first) (length part) m, g)
+  seen k h l v false e =
+      let i : length c ≤ k = ltb-false k (length c) e in
+      let m : length part ≤ k - first = rw (length-take, length-drop) (omega arith) in
+      rw (le-ltb (k - first) (length part) m)
+
+  pub run-marks :
+      (p r : ℕ) (ys : List ℕ) → p ≡ min first (length ms) → r ≡ min end (length ms) →
+      ys ≡ part-marked bit E f x (take (b - a) (drop a c)) (take (r - p) (drop p ms)) →
+      take p ms ++ (ys ++ drop (r - p) (drop p ms)) ≡ run-marked bit E f x first end c ms
+  run-marks p r ys p-is r-is q =
+      part-back (λ (i m : ℕ). mark bit (ltb i (length part) && trace-in E f i (getD part i 0) x) m)
+      (λ (l m : ℕ). mark bit (between first end l && (ltb l (length c) && trace-in E f (l - first) (getD c l 0) x)) m) p r ms ys (omega arith) (omega arith)
+      (λ k h v. rw (between-before first end k (omega arith)))
+      (λ k h l v.
+      let n : p ≡ first = omega arith in
+      rw (between-inside first end k (omega arith) (omega arith), n) (ap (λ (t : Bool). mark bit t v) (sym (seen k (omega arith) (omega arith) v (ltb k (length c)) refl))))
+      (λ k h l v. rw (between-after first end k (omega arith)))
+      q
+
+module _ (B : Book) (x bit : ℕ) (c₀ ms₀ : List ℕ) where
+  abbrev wipe : ℕ → ℕ → ℕ
+  wipe l v = wiped B x l v
+
+  abbrev note : ℕ → ℕ → ℕ
+  note l m = mark bit (ltb l (length c₀) && trace B l (getD c₀ l 0) x) m
+
+  -- the functions before g are done; their locations are those below first
+  pub record Upto (first g : ℕ) (c ms : List ℕ) : Type 0 where
+    pub contents : Swept wipe first c₀ c
+    pub marks : Swept note first ms₀ ms
+    pub at : From B g first
+
+  pub upto-start : Upto 0 0 c₀ ms₀
+  upto-start = record { contents = sweep-start wipe c₀; marks = sweep-start note ms₀; at = from-start B }
+
+  module _ (first g end : ℕ) (c ms : List ℕ) (u : Upto first g c ms) (more : g < length (B .functions))
+      (ends : end ≡ first + size (B .E) (function-at B g .arity)) where
+    -- a location of the run stands in this function
+    here : (k : ℕ) → first ≤ k → k < end → place B k ≡ record { function = function-at B g; index = k - first }
+    here k h l = from-at B g first (u .at) more k h (omega arith)
+
+    pub upto-next :
+        (c′ ms′ : List ℕ) → B .E ≤ 10000 → c′ ≡ run-cleared (B .E) (function-at B g) x first end c →
+        ms′ ≡ run-marked bit (B .E) (function-at B g) x first end c ms → Upto end (g + 1) c′ ms′
+    upto-next c′ ms′ low p q =
+        record {
+          contents =
+              sweep-run wipe (λ (l v : ℕ). if between first end l then wiped-in (B .E) (function-at B g) x (l - first) v else v) first end c₀ c c′
+              (omega arith) (u .contents) p
+              (λ k h l v. rw (between-before first end k h))
+              (λ k h l m. rw (between-inside first end k h l, here k h l))
+              (λ k h l v. rw (between-after first end k h));
+          marks =
+              sweep-run note (λ (l m : ℕ). mark bit (between first end l && (ltb l (length c) && trace-in (B .E) (function-at B g) (l - first) (getD c l 0) x)) m) first end ms₀ ms ms′
+              (omega arith) (u .marks) q
+              (λ k h l v. rw (between-before first end k h))
+              (λ k h l m. rw (between-inside first end k h l, here k h l, u .contents .left k h, u .contents .same))
+              (λ k h l v. rw (between-after first end k h));
+          at = rw ends (from-next B g first (u .at) more low);
+        }
+
+  pub upto-end : (first g : ℕ) (c ms : List ℕ) → Upto first g c ms → length (B .functions) ≤ g → (c ≡ cleared B x c₀) × (ms ≡ clear-marked bit B x c₀ ms₀)
+  upto-end first g c ms u done = (
+    sweep-end wipe first c₀ c (u .contents) (λ k h l. rw (from-past B g first (u .at) done k h)),
+    sweep-end note first ms₀ ms (u .marks) (λ k h l. rw (from-past B g first (u .at) done k h, and-none)),
+  )

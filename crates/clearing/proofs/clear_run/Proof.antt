@@ -1,0 +1,75 @@
+use Rattle.clearing.proofs.Runs.{run-contents, run-marks}
+use borrow.Author.Needs.{needs}
+use Rattle.clearing.proofs.clear_run.Statement.{statement}
+use Rattle.clearing.proofs.clear_run.Tie as tie
+use Rattle.clearing.proofs.clear_run.Reads as reads
+use Rattle.clearing.proofs.clear_run.Lts as lts
+
+smaller-requires : tie.Need-smaller-requires
+smaller-requires c κs = search needs
+
+smaller-requires-2 : tie.Need-smaller-requires-2
+smaller-requires-2 c κs = search needs
+
+smaller-requires-3 : tie.Need-smaller-requires-3
+smaller-requires-3 c κs = search needs
+
+smaller-requires-4 : tie.Need-smaller-requires-4
+smaller-requires-4 c κs = search needs
+
+mul-clear-part : tie.Need-mul-clear-part
+mul-clear-part c = search needs
+
+sub-clear-part : tie.Need-sub-clear-part
+sub-clear-part c = search needs
+
+part-clear-part-start : tie.Need-part-clear-part-start
+part-clear-part-start c = search needs
+
+part-clear-part-end : tie.Need-part-clear-part-end
+part-clear-part-end c = search needs
+
+mul-clear-part-2 : tie.Need-mul-clear-part-2
+mul-clear-part-2 c = search needs
+
+sub-clear-part-2 : tie.Need-sub-clear-part-2
+sub-clear-part-2 c = search needs
+
+part-clear-part-start-2 : tie.Need-part-clear-part-start-2
+part-clear-part-start-2 c = search needs
+
+part-clear-part-end-2 : tie.Need-part-clear-part-end-2
+part-clear-part-end-2 c = search needs
+
+clear-part-requires : tie.Need-clear-part-requires
+clear-part-requires c κs = search needs
+
+same-length : tie.Need-same-length
+same-length c = search needs
+
+same-length-2 : tie.Need-same-length-2
+same-length-2 c = search needs
+
+returns : tie.Need-returns
+returns c = let a = c .before .before .before .before .before .before .before .before .before .before .before .before .before .args in let p = c .before .before .before .before .before .before .before .before .before .before .before .before .before .pre in (run-contents (a .e) (a .f) (a .x) (a .bit) (a .first) (a .end) (a .contents .now) (a .writers .now) p (c .before .before .before .before .before .before .before .before .before .before .smaller .result) (c .before .before .before .before .before .before .before .before .before .smaller2 .result) (c .before .before .before .before .before .before .before .before .before .before .smaller .ensures) (c .before .before .before .before .before .before .before .before .before .smaller2 .ensures) (c .before .before .before .before .clear-part .last .0) (c .before .before .before .before .clear-part .ensures .0), run-marks (a .e) (a .f) (a .x) (a .bit) (a .first) (a .end) (a .contents .now) (a .writers .now) p (c .before .before .before .before .before .before .before .before .before .before .smaller .result) (c .before .before .before .before .before .before .before .before .before .smaller2 .result) (c .before .before .before .before .before .before .before .before .before .before .smaller .ensures) (c .before .before .before .before .before .before .before .before .before .smaller2 .ensures) (c .before .before .before .before .before .before .before .before .smaller3 .result) (c .before .before .before .before .before .before .before .smaller4 .result) (c .before .before .before .before .clear-part .last .1 .0) (c .before .before .before .before .before .before .before .before .smaller3 .ensures) (c .before .before .before .before .before .before .before .smaller4 .ensures) (c .before .before .before .before .clear-part .ensures .1))
+
+pub clear-run-spec : {M : Type 1} → statement M
+clear-run-spec =
+    tie.close
+    (tie.spec
+    smaller-requires
+    smaller-requires-2
+    smaller-requires-3
+    smaller-requires-4
+    mul-clear-part
+    sub-clear-part
+    part-clear-part-start
+    part-clear-part-end
+    mul-clear-part-2
+    sub-clear-part-2
+    part-clear-part-start-2
+    part-clear-part-end-2
+    clear-part-requires
+    same-length
+    same-length-2
+    returns)

@@ -1,0 +1,56 @@
+-- The traces of a label x cleared, step by step: a function's run of the whole table, every function, one instruction after the other.
+use mathlib.Core.Bool.{Bool, _&&_}
+use mathlib.Core.List.{List, [], _∷_}
+use Prim.Native.Nat.{ℕ, _-_}
+use lib.Dec.{ltb, leb}
+use lib.ListN.{length, getD}
+use Rattle.text.specs.Words.{if_then_else_}
+use Rattle.book.specs.declared.Function.{Function}
+use Rattle.book.specs.Book.{Book, place}
+use Rattle.engine.specs.declared.Instruction.{Instruction}
+use Rattle.engine.specs.declared.Instruction.the-variants.{Update, Release}
+use Rattle.traces.specs.Traces.{trace-in}
+use Rattle.sweep.specs.Marks.{each, mark}
+use Rattle.sweep.specs.Part.{wiped-in}
+
+-- a function's run of the whole table
+abbrev pub between : ℕ → ℕ → ℕ → Bool
+between first end l = leb first l && ltb l end
+
+abbrev pub run-cleared : ℕ → Function → ℕ → ℕ → ℕ → List ℕ → List ℕ
+run-cleared E f x first end c = each (λ l v. if between first end l then wiped-in E f x (l - first) v else v) 0 c
+
+abbrev pub run-marked : ℕ → ℕ → Function → ℕ → ℕ → ℕ → List ℕ → List ℕ → List ℕ
+run-marked bit E f x first end c ms =
+    each (λ l m. mark bit (between first end l && (ltb l (length c) && trace-in E f (l - first) (getD c l 0) x)) m) 0 ms
+
+-- every function
+abbrev pub trace : Book → ℕ → ℕ → ℕ → Bool
+trace B l v x = trace-in (B .E) (place B l .function) (place B l .index) v x
+
+abbrev pub wiped : Book → ℕ → ℕ → ℕ → ℕ
+wiped B x l v = wiped-in (B .E) (place B l .function) x (place B l .index) v
+
+abbrev pub cleared : Book → ℕ → List ℕ → List ℕ
+cleared B x c = each (wiped B x) 0 c
+
+abbrev pub clear-marked : ℕ → Book → ℕ → List ℕ → List ℕ → List ℕ
+clear-marked bit B x c ms = each (λ l m. mark bit (ltb l (length c) && trace B l (getD c l 0) x) m) 0 ms
+
+-- one instruction
+abbrev pub clear-of : Book → Instruction → List ℕ → List ℕ
+clear-of B (Update l v) c = c
+clear-of B (Release x) c = cleared B x c
+
+abbrev pub clear-marks-of : ℕ → Book → Instruction → List ℕ → List ℕ → List ℕ
+clear-marks-of bit B (Update l v) c ms = ms
+clear-marks-of bit B (Release x) c ms = clear-marked bit B x c ms
+
+-- all of them
+unfoldable pub clears : Book → List Instruction → List ℕ → List ℕ
+clears B [] c = c
+clears B (i ∷ is) c = clears B is (clear-of B i c)
+
+unfoldable pub clear-marks : ℕ → Book → List Instruction → List ℕ → List ℕ → List ℕ
+clear-marks bit B [] c ms = ms
+clear-marks bit B (i ∷ is) c ms = clear-marks bit B is (clear-of B i c) (clear-marks-of bit B i c ms)

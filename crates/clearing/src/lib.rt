@@ -1,0 +1,93 @@
+// The traces of released labels cleared, function after function.
+use book::Function;
+use engine::Instruction;
+ghost use mathlib.Core.Path.{_≡_};
+ghost use mathlib.Core.List.{[]};
+ghost use Prim.Native.Nat.{_≤_};
+ghost use Rattle.book.specs.Image.{book-in};
+ghost use Rattle.records.specs.Code.{items};
+ghost use Rattle.clearing.specs.Steps.{run-cleared, run-marked, cleared, clear-marked, clear-of, clear-marks-of, clears, clear-marks};
+
+// The function's own part is lent, from its first location; so are its marks.
+fn clear_run(
+    contents: &mut [u16],
+    writers: &mut [u64],
+    e: u16,
+    f: Function,
+    x: u16,
+    bit: u64,
+    first: usize,
+    end: usize,
+)
+    requires { ⌜ first ≤ end ⌝ }
+    ensures { λ _. ⌜ now (contents .exit) ≡ run-cleared e f x first end (now (contents .entry)) ⌝ }
+    ensures { λ _. ⌜ now (writers .exit) ≡ run-marked bit e f x first end (now (contents .entry)) (now (writers .entry)) ⌝ }
+{
+    let n = contents.len();
+    let a = table::smaller(first, n);
+    let b = table::smaller(end, n);
+    let m = writers.len();
+    let p = table::smaller(first, m);
+    let q = table::smaller(end, m);
+    sweep::clear_part(&mut contents[a..b], &mut writers[p..q], e, f, x, bit);
+}
+
+// The traces of x in all functions.
+fn clear(image: &[u16; 4296], contents: &mut [u16], writers: &mut [u64], x: u16, bit: u64)
+    ensures { λ _. ⌜ now (contents .exit) ≡ cleared (book-in (now (image .entry)) []) x (now (contents .entry)) ⌝ }
+    ensures { λ _. ⌜ now (writers .exit) ≡ clear-marked bit (book-in (now (image .entry)) []) x (now (contents .entry)) (now (writers .entry)) ⌝ }
+{
+    let e = table::elements(image);
+    let n = table::functions(image);
+    let mut first: usize = 0;
+    let mut g: u16 = 0;
+    while g < n {
+        let f = table::function_at(image, g);
+        let end = first + table::size(e, f.arity) as usize;
+        clear_run(contents, writers, e, f, x, bit, first, end);
+        first = end;
+        g = g + 1;
+    }
+}
+
+fn clear_for(
+    image: &[u16; 4296],
+    contents: &mut [u16],
+    writers: &mut [u64],
+    what: Instruction,
+    bit: u64,
+)
+    ensures { λ _. ⌜ now (contents .exit) ≡ clear-of (book-in (now (image .entry)) []) what (now (contents .entry)) ⌝ }
+    ensures { λ _. ⌜ now (writers .exit) ≡ clear-marks-of bit (book-in (now (image .entry)) []) what (now (contents .entry)) (now (writers .entry)) ⌝ }
+{
+    match what {
+        Instruction::Update {
+            location: _,
+            value: _,
+        } => {}
+        Instruction::Release { label } => {
+            clear(image, contents, writers, label, bit);
+        }
+    }
+}
+
+// The traces of every label that is released.
+pub fn clear_all(
+    image: &[u16; 4296],
+    contents: &mut [u16],
+    writers: &mut [u64],
+    list: &[u64],
+    len: usize,
+    bit: u64,
+)
+    ensures { λ _. ⌜ now (contents .exit) ≡ clears (book-in (now (image .entry)) []) (items (now (list .entry)) len) (now (contents .entry)) ⌝ }
+    ensures { λ _. ⌜ now (writers .exit) ≡ clear-marks bit (book-in (now (image .entry)) []) (items (now (list .entry)) len) (now (contents .entry)) (now (writers .entry)) ⌝ }
+{
+    let n = table::smaller(len, list.len());
+    let mut j: usize = 0;
+    while j < n {
+        let what = records::decode(list[j]);
+        clear_for(image, contents, writers, what, bit);
+        j = j + 1;
+    }
+}

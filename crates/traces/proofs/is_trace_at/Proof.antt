@@ -1,0 +1,17 @@
+use borrow.Author.Needs.{needs}
+use Rattle.traces.proofs.is_trace_at.Statement.{statement}
+use Rattle.traces.proofs.is_trace_at.Tie as tie
+use Rattle.traces.proofs.is_trace_at.Reads as reads
+use Rattle.traces.proofs.is_trace_at.Lts as lts
+
+is-dynamic-requires : tie.Need-is-dynamic-requires
+is-dynamic-requires c κs = search needs
+
+has-argument-requires : tie.Need-has-argument-requires
+has-argument-requires c κs = search needs
+
+returns : tie.Need-returns
+returns c = rw (c .before .is-dynamic .ensures, c .has-argument .ensures)
+
+pub is-trace-at-spec : {M : Type 1} → statement M
+is-trace-at-spec = tie.close (tie.spec is-dynamic-requires has-argument-requires returns)
