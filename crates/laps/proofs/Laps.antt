@@ -153,7 +153,7 @@ module _ (b l m : List ℕ) (B : Book) (g : Log) where
             let o = going-off A h (start B) lawful i k (w .old .contents) (w .old .readers) (w .old .writers) (now .going) here v x d′ rs′ ws′ does z in
             let j = t .moves - suc i in
             let to-n : j + suc i ≡ t .moves = omega (arith, w .at) in
-            let all : run A h (start B) (t .moves) ≡ halted (v .number) i (v .q) s = rw (← to-n) (halts A h (start B) (suc i) j (v .number) i (v .q) s (o .0)) in
+            let all : run A h (start B) (t .moves) ≡ halted (v .number) i (v .q) s = subst (λ (q : ℕ). run A h (start B) q ≡ halted (v .number) i (v .q) s) to-n (halts A h (start B) (suc i) j (v .number) i (v .q) s (o .0)) in
             record {
               over = λ _. (
                 lists-off A h (start B) j (suc i) (v .number) i (v .q) s (o .0),

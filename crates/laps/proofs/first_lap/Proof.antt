@@ -1,4 +1,4 @@
-use native.Mathlib.Omega.{arith}
+-- `first_lap` meets its contract.
 use mathlib.Core.Path.{sym}
 use lib.Seq.{length-take-le}
 use Rattle.laps.specs.Turns.{tables}
@@ -6,105 +6,73 @@ use Rattle.laps.proofs.Calls.{lap-book, lap-log, lap-lent, lap-first}
 use borrow.Author.Needs.{needs}
 use Rattle.laps.proofs.first_lap.Statement.{statement}
 use Rattle.laps.proofs.first_lap.Tie as tie
-use Rattle.laps.proofs.first_lap.Reads as reads
-use Rattle.laps.proofs.first_lap.Lts as lts
-use Rattle.log.proofs.check_log.Reads as check-log-reads
-use Rattle.open.proofs.open.Reads as open-reads
-use Rattle.laps.proofs.agents.Reads as agents-reads
-use Rattle.laps.proofs.check_lent.Reads as check-lent-reads
-use Rattle.laps.proofs.ended.Reads as ended-reads
-use Rattle.laps.proofs.start_on.Reads as start-on-reads
-use Rattle.table.proofs.total.Reads as total-reads
 
--- src/lib.rt:257:9
 open-requires : tie.Need-open-requires
 open-requires c κs = search needs
 
--- src/lib.rt:259:9
 ended-requires : tie.Need-ended-requires
 ended-requires c κs = search needs
 
--- src/lib.rt:259:9
 returns : tie.Need-returns
 returns c = let a = c .before .before .before .before .before .before .before .before .before .before .args in let t = tables (a .contents .now) (a .readers .now) (a .writers .now) in let o = c .before .before .before .«open» in lap-book (a .book .now) (a .log .now) t (a .lent) (a .work .now) (o .last .1 .0) (o .result) (o .ensures .0) (c .before .if1 .taken) (c .ended .result) (c .ended .ensures .0) (c .ended .ensures .1)
 
--- src/lib.rt:261:39
 agents-requires : tie.Need-agents-requires
 agents-requires c κs = search needs
 
--- src/lib.rt:261:9
 check-log-requires : tie.Need-check-log-requires
 check-log-requires c κs = search needs
 
--- src/lib.rt:264:9
 ended-requires-2 : tie.Need-ended-requires-2
 ended-requires-2 c κs = search needs
 
--- src/lib.rt:264:9
 returns-2 : tie.Need-returns-2
 returns-2 c = let a = c .before .before .before .before .before .before .before .before .before .before .before .before .before .before .before .before .args in let t = tables (a .contents .now) (a .readers .now) (a .writers .now) in let o = c .before .before .before .before .before .before .before .before .before .«open» in lap-log (a .book .now) (a .log .now) t (a .lent) (a .work .now) (o .last .1 .0) (o .result) (o .ensures .0) (c .before .before .before .before .before .before .before .if1 .left) (o .ensures .1) (c .before .before .before .before .before .agents .result) (c .before .before .before .before .before .agents .ensures) (c .before .before .before .before .check-log .result) (c .before .before .before .before .check-log .ensures) (c .before .if2 .taken) (c .ended2 .result) (c .ended2 .ensures .0) (c .ended2 .ensures .1)
 
--- src/lib.rt:266:9
 total-requires : tie.Need-total-requires
 total-requires c κs = search needs
 
--- src/lib.rt:267:9
 check-lent-requires : tie.Need-check-lent-requires
 check-lent-requires c κs = search needs
 
--- src/lib.rt:269:9
 ended-requires-3 : tie.Need-ended-requires-3
 ended-requires-3 c κs = search needs
 
--- src/lib.rt:269:9
 returns-3 : tie.Need-returns-3
 returns-3 c = let a = c .before .before .before .before .before .before .before .before .before .before .before .before .before .before .before .before .before .before .before .before .before .args in let t = tables (a .contents .now) (a .readers .now) (a .writers .now) in let o = c .before .before .before .before .before .before .before .before .before .before .before .before .before .before .«open» in lap-lent (a .book .now) (a .log .now) t (a .lent) (a .work .now) (o .last .1 .0) (o .result) (o .ensures .0) (c .before .before .before .before .before .before .before .before .before .before .before .before .if1 .left) (o .ensures .1) (c .before .before .before .before .before .before .before .before .before .before .agents .result) (c .before .before .before .before .before .before .before .before .before .before .agents .ensures) (c .before .before .before .before .before .before .before .before .before .check-log .result) (c .before .before .before .before .before .before .before .before .before .check-log .ensures) (c .before .before .before .before .before .before .if2 .left) (c .before .before .before .before .total .result) (c .before .before .before .before .total .ensures) (c .before .before .before .check-lent .result) (c .before .before .before .check-lent .ensures .0) (c .before .if3 .taken) (c .ended3 .result) (c .ended3 .ensures .0) (c .ended3 .ensures .1)
 
--- src/lib.rt:271:13
 cast-n : tie.Need-cast-n
 cast-n c = search needs
 
--- src/lib.rt:276:9
 slice-relend-prefix-start-on : tie.Need-slice-relend-prefix-start-on
 slice-relend-prefix-start-on c = c .before .before .before .check-lent .ensures .1 (c .before .if3 .left) .0
 
--- src/lib.rt:276:9
 slice-aggregate-start-on : tie.Need-slice-aggregate-start-on
 slice-aggregate-start-on c = sym (length-take-le (c .before .before .before .before .before .total .result) (c .before .before .before .before .before .before .before .before .before .before .before .before .before .before .before .before .before .before .before .before .before .before .args .contents .now) (c .before .before .before .before .check-lent .ensures .1 (c .before .before .if3 .left) .0))
 
--- src/lib.rt:277:9
 slice-relend-prefix-start-on-2 : tie.Need-slice-relend-prefix-start-on-2
 slice-relend-prefix-start-on-2 c = c .before .before .before .before .check-lent .ensures .1 (c .before .before .if3 .left) .1
 
--- src/lib.rt:277:9
 slice-aggregate-start-on-2 : tie.Need-slice-aggregate-start-on-2
 slice-aggregate-start-on-2 c = sym (length-take-le (c .before .before .before .before .before .before .total .result) (c .before .before .before .before .before .before .before .before .before .before .before .before .before .before .before .before .before .before .before .before .before .before .before .args .readers .now) (c .before .before .before .before .before .check-lent .ensures .1 (c .before .before .before .if3 .left) .1))
 
--- src/lib.rt:278:9
 slice-relend-prefix-start-on-3 : tie.Need-slice-relend-prefix-start-on-3
 slice-relend-prefix-start-on-3 c = c .before .before .before .before .before .check-lent .ensures .1 (c .before .before .before .if3 .left) .2
 
--- src/lib.rt:278:9
 slice-aggregate-start-on-3 : tie.Need-slice-aggregate-start-on-3
 slice-aggregate-start-on-3 c = sym (length-take-le (c .before .before .before .before .before .before .before .total .result) (c .before .before .before .before .before .before .before .before .before .before .before .before .before .before .before .before .before .before .before .before .before .before .before .before .args .writers .now) (c .before .before .before .before .before .before .check-lent .ensures .1 (c .before .before .before .before .if3 .left) .2))
 
--- src/lib.rt:273:5
 start-on-requires : tie.Need-start-on-requires
 start-on-requires c κs = search needs
 
--- src/lib.rt:245:1
 same-length : tie.Need-same-length
 same-length c = search needs
 
--- src/lib.rt:245:1
 same-length-2 : tie.Need-same-length-2
 same-length-2 c = search needs
 
--- src/lib.rt:245:1
 same-length-3 : tie.Need-same-length-3
 same-length-3 c = search needs
 
--- src/lib.rt:245:1
 returns-4 : tie.Need-returns-4
 returns-4 c = let a = c .before .before .before .before .before .before .before .before .before .before .before .before .before .before .before .before .before .before .before .before .before .before .before .before .before .before .before .before .before .before .before .before .before .args in let t = tables (a .contents .now) (a .readers .now) (a .writers .now) in let o = c .before .before .before .before .before .before .before .before .before .before .before .before .before .before .before .before .before .before .before .before .before .before .before .before .before .before .«open» in let s = c .before .before .before .before .before .before .start-on in lap-first (a .book .now) (a .log .now) t (a .lent) (a .work .now) (o .last .1 .0) (o .result) (o .ensures .0) (c .before .before .before .before .before .before .before .before .before .before .before .before .before .before .before .before .before .before .before .before .before .before .before .before .if1 .left) (o .ensures .1) (c .before .before .before .before .before .before .before .before .before .before .before .before .before .before .before .before .before .before .before .before .before .before .agents .result) (c .before .before .before .before .before .before .before .before .before .before .before .before .before .before .before .before .before .before .before .before .before .before .agents .ensures) (c .before .before .before .before .before .before .before .before .before .before .before .before .before .before .before .before .before .before .before .before .before .check-log .result) (c .before .before .before .before .before .before .before .before .before .before .before .before .before .before .before .before .before .before .before .before .before .check-log .ensures) (c .before .before .before .before .before .before .before .before .before .before .before .before .before .before .before .before .before .before .if2 .left) (c .before .before .before .before .before .before .before .before .before .before .before .before .before .before .before .before .total .result) (c .before .before .before .before .before .before .before .before .before .before .before .before .before .before .before .before .total .ensures) (c .before .before .before .before .before .before .before .before .before .before .before .before .before .before .before .check-lent .result) (c .before .before .before .before .before .before .before .before .before .before .before .before .before .before .before .check-lent .ensures .0) (c .before .before .before .before .before .before .before .before .before .before .before .before .before .if3 .left) (c .before .before .before .before .before .before .before .before .before .before .before .before .before .before .before .check-lent .ensures .1 (c .before .before .before .before .before .before .before .before .before .before .before .before .before .if3 .left)) (s .result) (s .last .1 .1 .1 .1 .1 .1 .0) (s .last .1 .1 .0) (s .last .1 .1 .1 .0) (s .last .1 .1 .1 .1 .0) (s .kept .1 .1 .0) (s .kept .1 .1 .1 .0) (s .kept .1 .1 .1 .1 .0) (s .ensures)
 

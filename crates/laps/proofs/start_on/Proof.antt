@@ -1,35 +1,26 @@
+-- `start_on` meets its contract.
 use Rattle.laps.proofs.Calls.{lap-starts, from-none}
 use borrow.Author.Needs.{needs}
 use Rattle.laps.proofs.start_on.Statement.{statement}
 use Rattle.laps.proofs.start_on.Tie as tie
-use Rattle.laps.proofs.start_on.Reads as reads
-use Rattle.laps.proofs.start_on.Lts as lts
-use Rattle.laps.proofs.begin.Reads as begin-reads
-use Rattle.laps.proofs.walk_on.Reads as walk-on-reads
 
--- src/lib.rt:240:5
 begin-requires : tie.Need-begin-requires
 begin-requires c κs = search needs
 
--- src/lib.rt:241:5
 walk-on-requires : tie.Need-walk-on-requires
 walk-on-requires c κs = search needs
 
--- src/lib.rt:227:1
 same-length : tie.Need-same-length
 same-length c = search needs
 
--- src/lib.rt:227:1
 same-length-2 : tie.Need-same-length-2
 same-length-2 c = search needs
 
--- src/lib.rt:227:1
 same-length-3 : tie.Need-same-length-3
 same-length-3 c = search needs
 
--- src/lib.rt:227:1
 returns : tie.Need-returns
-returns c = let a = c .before .before .before .before .before .before .before .before .before .before .before .before .before .before .before .before .before .before .before .before .before .before .args in let e = c .before .before .before .before .before .before .before .before .before .before .before .before .before .begin in let w = c .before .before .walk-on in λ B g few ok long. from-none (a .book .now) (a .log .now) (a .image .now) B g (a .moves) (w .result) (w .last .1 .1 .1 .1 .1 .0) (e .last .1 .1 .0) (w .last .1 .1 .0) (e .last .1 .1 .1 .1 .0) (w .ensures (a .book .now) B g (lap-starts (a .book .now) (a .log .now) (a .image .now) (a .moves) (a .rows) B g ok few (e .last .1 .1 .0) (e .last .1 .1 .1 .0) (e .last .1 .1 .1 .1 .0) (a .readers .now) (a .writers .now) (e .ensures .0 B (ok .book) (ok .image) (long .contents)) (long .readers) (long .writers) (e .ensures .1 .0) (e .ensures .1 .1)))
+returns c = let a = c .before .before .before .before .before .before .before .before .before .before .before .before .before .before .before .before .before .before .before .before .before .before .args in let e = c .before .before .before .before .before .before .before .before .before .before .before .before .before .begin in let w = c .before .before .walk-on in λ B g few ok long. from-none (a .book .now) (a .log .now) (a .image .now) B g (a .moves) (w .result) (w .last .1 .1 .1 .1 .1 .0) (e .last .1 .1 .0) (w .last .1 .1 .0) (e .last .1 .1 .1 .1 .0) (w .ensures .0 (a .book .now) B g (lap-starts (a .book .now) (a .log .now) (a .image .now) (a .moves) (a .rows) B g ok few (e .last .1 .1 .0) (e .last .1 .1 .1 .0) (e .last .1 .1 .1 .1 .0) (a .readers .now) (a .writers .now) (e .ensures .0 B (ok .book) (ok .image) (long .contents)) (long .readers) (long .writers) (e .ensures .1 .0) (e .ensures .1 .1)))
 
 pub start-on-spec : {M : Type 1} → statement M
 start-on-spec =
