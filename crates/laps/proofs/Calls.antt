@@ -195,17 +195,17 @@ module _ (b l : List ℕ) (lent : Tables) (n : ℕ) (m : List ℕ) (is : List In
   walking : Walking b l m (kept .B) (kept .g) t x (take (L (book-in m [])) c) (take (L (book-in m [])) rs) (take (L (book-in m [])) ws)
   walking = kept .stage .walking (is-on b l lent n m is rest t x c rs ws h)
 
-  all-lists : length x ≡ 256 → is ∷ rest ≡ items x (t .count) ∷ lists-from (book-in m []) (log-in l) (start (kept .B)) (t .moves - suc (t .at)) (suc (t .at))
-  all-lists e =
+  all-lists : is ∷ rest ≡ items x (t .count) ∷ lists-from (book-in m []) (log-in l) (start (kept .B)) (t .moves - suc (t .at)) (suc (t .at))
+  all-lists =
       kept .stage .lists (is-on b l lent n m is rest t x c rs ws h)
-      ∙ walking-lists b l m (kept .B) (kept .g) t x (take (L (book-in m [])) c) (take (L (book-in m [])) rs) (take (L (book-in m [])) ws) walking e
+      ∙ walking-lists b l m (kept .B) (kept .g) t x (take (L (book-in m [])) c) (take (L (book-in m [])) rs) (take (L (book-in m [])) ws) walking
 
-  pub lap-next : length x ≡ 256 → (all k : ℕ) → all ≡ L (book-in m []) → k ≡ min all (min (length c) (min (length rs) (length ws)))
+  pub lap-next : (all k : ℕ) → all ≡ L (book-in m []) → k ≡ min all (min (length c) (min (length rs) (length ws)))
       → (r : Turn) (x′ d rs′ ws′ : List ℕ) → length d ≡ length (take k c) → length rs′ ≡ length (take k rs) → length ws′ ≡ length (take k ws)
       → ((q : List ℕ) (B : Book) (g : Log) → Walking q l m B g t x (take k c) (take k rs) (take k ws)
       → Stage q l m B g (lists-from (book-in m []) (log-in l) (start B) (t .moves - suc (t .at)) (suc (t .at))) r x′ d rs′ ws′)
       → Lap b l lent n m rest r x′ (d ++ drop k c) (rs′ ++ drop k rs) (ws′ ++ drop k ws)
-  lap-next e all k ea ek r x′ d rs′ ws′ ld lr lw does =
+  lap-next all k ea ek r x′ d rs′ ws′ ld lr lw does =
       let K = kept in
       let j : k ≡ L (book-in m []) = omega (arith, ea, ek, K .contents .0, K .readers .0, K .writers .0) in
       let w : Walking b l m (K .B) (K .g) t x (take k c) (take k rs) (take k ws) =
@@ -214,7 +214,7 @@ module _ (b l : List ℕ) (lent : Tables) (n : ℕ) (m : List ℕ) (is : List In
       let hr : k ≤ length rs = omega (arith, j, K .readers .0) in
       let hw : k ≤ length ws = omega (arith, j, K .writers .0) in
       let s = does b (K .B) (K .g) w in
-      let q : lists-from (book-in m []) (log-in l) (start (K .B)) (t .moves - suc (t .at)) (suc (t .at)) ≡ rest = sym (ap tail-of (all-lists e)) in
+      let q : lists-from (book-in m []) (log-in l) (start (K .B)) (t .moves - suc (t .at)) (suc (t .at)) ≡ rest = sym (ap tail-of all-lists) in
       lap-at b l lent n m (K .B) (K .g) k j (K .same) (K .records) (K .call) c rs ws hc hr hw (past k c (lent .contents) j (K .contents .1)) (past k rs (lent .readers) j (K .readers .1)) (past k ws (lent .writers) j (K .writers .1))
       rest r x′ d rs′ ws′ (ld ∙ length-take-le k c hc) (lr ∙ length-take-le k rs hr) (lw ∙ length-take-le k ws hw) (subst (λ (y : List (List Instruction)). Stage b l m (K .B) (K .g) y r x′ d rs′ ws′) q s)
     where
@@ -222,8 +222,8 @@ module _ (b l : List ℕ) (lent : Tables) (n : ℕ) (m : List ℕ) (is : List In
       past i y z e q = subst (λ (v : ℕ). drop v y ≡ drop v z) (sym e) q
 
   -- what is passed on now
-  pub lap-now : length x ≡ 256 → is ≡ items x (t .count)
-  lap-now e = ap head-of (all-lists e)
+  pub lap-now : is ≡ items x (t .count)
+  lap-now = ap head-of all-lists
 
   -- and no more than fit
   pub lap-few : (t .count ≤ 256) × (t .count ≤ n)
@@ -232,11 +232,11 @@ module _ (b l : List ℕ) (lent : Tables) (n : ℕ) (m : List ℕ) (is : List In
       (omega (arith, e, given-few (t .walk)), omega (arith, e, given-few (t .walk), kept .records))
 
   -- any list that holds the same will do
-  pub lap-passed : (x′ : List ℕ) → length x ≡ 256 → length x′ ≡ 256 → items x′ (t .count) ≡ items x (t .count) → Lap b l lent n m (is ∷ rest) t x′ c rs ws
-  lap-passed x′ e e′ q =
+  pub lap-passed : (x′ : List ℕ) → length x′ ≡ 256 → items x′ (t .count) ≡ items x (t .count) → Lap b l lent n m (is ∷ rest) t x′ c rs ws
+  lap-passed x′ e q =
       let K = kept in
       let w = walking in
-      let i : outcome (t .walk) x′ ≡ outcome (t .walk) x = same-outcome (t .walk) x x′ e e′ (subst (λ (j : ℕ). items x′ j ≡ items x j) (w .count) q) in
+      let i : outcome (t .walk) x′ ≡ outcome (t .walk) x = same-outcome (t .walk) x x′ (w .room) e (subst (λ (j : ℕ). items x′ j ≡ items x j) (w .count) q) in
       record {
         over = λ y. absurd (false≢true (sym y ∙ is-on b l lent n m is rest t x c rs ws h));
         on = λ y. record {
@@ -254,6 +254,7 @@ module _ (b l : List ℕ) (lent : Tables) (n : ℕ) (m : List ℕ) (is : List In
                 readers = subst (λ (o : Walked). Gathered (book-in m []) (w .old .contents) (2 ^ t .at) (line l (1 + t .at) .a) o (w .old .readers) (take (L (book-in m [])) rs)) (sym i) (w .after .readers);
                 writers = w .after .writers;
               };
+              room = e;
               count = w .count;
             };
             lists = K .stage .lists;
@@ -268,12 +269,17 @@ module _ (b l : List ℕ) (lent : Tables) (n : ℕ) (m : List ℕ) (is : List In
       }
 
 -- when there is no more to pass on the call is over
-pub is-over : (b l : List ℕ) (lent : Tables) (n : ℕ) (m : List ℕ) (t : Turn) (x c rs ws : List ℕ) → Lap b l lent n m [] t x c rs ws → length x ≡ 256 → t .more ≡ false
-is-over b l lent n m t x c rs ws h e = go (t .more) refl
+pub is-over : (b l : List ℕ) (lent : Tables) (n : ℕ) (m : List ℕ) (t : Turn) (x c rs ws : List ℕ) → Lap b l lent n m [] t x c rs ws → t .more ≡ false
+is-over b l lent n m t x c rs ws h = go (t .more) refl
   where
     go : (v : Bool) → t .more ≡ v → t .more ≡ false
     go false y = y
     go true y =
         let K = h .on y in
-        let q = K .stage .lists y ∙ walking-lists b l m (K .B) (K .g) t x (take (L (book-in m [])) c) (take (L (book-in m [])) rs) (take (L (book-in m [])) ws) (K .stage .walking y) e in
+        let q = K .stage .lists y ∙ walking-lists b l m (K .B) (K .g) t x (take (L (book-in m [])) c) (take (L (book-in m [])) rs) (take (L (book-in m [])) ws) (K .stage .walking y) in
         absurd (is-cons _ _ (sym q))
+
+-- and while there is more a move is on
+pub lap-low : (b l : List ℕ) (lent : Tables) (n : ℕ) (m : List ℕ) (rest : List (List Instruction)) (t : Turn) (x c rs ws : List ℕ) → Lap b l lent n m rest t x c rs ws → t .more ≡ true
+    → (t .at < 64) × (t .at < t .moves)
+lap-low b l lent n m rest t x c rs ws h y = let w = h .on y .stage .walking y in (omega (arith, w .at, w .before .few), w .at)

@@ -82,16 +82,17 @@ module _ (b l m : List ℕ) (B : Book) (g : Log) where
       fit = going-fit A h (start B) (lawful-in b l m n order B g (to .passed)) i (line l (1 + i) .a) d rs ws (to .going) (omega (arith, below, to .few)) (rw is (agents-in b l m n order B g (to .passed) i below))
 
       -- its walk is made
-      pub lap-walks : (k bit : ℕ) → k ≡ line l (1 + i) .a → bit ≡ 2 ^ i → (s : State) (x rs′ : List ℕ) → Gathered A d bit k (outcome s x) rs rs′
+      pub lap-walks : (k bit : ℕ) → k ≡ line l (1 + i) .a → bit ≡ 2 ^ i → (s : State) (x rs′ : List ℕ) → Gathered A d bit k (outcome s x) rs rs′ → length x ≡ 256
           → (count : ℕ) → count ≡ given-of s → (a : Answer)
           → Stage b l m B g (lists-from A h (start B) (n - i) i) (record { more = true; count = count; answer = a; walk = s; at = i; moves = n; rows = order }) x d rs′ ws
-      lap-walks k bit ek eb s x rs′ gathered count ec a = record {
+      lap-walks k bit ek eb s x rs′ gathered room count ec a = record {
         over = λ y. absurd (true≢false y);
         walking = λ _. record {
           old = tables d rs ws;
           before = to;
           at = below;
           after = record { fit = fit; contents = refl; readers = rw (← ek, ← eb) gathered; writers = refl };
+          room = room;
           count = ec;
         };
         lists = λ _. refl;
@@ -113,13 +114,13 @@ module _ (b l m : List ℕ) (B : Book) (g : Log) where
         ∙ ap (λ (j : ℕ). walked A (now .going .state .contents) (record { agent = j })) (is (t .moves) (t .rows) i (w .old .contents) (w .old .readers) (w .old .writers) now (w .at))
 
     -- what it gives
-    pub walking-lists : length x ≡ 256 → lists-from A h (start B) (t .moves - i) i ≡ items x (t .count) ∷ lists-from A h (start B) (t .moves - suc i) (suc i)
-    walking-lists e =
+    pub walking-lists : lists-from A h (start B) (t .moves - i) i ≡ items x (t .count) ∷ lists-from A h (start B) (t .moves - suc i) (suc i)
+    walking-lists =
         let c : t .moves - i ≡ suc (t .moves - suc i) = omega (arith, w .at) in
         ap (λ (j : ℕ). lists-from A h (start B) j i) c
         ∙ lists-on A h (start B) (t .moves - suc i) i (now .going .state) (now .going .goes)
         ∙ ap (λ (is : List Instruction). is ∷ lists-from A h (start B) (t .moves - suc i) (suc i))
-        (sym (ap (items x) (w .count) ∙ made-of (t .walk) x e ∙ ap made-by (w .after .readers .outcome ∙ as-listed)))
+        (sym (ap (items x) (w .count) ∙ made-of (t .walk) x (w .room) ∙ ap made-by (w .after .readers .outcome ∙ as-listed)))
 
     pub low : i < 64
     low = omega (arith, w .at, now .few)

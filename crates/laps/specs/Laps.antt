@@ -35,6 +35,7 @@ pub record Walking (b l m : List ℕ) (B : Book) (g : Log) (t : Turn) (x d rs ws
   pub before : Before b l m B g (t .moves) (t .rows) (t .at) (old .contents) (old .readers) (old .writers)
   pub at : t .at < t .moves
   pub after : effect.After (book-in m []) (line l (1 + t .at) .a) (2 ^ t .at) old (t .walk) x (effect.tables d rs ws)
+  pub room : length x ≡ 256
   pub count : t .count ≡ given-of (t .walk)
 
 -- it is so, or the run is over; rest is what the moves from here on give

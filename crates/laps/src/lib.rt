@@ -307,9 +307,7 @@ pub fn next_lap(
     work: &mut [u64; 256],
     t: Turn,
 ) -> Turn
-    ensures { λ r. ⌜ ((b : List ℕ) (lent : Tables) (n : ℕ) (is : List Instruction) (rest : List (List Instruction)) → length (now (work .entry)) ≡ 256 → Lap b (now (log .entry)) lent n (now (image .entry)) (is ∷ rest) t (now (work .entry)) (now (contents .entry)) (now (readers .entry)) (now (writers .entry)) → Lap b (now (log .entry)) lent n (now (image .entry)) rest r (now (work .exit)) (now (contents .exit)) (now (readers .exit)) (now (writers .exit))) ⌝ }
-    ensures { λ r. ⌜ (r .more ≡ false → now (work .exit) ≡ now (work .entry)) ⌝ }
-    ensures { λ r. ⌜ (t .at < 64 → t .at < t .moves → moves-left r < moves-left t) ⌝ }
+    ensures { λ r. ⌜ ((b : List ℕ) (lent : Tables) (n : ℕ) (is : List Instruction) (rest : List (List Instruction)) → Lap b (now (log .entry)) lent n (now (image .entry)) (is ∷ rest) t (now (work .entry)) (now (contents .entry)) (now (readers .entry)) (now (writers .entry)) → Lap b (now (log .entry)) lent n (now (image .entry)) rest r (now (work .exit)) (now (contents .exit)) (now (readers .exit)) (now (writers .exit))) × (r .more ≡ false → now (work .exit) ≡ now (work .entry)) × (t .at < 64 → t .at < t .moves → moves-left r < moves-left t) ⌝ }
 {
     let all = table::total(image) as usize;
     let two = smaller(readers.len(), writers.len());

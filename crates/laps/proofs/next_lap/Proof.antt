@@ -53,7 +53,7 @@ same-length-3 : tie.Need-same-length-3
 same-length-3 c = search needs
 
 returns : tie.Need-returns
-returns c = let a = c .before .before .before .before .before .before .before .before .before .before .before .before .before .before .before .before .before .before .before .args in let s = c .before .before .before .before .before .before .turn-on in (λ bk lent n is rest e h. lap-next bk (a .log .now) lent n (a .image .now) is rest (a .t) (a .work .now) (a .contents .now) (a .readers .now) (a .writers .now) h e (c .before .before .before .before .before .before .before .before .before .before .before .before .before .before .total .result) (c .before .before .before .before .before .before .before .before .before .before .before .smaller3 .result) (c .before .before .before .before .before .before .before .before .before .before .before .before .before .before .total .ensures) (omega (arith, c .before .before .before .before .before .before .before .before .before .before .before .smaller3 .ensures, c .before .before .before .before .before .before .before .before .before .before .before .before .smaller2 .ensures, c .before .before .before .before .before .before .before .before .before .before .before .before .before .smaller .ensures)) (s .result) (s .last .1 .1 .1 .1 .1 .0) (s .last .1 .0) (s .last .1 .1 .0) (s .last .1 .1 .1 .0) (s .kept .1 .0) (s .kept .1 .1 .0) (s .kept .1 .1 .1 .0) (s .ensures .0), s .ensures .1)
+returns c = let a = c .before .before .before .before .before .before .before .before .before .before .before .before .before .before .before .before .before .before .before .args in let s = c .before .before .before .before .before .before .turn-on in (λ bk lent n is rest h. lap-next bk (a .log .now) lent n (a .image .now) is rest (a .t) (a .work .now) (a .contents .now) (a .readers .now) (a .writers .now) h (c .before .before .before .before .before .before .before .before .before .before .before .before .before .before .total .result) (c .before .before .before .before .before .before .before .before .before .before .before .smaller3 .result) (c .before .before .before .before .before .before .before .before .before .before .before .before .before .before .total .ensures) (omega (arith, c .before .before .before .before .before .before .before .before .before .before .before .smaller3 .ensures, c .before .before .before .before .before .before .before .before .before .before .before .before .smaller2 .ensures, c .before .before .before .before .before .before .before .before .before .before .before .before .before .smaller .ensures)) (s .result) (s .last .1 .1 .1 .1 .1 .0) (s .last .1 .0) (s .last .1 .1 .0) (s .last .1 .1 .1 .0) (s .kept .1 .0) (s .kept .1 .1 .0) (s .kept .1 .1 .1 .0) (s .ensures .0), s .ensures .1 .0, s .ensures .1 .1)
 
 pub next-lap-spec : {M : Type 1} → statement M
 next-lap-spec =

@@ -26,7 +26,7 @@ same-length : tie.Need-same-length
 same-length c = search needs
 
 returns : tie.Need-returns
-returns c = let a = c .before .before .before .before .before .before .before .before .before .before .before .before .before .before .args in let g = c .before .before .before .before .gather in let h = c .before .before .before .before .before .before .before .before .before .if1 .taken in (λ bk B lg to. lap-walks bk (a .log .now) (a .image .now) B lg (a .moves) (a .t7) (a .i) (a .contents .now) (a .readers .now) (a .writers .now) to h (c .before .before .before .before .before .before .before .before .agent-of .result) (c .before .before .before .before .before .before .before .bit-of .result) (c .before .before .before .before .before .before .before .before .agent-of .ensures .0) (c .before .before .before .before .before .before .before .bit-of .ensures (omega (arith, h, to .few))) (g .result) (g .last .1 .1 .1 .1 .0) (g .last .1 .1 .0) (g .ensures (omega (arith, c .before .before .before .before .before .before .before .before .before .before .before .before .before .before .good))) (c .before .given .result) (c .before .given .ensures) (c .triple .result), (λ e. absurd (true≢false e), omega arith))
+returns c = let a = c .before .before .before .before .before .before .before .before .before .before .before .before .before .before .args in let g = c .before .before .before .before .gather in let h = c .before .before .before .before .before .before .before .before .before .if1 .taken in (λ bk B lg to. lap-walks bk (a .log .now) (a .image .now) B lg (a .moves) (a .t7) (a .i) (a .contents .now) (a .readers .now) (a .writers .now) to h (c .before .before .before .before .before .before .before .before .agent-of .result) (c .before .before .before .before .before .before .before .bit-of .result) (c .before .before .before .before .before .before .before .before .agent-of .ensures .0) (c .before .before .before .before .before .before .before .bit-of .ensures (omega (arith, h, to .few))) (g .result) (g .last .1 .1 .1 .1 .0) (g .last .1 .1 .0) (g .ensures (omega (arith, c .before .before .before .before .before .before .before .before .before .before .before .before .before .before .good))) (omega (arith, g .kept .1 .1 .1 .1 .0, c .before .before .before .before .before .before .before .before .before .before .before .before .before .before .good)) (c .before .given .result) (c .before .given .ensures) (c .triple .result), (λ e. absurd (true≢false e), omega arith))
 
 check-order-requires : tie.Need-check-order-requires
 check-order-requires c κs = search needs

@@ -56,7 +56,7 @@ use Rattle.order.specs.Lists.{call-lists}
 use Rattle.order.specs.Demand.{Demand3}
 use Rattle.lent.specs.Written.{all-written}
 use Rattle.lent.proofs.Lending.{ref-at, LentMut, lend-mut, mut-back}
-use Rattle.run.specs.Turns.{answered}
+use Rattle.laps.specs.Turns.{answered}
 use Rattle.run.proofs.run as run′
 use Rattle.run.proofs.run.Symbol as run-def
 use Rattle.run.proofs.run.Symbol.{name as #run·run}
