@@ -1,20 +1,19 @@
 -- The checks before the first move: what each answers, what passing them shows, and the call where one of them refuses.
 use mathlib.Core.Path.{_≡_, refl, sym, ap, subst, _∙_}
 use mathlib.Core.Logic.{_≢_}
-use mathlib.Core.Bool.{Bool, true, false, _&&_}
+use mathlib.Core.Bool.{false, _&&_}
 use mathlib.Core.List.{List, []}
 use Prim.Native.Nat.{ℕ, _+_, _≤_, _<_}
 use native.Mathlib.Omega.{arith}
 use borrow.Author.Tests.{ltb-true, not-false, lt-ltb, le-ltb, lt-leb, le-leb}
-use lib.Dec.{eqb, ltb, leb}
-use lib.ListN.{length, getD}
+use lib.Dec.{eqb, ltb}
+use lib.ListN.{length}
 use Rattle.text.specs.declared.Answer.{Answer}
 use Rattle.text.specs.declared.Line.{Line}
 use Rattle.text.specs.Text.{line}
 use Rattle.text.specs.Words.{Checked, good, refused, _>>=_, _>>_, least, none-at, must, answer-of}
 use Rattle.text.specs.Refusals.{log-line}
 use Rattle.text.proofs.Words.{and-cases, least-none, getD-table, length-table-from, bind-good, then-good, found-good, good-same}
-use Rattle.book.specs.declared.Entry.{Entry}
 use Rattle.book.specs.Book.{Book, L, start}
 use Rattle.book.specs.Check.{check-book}
 use Rattle.book.specs.Image.{word, book-in}

@@ -1,16 +1,16 @@
 -- A run move by move: a walk, a move that fires, a move that is refused, and the end.
 use mathlib.Core.Path.{_≡_, refl, sym, ap, subst, _∙_}
 use mathlib.Core.Logic.{_≢_}
-use mathlib.Core.Bool.{Bool, true, false, true≢false, false≢true}
+use mathlib.Core.Bool.{true, false, true≢false, false≢true}
 use mathlib.Core.List.{List, [], _∷_}
 use Prim.Native.Nat.{ℕ, zero, suc, _+_, _-_, _^_, _≤_, _<_}
 use native.Mathlib.Numerals.{add-one}
 use native.Mathlib.Omega.{arith}
-use lib.ListN.{length, getD}
+use lib.ListN.{length}
 use Rattle.text.specs.declared.Answer.{Answer}
 use Rattle.text.specs.Text.{line}
 use Rattle.text.proofs.Words.{length-table-from}
-use Rattle.book.specs.Book.{Book, L, start}
+use Rattle.book.specs.Book.{Book, start}
 use Rattle.book.specs.Image.{book-in}
 use Rattle.book.specs.Sound.{Lawful}
 use Rattle.engine.specs.declared.Instruction.{Instruction}

@@ -3,7 +3,7 @@ use mathlib.Core.Path.{_≡_, refl, sym, ap, _∙_}
 use mathlib.Core.Logic.{dite}
 use mathlib.Core.Bool.{Bool, true, false, _||_}
 use mathlib.Core.List.{List, [], _∷_, _++_}
-use Prim.Native.Nat.{ℕ, zero, suc, _+_, _^_, _≤_, _<_}
+use Prim.Native.Nat.{ℕ, zero, suc, _+_, _^_, _<_}
 use native.Mathlib.Nat.{zero-add}
 use native.Mathlib.Omega.{arith}
 use native.Mathlib.Decide.{decLt}
@@ -13,7 +13,7 @@ use lib.ListN.{length, getD, replicate}
 use Rattle.text.specs.Words.{if_then_else_, has, table-from, table}
 use Rattle.text.proofs.Words.{length-table-from, getD-table, getD-table-past}
 use Rattle.engine.specs.Move.{Fired, writes}
-use Rattle.firing.specs.Outcome.{each, mark}
+use Rattle.firing.specs.Outcome.{mark}
 use Rattle.firing.proofs.Sweep.{each-is}
 use Rattle.moves.specs.Effect.{joined}
 use Rattle.order.specs.Sets.{bit, with-move}

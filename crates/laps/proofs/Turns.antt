@@ -8,13 +8,13 @@ use native.Mathlib.Omega.{arith}
 use lib.ListN.{length, getD, replicate}
 use Rattle.book.specs.Book.{Book, L}
 use Rattle.book.specs.Sound.{Lawful, Sound}
-use Rattle.engine.specs.Move.{Fired, Moved, fires, stopped, move, fire}
+use Rattle.engine.specs.Move.{Moved, fires, stopped, move, fire}
 use Rattle.engine.proofs.Claims.{moves-leave}
 use Rattle.engine.proofs.Numbers.{move-number}
 use Rattle.moves.specs.declared.Verdict.{Verdict}
 use Rattle.moves.specs.Effect.{Tables, left, number-of, q-of, Fit, Effect, tables}
 use Rattle.order.specs.Log.{Log, move-at}
-use Rattle.order.specs.Run.{Run, ran, halted, moved, run, readers}
+use Rattle.order.specs.Run.{Run, halted, moved, run, readers}
 use Rattle.order.proofs.Marks.{run-left}
 use Rattle.laps.specs.Turns.{Holds, Going}
 use Rattle.laps.proofs.Marks.{readers-more, writers-more, readers-below, readers-none, writers-none}

@@ -4,28 +4,19 @@ use Rattle.laps.proofs.Ends.{order-some, order-none}
 use borrow.Author.Needs.{needs}
 use Rattle.laps.proofs.check_order.Statement.{statement}
 use Rattle.laps.proofs.check_order.Tie as tie
-use Rattle.laps.proofs.check_order.Reads as reads
-use Rattle.laps.proofs.check_order.Lts as lts
-use Rattle.laps.proofs.triple.Reads as triple-reads
-use Rattle.touch.proofs.touching.Reads as touching-reads
 
--- src/lib.rt:142:9
 touching-requires : tie.Need-touching-requires
 touching-requires c κs = search needs
 
--- src/lib.rt:144:9
 triple-requires : tie.Need-triple-requires
 triple-requires c κs = search needs
 
--- src/lib.rt:144:9
 returns : tie.Need-returns
 returns c = let a = c .before .before .before .before .before .before .args in λ B g s d m rows h. order-none B g s d (a .readers .now) (a .writers .now) (a .rows .now) (a .moves) m rows h (c .before .before .before .touching .result) (c .before .before .before .touching .ensures) (c .triple .result) (not-true (c .before .before .before .touching .result .found) (c .before .if1 .taken)) (c .triple .ensures)
 
--- src/lib.rt:146:5
 triple-requires-2 : tie.Need-triple-requires-2
 triple-requires-2 c κs = search needs
 
--- src/lib.rt:139:1
 returns-2 : tie.Need-returns-2
 returns-2 c = let a = c .before .before .before .before .before .before .args in λ B g s d m rows h. order-some B g s d (a .readers .now) (a .writers .now) (a .rows .now) (a .moves) m rows h (c .before .before .before .touching .result) (c .before .before .before .touching .ensures) (c .triple2 .result) (not-false (c .before .before .before .touching .result .found) (c .before .if1 .left)) (c .triple2 .ensures)
 

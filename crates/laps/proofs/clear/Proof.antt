@@ -9,8 +9,6 @@ use Rattle.laps.proofs.Ends.{cleared}
 use borrow.Author.Needs.{needs}
 use Rattle.laps.proofs.clear.Statement.{statement}
 use Rattle.laps.proofs.clear.Tie as tie
-use Rattle.laps.proofs.clear.Reads as reads
-use Rattle.laps.proofs.clear.Lts as lts
 
 abbrev Inv-loop : tie.InvT-loop
 Inv-loop marks₀ i₀ marks i = (i ≤ length marks₀) × (length marks ≡ length marks₀) × (marks ≡ replicate i 0 ++ drop i marks₀)
@@ -18,35 +16,27 @@ Inv-loop marks₀ i₀ marks i = (i ≤ length marks₀) × (length marks ≡ le
 abbrev μ-loop : tie.MeasureT-loop
 μ-loop marks₀ i₀ marks i = length marks₀ - i
 
--- src/lib.rt:116:5
 loop-holds : tie.Need-loop-holds Inv-loop μ-loop
 loop-holds c = (omega arith, refl, refl)
 
--- src/lib.rt:117:9
 mul-marks : tie.Need-mul-marks Inv-loop μ-loop
 mul-marks c = search needs
 
--- src/lib.rt:117:9
 slice-write-marks : tie.Need-slice-write-marks Inv-loop μ-loop
 slice-write-marks c = search needs
 
--- src/lib.rt:118:9
 add-i : tie.Need-add-i Inv-loop μ-loop
 add-i c = search needs
 
--- src/lib.rt:116:5
 loop-less : tie.Need-loop-less Inv-loop μ-loop
 loop-less c = search needs
 
--- src/lib.rt:116:5
 loop-again : tie.Need-loop-again Inv-loop μ-loop
 loop-again c = let l = c .before .loop in let m = c .before .before .args .marks .now in (omega arith, length-set (l .marks) (l .i) 0 ∙ l .inv .1, rw (l .inv .2) (fill-more (l .i) 0 m (omega arith)))
 
--- src/lib.rt:112:1
 same-length : tie.Need-same-length Inv-loop μ-loop
 same-length c = c .before .loop .inv .1
 
--- src/lib.rt:112:1
 returns : tie.Need-returns Inv-loop μ-loop
 returns c = let l = c .before .loop in cleared (c .before .before .args .marks .now) (l .marks) (l .i) (omega arith) (l .inv .2)
 

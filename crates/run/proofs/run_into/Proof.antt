@@ -1,7 +1,5 @@
 -- `run_into` meets its contract. The invariant: of every call that is at its first lap as the loop begins, how far it is, with the last list walked.
 use mathlib.Core.Path.{_≡_, refl, _∙_}
-use mathlib.Core.List.{List}
-use Prim.Native.Nat.{ℕ}
 use lib.ListN.{length}
 use Rattle.order.specs.Call.{Tables}
 use Rattle.order.specs.Lists.{call-lists}
