@@ -9,7 +9,7 @@ ghost use Rattle.engine.specs.Rule.{most-instructions};
 ghost use Rattle.engine.specs.declared.Instruction.the-variants.{Release};
 ghost use Rattle.order.specs.Call.{log-call};
 ghost use Rattle.order.specs.Demand.{Demand3};
-ghost use Rattle.run.specs.Turns.{answered, tables};
+ghost use Rattle.laps.specs.Turns.{answered, tables};
 
 // A record that nothing was written to.
 fn blank() -> Record

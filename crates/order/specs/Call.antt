@@ -1,17 +1,16 @@
 -- The log entry: a book, a log and the tables that the caller lends; what it answers and leaves, for all inputs (01, "Refused, and how").
-use mathlib.Core.List.{List, []}
+use mathlib.Core.List.{List}
 use Prim.Native.Nat.{ℕ}
 use lib.Dec.{leb}
 use lib.ListN.{length}
 use Rattle.text.specs.Words.{Checked, good, refused, _>>=_, _>>_, must}
 use Rattle.text.specs.Refusals.{lent-short, contents-table, readers-table, writers-table, instructions-table}
-use Rattle.book.specs.Book.{Book, L, start}
+use Rattle.book.specs.Book.{Book, L}
 use Rattle.book.specs.Check.{check-book}
-use Rattle.engine.specs.declared.Instruction.{Instruction}
 use Rattle.engine.specs.Rule.{most-instructions}
 use Rattle.engine.specs.Single.{over}
 use Rattle.order.specs.Log.{Log, check-log}
-use Rattle.order.specs.Run.{LogAnswer, run-log, last-made}
+use Rattle.order.specs.Run.{LogAnswer, run-log}
 
 -- how many records of each table are lent
 pub record Lengths : Type 0 where
@@ -64,11 +63,3 @@ log-answer t (good x) = left-in t (run-log (x .0) (x .1))
 -- n is how many instruction records are lent
 unfoldable pub log-call : List ℕ → List ℕ → Tables → ℕ → LogAnswer
 log-call book log t n = log-answer t (check-all book log (lengths t n))
-
--- the instructions of the last move that was walked; none of a call that is refused before the first move. 01 leaves them free
-abbrev pub log-made : Checked (Book × Log) → List Instruction
-log-made (refused n p q) = []
-log-made (good x) = last-made (x .0) (x .1) (start (x .0)) (length (x .1 .moves))
-
-unfoldable pub log-listed : List ℕ → List ℕ → Tables → ℕ → List Instruction
-log-listed book log t n = log-made (check-all book log (lengths t n))

@@ -7,8 +7,7 @@ use Rattle.text.specs.Words.{if_then_else_, has, table, some-below}
 use Rattle.text.specs.Refusals.{unordered-touch}
 use Rattle.text.specs.declared.Answer.{Answer}
 use Rattle.book.specs.Book.{Book, L, start}
-use Rattle.engine.specs.declared.Instruction.{Instruction}
-use Rattle.engine.specs.Move.{Input, Fired, Moved, fires, stopped, walked, made-by, move, fire, writes}
+use Rattle.engine.specs.Move.{Input, Fired, Moved, fires, stopped, move, fire, writes}
 use Rattle.order.specs.Sets.{with-move}
 use Rattle.order.specs.Pairs.{rows, ordered-by, TwoFound, no-two, two, least-two}
 use Rattle.order.specs.Log.{Log, move-at}
@@ -37,16 +36,6 @@ next B i m (halted n p q s) = halted n p q s
 unfoldable pub run : Book → Log → List ℕ → ℕ → Ran
 run B g c zero = ran (record { contents = c; fired = [] })
 run B g c (suc n) = next B n (move-at g n) (run B g c n)
-
--- one move more: its own instructions if it is walked, and else those so far
-abbrev pub made-next : Book → Input → List Instruction → Ran → List Instruction
-made-next B m is (ran s) = made-by (walked B (s .contents) m)
-made-next B m is (halted n p q s) = is
-
--- the instructions of the last move that was walked: of the first n moves, or of those up to the refused one
-unfoldable pub last-made : Book → Log → List ℕ → ℕ → List Instruction
-last-made B g c zero = []
-last-made B g c (suc n) = made-next B (move-at g n) (last-made B g c n) (run B g c n)
 
 -- ---- marks
 

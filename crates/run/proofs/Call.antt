@@ -1,105 +1,71 @@
--- The call: what it answers and leaves at each way out.
+-- The call: its laps in turn, and its number.
 use mathlib.Core.Path.{_≡_, refl, sym, ap, _∙_}
-use mathlib.Core.Logic.{_≢_}
-use mathlib.Core.List.{List, [], _++_}
+use mathlib.Core.Bool.{true, false, false≢true}
+use mathlib.Core.List.{List, [], _∷_}
 use Prim.Native.Nat.{ℕ, _≤_, _<_}
 use native.Mathlib.Omega.{arith}
-use lib.ListN.{length, take, drop}
-use lib.Seq.{length-take-le}
-use Rattle.text.specs.declared.Answer.{Answer}
-use Rattle.text.specs.Words.{Checked, good, refused, answer-of}
-use Rattle.book.specs.Book.{Book, L, start}
-use Rattle.book.specs.Bare.{bare}
-use Rattle.book.specs.Check.{check-book}
-use Rattle.book.specs.Image.{book-in}
-use Rattle.book.proofs.Bare.{bare-image}
-use Rattle.engine.specs.Single.{over}
-use Rattle.records.specs.declared.Told.{Told}
-use Rattle.log.specs.declared.LogCheck.{LogCheck}
-use Rattle.log.specs.Checks.{Held, LogChecked}
+use lib.ListN.{length}
+use Rattle.text.specs.Words.{Checked, good, refused}
+use Rattle.book.specs.Book.{Book, start}
+use Rattle.engine.specs.declared.Instruction.{Instruction}
+use Rattle.records.specs.Code.{items}
 use Rattle.order.specs.Pairs.{TwoFound, no-two, two}
-use Rattle.order.specs.Log.{Log, check-log}
-use Rattle.order.specs.Run.{Run, Ran, ran, halted, run, last-made, touching, LogAnswer, order-checked, finish, run-from, run-log}
-use Rattle.order.specs.Call.{Tables, lengths, check-lent, check-all, left-in, log-answer, log-call, log-listed}
-use Rattle.order.proofs.Log.{Passed, passed}
+use Rattle.order.specs.Log.{Log}
+use Rattle.order.specs.Run.{Run, Ran, ran, halted, run, touching, order-checked, finish, run-from, run-log}
+use Rattle.order.specs.Call.{Tables, lengths, check-all, log-answer, log-call}
+use Rattle.order.specs.Lists.{call-lists, last-of, log-listed}
 use Rattle.order.proofs.Marks.{halted-number}
 use Rattle.order.proofs.Numbers.{Early, on, off, all-early}
-use Rattle.run.specs.Turns.{answered, Tells, Long}
-use Rattle.run.specs.Turns as turns
-use Rattle.run.proofs.Checks.{Stopped, book-stops, book-good, log-stops, log-good, lent-stops, lent-passes}
+use Rattle.laps.specs.declared.Turn.{Turn}
+use Rattle.laps.specs.Turns.{answered}
+use Rattle.laps.specs.Laps.{Lap}
+use Rattle.laps.proofs.Calls.{is-over, lap-now, lap-few, lap-low}
 
--- a table that was lent in part, with its part put back
-put-back : (x y c : List ℕ) (k all : ℕ) → k ≡ all → x ≡ y → length x ≡ all → x ++ drop k c ≡ over y c
-put-back x y c k all e q h = rw (e, ← q, h)
+-- ---- the laps in turn
 
-module _ (book log : List ℕ) (t : Tables) (n : ℕ) (l : List ℕ) (opened : Answer) (o : opened ≡ answer-of (check-book book)) where
-  pub at-book : opened .number ≢ 0 → Stopped book log t n opened l
-  at-book z = book-stops book log t n opened l o z
+-- how far the call is; count is how many instructions the last move walked gave, and rest what the moves from here on give
+pub record Far (b l : List ℕ) (lent : Tables) (n : ℕ) (m : List ℕ) (t : Turn) (x : List ℕ) (count : ℕ) (c rs ws : List ℕ) : Type 0 where
+  rest : List (List Instruction)
+  lap : Lap b l lent n m rest t x c rs ws
+  last : last-of (items x count) rest ≡ log-listed b l lent n
+  pub few : count ≤ n
 
-  module _
-      (z : opened .number ≡ 0) (image : List ℕ) (holds : (B : Book) → check-book book ≡ good B → book-in image (B .entries) ≡ B)
-      (agents : ℕ) (all-agents : agents ≡ length (book-in image [] .agents)) (c : LogCheck) (checked : LogChecked agents log c)
-    where
-      book-is : (B : Book) × (check-book book ≡ good B)
-      book-is = book-good book log t n opened l o z
+module _ (b l : List ℕ) (lent : Tables) (n : ℕ) (m : List ℕ) where
+  pub far-first : (t : Turn) (x c rs ws : List ℕ) → Lap b l lent n m (call-lists b l lent n) t x c rs ws → Far b l lent n m t x 0 c rs ws
+  unfolding log-listed
+  far-first t x c rs ws h = record { rest = call-lists b l lent n; lap = h; last = refl; few = omega arith }
 
-      abbrev B : Book
-      B = book-is .0
+  -- after a lap the list is that of the last move, or another move's that is still to come
+  far-last : (rest : List (List Instruction)) (t : Turn) (x x′ c rs ws : List ℕ) (k : ℕ) → Lap b l lent n m rest t x′ c rs ws → (t .more ≡ false → x′ ≡ x)
+      → last-of (items x′ k) rest ≡ last-of (items x k) rest
+  unfolding last-of
+  far-last [] t x x′ c rs ws k h same = ap (λ (y : List ℕ). items y k) (same (is-over b l lent n m t x′ c rs ws h))
+  far-last (is ∷ rest) t x x′ c rs ws k h same = refl
 
-      is-bare : book-in image [] ≡ bare B
-      is-bare = sym (bare-image image (B .entries)) ∙ ap bare (holds B (book-is .1))
+  module _ (t : Turn) (x : List ℕ) (count : ℕ) (c rs ws : List ℕ) (far : Far b l lent n m t x count c rs ws) where
+    pub far-over : t .more ≡ false → (answered (t .answer) c rs ws ≡ log-call b l lent n) × (items x count ≡ log-listed b l lent n)
+    unfolding last-of
+    far-over z = let o = far .lap .over z in (o .1, ap (last-of (items x count)) (sym (o .0)) ∙ far .last)
 
-      agents-same : length (B .agents) ≡ agents
-      agents-same = sym (all-agents ∙ ap (λ (x : Book). length (x .agents)) is-bare)
+    pub far-low : t .more ≡ true → (t .at < 64) × (t .at < t .moves)
+    far-low y = lap-low b l lent n m (far .rest) t x c rs ws (far .lap) y
 
-      pub at-log : c .answer .number ≢ 0 → Stopped book log t n (c .answer) l
-      at-log y = log-stops book log t n (c .answer) l B (book-is .1) (checked .answer B agents-same) y
-
-      module _ (y : c .answer .number ≡ 0) where
-        log-is : (g : Log) × (check-log B log ≡ good g)
-        log-is = log-good book log t n (c .answer) l B (book-is .1) (checked .answer B agents-same) y
-
-        abbrev g : Log
-        g = log-is .0
-
-        held : Held g c
-        held = checked .held B g agents-same (log-is .1)
-
-        pub few : c .moves ≤ 64
-        few = omega (arith, held .moves, passed B log g (log-is .1) .few)
-
-        module _ (all : ℕ) (total : all ≡ L (book-in image [])) (short : Answer) (lent : (B : Book) → L B ≡ all → short ≡ answer-of (check-lent B (lengths t n))) where
-          all-same : L B ≡ all
-          all-same = sym (total ∙ ap L is-bare)
-
-          pub at-lent : short .number ≢ 0 → Stopped book log t n short l
-          at-lent x = lent-stops book log t n short l B (book-is .1) g (log-is .1) (lent B all-same) x
-
-          passes : turns.Passed book log image (c .moves) (c .rows) B g
-          passes = record { book = book-is .1; image = holds B (book-is .1); log = log-is .1; moves = held .moves; rows = held .rows }
-
-          -- k records of each table were lent
-          pub at-run : short .number ≡ 0 → (k : ℕ) → k ≡ all → all ≤ length (t .contents) → all ≤ length (t .readers) → all ≤ length (t .writers)
-              → (r : Told) (l′ d rs ws : List ℕ) → length d ≡ length (take k (t .contents)) → length rs ≡ length (take k (t .readers)) → length ws ≡ length (take k (t .writers))
-              → ((B : Book) (g : Log) → turns.Passed book log image (c .moves) (c .rows) B g → Long B (take k (t .contents)) (take k (t .readers)) (take k (t .writers))
-              → Tells r l′ d rs ws (run-log B g) (last-made B g (start B) (length (g .moves))))
-              → Tells r l′ (d ++ drop k (t .contents)) (rs ++ drop k (t .readers)) (ws ++ drop k (t .writers)) (log-call book log t n) (log-listed book log t n)
-          at-run x k e hc hr hw r l′ d rs ws ld lr lw does =
-              let lc : length (take k (t .contents)) ≡ all = length-take-le k (t .contents) (omega arith) ∙ e in
-              let mr : length (take k (t .readers)) ≡ all = length-take-le k (t .readers) (omega arith) ∙ e in
-              let mw : length (take k (t .writers)) ≡ all = length-take-le k (t .writers) (omega arith) ∙ e in
-              let s = does B g passes (record { contents = lc ∙ sym all-same; readers = mr ∙ sym all-same; writers = mw ∙ sym all-same }) in
-              let a = s .answer in
-              let f = run-log B g in
-              let p : answered (r .answer) (d ++ drop k (t .contents)) (rs ++ drop k (t .readers)) (ws ++ drop k (t .writers)) ≡ left-in t f =
-              rw (
-                put-back d (f .contents) (t .contents) k all e (ap (λ (v : LogAnswer). v .contents) a) (ld ∙ lc),
-                put-back rs (f .readers) (t .readers) k all e (ap (λ (v : LogAnswer). v .readers) a) (lr ∙ mr),
-                put-back ws (f .writers) (t .writers) k all e (ap (λ (v : LogAnswer). v .writers) a) (lw ∙ mw),
-                ap (λ (v : LogAnswer). v .answer) a,
-              ) in
-              let w = lent-passes book log t n short l B (book-is .1) g (log-is .1) (lent B all-same) x in
-              record { answer = p ∙ w .0; made = s .made ∙ w .1 }
+    pub far-next : t .more ≡ true → (r : Turn) (x′ c′ rs′ ws′ : List ℕ)
+        → ((b : List ℕ) (lent : Tables) (n : ℕ) (is : List Instruction) (rest : List (List Instruction)) → Lap b l lent n m (is ∷ rest) t x c rs ws → Lap b l lent n m rest r x′ c′ rs′ ws′)
+        → (r .more ≡ false → x′ ≡ x) → Far b l lent n m r x′ (t .count) c′ rs′ ws′
+    unfolding last-of
+    far-next y r x′ c′ rs′ ws′ laps same = go (far .rest) (far .lap) (far .last)
+      where
+        go : (rest : List (List Instruction)) → Lap b l lent n m rest t x c rs ws → last-of (items x count) rest ≡ log-listed b l lent n → Far b l lent n m r x′ (t .count) c′ rs′ ws′
+        go [] h q = absurd (false≢true (sym (is-over b l lent n m t x c rs ws h) ∙ y))
+        go (is ∷ rest) h q =
+            let h′ = laps b lent n is rest h in
+            record {
+              rest = rest;
+              lap = h′;
+              last = far-last rest r x x′ c′ rs′ ws′ (t .count) h′ same ∙ ap (λ (z : List Instruction). last-of z rest) (sym (lap-now b l lent n m is rest t x c rs ws h)) ∙ q;
+              few = lap-few b l lent n m is rest t x c rs ws h .1;
+            }
 
 -- ---- the number is at most 17, so that an answer fits one number
 

@@ -1,7 +1,1 @@
-pub mod Marks
-pub mod Turns
-pub mod Checks
-pub mod Ends
 pub mod Call
-pub mod Laps
-pub mod Calls

@@ -58,7 +58,7 @@ use Rattle.lent.specs.Written.{all-written}
 use Rattle.order.proofs.Claim.{demand3}
 use Rattle.lending.proofs.Longer.{call-longer}
 use Rattle.lent.proofs.Lending.{ref-at, LentMut, lend-mut, mut-back}
-use Rattle.run.specs.Turns.{answered}
+use Rattle.laps.specs.Turns.{answered}
 use Rattle.run.proofs.run as run′
 use Rattle.run.proofs.run.Symbol as run-def
 use Rattle.run.proofs.run.Symbol.{name as #run·run}

@@ -2,7 +2,8 @@
 use mathlib.Core.Path.{ap}
 use native.Mathlib.Omega.{arith}
 use Rattle.order.specs.Run.{LogAnswer}
-use Rattle.run.specs.Turns.{tables, tables-of, packed}
+use Rattle.laps.specs.Turns.{tables}
+use Rattle.run.specs.ForC.{tables-of, packed}
 use Rattle.run.proofs.Call.{number-most}
 use borrow.Author.Needs.{needs}
 use Rattle.run.proofs.rental_run.Statement.{statement}
@@ -17,7 +18,7 @@ cast-result c = search needs
 mul-result : tie.Need-mul-result
 mul-result c =
     let a = c .before .before .before .before .before .before .before .before .before .before .before .before .before .before .before .before .before .before .args in
-    omega (arith, ap (λ (x : LogAnswer). x .answer .number) (c .before .before .before .before .before .before .before .before .run-into .ensures .0 .answer), number-most (a .book .now) (a .log .now) (tables (a .contents .now) (a .readers .now) (a .writers .now)) (a .lent))
+    omega (arith, ap (λ (x : LogAnswer). x .answer .number) (c .before .before .before .before .before .before .before .before .run-into .ensures .0), number-most (a .book .now) (a .log .now) (tables (a .contents .now) (a .readers .now) (a .writers .now)) (a .lent))
 
 cast-result-2 : tie.Need-cast-result-2
 cast-result-2 c = search needs
@@ -28,7 +29,7 @@ mul-result-2 c = search needs
 add-result : tie.Need-add-result
 add-result c =
     let a = c .before .before .before .before .before .before .before .before .before .before .before .before .before .before .before .before .before .before .before .args in
-    omega (arith, c .struct-known2 .given, ap (λ (x : LogAnswer). x .answer .number) (c .before .before .before .before .before .before .before .before .before .run-into .ensures .0 .answer), number-most (a .book .now) (a .log .now) (tables (a .contents .now) (a .readers .now) (a .writers .now)) (a .lent))
+    omega (arith, c .struct-known2 .given, ap (λ (x : LogAnswer). x .answer .number) (c .before .before .before .before .before .before .before .before .before .run-into .ensures .0), number-most (a .book .now) (a .log .now) (tables (a .contents .now) (a .readers .now) (a .writers .now)) (a .lent))
 
 cast-result-3 : tie.Need-cast-result-3
 cast-result-3 c = search needs
@@ -36,7 +37,7 @@ cast-result-3 c = search needs
 add-result-2 : tie.Need-add-result-2
 add-result-2 c =
     let a = c .before .before .before .before .before .before .before .before .before .before .before .before .before .before .before .before .before .before .before .before .args in
-    omega (arith, c .struct-known3 .given, c .before .struct-known2 .given, ap (λ (x : LogAnswer). x .answer .number) (c .before .before .before .before .before .before .before .before .before .before .run-into .ensures .0 .answer), number-most (a .book .now) (a .log .now) (tables (a .contents .now) (a .readers .now) (a .writers .now)) (a .lent))
+    omega (arith, c .struct-known3 .given, c .before .struct-known2 .given, ap (λ (x : LogAnswer). x .answer .number) (c .before .before .before .before .before .before .before .before .before .before .run-into .ensures .0), number-most (a .book .now) (a .log .now) (tables (a .contents .now) (a .readers .now) (a .writers .now)) (a .lent))
 
 same-length : tie.Need-same-length
 same-length c = search needs
@@ -48,7 +49,7 @@ same-length-3 : tie.Need-same-length-3
 same-length-3 c = search needs
 
 returns : tie.Need-returns
-returns c = let e = c .before .before .before .before .before .before .before .before .before .before .run-into .ensures .0 .answer in (ap (λ (x : LogAnswer). packed (x .answer)) e, ap tables-of e)
+returns c = let e = c .before .before .before .before .before .before .before .before .before .before .run-into .ensures .0 in (ap (λ (x : LogAnswer). packed (x .answer)) e, ap tables-of e)
 
 pub rental-run-spec : {M : Type 1} → statement M
 rental-run-spec =

@@ -67,19 +67,19 @@ use Rattle.lent.proofs.pass as pass
 use Rattle.lent.proofs.pass.Symbol as pass-def
 use Rattle.lent.proofs.pass.Symbol.{name as #lent·pass}
 use Rattle.lent.proofs.pass.Met as pass-thm
-use Rattle.run.specs.declared.Turn.{Turn}
-use Rattle.run.specs.Laps.{Lap}
-use Rattle.run.proofs.Calls.{is-on, is-over, lap-now, lap-few, lap-passed}
-use Rattle.run.proofs.Turn as G
-use Rattle.run.proofs.Turn.Laws as G′
-use Rattle.run.proofs.first_lap as first
-use Rattle.run.proofs.first_lap.Symbol as first-def
-use Rattle.run.proofs.first_lap.Symbol.{name as #run·first-lap}
-use Rattle.run.proofs.first_lap.Met as first-thm
-use Rattle.run.proofs.next_lap as next
-use Rattle.run.proofs.next_lap.Symbol as next-def
-use Rattle.run.proofs.next_lap.Symbol.{name as #run·next-lap}
-use Rattle.run.proofs.next_lap.Met as next-thm
+use Rattle.laps.specs.declared.Turn.{Turn}
+use Rattle.laps.specs.Laps.{Lap, moves-left}
+use Rattle.laps.proofs.Calls.{is-on, is-over, lap-now, lap-few, lap-passed}
+use Rattle.laps.proofs.Turn as G
+use Rattle.laps.proofs.Turn.Laws as G′
+use Rattle.laps.proofs.first_lap as first
+use Rattle.laps.proofs.first_lap.Symbol as first-def
+use Rattle.laps.proofs.first_lap.Symbol.{name as #laps·first-lap}
+use Rattle.laps.proofs.first_lap.Met as first-thm
+use Rattle.laps.proofs.next_lap as next
+use Rattle.laps.proofs.next_lap.Symbol as next-def
+use Rattle.laps.proofs.next_lap.Symbol.{name as #laps·next-lap}
+use Rattle.laps.proofs.next_lap.Met as next-thm
 use Rattle.run.proofs.run.Key.{name as #run·run}
 use Rattle.run.proofs.run as run′
 use Rattle.run.proofs.run.Statement as stated
@@ -150,16 +150,16 @@ module _ (b g C R D : List ℕ) (Y : List Record) where
 
   next-good : (s : Now) (js : List Instruction) (rest : List (List Instruction)) → Good (js ∷ rest) s → (t′ : Turn) (cs rs ws us : List ℕ) (zs : List Record) (us′ : List ℕ)
       → (zs ≡ written (items (s .us) (s .t .count)) (s .zs)) × (s .t .count ≤ length (s .zs) → s .t .count ≤ length (s .us) → items us′ (s .t .count) ≡ items (s .us) (s .t .count))
-      → ((b : List ℕ) (lent : Tables′) (n : ℕ) (is : List Instruction) (rest : List (List Instruction)) → length us′ ≡ 256 → Lap b g lent n (s .mi) (is ∷ rest) (s .t) us′ (s .cs) (s .rs) (s .ws) → Lap b g lent n (s .mi) rest t′ us cs rs ws)
+      → ((b : List ℕ) (lent : Tables′) (n : ℕ) (is : List Instruction) (rest : List (List Instruction)) → Lap b g lent n (s .mi) (is ∷ rest) (s .t) us′ (s .cs) (s .rs) (s .ws) → Lap b g lent n (s .mi) rest t′ us cs rs ws)
       → length cs ≡ length (s .cs) → length rs ≡ length (s .rs) → length ws ≡ length (s .ws) → length zs ≡ length (s .zs) → length us′ ≡ 256 → length us ≡ 256 → Is G.the-row t′ (mach t′ ∷ [])
       → Good rest (record { t = t′; cs = cs; rs = rs; ws = ws; mi = s .mi; us = us; zs = zs })
   next-good s js rest good t′ cs rs ws us zs us′ e f lc lr lw ll k k′ is =
       let few = lap-few b g tables-in records-in (s .mi) js rest (s .t) (s .us) (s .cs) (s .rs) (s .ws) (good .lap) in
       let q = e .1 (omega (arith, few .1, good .records)) (omega (arith, few .0, good .numbers)) in
       record {
-        lap = f b tables-in records-in js rest k (lap-passed b g tables-in records-in (s .mi) js rest (s .t) (s .us) (s .cs) (s .rs) (s .ws) (good .lap) us′ (good .numbers) k q);
+        lap = f b tables-in records-in js rest (lap-passed b g tables-in records-in (s .mi) js rest (s .t) (s .us) (s .cs) (s .rs) (s .ws) (good .lap) us′ k q);
         list =
-            ap (all-written rest) (e .0 ∙ ap (λ (is : List Instruction). written is (s .zs)) (sym (lap-now b g tables-in records-in (s .mi) js rest (s .t) (s .us) (s .cs) (s .rs) (s .ws) (good .lap) (good .numbers))))
+            ap (all-written rest) (e .0 ∙ ap (λ (is : List Instruction). written is (s .zs)) (sym (lap-now b g tables-in records-in (s .mi) js rest (s .t) (s .us) (s .cs) (s .rs) (s .ws) (good .lap))))
             ∙ one-less js rest (s .zs)
             ∙ good .list;
         contents = lc ∙ good .contents;
@@ -243,7 +243,7 @@ module _ {M : Type 1} (𝓤 : URA M) (H : Heap 𝓤) (A : Atoms 𝓤) (W : Given
       ∷ ‵ (fobs δ₂ (codedHoleys u16 .code (heres u16 (s .cs)))) ∷ ‵ (fbor κ₂ (Held u16 (length (s .cs)) b₂ o₂ δ₂)) ∷ ‵ (fobs δ₃ (codedHoleys u64 .code (heres u64 (s .rs)))) ∷ ‵ (fbor κ₃ (Held u64 (length (s .rs)) b₃ o₃ δ₃))
       ∷ ‵ (fobs δ₄ (codedHoleys u64 .code (heres u64 (s .ws)))) ∷ ‵ (fbor κ₄ (Held u64 (length (s .ws)) b₄ o₄ δ₄)) ∷ ‵ (fobs δ₅ (codedHoleys T.the-row .code (heres T.the-row (s .zs)))) ∷ ‵ (fbor κ₅ (Held T.the-row (length (s .zs)) b₅ o₅ δ₅)) ∷ []) ∵
       suffices ! _ (ends-at 𝓤 H A run′.ended stayed (run′.clauses 𝓤 H A mem run) W ((κs, qs, tt, a, vals), tt) (answer-val s) (s .t .answer) (tt, (tt, (s .cs, (s .rs, (s .ws, (s .zs, tt)))))) (tt, (tt, (good .contents, (good .readers, (good .writers, (good .records, tt))))))) $
-      says ! (good .lap .over (is-over (xb .now) (xg .now) lent n (s .mi) (s .t) (s .us) (s .cs) (s .rs) (s .ws) (good .lap) (good .numbers)) .1, sym (none-left (s .zs)) ∙ good .list, demand3 (xb .now) (xg .now) lent n) $
+      says ! (good .lap .over (is-over (xb .now) (xg .now) lent n (s .mi) (s .t) (s .us) (s .cs) (s .rs) (s .ws) (good .lap)) .1, sym (none-left (s .zs)) ∙ good .list, demand3 (xb .now) (xg .now) lent n) $
       nothing ! $ move ! (6 ∷ 0 ∷ []) $ join ! $ move ! (5 ∷ 0 ∷ []) $ join ! $ move ! (4 ∷ 0 ∷ []) $ join ! $ move ! (3 ∷ 0 ∷ []) $ join ! $ move ! (2 ∷ 0 ∷ []) $ join ! $ move ! (1 ∷ 0 ∷ []) $ join ! $ frame ! $
       -- [book; log; the contents' two; the readers'; the writers'; the list's]
       move ! (8 ∷ 9 ∷ []) $ fjoin ! $ pureI ! (at-slice T.the-row (ref-at T.the-row b₅ o₅ δ₅ (s .zs)) (sl ∷ [])) (tt, (tt, tt)) (ap (λ (j : ℕ). sliceVal (b₅, o₅) j ∷ []) (sym (good .records)), subst (Room T.the-row) (sym (good .records)) room-l) $ fjoin ! $
@@ -320,7 +320,7 @@ module _ {M : Type 1} (𝓤 : URA M) (H : Heap 𝓤) (A : Atoms 𝓤) (W : Given
       ∷ ‵ (owns (ShrSlice (named 0) κ₁ u8 ∷ MutSlice (named 1) (ν₁ ∷ []) u16 ∷ MutSlice (named 2) (ν₂ ∷ []) u64 ∷ MutSlice (named 3) (ν₃ ∷ []) u64 ∷ ShrRef (named 4) (ν₄ ∷ []) (Array u16 4296) ∷ MutRef (named 5) (ν₅ ∷ []) (Array u64 256) ∷ G.the-row ∷ [])
       (next-a γ₁ γ₂ γ₃ γ₄ γ₅ i j s us) (next-vals i j s)) ∷ []) ∵ join ! $ frame ! $ done !
 
-  module _ (𝓣 : Tables 𝓤 H) (known-pass : Triple 𝓤 (𝓣 .C #lent·pass) (Pass 𝓤 H A mem run)) (known-next : Triple 𝓤 (𝓣 .C #run·next-lap) (Next 𝓤 H A mem run)) (l₀ l₁ l₂ l₃ l₄ l₅ l₆ l₇ l₈ l₉ l₁₀ l₁₁ l₁₂ l₁₃ l₁₄ l₁₅ l₁₆ l₁₇ l₁₈ l₁₉ l₂₀ l₂₁ l₂₂ l₂₃ l₂₄ l₂₅ l₂₆ l₂₇ l₂₈ l₂₉ l₃₀ l₃₁ l₃₂ l₃₃ : ℕ) where
+  module _ (𝓣 : Tables 𝓤 H) (known-pass : Triple 𝓤 (𝓣 .C #lent·pass) (Pass 𝓤 H A mem run)) (known-next : Triple 𝓤 (𝓣 .C #laps·next-lap) (Next 𝓤 H A mem run)) (l₀ l₁ l₂ l₃ l₄ l₅ l₆ l₇ l₈ l₉ l₁₀ l₁₁ l₁₂ l₁₃ l₁₄ l₁₅ l₁₆ l₁₇ l₁₈ l₁₉ l₂₀ l₂₁ l₂₂ l₂₃ l₂₄ l₂₅ l₂₆ l₂₇ l₂₈ l₂₉ l₃₀ l₃₁ l₃₂ l₃₃ : ℕ) where
     abbrev C′ : Calls 𝓤 H
     C′ = 𝓣 .C
 
@@ -401,7 +401,7 @@ module _ {M : Type 1} (𝓤 : URA M) (H : Heap 𝓤) (A : Atoms 𝓤) (W : Given
         move ! (1 ∷ 0 ∷ []) $ use2 W (raw (Next 𝓤 H A mem run .pre (to-next ν₃ ν₄ ν₅ ν₆ ν₇ γ₃ γ₄ γ₅ γ₆ γ₇ l₈ l₉ s (ls .1 .0)))) (asked-next ν₃ ν₄ ν₅ ν₆ ν₇ γ₃ γ₄ γ₅ γ₆ γ₇ l₈ l₉ s (ls .1 .0)) $
         calls-at-last ! (fmOf 𝓤 H (W .laws) 𝓣) (Next 𝓤 H A mem run) known-next (to-next ν₃ ν₄ ν₅ ν₆ ν₇ γ₃ γ₄ γ₅ γ₆ γ₇ l₈ l₉ s (ls .1 .0)) (and-then ! (load ! (from ! (stop !)) (look ! 25 refl)) (and-then ! (load ! (from ! (stop !)) (look ! 17 refl)) (and-then ! (load ! (from ! (stop !)) (look ! 19 refl)) (and-then ! (load ! (from ! (stop !)) (look ! 21 refl)) (and-then ! (load ! (from ! (stop !)) (look ! 22 refl)) (and-then ! (load ! (from ! (stop !)) (look ! 23 refl)) (and-then ! (load ! (from ! (stop !)) (look ! 8 refl)) (no-more !)))))))) (λ w₃.
         use1 W (later (some (λ (t′ : Turn). ((‵ (flft κ₁ q₁) ⊛ ‵ (flft (ν₃ ∷ []) fullShare) ⊛ ‵ (flft (ν₄ ∷ []) fullShare) ⊛ ‵ (flft (ν₅ ∷ []) fullShare) ⊛ ‵ (flft (ν₆ ∷ []) fullShare) ⊛ ‵ (flft (ν₇ ∷ []) fullShare) ⊛ ‵ ftrue) ⊛ ‵ (G.the-row .own t′ (w₃ ∷ []))) ⊛ raw (ensured 𝓤 H A next.ended (next.clauses 𝓤 H A mem run) (next-lfts ν₃ ν₄ ν₅ ν₆ ν₇) (next-a γ₃ γ₄ γ₅ γ₆ γ₇ l₈ l₉ s (ls .1 .0)) tt t′)))) (id⊢ 𝓤 _) $ await ! tt $ pick ! (λ t′. split ! $ move ! (1 ∷ []) $
-        use1 W (some (λ (ds : Unit {0} × (List ℕ × (List ℕ × (List ℕ × (Unit {0} × (List ℕ × (Unit {0} × Unit {0}))))))). ‵ (lasts next.ended (next-lfts ν₃ ν₄ ν₅ ν₆ ν₇) (next-a γ₃ γ₄ γ₅ γ₆ γ₇ l₈ l₉ s (ls .1 .0)) ds) ⊛ raw (fact 𝓤 ((b : List ℕ) (lent : Tables′) (n : ℕ) (is : List Instruction) (rest : List (List Instruction)) → length (ls .1 .0) ≡ 256 → Lap b (xg .now) lent n (s .mi) (is ∷ rest) (s .t) (ls .1 .0) (s .cs) (s .rs) (s .ws) → Lap b (xg .now) lent n (s .mi) rest t′ (ds .1 .1 .1 .1 .1 .0) (ds .1 .0) (ds .1 .1 .0) (ds .1 .1 .1 .0))))) (id⊢ 𝓤 _) $ pick ! (λ ds. split ! $ move ! (1 ∷ []) $ heard ! ((b : List ℕ) (lent : Tables′) (n : ℕ) (is : List Instruction) (rest : List (List Instruction)) → length (ls .1 .0) ≡ 256 → Lap b (xg .now) lent n (s .mi) (is ∷ rest) (s .t) (ls .1 .0) (s .cs) (s .rs) (s .ws) → Lap b (xg .now) lent n (s .mi) rest t′ (ds .1 .1 .1 .1 .1 .0) (ds .1 .0) (ds .1 .1 .0) (ds .1 .1 .1 .0)) (λ e₃.
+        use1 W (some (λ (ds : Unit {0} × (List ℕ × (List ℕ × (List ℕ × (Unit {0} × (List ℕ × (Unit {0} × Unit {0}))))))). ‵ (lasts next.ended (next-lfts ν₃ ν₄ ν₅ ν₆ ν₇) (next-a γ₃ γ₄ γ₅ γ₆ γ₇ l₈ l₉ s (ls .1 .0)) ds) ⊛ raw (fact 𝓤 (((b : List ℕ) (lent : Tables′) (n : ℕ) (is : List Instruction) (rest : List (List Instruction)) → Lap b (xg .now) lent n (s .mi) (is ∷ rest) (s .t) (ls .1 .0) (s .cs) (s .rs) (s .ws) → Lap b (xg .now) lent n (s .mi) rest t′ (ds .1 .1 .1 .1 .1 .0) (ds .1 .0) (ds .1 .1 .0) (ds .1 .1 .1 .0)) × (t′ .more ≡ false → ds .1 .1 .1 .1 .1 .0 ≡ ls .1 .0) × (s .t .at < 64 → s .t .at < s .t .moves → moves-left t′ < moves-left (s .t)))))) (id⊢ 𝓤 _) $ pick ! (λ ds. split ! $ move ! (1 ∷ []) $ heard ! (((b : List ℕ) (lent : Tables′) (n : ℕ) (is : List Instruction) (rest : List (List Instruction)) → Lap b (xg .now) lent n (s .mi) (is ∷ rest) (s .t) (ls .1 .0) (s .cs) (s .rs) (s .ws) → Lap b (xg .now) lent n (s .mi) rest t′ (ds .1 .1 .1 .1 .1 .0) (ds .1 .0) (ds .1 .1 .0) (ds .1 .1 .1 .0)) × (t′ .more ≡ false → ds .1 .1 .1 .1 .1 .0 ≡ ls .1 .0) × (s .t .at < 64 → s .t .at < s .t .moves → moves-left t′ < moves-left (s .t))) (λ e₃.
         fsplit ! $ drop ! $ fsplit ! $ fsplit ! $ move ! (1 ∷ []) $ feqL ! (λ lc. move ! (1 ∷ []) $ fsplit ! $ fsplit ! $ move ! (1 ∷ []) $ feqL ! (λ lr. move ! (1 ∷ []) $ fsplit ! $ fsplit ! $ move ! (1 ∷ []) $ feqL ! (λ lw. move ! (1 ∷ []) $ fsplit ! $ drop ! $ fsplit ! $ move ! (1 ∷ []) $ fsplit ! $ drop ! $ drop ! $
         move ! (4 ∷ []) $ split ! $ move ! (1 ∷ []) $ peeks ! G.the-row (Is G.the-row) (shows 𝓤 H A G.the-row) t′ (w₃ ∷ []) (λ is′.
         drop ! $ split ! $ move ! (1 ∷ []) $ split ! $ move ! (1 ∷ []) $ split ! $ move ! (1 ∷ []) $ split ! $ move ! (1 ∷ []) $ split ! $ move ! (1 ∷ []) $ split ! $ move ! (1 ∷ []) $ drop ! $
@@ -414,7 +414,7 @@ module _ {M : Type 1} (𝓤 : URA M) (H : Heap 𝓤) (A : Atoms 𝓤) (W : Given
         use1 W (‵ (partAt (Array (UInt w64) 256) fullShare (ds .1 .1 .1 .1 .1 .0) l₉ 0)) (whole-again 𝓤 H A W w64 256 l₉ (ds .1 .1 .1 .1 .1 .0) l256′) $
         land-last ! (from ! (stop !)) (store ! 8 refl (LL.lawful G.the-type G′.the-laws 𝓤 H A W .typed t′ _ is′ .0)) $ rewrite ! 8 (λ (u : Val). ‵ (fat fullShare G′.mir l₁₀ 0 u)) (ap only (LL.tells G.the-type G′.the-laws t′ _ is′)) refl $
         forget ! 9 refl $ forget ! 10 refl $ forget ! 11 refl $ forget ! 12 refl $ forget ! 13 refl $ forget ! 14 refl $ forget ! 15 refl $ forget ! 16 refl $ forget ! 17 refl $ forget ! 18 refl $ forget ! 19 refl $ forget ! 20 refl $ forget ! 21 refl $ forget ! 22 refl $ forget ! 23 refl $
-        move ! (4 ∷ 3 ∷ 2 ∷ 7 ∷ 1 ∷ 0 ∷ 8 ∷ 9 ∷ 10 ∷ 11 ∷ 12 ∷ 13 ∷ 14 ∷ 15 ∷ 16 ∷ 17 ∷ 18 ∷ 19 ∷ 20 ∷ 21 ∷ 22 ∷ 23 ∷ 24 ∷ 25 ∷ 26 ∷ 27 ∷ 28 ∷ 29 ∷ 30 ∷ 31 ∷ 32 ∷ 33 ∷ 34 ∷ 35 ∷ 36 ∷ 37 ∷ 38 ∷ 39 ∷ 40 ∷ 41 ∷ 42 ∷ 43 ∷ 44 ∷ 5 ∷ 45 ∷ 6 ∷ 46 ∷ 47 ∷ 48 ∷ 49 ∷ 50 ∷ 51 ∷ 52 ∷ 53 ∷ 54 ∷ 55 ∷ 56 ∷ 57 ∷ 58 ∷ 59 ∷ 60 ∷ 61 ∷ 62 ∷ 63 ∷ 64 ∷ 65 ∷ 66 ∷ 67 ∷ 68 ∷ 69 ∷ 70 ∷ 71 ∷ 72 ∷ 73 ∷ 74 ∷ 75 ∷ 76 ∷ 77 ∷ 78 ∷ 79 ∷ []) $ by ! (k (record { t = t′; cs = (ds .1 .0); rs = (ds .1 .1 .0); ws = (ds .1 .1 .1 .0); mi = s .mi; us = (ds .1 .1 .1 .1 .1 .0); zs = ls .0 }) (next-good (xb .now) (xg .now) C R D Y s js rest good t′ (ds .1 .0) (ds .1 .1 .0) (ds .1 .1 .1 .0) (ds .1 .1 .1 .1 .1 .0) (ls .0) (ls .1 .0) e₂ e₃ lc lr lw ll (lk ∙ l256) l256′ (subst (λ (vs : List Val). Is G.the-row t′ vs) (LL.tells G.the-type G′.the-laws t′ _ is′) is′))))))))))))))))))))))))))))))))))
+        move ! (4 ∷ 3 ∷ 2 ∷ 7 ∷ 1 ∷ 0 ∷ 8 ∷ 9 ∷ 10 ∷ 11 ∷ 12 ∷ 13 ∷ 14 ∷ 15 ∷ 16 ∷ 17 ∷ 18 ∷ 19 ∷ 20 ∷ 21 ∷ 22 ∷ 23 ∷ 24 ∷ 25 ∷ 26 ∷ 27 ∷ 28 ∷ 29 ∷ 30 ∷ 31 ∷ 32 ∷ 33 ∷ 34 ∷ 35 ∷ 36 ∷ 37 ∷ 38 ∷ 39 ∷ 40 ∷ 41 ∷ 42 ∷ 43 ∷ 44 ∷ 5 ∷ 45 ∷ 6 ∷ 46 ∷ 47 ∷ 48 ∷ 49 ∷ 50 ∷ 51 ∷ 52 ∷ 53 ∷ 54 ∷ 55 ∷ 56 ∷ 57 ∷ 58 ∷ 59 ∷ 60 ∷ 61 ∷ 62 ∷ 63 ∷ 64 ∷ 65 ∷ 66 ∷ 67 ∷ 68 ∷ 69 ∷ 70 ∷ 71 ∷ 72 ∷ 73 ∷ 74 ∷ 75 ∷ 76 ∷ 77 ∷ 78 ∷ 79 ∷ []) $ by ! (k (record { t = t′; cs = (ds .1 .0); rs = (ds .1 .1 .0); ws = (ds .1 .1 .1 .0); mi = s .mi; us = (ds .1 .1 .1 .1 .1 .0); zs = ls .0 }) (next-good (xb .now) (xg .now) C R D Y s js rest good t′ (ds .1 .0) (ds .1 .1 .0) (ds .1 .1 .1 .0) (ds .1 .1 .1 .1 .1 .0) (ls .0) (ls .1 .0) e₂ (e₃ .0) lc lr lw ll (lk ∙ l256) l256′ (subst (λ (vs : List Val). Is G.the-row t′ vs) (LL.tells G.the-type G′.the-laws t′ _ is′) is′))))))))))))))))))))))))))))))))))
       where
         on : s .t .more ≡ true
         on = is-on (xb .now) (xg .now) lent n (s .mi) js rest (s .t) (s .us) (s .cs) (s .rs) (s .ws) (good .lap)
@@ -440,7 +440,7 @@ module _ {M : Type 1} (𝓤 : URA M) (H : Heap 𝓤) (A : Atoms 𝓤) (W : Given
         keep ! (12 ∷ 13 ∷ 11 ∷ 8 ∷ 5 ∷ 2 ∷ 14 ∷ 15 ∷ 9 ∷ 10 ∷ 6 ∷ 7 ∷ 3 ∷ 4 ∷ 0 ∷ 1 ∷ []) $ by ! (exits s good)
       where
         off : s .t .more ≡ false
-        off = is-over (xb .now) (xg .now) lent n (s .mi) (s .t) (s .us) (s .cs) (s .rs) (s .ws) (good .lap) (good .numbers)
+        off = is-over (xb .now) (xg .now) lent n (s .mi) (s .t) (s .us) (s .cs) (s .rs) (s .ws) (good .lap)
 
     inv-at : (k : ℕ) (rest : List (List Instruction)) (s : Now) → (length rest ≡ k) × Fine rest s → ent 𝓤 (⋆ 𝓤 H A (At s)) (Inv k)
     inv-at k rest s e =
@@ -463,7 +463,7 @@ module _ {M : Type 1} (𝓤 : URA M) (H : Heap 𝓤) (A : Atoms 𝓤) (W : Given
     loops s good = first′ ! $ blocks ! $ by ! (via 𝓤 (Inv (length lists)) (inv-at (length lists) lists s (refl, good)) (loop-rule 𝓤 H (W .laws) 𝓣 _<_ (Nat·lt-wfRel .wf) En mir.turn-1 Left Inv turns (length lists)))
 
   -- the MIR, up to the loop
-  walk : (𝓣 : Tables 𝓤 H) → Triple 𝓤 (𝓣 .C #run·first-lap) (First 𝓤 H A mem run) → Triple 𝓤 (𝓣 .C #lent·pass) (Pass 𝓤 H A mem run) → Triple 𝓤 (𝓣 .C #run·next-lap) (Next 𝓤 H A mem run)
+  walk : (𝓣 : Tables 𝓤 H) → Triple 𝓤 (𝓣 .C #laps·first-lap) (First 𝓤 H A mem run) → Triple 𝓤 (𝓣 .C #lent·pass) (Pass 𝓤 H A mem run) → Triple 𝓤 (𝓣 .C #laps·next-lap) (Next 𝓤 H A mem run)
       → ent 𝓤 (onEntry 𝓤 H A run′.signature κs qs a vals) (WpFn 𝓤 H (𝓣 .C) (𝓣 .Λ) code.function (sb ∷ sg ∷ sc ∷ sr ∷ sw ∷ sl ∷ []) Post)
   walk 𝓣 known-first known-pass known-next =
       qed W (raw (onEntry 𝓤 H A run′.signature κs qs a vals) ∷ []) ∵ enter ! (𝓣 .C) (𝓣 .Λ) code.function (sb ∷ sg ∷ sc ∷ sr ∷ sw ∷ sl ∷ []) _ $
@@ -521,7 +521,7 @@ module _ {M : Type 1} (𝓤 : URA M) (H : Heap 𝓤) (A : Atoms 𝓤) (W : Given
       keep ! (4 ∷ 3 ∷ 2 ∷ 10 ∷ 1 ∷ 0 ∷ 60 ∷ 58 ∷ 40 ∷ 38 ∷ 36 ∷ 34 ∷ 32 ∷ 30 ∷ 28 ∷ 26 ∷ 24 ∷ 22 ∷ 20 ∷ 18 ∷ 16 ∷ 14 ∷ 76 ∷ 74 ∷ 72 ∷ 70 ∷ 68 ∷ 66 ∷ 64 ∷ 78 ∷ 56 ∷ 54 ∷ 52 ∷ 50 ∷ 48 ∷ 46 ∷ 44 ∷ 42 ∷ 13 ∷ 12 ∷ 11 ∷ 9 ∷ 6 ∷ 5 ∷ 8 ∷ 7 ∷ 79 ∷ 77 ∷ 75 ∷ 73 ∷ 71 ∷ 69 ∷ 67 ∷ 65 ∷ 63 ∷ 62 ∷ 61 ∷ 59 ∷ 57 ∷ 55 ∷ 53 ∷ 51 ∷ 49 ∷ 47 ∷ 45 ∷ 43 ∷ 41 ∷ 39 ∷ 37 ∷ 35 ∷ 33 ∷ 31 ∷ 29 ∷ 27 ∷ 25 ∷ 23 ∷ 21 ∷ 19 ∷ 17 ∷ 15 ∷ []) $ loops 𝓣 known-pass known-next l₀ l₁ l₂ l₃ l₄ l₅ l₆ l₇ l₈ l₉ l₁₀ l₁₁ l₁₂ l₁₃ l₁₄ l₁₅ l₁₆ l₁₇ l₁₈ l₁₉ l₂₀ l₂₁ l₂₂ l₂₃ l₂₄ l₂₅ l₂₆ l₂₇ l₂₈ l₂₉ l₃₀ l₃₁ l₃₂ l₃₃ (record { t = t; cs = (zs .1 .1 .0); rs = (zs .1 .1 .1 .0); ws = (zs .1 .1 .1 .1 .0); mi = (zs .1 .1 .1 .1 .1 .1 .0); us = (zs .1 .1 .1 .1 .1 .1 .1 .0); zs = Y }) (record { lap = e₁; list = refl; contents = lc; readers = lr; writers = lw; records = refl; numbers = l256; is = subst (λ (vs : List Val). Is G.the-row t vs) (LL.tells G.the-type G′.the-laws t _ is) is }))))))))))))))))))))))))))))))))))))))))))))))))))))))
 
 module _ {M : Type 1} (𝓤 : URA M) (H : Heap 𝓤) (A : Atoms 𝓤) (W : Given 𝓤 H A) (mem : Memory → SProp 𝓤) (run : Routine → Fun 𝓤) where
-  run-walks : (𝓣 : Tables 𝓤 H) → Triple 𝓤 (𝓣 .C #run·first-lap) (First 𝓤 H A mem run) → Triple 𝓤 (𝓣 .C #lent·pass) (Pass 𝓤 H A mem run) → Triple 𝓤 (𝓣 .C #run·next-lap) (Next 𝓤 H A mem run)
+  run-walks : (𝓣 : Tables 𝓤 H) → Triple 𝓤 (𝓣 .C #laps·first-lap) (First 𝓤 H A mem run) → Triple 𝓤 (𝓣 .C #lent·pass) (Pass 𝓤 H A mem run) → Triple 𝓤 (𝓣 .C #laps·next-lap) (Next 𝓤 H A mem run)
       → Walks 𝓤 H A run′.ended stayed (WpFn 𝓤 H (𝓣 .C) (𝓣 .Λ) code.function) (run′.clauses 𝓤 H A mem run)
   run-walks 𝓣 known-first known-pass known-next = walked 𝓤 H A run′.ended stayed (run′.clauses 𝓤 H A mem run) (WpFn 𝓤 H (𝓣 .C) (𝓣 .Λ) code.function)
       (λ κs. (slice-vals, (slice-vals, (slice-vals, (slice-vals, (slice-vals, (slice-vals, tt)))))))
@@ -532,7 +532,7 @@ module _ {M : Type 1} (𝓤 : URA M) (H : Heap 𝓤) (A : Atoms 𝓤) (W : Given
       (a .1 .1 .0 .name) (a .1 .1 .1 .0 .name) (a .1 .1 .1 .1 .0 .name) (a .1 .1 .1 .1 .1 .0 .name) (a .1 .1 .0 .now) (a .1 .1 .1 .0 .now) (a .1 .1 .1 .1 .0 .now) (a .1 .1 .1 .1 .1 .0 .now)
       (are .0 .0 .1) (are .1 .0 .0 .1) (are .1 .1 .0 .0 .1) (are .1 .1 .1 .0 .0 .1) (are .1 .1 .1 .1 .0 .0 .1) (are .1 .1 .1 .1 .1 .0 .0 .1) 𝓣 known-first known-pass known-next))
 
-run-meets : {M : Type 1} (𝓤 : URA M) (H : Heap 𝓤) (A : Atoms 𝓤) → Given 𝓤 H A → (mem : Memory → SProp 𝓤) (run : Routine → Fun 𝓤) (𝓣 : Tables 𝓤 H) → Triple 𝓤 (𝓣 .C #run·first-lap) (First 𝓤 H A mem run) → Triple 𝓤 (𝓣 .C #lent·pass) (Pass 𝓤 H A mem run) → Triple 𝓤 (𝓣 .C #run·next-lap) (Next 𝓤 H A mem run)
+run-meets : {M : Type 1} (𝓤 : URA M) (H : Heap 𝓤) (A : Atoms 𝓤) → Given 𝓤 H A → (mem : Memory → SProp 𝓤) (run : Routine → Fun 𝓤) (𝓣 : Tables 𝓤 H) → Triple 𝓤 (𝓣 .C #laps·first-lap) (First 𝓤 H A mem run) → Triple 𝓤 (𝓣 .C #lent·pass) (Pass 𝓤 H A mem run) → Triple 𝓤 (𝓣 .C #laps·next-lap) (Next 𝓤 H A mem run)
     → Meets 𝓤 H A run′.signature (WpFn 𝓤 H (𝓣 .C) (𝓣 .Λ) code.function) (run′.spec 𝓤 H A mem run)
 run-meets 𝓤 H A W mem run 𝓣 known-first known-pass known-next =
     walk-meets 𝓤 H A run′.ended stayed W
@@ -545,6 +545,6 @@ run-spec 𝓤 H 𝓜 𝓖 𝓡 =
     entered 𝓤 H (tripleOf 𝓤 H (𝓖 .A) run′.signature (run′.spec 𝓤 H (𝓖 .A) (𝓜 .mem) (𝓡 .run)))
     (tables 𝓤 H 𝓜 𝓡 code.env .C) (tables 𝓤 H 𝓜 𝓡 code.env .Λ) #run·run code.function (code.unfolded 𝓤 H 𝓜 𝓡)
     (run-meets 𝓤 H (𝓖 .A) (givenOf 𝓤 H 𝓜 𝓖) (𝓜 .mem) (𝓡 .run) (tablesOf 𝓤 H 𝓜 (tables 𝓤 H 𝓜 𝓡 code.env))
-    (cited 𝓤 H (First 𝓤 H (𝓖 .A) (𝓜 .mem) (𝓡 .run)) 𝓜 𝓡 code.env #run·first-lap first-def.routine code.calls-run·first-lap (first-thm.met 𝓤 H 𝓜 𝓖 𝓡))
+    (cited 𝓤 H (First 𝓤 H (𝓖 .A) (𝓜 .mem) (𝓡 .run)) 𝓜 𝓡 code.env #laps·first-lap first-def.routine code.calls-laps·first-lap (first-thm.met 𝓤 H 𝓜 𝓖 𝓡))
     (cited 𝓤 H (Pass 𝓤 H (𝓖 .A) (𝓜 .mem) (𝓡 .run)) 𝓜 𝓡 code.env #lent·pass pass-def.routine code.calls-lent·pass (pass-thm.met 𝓤 H 𝓜 𝓖 𝓡))
-    (cited 𝓤 H (Next 𝓤 H (𝓖 .A) (𝓜 .mem) (𝓡 .run)) 𝓜 𝓡 code.env #run·next-lap next-def.routine code.calls-run·next-lap (next-thm.met 𝓤 H 𝓜 𝓖 𝓡)))
+    (cited 𝓤 H (Next 𝓤 H (𝓖 .A) (𝓜 .mem) (𝓡 .run)) 𝓜 𝓡 code.env #laps·next-lap next-def.routine code.calls-laps·next-lap (next-thm.met 𝓤 H 𝓜 𝓖 𝓡)))

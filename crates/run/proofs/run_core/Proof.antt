@@ -2,7 +2,7 @@
 use mathlib.Core.Path.{_∙_}
 use native.Mathlib.Omega.{arith}
 use Rattle.order.proofs.Claim.{demand3}
-use Rattle.run.specs.Turns.{tables}
+use Rattle.laps.specs.Turns.{tables}
 use borrow.Author.Needs.{needs}
 use Rattle.run.proofs.run_core.Statement.{statement}
 use Rattle.run.proofs.run_core.Tie as tie
@@ -27,7 +27,7 @@ returns c =
     let a = c .before .before .before .before .before .before .before .before .before .before .before .before .before .before .before .before .before .before .args in
     let t = c .before .before .before .before .before .before .before .before .run-into .ensures in
     let o = c .with-list .ensures in
-    (rw (o .0) (t .0 .answer), (demand3 (a .book .now) (a .log .now) (tables (a .contents .now) (a .readers .now) (a .writers .now)) (a .lent), (o .1 ∙ t .0 .made, (omega (arith, o .2, t .1), omega (arith, o .2)))))
+    (rw (o .0) (t .0), (demand3 (a .book .now) (a .log .now) (tables (a .contents .now) (a .readers .now) (a .writers .now)) (a .lent), (o .1 ∙ t .1 .0, (omega (arith, o .2, t .1 .1), omega (arith, o .2)))))
 
 pub run-core-spec : {M : Type 1} → statement M
 run-core-spec =

@@ -1,166 +1,87 @@
--- `run_into` meets its contract.
-use Prim.Native.Nat.{ℕ, _-_}
-use native.Mathlib.Omega.{arith}
-use Rattle.run.specs.Turns.{tables}
-use Rattle.run.proofs.Call.{at-book, at-log, at-lent, at-run, few}
+-- `run_into` meets its contract. The invariant: of every call that is at its first lap as the loop begins, how far it is, with the last list walked.
+use mathlib.Core.Path.{_≡_, refl, _∙_}
+use lib.ListN.{length}
+use Rattle.order.specs.Call.{Tables}
+use Rattle.order.specs.Lists.{call-lists}
+use Rattle.laps.specs.Turns.{tables}
+use Rattle.laps.specs.Laps.{Lap, moves-left}
+use Rattle.run.proofs.Call.{Far, far-first, far-over, far-low, far-next}
 use borrow.Author.Needs.{needs}
 use Rattle.run.proofs.run_into.Statement.{statement}
 use Rattle.run.proofs.run_into.Tie as tie
 
-open-requires : tie.Need-open-requires
-open-requires c κs = search needs
+abbrev Inv-loop : tie.InvT-loop
+Inv-loop book log contents₀ readers₀ writers₀ lent list₀ image count₀ t₀ contents readers writers list count t =
+    (length contents ≡ length contents₀) × (length readers ≡ length readers₀) × (length writers ≡ length writers₀)
+    × ((tables : Tables) → Lap book log tables lent image (call-lists book log tables lent) t₀ list₀ contents₀ readers₀ writers₀ → Far book log tables lent image t list count contents readers writers)
 
-refused-requires : tie.Need-refused-requires
-refused-requires c κs = search needs
+abbrev μ-loop : tie.MeasureT-loop
+μ-loop book log contents₀ readers₀ writers₀ lent list₀ image count₀ t₀ contents readers writers list count t = moves-left t
 
-returns : tie.Need-returns
+first-lap-requires : tie.Need-first-lap-requires Inv-loop μ-loop
+first-lap-requires c κs = search needs
+
+loop-holds : tie.Need-loop-holds Inv-loop μ-loop
+loop-holds c =
+    let a = c .before .before .before .before .before .before .before .before .before .before .before .before .before .before .before .before .before .args in
+    let f = c .before .before .before .before .before .before .first-lap in
+    (refl, refl, refl, λ lent h. far-first (a .book .now) (a .log .now) lent (a .lent) (f .last .1 .1 .1 .1 .1 .1 .0) (f .result) (f .last .1 .1 .1 .1 .1 .1 .1 .0) (f .last .1 .1 .0) (f .last .1 .1 .1 .0) (f .last .1 .1 .1 .1 .0) h)
+
+next-lap-requires : tie.Need-next-lap-requires Inv-loop μ-loop
+next-lap-requires c κs = search needs
+
+loop-less : tie.Need-loop-less Inv-loop μ-loop
+loop-less c =
+    let a = c .before .before .before .before .before .before .before .before .before .before .before .before .before .before .before .before .before .before .before .before .before .before .before .before .before .before .before .before .before .before .before .args in
+    let f = c .before .before .before .before .before .before .before .before .before .before .before .before .before .before .before .before .before .before .before .before .first-lap in
+    let l = c .before .before .before .before .before .before .before .before .before .before .before .before .before .loop in
+    let lent = tables (a .contents .now) (a .readers .now) (a .writers .now) in
+    let low = far-low (a .book .now) (a .log .now) lent (a .lent) (f .last .1 .1 .1 .1 .1 .1 .0) (l .t) (l .list) (l .count) (l .contents) (l .readers) (l .writers) (l .inv .3 lent (f .ensures)) (c .before .before .before .before .before .before .before .before .before .before .before .before .loop-test .taken) in
+    c .before .before .before .before .before .before .next-lap .ensures .2 (low .0) (low .1)
+
+loop-again : tie.Need-loop-again Inv-loop μ-loop
+loop-again c =
+    let a = c .before .before .before .before .before .before .before .before .before .before .before .before .before .before .before .before .before .before .before .before .before .before .before .before .before .before .before .before .before .before .before .args in
+    let f = c .before .before .before .before .before .before .before .before .before .before .before .before .before .before .before .before .before .before .before .before .first-lap in
+    let l = c .before .before .before .before .before .before .before .before .before .before .before .before .before .loop in
+    let n = c .before .before .before .before .before .before .next-lap in (
+      n .kept .1 .0 ∙ l .inv .0,
+      n .kept .1 .1 .0 ∙ l .inv .1,
+      n .kept .1 .1 .1 .0 ∙ l .inv .2,
+      λ lent h. far-next (a .book .now) (a .log .now) lent (a .lent) (f .last .1 .1 .1 .1 .1 .1 .0) (l .t) (l .list) (l .count) (l .contents) (l .readers) (l .writers) (l .inv .3 lent h) (c .before .before .before .before .before .before .before .before .before .before .before .before .loop-test .taken) (n .result) (n .last .1 .1 .1 .1 .1 .0) (n .last .1 .0) (n .last .1 .1 .0) (n .last .1 .1 .1 .0) (n .ensures .0) (n .ensures .1),
+    )
+
+same-length : tie.Need-same-length Inv-loop μ-loop
+same-length c = c .before .before .loop .inv .0 ∙ c .before .before .before .before .before .before .before .before .before .first-lap .kept .1 .1 .0
+
+same-length-2 : tie.Need-same-length-2 Inv-loop μ-loop
+same-length-2 c = c .before .before .loop .inv .1 ∙ c .before .before .before .before .before .before .before .before .before .first-lap .kept .1 .1 .1 .0
+
+same-length-3 : tie.Need-same-length-3 Inv-loop μ-loop
+same-length-3 c = c .before .before .loop .inv .2 ∙ c .before .before .before .before .before .before .before .before .before .first-lap .kept .1 .1 .1 .1 .0
+
+returns : tie.Need-returns Inv-loop μ-loop
 returns c =
-    let a = c .before .before .before .before .before .before .before .before .before .before .args in
-    let o = c .before .before .before .«open» in
-    let i1 = c .before .if1 in
-    let t = tables (a .contents .now) (a .readers .now) (a .writers .now) in
-    let e = c .refused .ensures in
-    (rw e (at-book (a .book .now) (a .log .now) t (a .lent) (a .list .now) (o .result) (o .ensures .0) (i1 .taken)), rw e (omega arith))
-
-agents-requires : tie.Need-agents-requires
-agents-requires c κs = search needs
-
-check-log-requires : tie.Need-check-log-requires
-check-log-requires c κs = search needs
-
-refused-requires-2 : tie.Need-refused-requires-2
-refused-requires-2 c κs = search needs
-
-returns-2 : tie.Need-returns-2
-returns-2 c =
-    let a = c .before .before .before .before .before .before .before .before .before .before .before .before .before .before .before .before .args in
-    let o = c .before .before .before .before .before .before .before .before .before .«open» in
-    let i1 = c .before .before .before .before .before .before .before .if1 in
-    let n = c .before .before .before .before .before .agents in
-    let h = c .before .before .before .before .check-log in
-    let i2 = c .before .if2 in
-    let t = tables (a .contents .now) (a .readers .now) (a .writers .now) in
-    let e = c .refused2 .ensures in
-    (rw e (at-log (a .book .now) (a .log .now) t (a .lent) (a .list .now) (o .result) (o .ensures .0) (i1 .left) (o .last .1 .0) (o .ensures .1) (n .result) (n .ensures) (h .result) (h .ensures) (i2 .taken)), rw e (omega arith))
-
-total-requires : tie.Need-total-requires
-total-requires c κs = search needs
-
-check-lent-requires : tie.Need-check-lent-requires
-check-lent-requires c κs = search needs
-
-refused-requires-3 : tie.Need-refused-requires-3
-refused-requires-3 c κs = search needs
-
-returns-3 : tie.Need-returns-3
-returns-3 c =
-    let a = c .before .before .before .before .before .before .before .before .before .before .before .before .before .before .before .before .before .before .before .before .before .args in
-    let o = c .before .before .before .before .before .before .before .before .before .before .before .before .before .before .«open» in
-    let i1 = c .before .before .before .before .before .before .before .before .before .before .before .before .if1 in
-    let n = c .before .before .before .before .before .before .before .before .before .before .agents in
-    let h = c .before .before .before .before .before .before .before .before .before .check-log in
-    let i2 = c .before .before .before .before .before .before .if2 in
-    let w = c .before .before .before .before .total in
-    let s = c .before .before .before .check-lent in
-    let i3 = c .before .if3 in
-    let t = tables (a .contents .now) (a .readers .now) (a .writers .now) in
-    let e = c .refused3 .ensures in
-    (rw e (at-lent (a .book .now) (a .log .now) t (a .lent) (a .list .now) (o .result) (o .ensures .0) (i1 .left) (o .last .1 .0) (o .ensures .1) (n .result) (n .ensures) (h .result) (h .ensures) (i2 .left) (w .result) (w .ensures) (s .result) (s .ensures .0) (i3 .taken)), rw e (omega arith))
-
-cast-n : tie.Need-cast-n
-cast-n c = search needs
-
-sub-run-checked : tie.Need-sub-run-checked
-sub-run-checked c = search needs
-
-part-run-checked-start : tie.Need-part-run-checked-start
-part-run-checked-start c = search needs
-
-part-run-checked-end : tie.Need-part-run-checked-end
-part-run-checked-end c = c .before .before .before .before .before .check-lent .ensures .1 (c .before .before .before .if3 .left) .0
-
-sub-run-checked-2 : tie.Need-sub-run-checked-2
-sub-run-checked-2 c = search needs
-
-part-run-checked-start-2 : tie.Need-part-run-checked-start-2
-part-run-checked-start-2 c = search needs
-
-part-run-checked-end-2 : tie.Need-part-run-checked-end-2
-part-run-checked-end-2 c = c .before .before .before .before .before .before .check-lent .ensures .1 (c .before .before .before .before .if3 .left) .1
-
-sub-run-checked-3 : tie.Need-sub-run-checked-3
-sub-run-checked-3 c = search needs
-
-part-run-checked-start-3 : tie.Need-part-run-checked-start-3
-part-run-checked-start-3 c = search needs
-
-part-run-checked-end-3 : tie.Need-part-run-checked-end-3
-part-run-checked-end-3 c = c .before .before .before .before .before .before .before .check-lent .ensures .1 (c .before .before .before .before .before .if3 .left) .2
-
-run-checked-requires : tie.Need-run-checked-requires
-run-checked-requires c κs =
-    let a = c .before .before .before .before .before .before .before .before .before .before .before .before .before .before .before .before .before .before .before .before .before .before .before .before .before .before .before .args in
-    let o = c .before .before .before .before .before .before .before .before .before .before .before .before .before .before .before .before .before .before .before .before .«open» in
-    let i1 = c .before .before .before .before .before .before .before .before .before .before .before .before .before .before .before .before .before .before .if1 in
-    let n = c .before .before .before .before .before .before .before .before .before .before .before .before .before .before .before .before .agents in
-    let h = c .before .before .before .before .before .before .before .before .before .before .before .before .before .before .before .check-log in
-    let i2 = c .before .before .before .before .before .before .before .before .before .before .before .before .if2 in
-    let t = tables (a .contents .now) (a .readers .now) (a .writers .now) in
-    few (a .book .now) (a .log .now) t (a .lent) (a .list .now) (o .result) (o .ensures .0) (i1 .left) (o .last .1 .0) (o .ensures .1) (n .result) (n .ensures) (h .result) (h .ensures) (i2 .left)
-
-same-length : tie.Need-same-length
-same-length c = search needs
-
-same-length-2 : tie.Need-same-length-2
-same-length-2 c = search needs
-
-same-length-3 : tie.Need-same-length-3
-same-length-3 c = search needs
-
-returns-4 : tie.Need-returns-4
-returns-4 c =
-    let a = c .before .before .before .before .before .before .before .before .before .before .before .before .before .before .before .before .before .before .before .before .before .before .before .before .before .before .before .before .before .before .before .before .before .before .args in
-    let o = c .before .before .before .before .before .before .before .before .before .before .before .before .before .before .before .before .before .before .before .before .before .before .before .before .before .before .before .«open» in
-    let i1 = c .before .before .before .before .before .before .before .before .before .before .before .before .before .before .before .before .before .before .before .before .before .before .before .before .before .if1 in
-    let n = c .before .before .before .before .before .before .before .before .before .before .before .before .before .before .before .before .before .before .before .before .before .before .before .agents in
-    let h = c .before .before .before .before .before .before .before .before .before .before .before .before .before .before .before .before .before .before .before .before .before .before .check-log in
-    let i2 = c .before .before .before .before .before .before .before .before .before .before .before .before .before .before .before .before .before .before .before .if2 in
-    let w = c .before .before .before .before .before .before .before .before .before .before .before .before .before .before .before .before .before .total in
-    let s = c .before .before .before .before .before .before .before .before .before .before .before .before .before .before .before .before .check-lent in
-    let i3 = c .before .before .before .before .before .before .before .before .before .before .before .before .before .before .if3 in
-    let r = c .before .before .before .before .before .before .run-checked in
-    let t = tables (a .contents .now) (a .readers .now) (a .writers .now) in
-    let room = s .ensures .1 (i3 .left) in
-    let k : ℕ = w .result - 0 in
-    (at-run (a .book .now) (a .log .now) t (a .lent) (a .list .now) (o .result) (o .ensures .0) (i1 .left) (o .last .1 .0) (o .ensures .1) (n .result) (n .ensures) (h .result) (h .ensures) (i2 .left) (w .result) (w .ensures) (s .result) (s .ensures .0) (i3 .left) k (omega arith) (room .0) (room .1) (room .2) (r .result) (r .last .1 .1 .1 .1 .1 .1 .1 .1 .0) (r .last .1 .1 .1 .1 .1 .0) (r .last .1 .1 .1 .1 .1 .1 .0) (r .last .1 .1 .1 .1 .1 .1 .1 .0) (r .kept .1 .1 .1 .1 .1 .0) (r .kept .1 .1 .1 .1 .1 .1 .0) (r .kept .1 .1 .1 .1 .1 .1 .1 .0) (r .ensures .0), omega (arith, r .ensures .1, room .3))
+    let a = c .before .before .before .before .before .before .before .before .before .before .before .before .before .before .before .before .before .before .before .before .args in
+    let f = c .before .before .before .before .before .before .before .before .before .first-lap in
+    let l = c .before .before .loop in
+    let lent = tables (a .contents .now) (a .readers .now) (a .writers .now) in
+    let far = l .inv .3 lent (f .ensures) in
+    let o = far-over (a .book .now) (a .log .now) lent (a .lent) (f .last .1 .1 .1 .1 .1 .1 .0) (l .t) (l .list) (l .count) (l .contents) (l .readers) (l .writers) far (c .before .loop-test .left) in
+    (o .0, (o .1, far .few))
 
 pub run-into-spec : {M : Type 1} → statement M
 run-into-spec =
     tie.close
     (tie.spec
-    open-requires
-    refused-requires
-    returns
-    agents-requires
-    check-log-requires
-    refused-requires-2
-    returns-2
-    total-requires
-    check-lent-requires
-    refused-requires-3
-    returns-3
-    cast-n
-    sub-run-checked
-    part-run-checked-start
-    part-run-checked-end
-    sub-run-checked-2
-    part-run-checked-start-2
-    part-run-checked-end-2
-    sub-run-checked-3
-    part-run-checked-start-3
-    part-run-checked-end-3
-    run-checked-requires
+    Inv-loop
+    μ-loop
+    first-lap-requires
+    loop-holds
+    next-lap-requires
+    loop-less
+    loop-again
     same-length
     same-length-2
     same-length-3
-    returns-4)
+    returns)

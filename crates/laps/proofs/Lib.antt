@@ -1,0 +1,6 @@
+pub mod Marks
+pub mod Turns
+pub mod Checks
+pub mod Ends
+pub mod Laps
+pub mod Calls

@@ -1,0 +1,62 @@
+-- What the code of a log's run holds on the way: the tables of a run, and what the checks have shown before it
+-- (01, "What a move does", "Refused, and how").
+use mathlib.Core.Path.{_≡_}
+use mathlib.Core.List.{List}
+use Prim.Native.Nat.{ℕ}
+use lib.ListN.{length, getD}
+use Rattle.text.specs.declared.Answer.{Answer}
+use Rattle.text.specs.Words.{good}
+use Rattle.text.specs.Text.{line}
+use Rattle.book.specs.Book.{Book, L}
+use Rattle.book.specs.Check.{check-book}
+use Rattle.book.specs.Image.{book-in}
+use Rattle.book.specs.Sound.{Sound}
+use Rattle.order.specs.Pairs.{rows}
+use Rattle.order.specs.Log.{Log, log-of, check-log}
+use Rattle.order.specs.Run.{Run, ran, run, readers, writers, LogAnswer}
+use Rattle.order.specs.Call.{Tables}
+
+-- the log that a text says
+abbrev pub log-in : List ℕ → Log
+log-in text = log-of (line text 0) text
+
+abbrev pub tables : List ℕ → List ℕ → List ℕ → Tables
+tables c rs ws = record { contents = c; readers = rs; writers = ws }
+
+abbrev pub answered : Answer → List ℕ → List ℕ → List ℕ → LogAnswer
+answered r c rs ws = record { answer = r; contents = c; readers = rs; writers = ws }
+
+-- ---- the moves in turn
+
+-- the tables are those of a run: its contents, and the marks of the moves that fired
+pub record Holds (B : Book) (s : Run) (c rs ws : List ℕ) : Type 0 where
+  pub contents : c ≡ s .contents
+  pub readers : rs ≡ readers (L B) (s .fired)
+  pub writers : ws ≡ writers (L B) (s .fired)
+
+-- from the contents c the first i moves have fired, and left the contents d and these marks
+pub record Going (B : Book) (g : Log) (c : List ℕ) (i : ℕ) (d rs ws : List ℕ) : Type 0 where
+  pub state : Run
+  pub goes : run B g c i ≡ ran state
+  pub sound : Sound B d
+  pub tables : Holds B state d rs ws
+
+-- ---- before them
+
+-- the order of a log, as rows
+abbrev pub RowsOf : Log → List ℕ → Type 0
+RowsOf g order = (j : ℕ) → getD order j 0 ≡ getD (rows (g .pairs) (length (g .moves))) j 0
+
+-- The texts b and l passed their checks: they say the book B, which the image m holds, and the log g, of n moves and of that order
+pub record Passed (b l m : List ℕ) (n : ℕ) (order : List ℕ) (B : Book) (g : Log) : Type 0 where
+  pub book : check-book b ≡ good B
+  pub image : book-in m (B .entries) ≡ B
+  pub log : check-log B l ≡ good g
+  pub moves : n ≡ length (g .moves)
+  pub rows : RowsOf g order
+
+-- tables of just the records that the book needs
+pub record Long (B : Book) (c rs ws : List ℕ) : Type 0 where
+  pub contents : length c ≡ L B
+  pub readers : length rs ≡ L B
+  pub writers : length ws ≡ L B

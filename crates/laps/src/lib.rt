@@ -1,0 +1,324 @@
+// A log's run move by move: the checks, the start, each move's walk and firing, and 17.
+use text::Answer;
+use walk::State;
+ghost use mathlib.Core.Path.{_≡_};
+ghost use mathlib.Core.Bool.{false};
+ghost use mathlib.Core.List.{List, [], _∷_};
+ghost use Prim.Native.Nat.{ℕ, suc, _+_, _-_, _^_, _<_, _≤_, min};
+ghost use lib.ListN.{length, replicate};
+ghost use Rattle.text.specs.Words.{good, answer-of};
+ghost use Rattle.book.specs.Book.{Book, L, start};
+ghost use Rattle.book.specs.Check.{check-book};
+ghost use Rattle.book.specs.Image.{book-in};
+ghost use Rattle.engine.specs.declared.Instruction.{Instruction};
+ghost use Rattle.order.specs.Log.{Log};
+ghost use Rattle.order.specs.Run.{Run, touching, order-checked};
+ghost use Rattle.order.specs.Call.{Tables, check-lent};
+ghost use Rattle.order.specs.Lists.{lists-from, call-lists};
+ghost use Rattle.laps.specs.Turns.{log-in, Holds, RowsOf, Passed, Long, tables};
+ghost use Rattle.laps.specs.Laps.{Before, Walking, Stage, Lap, moves-left};
+
+// The least number of instruction records lent.
+const MOST_INSTRUCTIONS: usize = 256;
+
+// The lent tables, as the q of a 2.
+const CONTENTS: u32 = 0;
+
+const READERS: u32 = 1;
+
+const WRITERS: u32 = 2;
+
+const INSTRUCTIONS: u32 = 3;
+
+// Number and place; 0 0 0 when accepted.
+fn triple(number: u32, p: u32, q: u32) -> Answer
+    ensures { λ r. ⌜ r ≡ record { number = number; p = p; q = q } ⌝ }
+{
+    Answer { number, p, q }
+}
+
+// ---- before and after the moves
+
+// How many agents there are.
+fn agents(image: &[u16; 4296]) -> u32
+    ensures { λ r. ⌜ r ≡ length (book-in (now (image .entry)) [] .agents) ⌝ }
+{
+    let n = table::word(image, 4);
+    if n < 16 { n as u32 } else { 16 }
+}
+
+// 2, lowest table first.
+fn check_lent(all: u32, contents: usize, readers: usize, writers: usize, lent: usize) -> Answer
+    ensures { λ r. ⌜ ((B : Book) → L B ≡ all → r ≡ answer-of (check-lent B (record { contents = contents; readers = readers; writers = writers; instructions = lent }))) ⌝ }
+    ensures { λ r. ⌜ (r .number ≡ 0 → (all ≤ contents) × (all ≤ readers) × (all ≤ writers) × (256 ≤ lent)) ⌝ }
+{
+    if contents < all as usize {
+        return triple(text::LENT_SHORT, all, CONTENTS);
+    }
+    if readers < all as usize {
+        return triple(text::LENT_SHORT, all, READERS);
+    }
+    if writers < all as usize {
+        return triple(text::LENT_SHORT, all, WRITERS);
+    }
+    if lent < MOST_INSTRUCTIONS {
+        return triple(text::LENT_SHORT, 256, INSTRUCTIONS);
+    }
+    triple(0, 0, 0)
+}
+
+// No location has a mark.
+fn clear(marks: &mut [u64])
+    ensures { λ _. ⌜ now (marks .exit) ≡ replicate (length (now (marks .entry))) 0 ⌝ }
+{
+    let mut i: usize = 0;
+    while i < marks.len() {
+        marks[i] = 0;
+        i += 1;
+    }
+}
+
+// The start of a run, with no marks.
+fn begin(
+    book: &[u8],
+    image: &[u16; 4296],
+    contents: &mut [u16],
+    readers: &mut [u64],
+    writers: &mut [u64],
+)
+    ensures { λ _. ⌜ ((B : Book) → check-book (now (book .entry)) ≡ good B → book-in (now (image .entry)) (B .entries) ≡ B → length (now (contents .entry)) ≡ L B → now (contents .exit) ≡ start B) ⌝ }
+    ensures { λ _. ⌜ (now (readers .exit) ≡ replicate (length (now (readers .entry))) 0) × (now (writers .exit) ≡ replicate (length (now (writers .entry))) 0) ⌝ }
+{
+    start::write_start(book, image, contents);
+    clear(readers);
+    clear(writers);
+}
+
+// 17.
+fn check_order(readers: &[u64], writers: &[u64], rows: &[u64; 64], moves: u32) -> Answer
+    ensures { λ r. ⌜ ((B : Book) (g : Log) (s : Run) (c : List ℕ) → moves ≡ length (g .moves) → RowsOf g (now (rows .entry)) → Holds B s c (now (readers .entry)) (now (writers .entry)) → r ≡ order-checked B s (touching B g (s .fired)) .answer) ⌝ }
+{
+    let pair = touch::touching(readers, writers, rows, moves, readers.len());
+    if !pair.found {
+        return triple(0, 0, 0);
+    }
+    triple(text::UNORDERED_TOUCH, pair.first, pair.second)
+}
+
+// ---- a run's laps: a move's walk, and its firing with the next one's walk
+
+// How far a run is: a move's walk has given its instructions, or all is over, with its answer.
+pub struct Turn {
+    pub more: bool,
+    pub count: usize,
+    pub answer: Answer,
+    pub walk: State,
+    pub at: u32,
+    pub moves: u32,
+    pub rows: [u64; 64],
+}
+
+fn ended(answer: Answer) -> Turn
+    ensures { λ r. ⌜ (r .more ≡ false) × (r .answer ≡ answer) × (moves-left r ≡ 0) ⌝ }
+{
+    let none = State {
+        len: 0,
+        label: 0,
+        refused: 0,
+        node: 0,
+    };
+    let rows = [0u64; 64];
+    Turn {
+        more: false,
+        count: 0,
+        answer: answer,
+        walk: none,
+        at: 0,
+        moves: 0,
+        rows: rows,
+    }
+}
+
+// Move i's bit.
+fn bit_of(i: u32) -> u64
+    ensures { λ r. ⌜ (i < 64 → r ≡ 2 ^ i) ⌝ }
+{
+    if i < 64 {
+        return 1u64 << i;
+    }
+    0
+}
+
+// The walk of move i, if there is one; else the order is checked.
+fn walk_on(
+    log: &[u8],
+    contents: &[u16],
+    readers: &mut [u64],
+    writers: &[u64],
+    image: &[u16; 4296],
+    work: &mut [u64; 256],
+    rows: [u64; 64],
+    moves: u32,
+    i: u32,
+) -> Turn
+    ensures { λ r. ⌜ ((b : List ℕ) (B : Book) (g : Log) → Before b (now (log .entry)) (now (image .entry)) B g moves rows i (now (contents .entry)) (now (readers .entry)) (now (writers .entry)) → Stage b (now (log .entry)) (now (image .entry)) B g (lists-from (book-in (now (image .entry)) []) (log-in (now (log .entry))) (start B) (moves - i) i) r (now (work .exit)) (now (contents .entry)) (now (readers .exit)) (now (writers .entry))) ⌝ }
+    ensures { λ r. ⌜ (r .more ≡ false → now (work .exit) ≡ now (work .entry)) ⌝ }
+    ensures { λ r. ⌜ moves-left r ≤ moves - i ⌝ }
+{
+    if i < moves {
+        let agent = log::agent_of(log, i);
+        let bit = bit_of(i);
+        let s = walk::gather(image, contents, readers, bit, work, agent);
+        let count = moves::given(s);
+        let none = triple(0, 0, 0);
+        return Turn {
+            more: true,
+            count: count,
+            answer: none,
+            walk: s,
+            at: i,
+            moves: moves,
+            rows: rows,
+        };
+    }
+    let answer = check_order(readers, writers, &rows, moves);
+    ended(answer)
+}
+
+// The rest of the move that is on, on tables of just the records needed; then the next one's walk.
+fn turn_on(
+    log: &[u8],
+    contents: &mut [u16],
+    readers: &mut [u64],
+    writers: &mut [u64],
+    image: &[u16; 4296],
+    work: &mut [u64; 256],
+    t: Turn,
+) -> Turn
+    ensures { λ r. ⌜ ((b : List ℕ) (B : Book) (g : Log) → Walking b (now (log .entry)) (now (image .entry)) B g t (now (work .entry)) (now (contents .entry)) (now (readers .entry)) (now (writers .entry)) → Stage b (now (log .entry)) (now (image .entry)) B g (lists-from (book-in (now (image .entry)) []) (log-in (now (log .entry))) (start B) (t .moves - suc (t .at)) (suc (t .at))) r (now (work .exit)) (now (contents .exit)) (now (readers .exit)) (now (writers .exit))) ⌝ }
+    ensures { λ r. ⌜ (r .more ≡ false → now (work .exit) ≡ now (work .entry)) ⌝ }
+    ensures { λ r. ⌜ (t .at < 64 → t .at < t .moves → moves-left r < moves-left t) ⌝ }
+{
+    let i = t.at;
+    let bit = bit_of(i);
+    let s = t.walk;
+    let v = moves::settle_move(image, contents, readers, writers, bit, work, s);
+    if v.number != 0 {
+        return ended(triple(v.number, i, v.q));
+    }
+    let rows = t.rows;
+    let next = following(i);
+    walk_on(
+        log,
+        contents,
+        readers,
+        writers,
+        image,
+        work,
+        rows,
+        t.moves,
+        next,
+    )
+}
+
+// The number after i.
+fn following(i: u32) -> u32
+    ensures { λ r. ⌜ (i < 64 → r ≡ i + 1) ⌝ }
+{
+    if i < 64 {
+        return i + 1;
+    }
+    i
+}
+
+// The start, and the first move's walk, on tables of just the records needed.
+fn start_on(
+    book: &[u8],
+    log: &[u8],
+    contents: &mut [u16],
+    readers: &mut [u64],
+    writers: &mut [u64],
+    image: &[u16; 4296],
+    work: &mut [u64; 256],
+    rows: [u64; 64],
+    moves: u32,
+) -> Turn
+    ensures { λ r. ⌜ ((B : Book) (g : Log) → moves ≤ 64 → Passed (now (book .entry)) (now (log .entry)) (now (image .entry)) moves rows B g → Long B (now (contents .entry)) (now (readers .entry)) (now (writers .entry)) → Stage (now (book .entry)) (now (log .entry)) (now (image .entry)) B g (lists-from (book-in (now (image .entry)) []) (log-in (now (log .entry))) (start B) moves 0) r (now (work .exit)) (now (contents .exit)) (now (readers .exit)) (now (writers .exit))) ⌝ }
+{
+    begin(book, image, contents, readers, writers);
+    walk_on(log, contents, readers, writers, image, work, rows, moves, 0)
+}
+
+// The checks, the start, and the first move's walk.
+pub fn first_lap(
+    book: &[u8],
+    log: &[u8],
+    contents: &mut [u16],
+    readers: &mut [u64],
+    writers: &mut [u64],
+    lent: usize,
+    image: &mut [u16; 4296],
+    work: &mut [u64; 256],
+) -> Turn
+    ensures { λ r. ⌜ Lap (now (book .entry)) (now (log .entry)) (tables (now (contents .entry)) (now (readers .entry)) (now (writers .entry))) lent (now (image .exit)) (call-lists (now (book .entry)) (now (log .entry)) (tables (now (contents .entry)) (now (readers .entry)) (now (writers .entry))) lent) r (now (work .exit)) (now (contents .exit)) (now (readers .exit)) (now (writers .exit)) ⌝ }
+{
+    let opened = open::open(book, image);
+    if opened.number != 0 {
+        return ended(opened);
+    }
+    let checked = log::check_log(log, agents(image));
+    let listed = checked.answer;
+    if listed.number != 0 {
+        return ended(listed);
+    }
+    let all = table::total(image);
+    let short = check_lent(all, contents.len(), readers.len(), writers.len(), lent);
+    if short.number != 0 {
+        return ended(short);
+    }
+    let n = all as usize;
+    let rows = checked.rows;
+    start_on(
+        book,
+        log,
+        &mut contents[..n],
+        &mut readers[..n],
+        &mut writers[..n],
+        image,
+        work,
+        rows,
+        checked.moves,
+    )
+}
+
+fn smaller(a: usize, b: usize) -> usize
+    ensures { λ r. ⌜ r ≡ min a b ⌝ }
+{
+    if a < b { a } else { b }
+}
+
+// The rest of the move that is on, and the next one's walk.
+pub fn next_lap(
+    log: &[u8],
+    contents: &mut [u16],
+    readers: &mut [u64],
+    writers: &mut [u64],
+    image: &[u16; 4296],
+    work: &mut [u64; 256],
+    t: Turn,
+) -> Turn
+    ensures { λ r. ⌜ ((b : List ℕ) (lent : Tables) (n : ℕ) (is : List Instruction) (rest : List (List Instruction)) → Lap b (now (log .entry)) lent n (now (image .entry)) (is ∷ rest) t (now (work .entry)) (now (contents .entry)) (now (readers .entry)) (now (writers .entry)) → Lap b (now (log .entry)) lent n (now (image .entry)) rest r (now (work .exit)) (now (contents .exit)) (now (readers .exit)) (now (writers .exit))) × (r .more ≡ false → now (work .exit) ≡ now (work .entry)) × (t .at < 64 → t .at < t .moves → moves-left r < moves-left t) ⌝ }
+{
+    let all = table::total(image) as usize;
+    let two = smaller(readers.len(), writers.len());
+    let n = smaller(all, smaller(contents.len(), two));
+    turn_on(
+        log,
+        &mut contents[..n],
+        &mut readers[..n],
+        &mut writers[..n],
+        image,
+        work,
+        t,
+    )
+}
