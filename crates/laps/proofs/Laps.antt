@@ -126,10 +126,10 @@ module _ (b l m : List ℕ) (B : Book) (g : Log) where
     low = omega (arith, w .at, now .few)
 
     module _ (v : Verdict) (d′ rs′ ws′ : List ℕ) (bit : ℕ) (eb : bit ≡ 2 ^ i)
-        (settles : (j : ℕ) (u : Tables) → After A j bit u (t .walk) x (tables d rs ws) → Effect A j bit u v x (tables d′ rs′ ws′))
+        (settles : (j : ℕ) (u : Tables) → After A j bit u (t .walk) x (tables d rs ws) → Effect A j bit u v (tables d′ rs′ ws′))
       where
-        does : Effect A k (2 ^ i) (w .old) v x (tables d′ rs′ ws′)
-        does = subst (λ (z : ℕ). After A k z (w .old) (t .walk) x (tables d rs ws) → Effect A k z (w .old) v x (tables d′ rs′ ws′)) eb (settles k (w .old)) (w .after)
+        does : Effect A k (2 ^ i) (w .old) v (tables d′ rs′ ws′)
+        does = subst (λ (z : ℕ). After A k z (w .old) (t .walk) x (tables d rs ws) → Effect A k z (w .old) v (tables d′ rs′ ws′)) eb (settles k (w .old)) (w .after)
 
         lawful : Lawful A
         lawful = lawful-in b l m (t .moves) (t .rows) B g (now .passed)
@@ -143,7 +143,7 @@ module _ (b l m : List ℕ) (B : Book) (g : Log) where
           passed = now .passed;
           few = now .few;
           most = omega (arith, w .at);
-          going = going-on A h (start B) lawful i k (w .old .contents) (w .old .readers) (w .old .writers) (now .going) here v x d′ rs′ ws′ does z;
+          going = going-on A h (start B) lawful i k (w .old .contents) (w .old .readers) (w .old .writers) (now .going) here v d′ rs′ ws′ does z;
         }
 
         -- it was refused
@@ -151,7 +151,7 @@ module _ (b l m : List ℕ) (B : Book) (g : Log) where
             → (y : List ℕ) → Stage b l m B g (lists-from A h (start B) (t .moves - suc i) (suc i)) u y d′ rs′ ws′
         lap-stops z r e u more says y =
             let s = now .going .state in
-            let o = going-off A h (start B) lawful i k (w .old .contents) (w .old .readers) (w .old .writers) (now .going) here v x d′ rs′ ws′ does z in
+            let o = going-off A h (start B) lawful i k (w .old .contents) (w .old .readers) (w .old .writers) (now .going) here v d′ rs′ ws′ does z in
             let j = t .moves - suc i in
             let to-n : j + suc i ≡ t .moves = omega (arith, w .at) in
             let all : run A h (start B) (t .moves) ≡ halted (v .number) i (v .q) s = subst (λ (q : ℕ). run A h (start B) q ≡ halted (v .number) i (v .q) s) to-n (halts A h (start B) (suc i) j (v .number) i (v .q) s (o .0)) in

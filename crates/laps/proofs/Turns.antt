@@ -46,7 +46,7 @@ module _ (B : Book) (g : Log) (c : List ℕ) where
           rw (to .tables .readers) (subst (λ (y : ℕ). getD (readers (L B) (to .state .fired)) x 0 < 2 ^ y) (run-left B g c i (to .state) (to .goes) .long) (readers-below (L B) (to .state .fired) x));
     }
 
-    module _ (is : k ≡ move-at g i .agent) (v : Verdict) (l′ d′ rs′ ws′ : List ℕ) (ends : Effect B k (2 ^ i) (tables d rs ws) v l′ (tables d′ rs′ ws′)) where
+    module _ (is : k ≡ move-at g i .agent) (v : Verdict) (d′ rs′ ws′ : List ℕ) (ends : Effect B k (2 ^ i) (tables d rs ws) v (tables d′ rs′ ws′)) where
       abbrev o : Moved
       o = move B d (record { agent = k })
 

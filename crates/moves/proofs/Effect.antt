@@ -8,7 +8,7 @@ use Rattle.text.specs.Refusals.{clash, idle-move}
 use Rattle.book.specs.Book.{Book}
 use Rattle.engine.specs.declared.Instruction.{Instruction}
 use Rattle.engine.specs.Rule.{Walk, Walked, going, met}
-use Rattle.engine.specs.Move.{Moved, fires, stopped, released, if-releasing, Input, walked, made-by, looked, fired-of, judged, settle, move}
+use Rattle.engine.specs.Move.{Moved, fires, stopped, released, if-releasing, Input, walked, looked, fired-of, judged, settle, move}
 use Rattle.engine.specs.Move as moved
 use Rattle.records.specs.Code.{items}
 use Rattle.records.proofs.Lists.{clipped}
@@ -28,37 +28,26 @@ use Rattle.moves.specs.Effect.{Tables, tables, joined, left, number-of, 
 use Rattle.moves.specs.Close.{told, verdict-of, closed, Finished}
 use Rattle.moves.proofs.Marks.{placed, marked-joined}
 
-pub verdict-len : (n : ℕ) (o : Outcome) → verdict-of n o .len ≡ n
-verdict-len n Fired = refl
-verdict-len n (Clash l) = refl
-verdict-len n Idle = refl
-
-module _ (B : Book) (k bit : ℕ) (c rs ws : List ℕ) (fit : Fit B k bit (tables c rs ws)) (l : List ℕ) where
+module _ (B : Book) (k bit : ℕ) (c rs ws : List ℕ) (fit : Fit B k bit (tables c rs ws)) where
   abbrev i : Input
   i = record { agent = k }
 
-  effect : (r : Verdict) (u : Tables) (m : Moved) (o : Walked) → move B c i ≡ m → walked B c i ≡ o → r .number ≡ number-of m → r .q ≡ q-of m
-      → items l (r .len) ≡ made-by o → u ≡ left bit (tables c rs ws) m → Effect B k bit (tables c rs ws) r l u
-  effect r u m o e g n q is t =
-      record {
-        number = n ∙ ap number-of (sym e);
-        q = q ∙ ap q-of (sym e);
-        made = is ∙ ap made-by (sym g);
-        tables = t ∙ ap (left bit (tables c rs ws)) (sym e);
-      }
+  effect : (r : Verdict) (u : Tables) (m : Moved) → move B c i ≡ m → r .number ≡ number-of m → r .q ≡ q-of m → u ≡ left bit (tables c rs ws) m
+      → Effect B k bit (tables c rs ws) r u
+  effect r u m e n q t = record { number = n ∙ ap number-of (sym e); q = q ∙ ap q-of (sym e); tables = t ∙ ap (left bit (tables c rs ws)) (sym e) }
 
   module _ (o : Walked) (rs′ : List ℕ) (walks : Gathered B c bit k o rs rs′) where
     -- a walk that is refused
-    pub refused-effect : (n q : ℕ) → o ≡ met n q → Effect B k bit (tables c rs ws) (told n q 0) l (tables c rs′ ws)
+    pub refused-effect : (n q : ℕ) → o ≡ met n q → Effect B k bit (tables c rs ws) (told n q) (tables c rs′ ws)
     unfolding move settle
     refused-effect n q e =
         let p = fit .power in
         let g : walked B c i ≡ met n q = sym (walks .outcome) ∙ e in
-        effect (told n q 0) (tables c rs′ ws) (stopped n q) (met n q) (rw g) g refl refl refl
+        effect (told n q) (tables c rs′ ws) (stopped n q) (rw g) refl refl
         (ap (λ (x : List ℕ). tables c x ws) (walks .refused (placed B (fit .lawful)) n q e (p .0) (p .1) (fit .unmarked)))
 
     -- a walk that came to its end
-    module _ (w : Walk) (e : o ≡ going w) (n : ℕ) (holds : items l n ≡ w .made) where
+    module _ (w : Walk) (e : o ≡ going w) where
       went : walked B c i ≡ going w
       went = sym (walks .outcome) ∙ e
 
@@ -90,7 +79,7 @@ module _ (B : Book) (k bit : ℕ) (c rs ws : List ℕ) (fit : Fit B k bit (table
         left-by m q = (s .contents ∙ ap (contents-after c) q, s .writers ∙ ap (marks-after bit ws) q)
 
         abbrev Gives : Outcome → Type 0
-        Gives v = Effect B k bit (tables c rs ws) (verdict-of n v) l (tables c″ (closed B bit (w .made) v rs′) ws″)
+        Gives v = Effect B k bit (tables c rs ws) (verdict-of v) (tables c″ (closed B bit (w .made) v rs′) ws″)
 
         pub settled-effect : Gives u
         settled-effect = go u (s .outcome)
@@ -98,13 +87,13 @@ module _ (B : Book) (k bit : ℕ) (c rs ws : List ℕ) (fit : Fit B k bit (table
             go : (v : Outcome) → judged c f ≡ moved-by f v → Gives v
             go Fired q =
                 let g = left-by (fires f) q in
-                effect (verdict-of n Fired) (tables c″ (closed B bit (w .made) Fired rs′) ws″) (fires f) (going w) (judged-move ∙ q) went refl refl holds (rw (g .0, g .1, rest))
+                effect (verdict-of Fired) (tables c″ (closed B bit (w .made) Fired rs′) ws″) (fires f) (judged-move ∙ q) refl refl (rw (g .0, g .1, rest))
             go (Clash x) q =
                 let g = left-by (stopped clash x) q in
-                effect (verdict-of n (Clash x)) (tables c″ (closed B bit (w .made) (Clash x) rs′) ws″) (stopped clash x) (going w) (judged-move ∙ q) went refl refl holds (rw (g .0, g .1, back))
+                effect (verdict-of (Clash x)) (tables c″ (closed B bit (w .made) (Clash x) rs′) ws″) (stopped clash x) (judged-move ∙ q) refl refl (rw (g .0, g .1, back))
             go Idle q =
                 let g = left-by (stopped idle-move 0) q in
-                effect (verdict-of n Idle) (tables c″ (closed B bit (w .made) Idle rs′) ws″) (stopped idle-move 0) (going w) (judged-move ∙ q) went refl refl holds (rw (g .0, g .1, back))
+                effect (verdict-of Idle) (tables c″ (closed B bit (w .made) Idle rs′) ws″) (stopped idle-move 0) (judged-move ∙ q) refl refl (rw (g .0, g .1, back))
 
 -- as the code has it: the tables c, rs and ws that the walk, begun on t, left with its state s and the list l
 module _ (B : Book) (k bit : ℕ) (t : Tables) (s : State) (l c rs ws : List ℕ) (after : After B k bit t s l (tables c rs ws)) where
@@ -120,12 +109,12 @@ module _ (B : Book) (k bit : ℕ) (t : Tables) (s : State) (l c rs ws : List ℕ
   walks : Gathered B c bit k (walk.outcome s l) (t .readers) rs
   walks = subst (λ (x : List ℕ). Gathered B x bit k (walk.outcome s l) (t .readers) rs) (sym (after .contents)) (after .readers)
 
-  as-begun : (r : Verdict) (u : Tables) → Effect B k bit old r l u → Effect B k bit t r l u
-  as-begun r u e = subst (λ (x : Tables). Effect B k bit x r l u) begun e
+  as-begun : (r : Verdict) (u : Tables) → Effect B k bit old r u → Effect B k bit t r u
+  as-begun r u e = subst (λ (x : Tables). Effect B k bit x r u) begun e
 
-  pub refused-state : ((s .refused ≡ 0) → ⊥) → Effect B k bit t (told (s .refused) (s .node) 0) l (tables c rs ws)
+  pub refused-state : ((s .refused ≡ 0) → ⊥) → Effect B k bit t (told (s .refused) (s .node)) (tables c rs ws)
   refused-state h =
-      as-begun _ _ (refused-effect B k bit c (t .readers) ws fit l (walk.outcome s l) rs walks (s .refused) (s .node) (outcome-met s l h))
+      as-begun _ _ (refused-effect B k bit c (t .readers) ws fit (walk.outcome s l) rs walks (s .refused) (s .node) (outcome-met s l h))
 
   -- the list is settled by its first n
   module _ (h : s .refused ≡ 0) (n : ℕ) (clips : n ≡ min (s .len) (length l)) where
@@ -139,8 +128,8 @@ module _ (B : Book) (k bit : ℕ) (t : Tables) (s : State) (l c rs ws : List ℕ
     ended = outcome-going s l h ∙ rw (clipped l (s .len) n clips)
 
     pub finished-state : (r : Verdict) (c″ rs″ ws″ : List ℕ)
-        → (Ready B c is → (ls : List ℕ) → Finished B is n (fired-of B c ls is) bit c rs ws r c″ rs″ ws″)
-        → Effect B k bit t r l (tables c″ rs″ ws″)
+        → (Ready B c is → (ls : List ℕ) → Finished B is (fired-of B c ls is) bit c rs ws r c″ rs″ ws″)
+        → Effect B k bit t r (tables c″ rs″ ws″)
     finished-state r c″ rs″ ws″ g =
-        let d = g (ready B k bit c (t .readers) ws fit l (walk.outcome s l) rs walks w ended n refl) (looked B c (record { agent = k })) in
-        as-begun _ _ (rw (d .verdict, d .readers) (settled-effect B k bit c (t .readers) ws fit l (walk.outcome s l) rs walks w ended n refl (d .outcome) c″ ws″ (d .settled)))
+        let d = g (ready B k bit c (t .readers) ws fit (walk.outcome s l) rs walks w ended) (looked B c (record { agent = k })) in
+        as-begun _ _ (rw (d .verdict, d .readers) (settled-effect B k bit c (t .readers) ws fit (walk.outcome s l) rs walks w ended (d .outcome) c″ ws″ (d .settled)))

@@ -14,14 +14,13 @@ use Rattle.term.specs.Marks.{marked}
 use Rattle.walk.specs.Gather.{cleared}
 use Rattle.moves.specs.declared.Verdict.{Verdict}
 
--- of a move whose list holds m instructions
-abbrev pub told : ℕ → ℕ → ℕ → Verdict
-told n q m = record { number = n; q = q; len = m }
+abbrev pub told : ℕ → ℕ → Verdict
+told n q = record { number = n; q = q }
 
-abbrev pub verdict-of : ℕ → Outcome → Verdict
-verdict-of m Fired = told 0 0 m
-verdict-of m (Clash l) = told clash l m
-verdict-of m Idle = told idle-move 0 m
+abbrev pub verdict-of : Outcome → Verdict
+verdict-of Fired = told 0 0
+verdict-of (Clash l) = told clash l
+verdict-of Idle = told idle-move 0
 
 -- the marks m that the walk left: with every dynamic location if the instructions release and the move fires; taken back if it is refused
 abbrev pub closed : Book → ℕ → List Instruction → Outcome → List ℕ → List ℕ
@@ -29,9 +28,9 @@ closed B bit is Fired m = marked bit (if-releasing B (released is)) m
 closed B bit is (Clash l) m = cleared bit m
 closed B bit is Idle m = cleared bit m
 
--- the move f, whose instructions are is, m in the list, and whose walk left the marks rs, is settled: its verdict r, and what it leaves of the tables
-pub record Finished (B : Book) (is : List Instruction) (m : ℕ) (f : move.Fired) (bit : ℕ) (c rs ws : List ℕ) (r : Verdict) (c′ rs′ ws′ : List ℕ) : Type 0 where
+-- the move f, whose instructions are is, and whose walk left the marks rs, is settled: its verdict r, and what it leaves of the tables
+pub record Finished (B : Book) (is : List Instruction) (f : move.Fired) (bit : ℕ) (c rs ws : List ℕ) (r : Verdict) (c′ rs′ ws′ : List ℕ) : Type 0 where
   pub outcome : Outcome
   pub settled : Settled f bit c ws outcome c′ ws′
-  pub verdict : r ≡ verdict-of m outcome
+  pub verdict : r ≡ verdict-of outcome
   pub readers : rs′ ≡ closed B bit is outcome rs

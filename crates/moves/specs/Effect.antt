@@ -7,8 +7,7 @@ use lib.ListN.{length, getD}
 use Rattle.text.specs.Words.{has}
 use Rattle.book.specs.Book.{Book}
 use Rattle.book.specs.Sound.{Lawful, Sound}
-use Rattle.engine.specs.Move.{Moved, fires, stopped, walked, made-by, move, fire, writes}
-use Rattle.records.specs.Code.{items}
+use Rattle.engine.specs.Move.{Moved, fires, stopped, move, fire, writes}
 use Rattle.sweep.specs.Marks.{each, mark}
 use Rattle.walk.specs.declared.State.{State}
 use Rattle.walk.specs.Walk.{outcome}
@@ -52,11 +51,10 @@ pub record Fit (B : Book) (k bit : ℕ) (t : Tables) : Type 0 where
   pub power : (i : ℕ) × (bit ≡ 2 ^ i) × (i < 64)
   pub unmarked : (l : ℕ) → getD (t .readers) l 0 < bit
 
--- what agent k's move, marked as `bit`, gives and leaves of the tables t: its verdict r, the list l of its instructions, and the tables u
-pub record Effect (B : Book) (k bit : ℕ) (t : Tables) (r : Verdict) (l : List ℕ) (u : Tables) : Type 0 where
+-- what agent k's move, marked as `bit`, gives and leaves of the tables t: its verdict r, and the tables u
+pub record Effect (B : Book) (k bit : ℕ) (t : Tables) (r : Verdict) (u : Tables) : Type 0 where
   pub number : r .number ≡ number-of (move B (t .contents) (record { agent = k }))
   pub q : r .q ≡ q-of (move B (t .contents) (record { agent = k }))
-  pub made : items l (r .len) ≡ made-by (walked B (t .contents) (record { agent = k }))
   pub tables : u ≡ left bit t (move B (t .contents) (record { agent = k }))
 
 abbrev pub tables : List ℕ → List ℕ → List ℕ → Tables

@@ -4,25 +4,24 @@ use firing::Outcome;
 use walk::State;
 ghost use mathlib.Core.Path.{_≡_};
 ghost use mathlib.Core.List.{List, []};
-ghost use Prim.Native.Nat.{ℕ, _≤_};
+ghost use Prim.Native.Nat.{ℕ};
 ghost use Rattle.book.specs.Image.{book-in};
 ghost use Rattle.engine.specs.Move.{label-of, released, is-some, if-releasing};
 ghost use Rattle.records.specs.Code.{items};
 ghost use Rattle.firing.specs.Outcome.{Ready, move-by};
 ghost use Rattle.term.specs.Marks.{marked};
 ghost use Rattle.walk.specs.Gather.{cleared};
-ghost use Rattle.moves.specs.Effect.{Fit, Effect, Tables, tables, After};
+ghost use Rattle.moves.specs.Effect.{Effect, Tables, tables, After};
 ghost use Rattle.moves.specs.Close.{told, verdict-of, closed, Finished};
 ghost use Rattle.moves.specs.Count.{given-of};
 
 // Instructions of a move, at most.
 const MOST_INSTRUCTIONS: usize = 256;
 
-// A move's number, 0 if it fired, its q, and how many instructions the list holds: those of a walk that came to its end.
+// A move's number, 0 if it fired, and its q.
 pub struct Verdict {
     pub number: u32,
     pub q: u32,
-    pub len: usize,
 }
 
 // How many instructions a walk gave: none if it was refused.
@@ -76,15 +75,14 @@ fn mark_rest(image: &[u16; 4296], readers: &mut [u64], bit: u64, list: &[u64], l
 }
 
 // A refused move's answer; its reader marks are taken back.
-fn refuse(readers: &mut [u64], bit: u64, number: u32, q: u32, len: usize) -> Verdict
-    ensures { λ r. ⌜ r ≡ told number q len ⌝ }
+fn refuse(readers: &mut [u64], bit: u64, number: u32, q: u32) -> Verdict
+    ensures { λ r. ⌜ r ≡ told number q ⌝ }
     ensures { λ _. ⌜ now (readers .exit) ≡ cleared bit (now (readers .entry)) ⌝ }
 {
     walk::clear(readers, bit);
     Verdict {
         number: number,
         q: q,
-        len: len,
     }
 }
 
@@ -97,20 +95,16 @@ fn close(
     len: usize,
     what: Outcome,
 ) -> Verdict
-    ensures { λ r. ⌜ r ≡ verdict-of len what ⌝ }
+    ensures { λ r. ⌜ r ≡ verdict-of what ⌝ }
     ensures { λ _. ⌜ now (readers .exit) ≡ closed (book-in (now (image .entry)) []) bit (items (now (list .entry)) len) what (now (readers .entry)) ⌝ }
 {
     match what {
         Outcome::Fired => {
             mark_rest(image, readers, bit, list, len);
-            Verdict {
-                number: 0,
-                q: 0,
-                len: len,
-            }
+            Verdict { number: 0, q: 0 }
         }
-        Outcome::Clash { location } => refuse(readers, bit, text::CLASH, location, len),
-        Outcome::Idle => refuse(readers, bit, text::IDLE_MOVE, 0, len),
+        Outcome::Clash { location } => refuse(readers, bit, text::CLASH, location),
+        Outcome::Idle => refuse(readers, bit, text::IDLE_MOVE, 0),
     }
 }
 
@@ -124,8 +118,7 @@ fn finish(
     list: &[u64; 256],
     len: usize,
 ) -> Verdict
-    ensures { λ r. ⌜ (Ready (book-in (now (image .entry)) []) (now (contents .entry)) (items (now (list .entry)) len) → (ls : List ℕ) → Finished (book-in (now (image .entry)) []) (items (now (list .entry)) len) len (move-by (now (image .entry)) (now (contents .entry)) (now (list .entry)) len ls) bit (now (contents .entry)) (now (readers .entry)) (now (writers .entry)) r (now (contents .exit)) (now (readers .exit)) (now (writers .exit))) ⌝ }
-    ensures { λ r. ⌜ r .len ≡ len ⌝ }
+    ensures { λ r. ⌜ (Ready (book-in (now (image .entry)) []) (now (contents .entry)) (items (now (list .entry)) len) → (ls : List ℕ) → Finished (book-in (now (image .entry)) []) (items (now (list .entry)) len) (move-by (now (image .entry)) (now (contents .entry)) (now (list .entry)) len ls) bit (now (contents .entry)) (now (readers .entry)) (now (writers .entry)) r (now (contents .exit)) (now (readers .exit)) (now (writers .exit))) ⌝ }
 {
     let what = firing::settle(image, contents, writers, list, len, bit);
     close(image, readers, bit, list, len, what)
@@ -141,33 +134,14 @@ pub fn settle_move(
     list: &[u64; 256],
     s: State,
 ) -> Verdict
-    ensures { λ r. ⌜ ((k : ℕ) (t : Tables) → After (book-in (now (image .entry)) []) k bit t s (now (list .entry)) (tables (now (contents .entry)) (now (readers .entry)) (now (writers .entry))) → Effect (book-in (now (image .entry)) []) k bit t r (now (list .entry)) (tables (now (contents .exit)) (now (readers .exit)) (now (writers .exit)))) ⌝ }
-    ensures { λ r. ⌜ r .len ≤ 256 ⌝ }
+    ensures { λ r. ⌜ ((k : ℕ) (t : Tables) → After (book-in (now (image .entry)) []) k bit t s (now (list .entry)) (tables (now (contents .entry)) (now (readers .entry)) (now (writers .entry))) → Effect (book-in (now (image .entry)) []) k bit t r (tables (now (contents .exit)) (now (readers .exit)) (now (writers .exit)))) ⌝ }
 {
     if s.refused != 0 {
         return Verdict {
             number: s.refused,
             q: s.node as u32,
-            len: 0,
         };
     }
     let len = records::within(list, s.len);
     finish(image, contents, readers, writers, bit, list, len)
-}
-
-// The move of an agent, marked as `bit`; its instructions are left in the list.
-pub fn fire_move(
-    image: &[u16; 4296],
-    contents: &mut [u16],
-    readers: &mut [u64],
-    writers: &mut [u64],
-    bit: u64,
-    agent: u32,
-    list: &mut [u64; 256],
-) -> Verdict
-    ensures { λ r. ⌜ (Fit (book-in (now (image .entry)) []) agent bit (tables (now (contents .entry)) (now (readers .entry)) (now (writers .entry))) → Effect (book-in (now (image .entry)) []) agent bit (tables (now (contents .entry)) (now (readers .entry)) (now (writers .entry))) r (now (list .exit)) (tables (now (contents .exit)) (now (readers .exit)) (now (writers .exit)))) ⌝ }
-    ensures { λ r. ⌜ r .len ≤ 256 ⌝ }
-{
-    let s = walk::gather(image, contents, readers, bit, list, agent);
-    settle_move(image, contents, readers, writers, bit, list, s)
 }

@@ -29,10 +29,10 @@ abbrev pub answer-by : Verdict → Answer
 answer-by v = record { number = v .number; p = 0; q = v .q }
 
 -- on the first j records of the table c, all that the book has
-pub moved-step : (B : Book) (c : List ℕ) (k j : ℕ) → j ≡ L B → j ≤ length c → (v : Verdict) (l d rs ws : List ℕ)
-    → Effect B k 1 (tables (take j c) [] []) v l (tables d rs ws)
+pub moved-step : (B : Book) (c : List ℕ) (k j : ℕ) → j ≡ L B → j ≤ length c → (v : Verdict) (d rs ws : List ℕ)
+    → Effect B k 1 (tables (take j c) [] []) v (tables d rs ws)
     → (answer-by v ≡ step-move B c k .answer) × (d ++ drop j c ≡ step-move B c k .contents)
-moved-step B c k j e h v l d rs ws f =
+moved-step B c k j e h v d rs ws f =
     let i : Input = record { agent = k } in
     let s : ℕ → Stepped = λ n. stepped c (take n c) (made-by (walked B (take n c) i)) (move B (take n c) i) in
     subst (λ (n : ℕ). (answer-by v ≡ s n .answer) × (d ++ drop j c ≡ s n .contents)) e

@@ -118,7 +118,7 @@ module _ (text c : List ℕ) (k n : ℕ) (m l : List ℕ) (p : Paused) (h : Half
   second-stops z = let t = h .stops z .1 in half-tells (p .answer) c (t .answer, t .contents)
 
   pub second-moves : p .answer .number ≡ 0 → (all j : ℕ) → all ≡ L A → j ≡ min all (length c) → (v : Verdict) (d rs ws : List ℕ)
-      → ((i : ℕ) (t : Tables) → After A i 1 t (p .walk) l (tables (take j c) [] []) → Effect A i 1 t v l (tables d rs ws))
+      → ((i : ℕ) (t : Tables) → After A i 1 t (p .walk) l (tables (take j c) [] []) → Effect A i 1 t v (tables d rs ws))
       → Tells (record { answer = answer-by v; len = p .count }) l (d ++ drop j c) (step-call text c k n)
   second-moves z all j ea ej v d rs ws does =
       let w = h .walks z .1 in
@@ -126,5 +126,5 @@ module _ (text c : List ℕ) (k n : ℕ) (m l : List ℕ) (p : Paused) (h : Half
       let e : j ≡ L A = omega (arith, ea, ej, o .long) in
       let after : After A k 1 (tables (take j c) [] []) (p .walk) l (tables (take j c) [] []) =
       subst (λ (i : ℕ). After A k 1 (tables (take i c) [] []) (p .walk) l (tables (take i c) [] [])) (sym e) (o .after) in
-      let t = moved-step A c k j e (omega (arith, e, o .long)) v l d rs ws (does k (tables (take j c) [] []) after) in
+      let t = moved-step A c k j e (omega (arith, e, o .long)) v d rs ws (does k (tables (take j c) [] []) after) in
       half-tells (answer-by v) (d ++ drop j c) (t .0 ∙ ap (λ (s : Stepped). s .answer) (w .whole), t .1 ∙ ap (λ (s : Stepped). s .contents) (w .whole))

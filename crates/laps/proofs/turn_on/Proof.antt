@@ -28,7 +28,7 @@ same-length-3 : tie.Need-same-length-3
 same-length-3 c = search needs
 
 returns : tie.Need-returns
-returns c = let a = c .before .before .before .before .before .before .before .before .before .before .before .before .before .before .before .before .before .before .before .before .before .args in let m = c .before .before .before .before .before .before .before .before .before .before .settle-move in (λ bk B lg w. lap-stops bk (a .log .now) (a .image .now) B lg (a .t) (a .work .now) (a .contents .now) (a .readers .now) (a .writers .now) w (m .result) (m .last .1 .0) (m .last .1 .1 .0) (m .last .1 .1 .1 .0) (c .before .before .before .before .before .before .before .before .before .before .before .before .before .before .before .before .bit-of .result) (c .before .before .before .before .before .before .before .before .before .before .before .before .before .before .before .before .bit-of .ensures (low bk (a .log .now) (a .image .now) B lg (a .t) (a .work .now) (a .contents .now) (a .readers .now) (a .writers .now) w)) (m .ensures .0) (c .before .before .if1 .taken) (c .before .triple .result) (c .before .triple .ensures) (c .ended .result) (c .ended .ensures .0) (c .ended .ensures .1) (a .work .now), (λ e. refl, λ few on. omega (arith, on, c .ended .ensures .2)))
+returns c = let a = c .before .before .before .before .before .before .before .before .before .before .before .before .before .before .before .before .before .before .before .before .before .args in let m = c .before .before .before .before .before .before .before .before .before .before .settle-move in (λ bk B lg w. lap-stops bk (a .log .now) (a .image .now) B lg (a .t) (a .work .now) (a .contents .now) (a .readers .now) (a .writers .now) w (m .result) (m .last .1 .0) (m .last .1 .1 .0) (m .last .1 .1 .1 .0) (c .before .before .before .before .before .before .before .before .before .before .before .before .before .before .before .before .bit-of .result) (c .before .before .before .before .before .before .before .before .before .before .before .before .before .before .before .before .bit-of .ensures (low bk (a .log .now) (a .image .now) B lg (a .t) (a .work .now) (a .contents .now) (a .readers .now) (a .writers .now) w)) (m .ensures) (c .before .before .if1 .taken) (c .before .triple .result) (c .before .triple .ensures) (c .ended .result) (c .ended .ensures .0) (c .ended .ensures .1) (a .work .now), (λ e. refl, λ few on. omega (arith, on, c .ended .ensures .2)))
 
 following-requires : tie.Need-following-requires
 following-requires c κs = search needs
@@ -46,7 +46,7 @@ same-length-6 : tie.Need-same-length-6
 same-length-6 c = search needs
 
 returns-2 : tie.Need-returns-2
-returns-2 c = let a = c .before .before .before .before .before .before .before .before .before .before .before .before .before .before .before .before .before .before .before .before .before .before .before .before .before .before .before .before .args in let m = c .before .before .before .before .before .before .before .before .before .before .before .before .before .before .before .before .before .settle-move in let n = c .before .before .walk-on in let f = c .before .before .before .before .before .before .before .following in (λ bk B lg w. lap-goes bk (a .log .now) (a .image .now) B lg (a .t) (a .work .now) (a .contents .now) (a .readers .now) (a .writers .now) w (m .result) (m .last .1 .0) (m .last .1 .1 .0) (m .last .1 .1 .1 .0) (c .before .before .before .before .before .before .before .before .before .before .before .before .before .before .before .before .before .before .before .before .before .before .before .bit-of .result) (c .before .before .before .before .before .before .before .before .before .before .before .before .before .before .before .before .before .before .before .before .before .before .before .bit-of .ensures (low bk (a .log .now) (a .image .now) B lg (a .t) (a .work .now) (a .contents .now) (a .readers .now) (a .writers .now) w)) (m .ensures .0) (c .before .before .before .before .before .before .before .before .before .if1 .left) (n .result) (n .last .1 .1 .1 .1 .1 .0) (n .last .1 .1 .0) (f .result) (f .ensures (low bk (a .log .now) (a .image .now) B lg (a .t) (a .work .now) (a .contents .now) (a .readers .now) (a .writers .now) w)) (n .ensures .0 bk B lg), (n .ensures .1 .0, λ few on. omega (arith, on, f .ensures few, n .ensures .1 .1)))
+returns-2 c = let a = c .before .before .before .before .before .before .before .before .before .before .before .before .before .before .before .before .before .before .before .before .before .before .before .before .before .before .before .before .args in let m = c .before .before .before .before .before .before .before .before .before .before .before .before .before .before .before .before .before .settle-move in let n = c .before .before .walk-on in let f = c .before .before .before .before .before .before .before .following in (λ bk B lg w. lap-goes bk (a .log .now) (a .image .now) B lg (a .t) (a .work .now) (a .contents .now) (a .readers .now) (a .writers .now) w (m .result) (m .last .1 .0) (m .last .1 .1 .0) (m .last .1 .1 .1 .0) (c .before .before .before .before .before .before .before .before .before .before .before .before .before .before .before .before .before .before .before .before .before .before .before .bit-of .result) (c .before .before .before .before .before .before .before .before .before .before .before .before .before .before .before .before .before .before .before .before .before .before .before .bit-of .ensures (low bk (a .log .now) (a .image .now) B lg (a .t) (a .work .now) (a .contents .now) (a .readers .now) (a .writers .now) w)) (m .ensures) (c .before .before .before .before .before .before .before .before .before .if1 .left) (n .result) (n .last .1 .1 .1 .1 .1 .0) (n .last .1 .1 .0) (f .result) (f .ensures (low bk (a .log .now) (a .image .now) B lg (a .t) (a .work .now) (a .contents .now) (a .readers .now) (a .writers .now) w)) (n .ensures .0 bk B lg), (n .ensures .1 .0, λ few on. omega (arith, on, f .ensures few, n .ensures .1 .1)))
 
 pub turn-on-spec : {M : Type 1} → statement M
 turn-on-spec =

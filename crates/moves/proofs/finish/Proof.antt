@@ -1,7 +1,4 @@
 -- `finish` meets its contract.
-use mathlib.Core.Path.{ap, _∙_}
-use Rattle.moves.specs.declared.Verdict.{Verdict}
-use Rattle.moves.proofs.Effect.{verdict-len}
 use borrow.Author.Needs.{needs}
 use Rattle.moves.proofs.finish.Statement.{statement}
 use Rattle.moves.proofs.finish.Tie as tie
@@ -25,7 +22,7 @@ returns : tie.Need-returns
 returns c =
     let s = c .before .before .before .before .before .before .before .before .before .settle in
     let e = c .before .before .close .ensures in
-    (λ h ls. record { outcome = s .result; settled = s .ensures h ls; verdict = e .0; readers = e .1 }, ap (λ (v : Verdict). v .len) (e .0) ∙ verdict-len _ (s .result))
+    λ h ls. record { outcome = s .result; settled = s .ensures h ls; verdict = e .0; readers = e .1 }
 
 pub finish-spec : {M : Type 1} → statement M
 finish-spec =

@@ -1,8 +1,5 @@
 -- `settle_move` meets its contract.
-use mathlib.Core.Path.{_≡_}
 use mathlib.Core.List.{[]}
-use native.Mathlib.Omega.{arith}
-use lib.ListN.{length}
 use borrow.Author.Needs.{needs}
 use Rattle.book.specs.Image.{book-in}
 use Rattle.moves.proofs.Effect.{refused-state, finished-state}
@@ -15,7 +12,7 @@ cast-t10 c = search needs
 returns : tie.Need-returns
 returns c =
     let a = c .before .before .before .before .before .before .args in
-    (λ k t h. refused-state (book-in (a .image .now) []) k (a .bit) t (a .s) (a .list .now) (a .contents .now) (a .readers .now) (a .writers .now) h (c .before .if1 .taken), omega arith)
+    λ k t h. refused-state (book-in (a .image .now) []) k (a .bit) t (a .s) (a .list .now) (a .contents .now) (a .readers .now) (a .writers .now) h (c .before .if1 .taken)
 
 within-requires : tie.Need-within-requires
 within-requires c κs = search needs
@@ -37,8 +34,7 @@ returns-2 c =
     let a = c .before .before .before .before .before .before .before .before .before .before .before .before .before .before .before .before .before .args in
     let f = c .before .before .before .before .before .before .finish in
     let m = c .before .before .before .before .before .before .before .before .before .before .within in
-    let long : length (a .list .now) ≡ 256 = search needs in
-    (λ k t h. finished-state (book-in (a .image .now) []) k (a .bit) t (a .s) (a .list .now) (a .contents .now) (a .readers .now) (a .writers .now) h (c .before .before .before .before .before .before .before .before .before .before .before .before .if1 .left) (m .result) (m .ensures) (f .result) (f .last .1 .0) (f .last .1 .1 .0) (f .last .1 .1 .1 .0) (f .ensures .0), omega (arith, f .ensures .1, m .ensures))
+    λ k t h. finished-state (book-in (a .image .now) []) k (a .bit) t (a .s) (a .list .now) (a .contents .now) (a .readers .now) (a .writers .now) h (c .before .before .before .before .before .before .before .before .before .before .before .before .if1 .left) (m .result) (m .ensures) (f .result) (f .last .1 .0) (f .last .1 .1 .0) (f .last .1 .1 .1 .0) (f .ensures)
 
 pub settle-move-spec : {M : Type 1} → statement M
 settle-move-spec =

@@ -49,7 +49,7 @@ returns-2 c =
     let t = c .before .before .before .before .before .before .before .before .before .before .total in
     let n = c .before .before .before .before .before .before .before .before .before .smaller in
     let m = c .before .before .before .before .settle-move in
-    λ text k i h. second-moves text (a .contents .now) k i (a .image .now) (a .work .now) (a .p) h (c .before .before .before .before .before .before .before .before .before .before .before .if1 .left) (t .result) (n .result) (t .ensures) (n .ensures) (m .result) (m .last .1 .0) (m .last .1 .1 .0) (m .last .1 .1 .1 .0) (m .ensures .0)
+    λ text k i h. second-moves text (a .contents .now) k i (a .image .now) (a .work .now) (a .p) h (c .before .before .before .before .before .before .before .before .before .before .before .if1 .left) (t .result) (n .result) (t .ensures) (n .ensures) (m .result) (m .last .1 .0) (m .last .1 .1 .0) (m .last .1 .1 .1 .0) (m .ensures)
 
 pub second-half-spec : {M : Type 1} → statement M
 second-half-spec =
