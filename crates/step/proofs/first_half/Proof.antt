@@ -19,7 +19,7 @@ returns c =
     let a = c .before .before .before .before .before .before .before .args in
     let o = c .before .before .before .«open» in
     let h = c .held-back in
-    let z : (o .result .number ≡ 0) → ⊥ = λ e. omega (arith, c .before .if1 .taken, e) in
+    let z : (o .result .number ≡ 0) → ⊥ = c .before .if1 .taken in
     halted-half (a .book .now) (a .contents .now) (a .agent) (a .lent) (o .last .1 .0) (a .work .now) (h .result) (o .result) (h .ensures .0) (h .ensures .1) z (refused-book (a .book .now) (a .contents .now) (a .work .now) (a .agent) (a .lent) (o .result) (o .ensures .0) z)
 
 check-call-requires : tie.Need-check-call-requires
@@ -34,15 +34,15 @@ returns-2 c =
     let o = c .before .before .before .before .before .before .before .«open» in
     let d = c .before .before .before .check-call in
     let h = c .held-back2 in
-    let z : (d .result .number ≡ 0) → ⊥ = λ e. omega (arith, c .before .if2 .taken, e) in
-    halted-half (a .book .now) (a .contents .now) (a .agent) (a .lent) (o .last .1 .0) (a .work .now) (h .result) (d .result) (h .ensures .0) (h .ensures .1) z (refused-call (a .book .now) (a .contents .now) (a .work .now) (a .agent) (a .lent) (o .last .1 .0) (o .ensures .1) (o .result) (o .ensures .0) (omega (arith, c .before .before .before .before .before .if1 .left)) (d .result) (d .ensures) z)
+    let z : (d .result .number ≡ 0) → ⊥ = c .before .if2 .taken in
+    halted-half (a .book .now) (a .contents .now) (a .agent) (a .lent) (o .last .1 .0) (a .work .now) (h .result) (d .result) (h .ensures .0) (h .ensures .1) z (refused-call (a .book .now) (a .contents .now) (a .work .now) (a .agent) (a .lent) (o .last .1 .0) (o .ensures .1) (o .result) (o .ensures .0) (c .before .before .before .before .before .if1 .left) (d .result) (d .ensures) z)
 
 cast-walk-first : tie.Need-cast-walk-first
 cast-walk-first c =
     let a = c .before .before .before .before .before .before .before .before .before .before .before .args in
     let o = c .before .before .before .before .before .before .before .«open» in
     let d = c .before .before .before .check-call in
-    let e = cleared (a .book .now) (a .contents .now) (a .work .now) (a .agent) (a .lent) (o .last .1 .0) (o .ensures .1) (o .result) (o .ensures .0) (omega (arith, c .before .before .before .before .before .if1 .left)) (d .result) (d .ensures) (omega (arith, c .before .if2 .left)) in
+    let e = cleared (a .book .now) (a .contents .now) (a .work .now) (a .agent) (a .lent) (o .last .1 .0) (o .ensures .1) (o .result) (o .ensures .0) (c .before .before .before .before .before .if1 .left) (d .result) (d .ensures) (c .before .if2 .left) in
     record { fits = omega (arith, e .passed .agent, agents-low (o .last .1 .0)) }
 
 walk-first-requires : tie.Need-walk-first-requires
@@ -50,7 +50,7 @@ walk-first-requires c κs =
     let a = c .before .before .before .before .before .before .before .before .before .before .before .before .args in
     let o = c .before .before .before .before .before .before .before .before .«open» in
     let d = c .before .before .before .before .check-call in
-    let e = cleared (a .book .now) (a .contents .now) (a .work .now) (a .agent) (a .lent) (o .last .1 .0) (o .ensures .1) (o .result) (o .ensures .0) (omega (arith, c .before .before .before .before .before .before .if1 .left)) (d .result) (d .ensures) (omega (arith, c .before .before .if2 .left)) in
+    let e = cleared (a .book .now) (a .contents .now) (a .work .now) (a .agent) (a .lent) (o .last .1 .0) (o .ensures .1) (o .result) (o .ensures .0) (c .before .before .before .before .before .before .if1 .left) (d .result) (d .ensures) (c .before .before .if2 .left) in
     (e .passed .long, e .ready)
 
 returns-3 : tie.Need-returns-3
@@ -58,7 +58,7 @@ returns-3 c =
     let a = c .before .before .before .before .before .before .before .before .before .before .before .before .before .args in
     let o = c .before .before .before .before .before .before .before .before .before .«open» in
     let d = c .before .before .before .before .before .check-call in
-    let e = cleared (a .book .now) (a .contents .now) (a .work .now) (a .agent) (a .lent) (o .last .1 .0) (o .ensures .1) (o .result) (o .ensures .0) (omega (arith, c .before .before .before .before .before .before .before .if1 .left)) (d .result) (d .ensures) (omega (arith, c .before .before .before .if2 .left)) in
+    let e = cleared (a .book .now) (a .contents .now) (a .work .now) (a .agent) (a .lent) (o .last .1 .0) (o .ensures .1) (o .result) (o .ensures .0) (c .before .before .before .before .before .before .before .if1 .left) (d .result) (d .ensures) (c .before .before .before .if2 .left) in
     let w = c .walk-first in
     walked-half (a .book .now) (a .contents .now) (a .agent) (a .lent) (o .last .1 .0) (w .last .1 .1 .1 .0) (w .result) (w .ensures .0 .0) (w .ensures .0 .1) (e .passed .records) (w .ensures .1) (e .moved)
 
