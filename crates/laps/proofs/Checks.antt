@@ -1,63 +1,27 @@
--- The checks before the first move: what each answers, what passing them shows, and the call where one of them refuses.
+-- The checks before the first move: what passing them shows, and the call where one of them refuses.
 use mathlib.Core.Path.{_≡_, refl, sym, ap, subst, _∙_}
 use mathlib.Core.Logic.{_≢_}
 use mathlib.Core.Bool.{false, _&&_}
 use mathlib.Core.List.{List, []}
-use Prim.Native.Nat.{ℕ, _+_, _≤_, _<_}
+use Prim.Native.Nat.{ℕ, _+_, _<_}
 use native.Mathlib.Omega.{arith}
-use borrow.Author.Tests.{ltb-true, not-false, lt-ltb, le-ltb, lt-leb, le-leb}
+use borrow.Author.Tests.{ltb-true, not-false}
 use lib.Dec.{eqb, ltb}
 use lib.ListN.{length}
 use Rattle.text.specs.declared.Answer.{Answer}
 use Rattle.text.specs.declared.Line.{Line}
 use Rattle.text.specs.Text.{line}
-use Rattle.text.specs.Words.{Checked, good, refused, _>>=_, _>>_, least, none-at, must, answer-of}
+use Rattle.text.specs.Words.{Checked, good, refused, _>>=_, _>>_, least, none-at, answer-of}
 use Rattle.text.specs.Refusals.{log-line}
 use Rattle.text.proofs.Words.{and-cases, least-none, getD-table, length-table-from, bind-good, then-good, found-good, good-same}
-use Rattle.book.specs.Book.{Book, L, start}
+use Rattle.book.specs.Book.{Book, start}
 use Rattle.book.specs.Check.{check-book}
-use Rattle.book.specs.Image.{word, book-in}
-use Rattle.book.proofs.Image.{agents-long}
 use Rattle.order.specs.Log.{Log, no-input, move-at, bad-move, bad-pair, input-of, log-of, check-agents, check-log-header, check-log-text, check-log-lines, check-log}
 use Rattle.order.specs.Run.{run-log}
-use Rattle.order.specs.Call.{Lengths, Tables, lengths, check-lent, check-all, left-in, log-answer, log-call}
+use Rattle.order.specs.Call.{Tables, lengths, check-lent, check-all, left-in, log-answer, log-call}
 use Rattle.order.specs.Lists.{lists-from, lists-of, call-lists}
 use Rattle.order.proofs.Numbers.{Early, off, all-early}
 use Rattle.laps.specs.Turns.{answered}
-
-abbrev triple : ℕ → ℕ → ℕ → Answer
-triple n p q = record { number = n; p = p; q = q }
-
--- ---- the agents of an image
-
-pub few-agents : (m : List ℕ) (n : ℕ) → n ≡ word m 4 → n < 16 → n ≡ length (book-in m [] .agents)
-few-agents m n e h = let k : word m 4 < 16 = rw e at h in e ∙ sym (agents-long m [] ∙ rw (lt-ltb (word m 4) 16 k))
-
-pub many-agents : (m : List ℕ) (n : ℕ) → n ≡ word m 4 → 16 ≤ n → 16 ≡ length (book-in m [] .agents)
-many-agents m n e h = let k : 16 ≤ word m 4 = rw e at h in sym (agents-long m [] ∙ rw (le-ltb (word m 4) 16 k))
-
--- ---- 2
-
-module _ (B : Book) (n : Lengths) (all : ℕ) (e : L B ≡ all) where
-  pub lent-0 : n .contents < all → triple 2 all 0 ≡ answer-of (check-lent B n)
-  unfolding check-lent _>>_ must
-  lent-0 h = rw (e, lt-leb all (n .contents) h)
-
-  pub lent-1 : all ≤ n .contents → n .readers < all → triple 2 all 1 ≡ answer-of (check-lent B n)
-  unfolding check-lent _>>_ must
-  lent-1 g h = rw (e, le-leb all (n .contents) g, lt-leb all (n .readers) h)
-
-  pub lent-2 : all ≤ n .contents → all ≤ n .readers → n .writers < all → triple 2 all 2 ≡ answer-of (check-lent B n)
-  unfolding check-lent _>>_ must
-  lent-2 f g h = rw (e, le-leb all (n .contents) f, le-leb all (n .readers) g, lt-leb all (n .writers) h)
-
-  pub lent-3 : all ≤ n .contents → all ≤ n .readers → all ≤ n .writers → n .instructions < 256 → triple 2 256 3 ≡ answer-of (check-lent B n)
-  unfolding check-lent _>>_ must
-  lent-3 d f g h = rw (e, le-leb all (n .contents) d, le-leb all (n .readers) f, le-leb all (n .writers) g, lt-leb 256 (n .instructions) h)
-
-  pub lent-all : all ≤ n .contents → all ≤ n .readers → all ≤ n .writers → 256 ≤ n .instructions → triple 0 0 0 ≡ answer-of (check-lent B n)
-  unfolding check-lent _>>_ must
-  lent-all d f g h = rw (e, le-leb all (n .contents) d, le-leb all (n .readers) f, le-leb all (n .writers) g, le-leb 256 (n .instructions) h)
 
 -- ---- the agents of a log's moves
 

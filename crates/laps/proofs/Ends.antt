@@ -1,11 +1,9 @@
--- The run of texts that passed their checks: from the start, by the book that the image holds, to 17.
+-- The run of texts that passed their checks: from the start, by the book that the image holds, to its end.
 use mathlib.Core.Path.{_≡_, refl, sym, ap, subst, _∙_}
-use mathlib.Core.Bool.{true, false, true≢false, false≢true}
-use mathlib.Core.List.{List, [], _++_, append-nil}
+use mathlib.Core.List.{List, []}
 use Prim.Native.Nat.{ℕ, zero, suc, _<_}
 use native.Mathlib.Omega.{arith}
-use lib.ListN.{length, getD, drop, replicate}
-use lib.Seq.{drop-length}
+use lib.ListN.{length, replicate}
 use Rattle.text.specs.declared.Answer.{Answer}
 use Rattle.book.specs.Book.{Book, L, start}
 use Rattle.book.specs.Bare.{bare}
@@ -16,57 +14,14 @@ use Rattle.book.proofs.Start.{start-sound}
 use Rattle.book.proofs.Bare.{bare-image, sound-bare, lawful-bare}
 use Rattle.engine.specs.Move.{Input, walked, move}
 use Rattle.engine.proofs.Entries.{walked-bare, move-bare}
-use Rattle.order.specs.Pairs.{rows, TwoFound, no-two, two, least-two}
+use Rattle.order.specs.Pairs.{TwoFound, no-two, two}
 use Rattle.order.specs.Log.{Log, move-at}
 use Rattle.order.specs.Run.{Run, Ran, ran, halted, next, run, touching, order-checked, finish, run-from, run-log}
 use Rattle.order.specs.Lists.{lists-after, lists-from}
 use Rattle.log.proofs.Stages.{passed-log}
-use Rattle.touch.specs.declared.Two.{Two}
-use Rattle.touch.specs.Marked.{unordered-marked, clipped, two-of}
-use Rattle.touch.proofs.Fired.{touching-fired}
-use Rattle.laps.specs.Turns.{log-in, Holds, answered, RowsOf, Passed}
+use Rattle.ends.specs.Ends.{Holds}
+use Rattle.laps.specs.Turns.{log-in, answered, Passed}
 use Rattle.laps.proofs.Checks.{agents-low}
-use Rattle.laps.proofs.Marks.{length-readers, length-writers}
-
--- ---- clearing, and the start
-
--- a list filled with 0 to its end
-pub cleared : (s t : List ℕ) (i : ℕ) → i ≡ length s → t ≡ replicate i 0 ++ drop i s → t ≡ replicate (length s) 0
-cleared s t i e q = q ∙ rw (e, drop-length s) (append-nil (replicate (length s) 0))
-
-pub only-start : (B : Book) (c d : List ℕ) → length c ≡ L B → d ≡ start B ++ drop (L B) c → d ≡ start B
-only-start B c d e q = q ∙ rw (← e, drop-length c) (append-nil (start B))
-
--- ---- 17
-
-module _ (B : Book) (g : Log) (s : Run) (c R W order : List ℕ) (m : ℕ) (moves : m ≡ length (g .moves)) (ordered : RowsOf g order) (marks : Holds B s c R W) where
-  found : least-two (unordered-marked order R W (clipped R W (length R))) m ≡ touching B g (s .fired)
-  found =
-      let r : length R ≡ L B = ap length (marks .readers) ∙ length-readers (L B) (s .fired) in
-      let w : length W ≡ L B = ap length (marks .writers) ∙ length-writers (L B) (s .fired) in
-      ap (λ (k : ℕ). least-two (unordered-marked order R W (clipped R W k)) m) r
-      ∙ ap (λ (k : ℕ). least-two (unordered-marked order R W (clipped R W (L B))) k) moves
-      ∙ touching-fired (L B) (s .fired) order (rows (g .pairs) (length (g .moves))) R W ordered
-      (λ l h. ap (λ (x : List ℕ). getD x l 0) (marks .readers)) (λ l h. ap (λ (x : List ℕ). getD x l 0) (marks .writers))
-      (length (g .moves)) (omega (arith, r)) (omega (arith, w))
-
-  module _ (p : Two) (is : p ≡ two-of (least-two (unordered-marked order R W (clipped R W (length R))) m)) (r : Answer) where
-    known : p ≡ two-of (touching B g (s .fired))
-    known = is ∙ ap two-of found
-
-    pub order-some : p .found ≡ true → r ≡ record { number = 17; p = p .first; q = p .second } → r ≡ order-checked B s (touching B g (s .fired)) .answer
-    order-some f e = go (touching B g (s .fired)) known
-      where
-        go : (o : TwoFound) → p ≡ two-of o → r ≡ order-checked B s o .answer
-        go no-two k = absurd (true≢false (sym f ∙ ap (λ (x : Two). x .found) k))
-        go (two i j) k = e ∙ rw k
-
-    pub order-none : p .found ≡ false → r ≡ record { number = 0; p = 0; q = 0 } → r ≡ order-checked B s (touching B g (s .fired)) .answer
-    order-none f e = go (touching B g (s .fired)) known
-      where
-        go : (o : TwoFound) → p ≡ two-of o → r ≡ order-checked B s o .answer
-        go no-two k = e
-        go (two i j) k = absurd (false≢true (sym f ∙ ap (λ (x : Two). x .found) k))
 
 -- ---- the book that the image holds has no entries, which does not matter to the moves
 

@@ -28,7 +28,8 @@ use Rattle.log.proofs.Pass.{agent-at}
 use Rattle.moves.specs.Count.{given-of}
 use Rattle.moves.proofs.Count.{made-of}
 use Rattle.laps.specs.declared.Turn.{Turn}
-use Rattle.laps.specs.Turns.{log-in, Holds, answered}
+use Rattle.ends.specs.Ends.{Holds}
+use Rattle.laps.specs.Turns.{log-in, answered}
 use Rattle.laps.specs.Laps.{Before, Walking, Stage}
 use Rattle.laps.proofs.Turns.{halts, going-fit, going-on, going-off}
 use Rattle.laps.proofs.Ends.{lawful-in, moves-in, agents-in, ends-halted, ends-ran}

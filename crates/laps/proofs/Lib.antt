@@ -1,4 +1,3 @@
-pub mod Marks
 pub mod Turns
 pub mod Checks
 pub mod Ends

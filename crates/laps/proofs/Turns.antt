@@ -16,8 +16,9 @@ use Rattle.moves.specs.Effect.{Tables, left, number-of, q-of, Fit, Effect, tabl
 use Rattle.order.specs.Log.{Log, move-at}
 use Rattle.order.specs.Run.{Run, halted, moved, run, readers}
 use Rattle.order.proofs.Marks.{run-left}
-use Rattle.laps.specs.Turns.{Holds, Going}
-use Rattle.laps.proofs.Marks.{readers-more, writers-more, readers-below, readers-none, writers-none}
+use Rattle.ends.specs.Ends.{Holds}
+use Rattle.laps.specs.Turns.{Going}
+use Rattle.ends.proofs.Marks.{readers-more, writers-more, readers-below, readers-none, writers-none}
 
 module _ (B : Book) (g : Log) (c : List ℕ) where
   pub going-start : (rs ws : List ℕ) → Sound B c → rs ≡ replicate (L B) 0 → ws ≡ replicate (L B) 0 → Going B g c 0 c rs ws

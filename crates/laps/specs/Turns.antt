@@ -3,7 +3,7 @@
 use mathlib.Core.Path.{_≡_}
 use mathlib.Core.List.{List}
 use Prim.Native.Nat.{ℕ}
-use lib.ListN.{length, getD}
+use lib.ListN.{length}
 use Rattle.text.specs.declared.Answer.{Answer}
 use Rattle.text.specs.Words.{good}
 use Rattle.text.specs.Text.{line}
@@ -11,10 +11,10 @@ use Rattle.book.specs.Book.{Book, L}
 use Rattle.book.specs.Check.{check-book}
 use Rattle.book.specs.Image.{book-in}
 use Rattle.book.specs.Sound.{Sound}
-use Rattle.order.specs.Pairs.{rows}
 use Rattle.order.specs.Log.{Log, log-of, check-log}
-use Rattle.order.specs.Run.{Run, ran, run, readers, writers, LogAnswer}
+use Rattle.order.specs.Run.{Run, ran, run, LogAnswer}
 use Rattle.order.specs.Call.{Tables}
+use Rattle.ends.specs.Ends.{Holds, RowsOf}
 
 -- the log that a text says
 abbrev pub log-in : List ℕ → Log
@@ -28,12 +28,6 @@ answered r c rs ws = record { answer = r; contents = c; readers = rs; writers = 
 
 -- ---- the moves in turn
 
--- the tables are those of a run: its contents, and the marks of the moves that fired
-pub record Holds (B : Book) (s : Run) (c rs ws : List ℕ) : Type 0 where
-  pub contents : c ≡ s .contents
-  pub readers : rs ≡ readers (L B) (s .fired)
-  pub writers : ws ≡ writers (L B) (s .fired)
-
 -- from the contents c the first i moves have fired, and left the contents d and these marks
 pub record Going (B : Book) (g : Log) (c : List ℕ) (i : ℕ) (d rs ws : List ℕ) : Type 0 where
   pub state : Run
@@ -42,10 +36,6 @@ pub record Going (B : Book) (g : Log) (c : List ℕ) (i : ℕ) (d rs ws : List �
   pub tables : Holds B state d rs ws
 
 -- ---- before them
-
--- the order of a log, as rows
-abbrev pub RowsOf : Log → List ℕ → Type 0
-RowsOf g order = (j : ℕ) → getD order j 0 ≡ getD (rows (g .pairs) (length (g .moves))) j 0
 
 -- The texts b and l passed their checks: they say the book B, which the image m holds, and the log g, of n moves and of that order
 pub record Passed (b l m : List ℕ) (n : ℕ) (order : List ℕ) (B : Book) (g : Log) : Type 0 where

@@ -5,107 +5,15 @@ ghost use mathlib.Core.Path.{_≡_};
 ghost use mathlib.Core.Bool.{false};
 ghost use mathlib.Core.List.{List, [], _∷_};
 ghost use Prim.Native.Nat.{ℕ, suc, _+_, _-_, _^_, _<_, _≤_, min};
-ghost use lib.ListN.{length, replicate};
-ghost use Rattle.text.specs.Words.{good, answer-of};
-ghost use Rattle.book.specs.Book.{Book, L, start};
-ghost use Rattle.book.specs.Check.{check-book};
+ghost use lib.ListN.{length};
+ghost use Rattle.book.specs.Book.{Book, start};
 ghost use Rattle.book.specs.Image.{book-in};
 ghost use Rattle.engine.specs.declared.Instruction.{Instruction};
 ghost use Rattle.order.specs.Log.{Log};
-ghost use Rattle.order.specs.Run.{Run, touching, order-checked};
-ghost use Rattle.order.specs.Call.{Tables, check-lent};
+ghost use Rattle.order.specs.Call.{Tables};
 ghost use Rattle.order.specs.Lists.{lists-from, call-lists};
-ghost use Rattle.laps.specs.Turns.{log-in, Holds, RowsOf, Passed, Long, tables};
+ghost use Rattle.laps.specs.Turns.{log-in, Passed, Long, tables};
 ghost use Rattle.laps.specs.Laps.{Before, Walking, Stage, Lap, moves-left};
-
-// The least number of instruction records lent.
-const MOST_INSTRUCTIONS: usize = 256;
-
-// The lent tables, as the q of a 2.
-const CONTENTS: u32 = 0;
-
-const READERS: u32 = 1;
-
-const WRITERS: u32 = 2;
-
-const INSTRUCTIONS: u32 = 3;
-
-// Number and place; 0 0 0 when accepted.
-fn triple(number: u32, p: u32, q: u32) -> Answer
-    ensures { λ r. ⌜ r ≡ record { number = number; p = p; q = q } ⌝ }
-{
-    Answer { number, p, q }
-}
-
-// ---- before and after the moves
-
-// How many agents there are.
-fn agents(image: &[u16; 4296]) -> u32
-    ensures { λ r. ⌜ r ≡ length (book-in (now (image .entry)) [] .agents) ⌝ }
-{
-    let n = table::word(image, 4);
-    if n < 16 { n as u32 } else { 16 }
-}
-
-// 2, lowest table first.
-fn check_lent(all: u32, contents: usize, readers: usize, writers: usize, lent: usize) -> Answer
-    ensures { λ r. ⌜ ((B : Book) → L B ≡ all → r ≡ answer-of (check-lent B (record { contents = contents; readers = readers; writers = writers; instructions = lent }))) ⌝ }
-    ensures { λ r. ⌜ (r .number ≡ 0 → (all ≤ contents) × (all ≤ readers) × (all ≤ writers) × (256 ≤ lent)) ⌝ }
-{
-    if contents < all as usize {
-        return triple(text::LENT_SHORT, all, CONTENTS);
-    }
-    if readers < all as usize {
-        return triple(text::LENT_SHORT, all, READERS);
-    }
-    if writers < all as usize {
-        return triple(text::LENT_SHORT, all, WRITERS);
-    }
-    if lent < MOST_INSTRUCTIONS {
-        return triple(text::LENT_SHORT, 256, INSTRUCTIONS);
-    }
-    triple(0, 0, 0)
-}
-
-// No location has a mark.
-fn clear(marks: &mut [u64])
-    ensures { λ _. ⌜ now (marks .exit) ≡ replicate (length (now (marks .entry))) 0 ⌝ }
-{
-    let mut i: usize = 0;
-    while i < marks.len() {
-        marks[i] = 0;
-        i += 1;
-    }
-}
-
-// The start of a run, with no marks.
-fn begin(
-    book: &[u8],
-    image: &[u16; 4296],
-    contents: &mut [u16],
-    readers: &mut [u64],
-    writers: &mut [u64],
-)
-    ensures { λ _. ⌜ ((B : Book) → check-book (now (book .entry)) ≡ good B → book-in (now (image .entry)) (B .entries) ≡ B → length (now (contents .entry)) ≡ L B → now (contents .exit) ≡ start B) ⌝ }
-    ensures { λ _. ⌜ (now (readers .exit) ≡ replicate (length (now (readers .entry))) 0) × (now (writers .exit) ≡ replicate (length (now (writers .entry))) 0) ⌝ }
-{
-    start::write_start(book, image, contents);
-    clear(readers);
-    clear(writers);
-}
-
-// 17.
-fn check_order(readers: &[u64], writers: &[u64], rows: &[u64; 64], moves: u32) -> Answer
-    ensures { λ r. ⌜ ((B : Book) (g : Log) (s : Run) (c : List ℕ) → moves ≡ length (g .moves) → RowsOf g (now (rows .entry)) → Holds B s c (now (readers .entry)) (now (writers .entry)) → r ≡ order-checked B s (touching B g (s .fired)) .answer) ⌝ }
-{
-    let pair = touch::touching(readers, writers, rows, moves, readers.len());
-    if !pair.found {
-        return triple(0, 0, 0);
-    }
-    triple(text::UNORDERED_TOUCH, pair.first, pair.second)
-}
-
-// ---- a run's laps: a move's walk, and its firing with the next one's walk
 
 // How far a run is: a move's walk has given its instructions, or all is over, with its answer.
 pub struct Turn {
@@ -170,7 +78,7 @@ fn walk_on(
         let bit = bit_of(i);
         let s = walk::gather(image, contents, readers, bit, work, agent);
         let count = moves::given(s);
-        let none = triple(0, 0, 0);
+        let none = ends::triple(0, 0, 0);
         return Turn {
             more: true,
             count: count,
@@ -181,7 +89,7 @@ fn walk_on(
             rows: rows,
         };
     }
-    let answer = check_order(readers, writers, &rows, moves);
+    let answer = ends::check_order(readers, writers, &rows, moves);
     ended(answer)
 }
 
@@ -204,7 +112,7 @@ fn turn_on(
     let s = t.walk;
     let v = moves::settle_move(image, contents, readers, writers, bit, work, s);
     if v.number != 0 {
-        return ended(triple(v.number, i, v.q));
+        return ended(ends::triple(v.number, i, v.q));
     }
     let rows = t.rows;
     let next = following(i);
@@ -245,7 +153,7 @@ fn start_on(
 ) -> Turn
     ensures { λ r. ⌜ ((B : Book) (g : Log) → moves ≤ 64 → Passed (now (book .entry)) (now (log .entry)) (now (image .entry)) moves rows B g → Long B (now (contents .entry)) (now (readers .entry)) (now (writers .entry)) → Stage (now (book .entry)) (now (log .entry)) (now (image .entry)) B g (lists-from (book-in (now (image .entry)) []) (log-in (now (log .entry))) (start B) moves 0) r (now (work .exit)) (now (contents .exit)) (now (readers .exit)) (now (writers .exit))) ⌝ }
 {
-    begin(book, image, contents, readers, writers);
+    ends::begin(book, image, contents, readers, writers);
     walk_on(log, contents, readers, writers, image, work, rows, moves, 0)
 }
 
@@ -266,13 +174,13 @@ pub fn first_lap(
     if opened.number != 0 {
         return ended(opened);
     }
-    let checked = log::check_log(log, agents(image));
+    let checked = log::check_log(log, ends::agents(image));
     let listed = checked.answer;
     if listed.number != 0 {
         return ended(listed);
     }
     let all = table::total(image);
-    let short = check_lent(all, contents.len(), readers.len(), writers.len(), lent);
+    let short = ends::check_lent(all, contents.len(), readers.len(), writers.len(), lent);
     if short.number != 0 {
         return ended(short);
     }

@@ -1,8 +1,8 @@
 -- `agents` meets its contract.
-use Rattle.laps.proofs.Checks.{few-agents, many-agents}
+use Rattle.ends.proofs.Ends.{few-agents, many-agents}
 use borrow.Author.Needs.{needs}
-use Rattle.laps.proofs.agents.Statement.{statement}
-use Rattle.laps.proofs.agents.Tie as tie
+use Rattle.ends.proofs.agents.Statement.{statement}
+use Rattle.ends.proofs.agents.Tie as tie
 
 word-requires : tie.Need-word-requires
 word-requires c κs = search needs

@@ -1,9 +1,9 @@
 -- `check_order` meets its contract.
 use borrow.Author.Tests.{not-true, not-false}
-use Rattle.laps.proofs.Ends.{order-some, order-none}
+use Rattle.ends.proofs.Ends.{order-some, order-none}
 use borrow.Author.Needs.{needs}
-use Rattle.laps.proofs.check_order.Statement.{statement}
-use Rattle.laps.proofs.check_order.Tie as tie
+use Rattle.ends.proofs.check_order.Statement.{statement}
+use Rattle.ends.proofs.check_order.Tie as tie
 
 touching-requires : tie.Need-touching-requires
 touching-requires c κs = search needs

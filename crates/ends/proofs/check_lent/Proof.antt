@@ -3,10 +3,10 @@ use mathlib.Core.Path.{_∙_, ap}
 use native.Mathlib.Omega.{arith}
 use Rattle.text.specs.declared.Answer.{Answer}
 use Rattle.order.specs.Call.{Lengths}
-use Rattle.laps.proofs.Checks.{lent-0, lent-1, lent-2, lent-3, lent-all}
+use Rattle.ends.proofs.Ends.{lent-0, lent-1, lent-2, lent-3, lent-all}
 use borrow.Author.Needs.{needs}
-use Rattle.laps.proofs.check_lent.Statement.{statement}
-use Rattle.laps.proofs.check_lent.Tie as tie
+use Rattle.ends.proofs.check_lent.Statement.{statement}
+use Rattle.ends.proofs.check_lent.Tie as tie
 
 triple-requires : tie.Need-triple-requires
 triple-requires c κs = search needs

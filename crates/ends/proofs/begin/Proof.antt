@@ -1,9 +1,9 @@
 -- `begin` meets its contract.
 use native.Mathlib.Omega.{arith}
-use Rattle.laps.proofs.Ends.{only-start}
+use Rattle.ends.proofs.Ends.{only-start}
 use borrow.Author.Needs.{needs}
-use Rattle.laps.proofs.begin.Statement.{statement}
-use Rattle.laps.proofs.begin.Tie as tie
+use Rattle.ends.proofs.begin.Statement.{statement}
+use Rattle.ends.proofs.begin.Tie as tie
 
 write-start-requires : tie.Need-write-start-requires
 write-start-requires c κs = search needs

@@ -5,10 +5,10 @@ use Prim.Native.Nat.{_-_, _≤_}
 use native.Mathlib.Omega.{arith}
 use borrow.Author.Fill.{fill-none, fill-more}
 use lib.ListN.{length, length-set, drop, replicate}
-use Rattle.laps.proofs.Ends.{cleared}
+use Rattle.ends.proofs.Ends.{cleared}
 use borrow.Author.Needs.{needs}
-use Rattle.laps.proofs.clear.Statement.{statement}
-use Rattle.laps.proofs.clear.Tie as tie
+use Rattle.ends.proofs.clear.Statement.{statement}
+use Rattle.ends.proofs.clear.Tie as tie
 
 abbrev Inv-loop : tie.InvT-loop
 Inv-loop marks₀ i₀ marks i = (i ≤ length marks₀) × (length marks ≡ length marks₀) × (marks ≡ replicate i 0 ++ drop i marks₀)
