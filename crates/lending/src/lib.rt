@@ -32,5 +32,5 @@ pub fn run_alone(
 {
     let none = blank();
     let mut list = [none; 256];
-    run::run(book, log, contents, readers, writers, &mut list)
+    lent_run::run(book, log, contents, readers, writers, &mut list)
 }

@@ -1,17 +1,13 @@
-// A log's run: the call, with the instructions by value, through a lent list, and for C.
-use engine::Record;
+// A log's run: the call, with the instructions by value, and for C.
 use records::Outcome;
 use records::Told;
-use text::Answer;
 ghost use mathlib.Core.Path.{_≡_};
 ghost use Prim.Native.Nat.{_≤_};
-ghost use lib.ListN.{length};
 ghost use Rattle.records.specs.Code.{items};
 ghost use Rattle.records.specs.Items.{listed};
 ghost use Rattle.order.specs.Call.{log-call};
 ghost use Rattle.order.specs.Demand.{Demand3};
-ghost use Rattle.order.specs.Lists.{call-lists, log-listed};
-ghost use Rattle.lent.specs.Written.{all-written};
+ghost use Rattle.order.specs.Lists.{log-listed};
 ghost use Rattle.laps.specs.Turns.{tables, answered};
 ghost use Rattle.run.specs.ForC.{tables-of, packed};
 
@@ -68,39 +64,6 @@ pub fn run_core(
     let mut list = [0u64; 256];
     let t = run_into(book, log, contents, readers, writers, lent, &mut list);
     records::with_list(t, &list)
-}
-
-// A log's run: a book, a log, the tables, and a list of instruction records. Each move's
-// instructions are written into the list, and the move is fired by what is read from there.
-pub fn run(
-    book: &[u8],
-    log: &[u8],
-    contents: &mut [u16],
-    readers: &mut [u64],
-    writers: &mut [u64],
-    instructions: &mut [Record],
-) -> Answer
-    ensures { λ r. ⌜ (answered r (now (contents .exit)) (now (readers .exit)) (now (writers .exit)) ≡ log-call (now (book .entry)) (now (log .entry)) (tables (now (contents .entry)) (now (readers .entry)) (now (writers .entry))) (length (now (instructions .entry)))) × (now (instructions .exit) ≡ all-written (call-lists (now (book .entry)) (now (log .entry)) (tables (now (contents .entry)) (now (readers .entry)) (now (writers .entry))) (length (now (instructions .entry)))) (now (instructions .entry))) × Demand3 (now (book .entry)) (now (log .entry)) (tables (now (contents .entry)) (now (readers .entry)) (now (writers .entry))) (length (now (instructions .entry))) ⌝ }
-{
-    let lent = instructions.len();
-    let mut image = [0u16; 4296];
-    let mut work = [0u64; 256];
-    let mut t = laps::first_lap(
-        book,
-        log,
-        contents,
-        readers,
-        writers,
-        lent,
-        &mut image,
-        &mut work,
-    );
-    while t.more {
-        let count = t.count;
-        lent::pass(instructions, &mut work, count);
-        t = laps::next_lap(log, contents, readers, writers, &image, &mut work, t);
-    }
-    t.answer
 }
 
 // The answer for C: number × 2^48 + p × 2^24 + q.

@@ -1,128 +1,12 @@
-// The single-move entry: a book's checks, then 9, 2 and 8, then an agent's move as move 0.
-use engine::Record;
+// A single move: a book's checks, then 9, 2 and 8, then an agent's move as move 0; with the instructions by value, and for C.
 use records::Outcome;
 use records::Told;
-use text::Answer;
-use walk::State;
 ghost use mathlib.Core.Path.{_≡_};
-ghost use mathlib.Core.List.{List, []};
-ghost use Prim.Native.Nat.{ℕ, _<_, _≤_, min};
-ghost use lib.ListN.{length, take};
-ghost use Rattle.book.specs.Book.{L};
-ghost use Rattle.book.specs.Image.{book-in};
+ghost use Prim.Native.Nat.{_≤_};
 ghost use Rattle.engine.specs.Single.{step-call};
 ghost use Rattle.records.specs.Items.{listed};
-ghost use Rattle.lent.specs.Written.{written};
-ghost use Rattle.moves.specs.Count.{given-of};
-ghost use Rattle.step.specs.Halves.{On, Halfway};
-ghost use Rattle.step.specs.Stages.{Ready, Tells, packed};
-
-// ---- the call in two halves, between which the instructions may go through a lent list
-
-// A call up to the list: its answer if it is refused before the move, else how the move's walk
-// ended; and how many instructions there are.
-struct Paused {
-    answer: Answer,
-    walk: State,
-    count: usize,
-}
-
-fn held_back(a: Answer) -> Paused
-    ensures { λ r. ⌜ (r .answer ≡ a) × (r .count ≡ 0) ⌝ }
-{
-    let none = State {
-        len: 0,
-        label: 0,
-        refused: 0,
-        node: 0,
-    };
-    Paused {
-        answer: a,
-        walk: none,
-        count: 0,
-    }
-}
-
-// The walk of the move, on the first L records of a lent table.
-fn walk_first(image: &[u16; 4296], contents: &[u16], agent: u32, work: &mut [u64; 256]) -> Paused
-    requires { ⌜ (L (book-in (now image) []) ≤ length (now contents)) × (Ready (book-in (now image) []) (take (L (book-in (now image) [])) (now contents)) agent) ⌝ }
-    ensures { λ r. ⌜ (r .answer .number ≡ 0) × (r .count ≡ given-of (r .walk)) ⌝ }
-    ensures { λ r. ⌜ On (book-in (now (image .entry)) []) (now (contents .entry)) agent (now (work .exit)) (r .walk) ⌝ }
-{
-    let all = table::total(image) as usize;
-    let mut readers = [0u64; 1];
-    let s = walk::gather(image, &contents[..all], &mut readers[..0], 1, work, agent);
-    let none = Answer {
-        number: 0,
-        p: 0,
-        q: 0,
-    };
-    let count = moves::given(s);
-    Paused {
-        answer: none,
-        walk: s,
-        count: count,
-    }
-}
-
-// The checks, and the walk of the move.
-fn first_half(
-    book: &[u8],
-    contents: &[u16],
-    agent: usize,
-    lent: usize,
-    image: &mut [u16; 4296],
-    work: &mut [u64; 256],
-) -> Paused
-    ensures { λ r. ⌜ Halfway (now (book .entry)) (now (contents .entry)) agent lent (now (image .exit)) (now (work .exit)) r ⌝ }
-{
-    let a = open::open(book, image);
-    if a.number != 0 {
-        return held_back(a);
-    }
-    let b = calls::check_call(image, contents, agent, lent);
-    if b.number != 0 {
-        return held_back(b);
-    }
-    walk_first(image, contents, agent as u32, work)
-}
-
-fn smaller(a: usize, b: usize) -> usize
-    ensures { λ r. ⌜ r ≡ min a b ⌝ }
-{
-    if a < b { a } else { b }
-}
-
-// The rest of the move, by the instructions that came back from the list.
-fn second_half(contents: &mut [u16], image: &[u16; 4296], work: &[u64; 256], p: Paused) -> Answer
-    ensures { λ r. ⌜ ((text : List ℕ) (k n : ℕ) → Halfway text (now (contents .entry)) k n (now (image .entry)) (now (work .entry)) p → Tells (record { answer = r; len = p .count }) (now (work .entry)) (now (contents .exit)) (step-call text (now (contents .entry)) k n)) ⌝ }
-{
-    let a = p.answer;
-    if a.number != 0 {
-        return a;
-    }
-    let all = table::total(image) as usize;
-    let n = smaller(all, contents.len());
-    let s = p.walk;
-    let mut readers = [0u64; 1];
-    let mut writers = [0u64; 1];
-    let v = moves::settle_move(
-        image,
-        &mut contents[..n],
-        &mut readers[..0],
-        &mut writers[..0],
-        1,
-        work,
-        s,
-    );
-    Answer {
-        number: v.number,
-        p: 0,
-        q: v.q,
-    }
-}
-
-// ---- the entries
+ghost use Rattle.halves.specs.Stages.{Tells};
+ghost use Rattle.step.specs.ForC.{packed};
 
 // The call, its instructions left in the list as numbers.
 fn step_into(
@@ -136,9 +20,9 @@ fn step_into(
     ensures { λ r. ⌜ r .len ≤ lent ⌝ }
 {
     let mut image = [0u16; 4296];
-    let p = first_half(book, contents, agent, lent, &mut image, list);
+    let p = halves::first_half(book, contents, agent, lent, &mut image, list);
     let count = p.count;
-    let a = second_half(contents, &image, list, p);
+    let a = halves::second_half(contents, &image, list, p);
     Told {
         answer: a,
         len: count,
@@ -155,20 +39,6 @@ pub fn step_core(book: &[u8], contents: &mut [u16], agent: usize, lent: usize) -
     let mut list = [0u64; 256];
     let t = step_into(book, contents, agent, lent, &mut list);
     records::with_list(t, &list)
-}
-
-// The single-move entry: a book, a contents table, an agent, and a list of instruction records. The
-// move's instructions are written into the list, and the move is fired by what is read from there.
-pub fn step(book: &[u8], contents: &mut [u16], agent: usize, instructions: &mut [Record]) -> Answer
-    ensures { λ r. ⌜ (r ≡ step-call (now (book .entry)) (now (contents .entry)) agent (length (now (instructions .entry))) .answer) × (now (contents .exit) ≡ step-call (now (book .entry)) (now (contents .entry)) agent (length (now (instructions .entry))) .contents) × (now (instructions .exit) ≡ written (step-call (now (book .entry)) (now (contents .entry)) agent (length (now (instructions .entry))) .instructions) (now (instructions .entry))) ⌝ }
-{
-    let lent = instructions.len();
-    let mut image = [0u16; 4296];
-    let mut work = [0u64; 256];
-    let p = first_half(book, contents, agent, lent, &mut image, &mut work);
-    let count = p.count;
-    lent::pass(instructions, &mut work, count);
-    second_half(contents, &image, &work, p)
 }
 
 // The answer for C: number × 2^48 + p × 2^24 + q.

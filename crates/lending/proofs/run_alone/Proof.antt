@@ -59,10 +59,10 @@ use Rattle.order.proofs.Claim.{demand3}
 use Rattle.lending.proofs.Longer.{call-longer}
 use Rattle.lent.proofs.Lending.{ref-at, LentMut, lend-mut, mut-back}
 use Rattle.laps.specs.Turns.{answered}
-use Rattle.run.proofs.run as run′
-use Rattle.run.proofs.run.Symbol as run-def
-use Rattle.run.proofs.run.Symbol.{name as #run·run}
-use Rattle.run.proofs.run.Met as run-thm
+use Rattle.lent_run.proofs.run as run′
+use Rattle.lent_run.proofs.run.Symbol as run-def
+use Rattle.lent_run.proofs.run.Symbol.{name as #lent-run·run}
+use Rattle.lent_run.proofs.run.Met as run-thm
 use Rattle.lending.proofs.blank as blank
 use Rattle.lending.proofs.blank.Symbol as blank-def
 use Rattle.lending.proofs.blank.Symbol.{name as #lending·blank}
@@ -191,7 +191,7 @@ module _ {M : Type 1} (𝓤 : URA M) (H : Heap 𝓤) (A : Atoms 𝓤) (W : Given
       qed W ((‵ (flft κ₀ q₀) ⊛ ‵ (flft κ₁ q₁) ⊛ ‵ (flft κ₂ q₂) ⊛ ‵ (flft κ₃ q₃) ⊛ ‵ (flft κ₄ q₄) ⊛ ‵ (flft (ν ∷ []) fullShare) ⊛ ‵ ftrue)
       ∷ ‵ (owns (ShrSlice (named 0) κ₀ u8 ∷ ShrSlice (named 1) κ₁ u8 ∷ MutSlice (named 2) κ₂ u16 ∷ MutSlice (named 3) κ₃ u64 ∷ MutSlice (named 4) κ₄ u64 ∷ MutSlice (named 5) (ν ∷ []) T.the-row ∷ []) (run-a γ j ys) (run-vals j)) ∷ []) ∵ join ! $ frame ! $ done !
 
-  module _ (C : Calls 𝓤 H) (Λ : Loops 𝓤 H) (fm : FmC 𝓤 H (W .laws) C) (known-blank : Triple 𝓤 (C #lending·blank) (Blank 𝓤 H A mem run)) (known-run : Triple 𝓤 (C #run·run) (Run 𝓤 H A mem run)) where
+  module _ (C : Calls 𝓤 H) (Λ : Loops 𝓤 H) (fm : FmC 𝓤 H (W .laws) C) (known-blank : Triple 𝓤 (C #lending·blank) (Blank 𝓤 H A mem run)) (known-run : Triple 𝓤 (C #lent-run·run) (Run 𝓤 H A mem run)) where
     walk : ent 𝓤 (onEntry 𝓤 H A alone.signature κs qs a vals) (WpFn 𝓤 H C Λ code.function (sb ∷ sg ∷ sc ∷ sr ∷ sw ∷ []) Post)
     walk =
         qed W (raw (onEntry 𝓤 H A alone.signature κs qs a vals) ∷ []) ∵ enter ! C Λ code.function (sb ∷ sg ∷ sc ∷ sr ∷ sw ∷ []) _ $
@@ -239,7 +239,7 @@ module _ {M : Type 1} (𝓤 : URA M) (H : Heap 𝓤) (A : Atoms 𝓤) (W : Given
         keep ! (4 ∷ 3 ∷ 2 ∷ 1 ∷ 0 ∷ 9 ∷ 8 ∷ 7 ∷ 6 ∷ 5 ∷ []) $ by ! (exits ys r w₁ is-r (zs .1 .1 .0) (zs .1 .1 .1 .0) (zs .1 .1 .1 .1 .0) (zs .1 .1 .1 .1 .1 .0) e₁ l256 lc lr lw))))))))))))))))))))))))))))))))))
 
 module _ {M : Type 1} (𝓤 : URA M) (H : Heap 𝓤) (A : Atoms 𝓤) (W : Given 𝓤 H A) (mem : Memory → SProp 𝓤) (run : Routine → Fun 𝓤) where
-  alone-walks : (C : Calls 𝓤 H) (Λ : Loops 𝓤 H) → FmC 𝓤 H (W .laws) C → Triple 𝓤 (C #lending·blank) (Blank 𝓤 H A mem run) → Triple 𝓤 (C #run·run) (Run 𝓤 H A mem run) → Walks 𝓤 H A alone.ended stayed (WpFn 𝓤 H C Λ code.function) (alone.clauses 𝓤 H A mem run)
+  alone-walks : (C : Calls 𝓤 H) (Λ : Loops 𝓤 H) → FmC 𝓤 H (W .laws) C → Triple 𝓤 (C #lending·blank) (Blank 𝓤 H A mem run) → Triple 𝓤 (C #lent-run·run) (Run 𝓤 H A mem run) → Walks 𝓤 H A alone.ended stayed (WpFn 𝓤 H C Λ code.function) (alone.clauses 𝓤 H A mem run)
   alone-walks C Λ fm known-blank known-run = walked 𝓤 H A alone.ended stayed (alone.clauses 𝓤 H A mem run) (WpFn 𝓤 H C Λ code.function)
       (λ κs. (slice-vals, (slice-vals, (slice-vals, (slice-vals, (slice-vals, tt))))))
       (λ κs. (shr-slice-tells (named 0) (κs .0) u8, (shr-slice-tells (named 1) (κs .1 .0) u8, (mut-slice-tells (named 2) (κs .1 .1 .0) u16, (mut-slice-tells (named 3) (κs .1 .1 .1 .0) u64, (mut-slice-tells (named 4) (κs .1 .1 .1 .1 .0) u64, tt))))))
@@ -247,7 +247,7 @@ module _ {M : Type 1} (𝓤 : URA M) (H : Heap 𝓤) (A : Atoms 𝓤) (W : Given
       (walk 𝓤 H A W mem run (κs .0) (κs .1 .0) (κs .1 .1 .0) (κs .1 .1 .1 .0) (κs .1 .1 .1 .1 .0) (qs .0) (qs .1 .0) (qs .1 .1 .0) (qs .1 .1 .1 .0) (qs .1 .1 .1 .1 .0) (a .0) (a .1 .0) (a .1 .1 .0) (a .1 .1 .1 .0) (a .1 .1 .1 .1 .0)
       (are .0 .0 .1) (are .1 .0 .0 .1) (are .1 .1 .0 .0 .1) (are .1 .1 .1 .0 .0 .1) (are .1 .1 .1 .1 .0 .0 .1) C Λ fm known-blank known-run))
 
-alone-meets : {M : Type 1} (𝓤 : URA M) (H : Heap 𝓤) (A : Atoms 𝓤) → Given 𝓤 H A → (mem : Memory → SProp 𝓤) (run : Routine → Fun 𝓤) (𝓣 : Tables 𝓤 H) → Triple 𝓤 (𝓣 .C #lending·blank) (Blank 𝓤 H A mem run) → Triple 𝓤 (𝓣 .C #run·run) (Run 𝓤 H A mem run)
+alone-meets : {M : Type 1} (𝓤 : URA M) (H : Heap 𝓤) (A : Atoms 𝓤) → Given 𝓤 H A → (mem : Memory → SProp 𝓤) (run : Routine → Fun 𝓤) (𝓣 : Tables 𝓤 H) → Triple 𝓤 (𝓣 .C #lending·blank) (Blank 𝓤 H A mem run) → Triple 𝓤 (𝓣 .C #lent-run·run) (Run 𝓤 H A mem run)
     → Meets 𝓤 H A alone.signature (WpFn 𝓤 H (𝓣 .C) (𝓣 .Λ) code.function) (alone.spec 𝓤 H A mem run)
 alone-meets 𝓤 H A W mem run 𝓣 known-blank known-run =
     walk-meets 𝓤 H A alone.ended stayed W
@@ -261,4 +261,4 @@ run-alone-spec 𝓤 H 𝓜 𝓖 𝓡 =
     (tables 𝓤 H 𝓜 𝓡 code.env .C) (tables 𝓤 H 𝓜 𝓡 code.env .Λ) #lending·run-alone code.function (code.unfolded 𝓤 H 𝓜 𝓡)
     (alone-meets 𝓤 H (𝓖 .A) (givenOf 𝓤 H 𝓜 𝓖) (𝓜 .mem) (𝓡 .run) (tablesOf 𝓤 H 𝓜 (tables 𝓤 H 𝓜 𝓡 code.env))
     (cited 𝓤 H (Blank 𝓤 H (𝓖 .A) (𝓜 .mem) (𝓡 .run)) 𝓜 𝓡 code.env #lending·blank blank-def.routine code.calls-lending·blank (blank-thm.met 𝓤 H 𝓜 𝓖 𝓡))
-    (cited 𝓤 H (Run 𝓤 H (𝓖 .A) (𝓜 .mem) (𝓡 .run)) 𝓜 𝓡 code.env #run·run run-def.routine code.calls-run·run (run-thm.met 𝓤 H 𝓜 𝓖 𝓡)))
+    (cited 𝓤 H (Run 𝓤 H (𝓖 .A) (𝓜 .mem) (𝓡 .run)) 𝓜 𝓡 code.env #lent-run·run run-def.routine code.calls-lent-run·run (run-thm.met 𝓤 H 𝓜 𝓖 𝓡)))

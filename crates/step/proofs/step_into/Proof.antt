@@ -1,6 +1,6 @@
 -- `step_into` meets its contract.
 use borrow.Author.Needs.{needs}
-use Rattle.step.proofs.Halves.{half-few}
+use Rattle.halves.proofs.Halves.{half-few}
 use Rattle.step.proofs.step_into.Statement.{statement}
 use Rattle.step.proofs.step_into.Tie as tie
 

@@ -1,4 +1,4 @@
--- `run::run` meets its contract: a walk of its MIR, by hand, with a loop. The tables and the list are opened once, before the loop, and closed once, after it; between the two they and the local arrays are lent for each call, `first_lap`, `pass` and `next_lap`, of which the proof knows only that they meet their contracts, and come back. The invariant: how far the call is, and that what is left to write makes of the list what all makes of it.
+-- `lent_run::run` meets its contract: a walk of its MIR, by hand, with a loop. The tables and the list are opened once, before the loop, and closed once, after it; between the two they and the local arrays are lent for each call, `first_lap`, `pass` and `next_lap`, of which the proof knows only that they meet their contracts, and come back. The invariant: how far the call is, and that what is left to write makes of the list what all makes of it.
 -- Assumes nothing.
 use mathlib.Core.Path.{_≡_, refl, sym, _∙_, ap, subst}
 use Prim.Native.Nat.{ℕ, zero, suc, _<_, _≤_}
@@ -80,11 +80,11 @@ use Rattle.laps.proofs.next_lap as next
 use Rattle.laps.proofs.next_lap.Symbol as next-def
 use Rattle.laps.proofs.next_lap.Symbol.{name as #laps·next-lap}
 use Rattle.laps.proofs.next_lap.Met as next-thm
-use Rattle.run.proofs.run.Key.{name as #run·run}
-use Rattle.run.proofs.run as run′
-use Rattle.run.proofs.run.Statement as stated
-use Rattle.run.proofs.run.Code as code
-use Rattle.run.proofs.run.Code.Mir as mir
+use Rattle.lent_run.proofs.run.Key.{name as #lent-run·run}
+use Rattle.lent_run.proofs.run as run′
+use Rattle.lent_run.proofs.run.Statement as stated
+use Rattle.lent_run.proofs.run.Code as code
+use Rattle.lent_run.proofs.run.Code.Mir as mir
 
 abbrev stayed : Stays (run′.ended .signature .params) (run′.ended .kept)
 stayed = (stay-none-slice (0 ∷ []) tt (plain (λ _. u8)) yes, (stay-none-slice (1 ∷ []) tt (plain (λ _. u8)) yes, (stay-slice (2 ∷ []) tt (plain (λ _. u16)), (stay-slice (3 ∷ []) tt (plain (λ _. u64)), (stay-slice (4 ∷ []) tt (plain (λ _. u64)), (stay-slice (5 ∷ []) tt (plain (λ _. T.the-row)), tt))))))
@@ -543,7 +543,7 @@ pub run-spec : {M : Type 1} → stated.statement M
 unfolding code.routine tablesOf
 run-spec 𝓤 H 𝓜 𝓖 𝓡 =
     entered 𝓤 H (tripleOf 𝓤 H (𝓖 .A) run′.signature (run′.spec 𝓤 H (𝓖 .A) (𝓜 .mem) (𝓡 .run)))
-    (tables 𝓤 H 𝓜 𝓡 code.env .C) (tables 𝓤 H 𝓜 𝓡 code.env .Λ) #run·run code.function (code.unfolded 𝓤 H 𝓜 𝓡)
+    (tables 𝓤 H 𝓜 𝓡 code.env .C) (tables 𝓤 H 𝓜 𝓡 code.env .Λ) #lent-run·run code.function (code.unfolded 𝓤 H 𝓜 𝓡)
     (run-meets 𝓤 H (𝓖 .A) (givenOf 𝓤 H 𝓜 𝓖) (𝓜 .mem) (𝓡 .run) (tablesOf 𝓤 H 𝓜 (tables 𝓤 H 𝓜 𝓡 code.env))
     (cited 𝓤 H (First 𝓤 H (𝓖 .A) (𝓜 .mem) (𝓡 .run)) 𝓜 𝓡 code.env #laps·first-lap first-def.routine code.calls-laps·first-lap (first-thm.met 𝓤 H 𝓜 𝓖 𝓡))
     (cited 𝓤 H (Pass 𝓤 H (𝓖 .A) (𝓜 .mem) (𝓡 .run)) 𝓜 𝓡 code.env #lent·pass pass-def.routine code.calls-lent·pass (pass-thm.met 𝓤 H 𝓜 𝓖 𝓡))

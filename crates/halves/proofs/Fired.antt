@@ -13,7 +13,7 @@ use Rattle.engine.specs.Single.{Stepped, stepped, step-move}
 use Rattle.engine.proofs.Moves.{fire-length}
 use Rattle.moves.specs.declared.Verdict.{Verdict}
 use Rattle.moves.specs.Effect.{Tables, tables, left, number-of, q-of, Fit, Effect}
-use Rattle.step.specs.Stages.{Ready}
+use Rattle.halves.specs.Stages.{Ready}
 
 -- with no marks, and the first bit
 pub fit : (B : Book) (c : List ℕ) (k : ℕ) → Ready B c k → Fit B k 1 (tables c [] [])

@@ -19,10 +19,10 @@ use Rattle.moves.specs.declared.Verdict.{Verdict}
 use Rattle.moves.specs.Count.{given-of}
 use Rattle.moves.specs.Effect.{Tables, tables, Effect, After}
 use Rattle.moves.proofs.Count.{given-few, made-of, same-outcome}
-use Rattle.step.specs.declared.Paused.{Paused}
-use Rattle.step.specs.Stages.{Ready, Tells}
-use Rattle.step.specs.Halves.{On, Halfway}
-use Rattle.step.proofs.Fired.{fit, answer-by, moved-step}
+use Rattle.halves.specs.declared.Paused.{Paused}
+use Rattle.halves.specs.Stages.{Ready, Tells}
+use Rattle.halves.specs.Halves.{On, Halfway}
+use Rattle.halves.proofs.Fired.{fit, answer-by, moved-step}
 
 -- ---- the first half
 

@@ -2,11 +2,11 @@
 use mathlib.Core.Path.{_≡_}
 use native.Mathlib.Omega.{arith}
 use Rattle.calls.proofs.Checks.{agents-low}
-use Rattle.step.proofs.Whole.{refused-book, refused-call, cleared}
-use Rattle.step.proofs.Halves.{halted-half, walked-half}
+use Rattle.halves.proofs.Whole.{refused-book, refused-call, cleared}
+use Rattle.halves.proofs.Halves.{halted-half, walked-half}
 use borrow.Author.Needs.{needs}
-use Rattle.step.proofs.first_half.Statement.{statement}
-use Rattle.step.proofs.first_half.Tie as tie
+use Rattle.halves.proofs.first_half.Statement.{statement}
+use Rattle.halves.proofs.first_half.Tie as tie
 
 open-requires : tie.Need-open-requires
 open-requires c κs = search needs

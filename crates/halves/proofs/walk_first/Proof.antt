@@ -5,10 +5,10 @@ use native.Mathlib.Omega.{arith}
 use lib.ListN.{length}
 use lib.Seq.{length-take-le}
 use Rattle.book.specs.Image.{book-in}
-use Rattle.step.proofs.Halves.{on}
+use Rattle.halves.proofs.Halves.{on}
 use borrow.Author.Needs.{needs}
-use Rattle.step.proofs.walk_first.Statement.{statement}
-use Rattle.step.proofs.walk_first.Tie as tie
+use Rattle.halves.proofs.walk_first.Statement.{statement}
+use Rattle.halves.proofs.walk_first.Tie as tie
 
 total-requires : tie.Need-total-requires
 total-requires c κs = search needs

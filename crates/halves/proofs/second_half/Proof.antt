@@ -2,10 +2,10 @@
 use native.Mathlib.Omega.{arith}
 use lib.Seq.{length-take-le}
 use mathlib.Core.Path.{sym}
-use Rattle.step.proofs.Halves.{second-stops, second-moves}
+use Rattle.halves.proofs.Halves.{second-stops, second-moves}
 use borrow.Author.Needs.{needs}
-use Rattle.step.proofs.second_half.Statement.{statement}
-use Rattle.step.proofs.second_half.Tie as tie
+use Rattle.halves.proofs.second_half.Statement.{statement}
+use Rattle.halves.proofs.second_half.Tie as tie
 
 returns : tie.Need-returns
 returns c = let a = c .before .before .before .before .args in λ text k n h. second-stops text (a .contents .now) k n (a .image .now) (a .work .now) (a .p) h (c .if1 .taken)

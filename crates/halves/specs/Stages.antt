@@ -1,9 +1,8 @@
 -- The single-move entry in stages: what the move is made on, and what a call leaves (01, "Refused, and how").
 use mathlib.Core.Path.{_≡_}
 use mathlib.Core.List.{List}
-use Prim.Native.Nat.{ℕ, _+_, _*_, _<_}
+use Prim.Native.Nat.{ℕ, _<_}
 use lib.ListN.{length}
-use Rattle.text.specs.declared.Answer.{Answer}
 use Rattle.book.specs.Book.{Book}
 use Rattle.book.specs.Sound.{Lawful, Sound}
 use Rattle.engine.specs.Single.{Stepped}
@@ -21,7 +20,3 @@ pub record Tells (r : Told) (l d : List ℕ) (s : Stepped) : Type 0 where
   pub answer : r .answer ≡ s .answer
   pub instructions : items l (r .len) ≡ s .instructions
   pub contents : d ≡ s .contents
-
--- for C: number × 2^48 + p × 2^24 + q; the places of 01 are below 2^24
-abbrev pub packed : Answer → ℕ
-packed a = a .number * 281474976710656 + a .p * 16777216 + a .q

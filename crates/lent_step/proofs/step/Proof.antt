@@ -1,4 +1,4 @@
--- `step::step` meets its contract: a walk of its MIR, by hand, straight through: `first_half`, `pass` and `second_half`, of which the proof knows only that they meet their contracts. The contents are opened once and closed once; they and the two local arrays are lent for each call and come back. The list goes to `pass` for good.
+-- `lent_step::step` meets its contract: a walk of its MIR, by hand, straight through: `first_half`, `pass` and `second_half`, of which the proof knows only that they meet their contracts. The contents are opened once and closed once; they and the two local arrays are lent for each call and come back. The list goes to `pass` for good.
 -- Assumes nothing.
 use mathlib.Core.Path.{_≡_, refl, sym, _∙_, ap, subst}
 use Prim.Native.Nat.{ℕ, _<_, _≤_, _^_}
@@ -61,24 +61,24 @@ use Rattle.lent.proofs.pass as pass
 use Rattle.lent.proofs.pass.Symbol as pass-def
 use Rattle.lent.proofs.pass.Symbol.{name as #lent·pass}
 use Rattle.lent.proofs.pass.Met as pass-thm
-use Rattle.step.specs.declared.Paused.{Paused}
-use Rattle.step.specs.Stages.{Tells}
-use Rattle.step.specs.Halves.{Halfway}
-use Rattle.step.proofs.Halves.{half-made, half-few, half-passed}
-use Rattle.step.proofs.Paused as P
-use Rattle.step.proofs.Paused.Laws as P′
-use Rattle.step.proofs.first_half as first
-use Rattle.step.proofs.first_half.Symbol as first-def
-use Rattle.step.proofs.first_half.Symbol.{name as #step·first-half}
-use Rattle.step.proofs.first_half.Met as first-thm
-use Rattle.step.proofs.second_half as second
-use Rattle.step.proofs.second_half.Symbol as second-def
-use Rattle.step.proofs.second_half.Symbol.{name as #step·second-half}
-use Rattle.step.proofs.second_half.Met as second-thm
-use Rattle.step.proofs.step.Key.{name as #step·step}
-use Rattle.step.proofs.step as step
-use Rattle.step.proofs.step.Statement as stated
-use Rattle.step.proofs.step.Code as code
+use Rattle.halves.specs.declared.Paused.{Paused}
+use Rattle.halves.specs.Stages.{Tells}
+use Rattle.halves.specs.Halves.{Halfway}
+use Rattle.halves.proofs.Halves.{half-made, half-few, half-passed}
+use Rattle.halves.proofs.Paused as P
+use Rattle.halves.proofs.Paused.Laws as P′
+use Rattle.halves.proofs.first_half as first
+use Rattle.halves.proofs.first_half.Symbol as first-def
+use Rattle.halves.proofs.first_half.Symbol.{name as #halves·first-half}
+use Rattle.halves.proofs.first_half.Met as first-thm
+use Rattle.halves.proofs.second_half as second
+use Rattle.halves.proofs.second_half.Symbol as second-def
+use Rattle.halves.proofs.second_half.Symbol.{name as #halves·second-half}
+use Rattle.halves.proofs.second_half.Met as second-thm
+use Rattle.lent_step.proofs.step.Key.{name as #lent-step·step}
+use Rattle.lent_step.proofs.step as step
+use Rattle.lent_step.proofs.step.Statement as stated
+use Rattle.lent_step.proofs.step.Code as code
 
 abbrev stayed : Stays (step.ended .signature .params) (step.ended .kept)
 stayed = (stay-none-slice (0 ∷ []) tt (plain (λ _. u8)) yes, (stay-slice (1 ∷ []) tt (plain (λ _. u16)), (stay-none (λ _. usize) yes, (gave-slice (2 ∷ []) tt (plain (λ _. T.the-row)), tt))))
@@ -225,7 +225,7 @@ module _ {M : Type 1} (𝓤 : URA M) (H : Heap 𝓤) (A : Atoms 𝓤) (W : Given
       qed W ((‵ (flft (ν ∷ []) fullShare) ⊛ ‵ (flft (ν′ ∷ []) fullShare) ⊛ ‵ (flft (ν″ ∷ []) fullShare) ⊛ ‵ ftrue)
       ∷ ‵ (owns (MutSlice (named 0) (ν ∷ []) u16 ∷ ShrRef (named 1) (ν′ ∷ []) (Array u16 4296) ∷ ShrRef (named 2) (ν″ ∷ []) (Array u64 256) ∷ P.the-row ∷ []) (second-a γ γ′ γ″ i j mi us p) (second-vals i j p)) ∷ []) ∵ join ! $ frame ! $ done !
 
-  module _ (C : Calls 𝓤 H) (Λ : Loops 𝓤 H) (fm : FmC 𝓤 H (W .laws) C) (known-first : Triple 𝓤 (C #step·first-half) (First 𝓤 H A mem run)) (known-pass : Triple 𝓤 (C #lent·pass) (Pass 𝓤 H A mem run)) (known-second : Triple 𝓤 (C #step·second-half) (Second 𝓤 H A mem run)) where
+  module _ (C : Calls 𝓤 H) (Λ : Loops 𝓤 H) (fm : FmC 𝓤 H (W .laws) C) (known-first : Triple 𝓤 (C #halves·first-half) (First 𝓤 H A mem run)) (known-pass : Triple 𝓤 (C #lent·pass) (Pass 𝓤 H A mem run)) (known-second : Triple 𝓤 (C #halves·second-half) (Second 𝓤 H A mem run)) where
     walk : ent 𝓤 (onEntry 𝓤 H A step.signature κs qs a vals) (WpFn 𝓤 H C Λ code.function (sb ∷ sc ∷ vint w64 k ∷ sl ∷ []) Post)
     walk =
         qed W (raw (onEntry 𝓤 H A step.signature κs qs a vals) ∷ []) ∵ enter ! C Λ code.function (sb ∷ sc ∷ vint w64 k ∷ sl ∷ []) _ $
@@ -309,14 +309,14 @@ module _ {M : Type 1} (𝓤 : URA M) (H : Heap 𝓤) (A : Atoms 𝓤) (W : Given
         keep ! (5 ∷ 2 ∷ 3 ∷ 6 ∷ 0 ∷ 1 ∷ 4 ∷ []) $ by ! (exits p (zs .1 .1 .1 .1 .0) (zs .1 .1 .1 .1 .1 .0) (ls .1 .0) (ls .0) (ds .0) r w₃ is-r e₁ e₂ e₃ l256 lw ll lc)))))))))))))))))))))))))))))))))))))))))))))))))))))))))
 
 module _ {M : Type 1} (𝓤 : URA M) (H : Heap 𝓤) (A : Atoms 𝓤) (W : Given 𝓤 H A) (mem : Memory → SProp 𝓤) (run : Routine → Fun 𝓤) where
-  step-walks : (C : Calls 𝓤 H) (Λ : Loops 𝓤 H) → FmC 𝓤 H (W .laws) C → Triple 𝓤 (C #step·first-half) (First 𝓤 H A mem run) → Triple 𝓤 (C #lent·pass) (Pass 𝓤 H A mem run) → Triple 𝓤 (C #step·second-half) (Second 𝓤 H A mem run)
+  step-walks : (C : Calls 𝓤 H) (Λ : Loops 𝓤 H) → FmC 𝓤 H (W .laws) C → Triple 𝓤 (C #halves·first-half) (First 𝓤 H A mem run) → Triple 𝓤 (C #lent·pass) (Pass 𝓤 H A mem run) → Triple 𝓤 (C #halves·second-half) (Second 𝓤 H A mem run)
       → Walks 𝓤 H A step.ended stayed (WpFn 𝓤 H C Λ code.function) (step.clauses 𝓤 H A mem run)
   step-walks C Λ fm known-first known-pass known-second = walked 𝓤 H A step.ended stayed (step.clauses 𝓤 H A mem run) (WpFn 𝓤 H C Λ code.function)
       (λ κs. (slice-vals, (slice-vals, (uint-vals w64, (slice-vals, tt))))) (λ κs. (shr-slice-tells (named 0) (κs .0) u8, (mut-slice-tells (named 1) (κs .1 .0) u16, (uint-tells w64, (mut-slice-tells (named 2) (κs .1 .1 .0) T.the-row, tt)))))
       (λ κs qs bounds a g are. via 𝓤 _ (fst∗ 𝓤 _ (emp 𝓤))
       (walk 𝓤 H A W mem run (κs .0) (κs .1 .0) (κs .1 .1 .0) (qs .0) (qs .1 .0) (qs .1 .1 .0) (a .0) (a .1 .0 .ptr .0) (a .1 .0 .ptr .1) (a .1 .0 .name) (a .1 .0 .now) (a .1 .1 .0) (a .1 .1 .1 .0) (are .0 .0 .1) (are .1 .0 .0 .1) (are .1 .1 .0 .1) (are .1 .1 .1 .0 .0 .1) C Λ fm known-first known-pass known-second))
 
-step-meets : {M : Type 1} (𝓤 : URA M) (H : Heap 𝓤) (A : Atoms 𝓤) → Given 𝓤 H A → (mem : Memory → SProp 𝓤) (run : Routine → Fun 𝓤) (𝓣 : Tables 𝓤 H) → Triple 𝓤 (𝓣 .C #step·first-half) (First 𝓤 H A mem run) → Triple 𝓤 (𝓣 .C #lent·pass) (Pass 𝓤 H A mem run) → Triple 𝓤 (𝓣 .C #step·second-half) (Second 𝓤 H A mem run)
+step-meets : {M : Type 1} (𝓤 : URA M) (H : Heap 𝓤) (A : Atoms 𝓤) → Given 𝓤 H A → (mem : Memory → SProp 𝓤) (run : Routine → Fun 𝓤) (𝓣 : Tables 𝓤 H) → Triple 𝓤 (𝓣 .C #halves·first-half) (First 𝓤 H A mem run) → Triple 𝓤 (𝓣 .C #lent·pass) (Pass 𝓤 H A mem run) → Triple 𝓤 (𝓣 .C #halves·second-half) (Second 𝓤 H A mem run)
     → Meets 𝓤 H A step.signature (WpFn 𝓤 H (𝓣 .C) (𝓣 .Λ) code.function) (step.spec 𝓤 H A mem run)
 step-meets 𝓤 H A W mem run 𝓣 known-first known-pass known-second =
     walk-meets 𝓤 H A step.ended stayed W
@@ -327,8 +327,8 @@ pub step-spec : {M : Type 1} → stated.statement M
 unfolding code.routine tablesOf
 step-spec 𝓤 H 𝓜 𝓖 𝓡 =
     entered 𝓤 H (tripleOf 𝓤 H (𝓖 .A) step.signature (step.spec 𝓤 H (𝓖 .A) (𝓜 .mem) (𝓡 .run)))
-    (tables 𝓤 H 𝓜 𝓡 code.env .C) (tables 𝓤 H 𝓜 𝓡 code.env .Λ) #step·step code.function (code.unfolded 𝓤 H 𝓜 𝓡)
+    (tables 𝓤 H 𝓜 𝓡 code.env .C) (tables 𝓤 H 𝓜 𝓡 code.env .Λ) #lent-step·step code.function (code.unfolded 𝓤 H 𝓜 𝓡)
     (step-meets 𝓤 H (𝓖 .A) (givenOf 𝓤 H 𝓜 𝓖) (𝓜 .mem) (𝓡 .run) (tablesOf 𝓤 H 𝓜 (tables 𝓤 H 𝓜 𝓡 code.env))
-    (cited 𝓤 H (First 𝓤 H (𝓖 .A) (𝓜 .mem) (𝓡 .run)) 𝓜 𝓡 code.env #step·first-half first-def.routine code.calls-step·first-half (first-thm.met 𝓤 H 𝓜 𝓖 𝓡))
+    (cited 𝓤 H (First 𝓤 H (𝓖 .A) (𝓜 .mem) (𝓡 .run)) 𝓜 𝓡 code.env #halves·first-half first-def.routine code.calls-halves·first-half (first-thm.met 𝓤 H 𝓜 𝓖 𝓡))
     (cited 𝓤 H (Pass 𝓤 H (𝓖 .A) (𝓜 .mem) (𝓡 .run)) 𝓜 𝓡 code.env #lent·pass pass-def.routine code.calls-lent·pass (pass-thm.met 𝓤 H 𝓜 𝓖 𝓡))
-    (cited 𝓤 H (Second 𝓤 H (𝓖 .A) (𝓜 .mem) (𝓡 .run)) 𝓜 𝓡 code.env #step·second-half second-def.routine code.calls-step·second-half (second-thm.met 𝓤 H 𝓜 𝓖 𝓡)))
+    (cited 𝓤 H (Second 𝓤 H (𝓖 .A) (𝓜 .mem) (𝓡 .run)) 𝓜 𝓡 code.env #halves·second-half second-def.routine code.calls-halves·second-half (second-thm.met 𝓤 H 𝓜 𝓖 𝓡)))

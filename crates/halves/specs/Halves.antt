@@ -11,8 +11,8 @@ use Rattle.engine.specs.Single.{step-move, step-call}
 use Rattle.walk.specs.declared.State.{State}
 use Rattle.moves.specs.Count.{given-of}
 use Rattle.moves.specs.Effect.{tables, After}
-use Rattle.step.specs.declared.Paused.{Paused}
-use Rattle.step.specs.Stages.{Tells}
+use Rattle.halves.specs.declared.Paused.{Paused}
+use Rattle.halves.specs.Stages.{Tells}
 
 -- agent k's walk in the first records of the table c came to the state s with the list l, which has room for every instruction
 pub record On (B : Book) (c : List ℕ) (k : ℕ) (l : List ℕ) (s : State) : Type 0 where

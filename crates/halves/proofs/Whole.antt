@@ -18,7 +18,7 @@ use Rattle.engine.specs.Move.{Input}
 use Rattle.engine.specs.Single.{check-agent, check-lent-step, check-contents, check-step, step-move, step-answer, step-call}
 use Rattle.records.specs.declared.Told.{Told}
 use Rattle.calls.specs.Call.{check-call}
-use Rattle.step.specs.Stages.{Ready, Tells}
+use Rattle.halves.specs.Stages.{Ready, Tells}
 use Rattle.calls.proofs.Numbered.{book-numbered, call-numbered, accepts}
 use Rattle.calls.proofs.Checks.{Passed, call-passed}
 use Rattle.calls.proofs.Same.{lawful-same, walked-same, move-same, L-same, call-same}
