@@ -37,14 +37,14 @@ fn is_trace(e: u16, s: Spot, x: u16) -> bool
 fn spot_of(image: &[u16; 4296], contents: &[u16], l: u32) -> Spot
     ensures { λ r. ⌜ r ≡ spot (book-in (now (image .entry)) []) (now (contents .entry)) l ⌝ }
 {
-    let held = table::fetch(contents, l as usize);
-    let e = table::elements(image);
-    let n = table::functions(image);
+    let held = numbers::fetch(contents, l as usize);
+    let e = pages::elements(image);
+    let n = pages::functions(image);
     let mut first: usize = 0;
     let mut g: u16 = 0;
     while g < n {
-        let f = table::function_at(image, g);
-        let end = first + table::size(e, f.arity) as usize;
+        let f = pages::function_at(image, g);
+        let end = first + pages::size(e, f.arity) as usize;
         if (l as usize) < end {
             return Spot {
                 location: l,
@@ -56,7 +56,7 @@ fn spot_of(image: &[u16; 4296], contents: &[u16], l: u32) -> Spot
         first = end;
         g = g + 1;
     }
-    let f = table::function_at(image, n);
+    let f = pages::function_at(image, n);
     Spot {
         location: l,
         function: f,
@@ -81,7 +81,7 @@ fn against(e: u16, s: Spot, w: u16, what: Instruction) -> bool
                 return 2 != w;
             }
             if is_trace(e, s, label) {
-                return table::default_of(s.function) != w;
+                return pages::default_of(s.function) != w;
             }
             false
         }
@@ -92,7 +92,7 @@ fn against(e: u16, s: Spot, w: u16, what: Instruction) -> bool
 fn other_at(e: u16, list: &[u64], len: usize, s: Spot, w: u16) -> bool
     ensures { λ r. ⌜ r ≡ any (λ i. other w (gives e s i)) (items (now (list .entry)) len) ⌝ }
 {
-    let n = table::smaller(len, list.len());
+    let n = numbers::smaller(len, list.len());
     let mut j: usize = 0;
     while j < n {
         let what = records::decode(list[j]);
@@ -121,7 +121,7 @@ fn releases(what: Instruction, x: u16) -> bool
 fn is_released(list: &[u64], len: usize, x: u16) -> bool
     ensures { λ r. ⌜ r ≡ has (released (items (now (list .entry)) len)) x ⌝ }
 {
-    let n = table::smaller(len, list.len());
+    let n = numbers::smaller(len, list.len());
     let mut j: usize = 0;
     while j < n {
         let what = records::decode(list[j]);
@@ -160,7 +160,7 @@ fn better_of(
     if best <= at {
         return best;
     }
-    let e = table::elements(image);
+    let e = pages::elements(image);
     let s = spot_of(image, contents, at);
     if other_at(e, list, len, s, traces::own_value(what)) {
         return at;
@@ -181,7 +181,7 @@ pub fn first_of_all(
 ) -> u32
     ensures { λ r. ⌜ r ≡ best (book-in (now (image .entry)) []) (now (contents .entry)) (items (now (list .entry)) len) (items (now (list .entry)) len) most ⌝ }
 {
-    let n = table::smaller(len, list.len());
+    let n = numbers::smaller(len, list.len());
     let mut least = most;
     let mut j: usize = 0;
     while j < n {

@@ -22,24 +22,6 @@ use Rattle.calls.proofs.Numbered.{Numbered, agent-numbered, lent-number
 abbrev pub Refusal : ℕ → ℕ → ℕ → Answer
 Refusal n p q = record { number = n; p = p; q = q }
 
--- how many agents an image has
-agents-long : (m : List ℕ) → length (book-in m [] .agents) ≡ capped (word m 4) 16
-unfolding book-in
-agents-long m = length-table-from _ 0 (capped (word m 4) 16)
-
-pub agents-few : (m : List ℕ) (n : ℕ) → n ≡ word m 4 → n < 16 → n ≡ length (book-in m [] .agents)
-agents-few m n e h = rw (agents-long m, ← e, lt-ltb n 16 h)
-
-pub agents-most : (m : List ℕ) (n : ℕ) → n ≡ word m 4 → 16 ≤ n → 16 ≡ length (book-in m [] .agents)
-agents-most m n e h = rw (agents-long m, ← e, le-ltb n 16 h)
-
-pub agents-low : (m : List ℕ) → length (book-in m [] .agents) ≤ 16
-agents-low m = rw (agents-long m) (go (word m 4) (ltb (word m 4) 16) refl)
-  where
-    go : (n : ℕ) (b : Bool) → ltb n 16 ≡ b → (if b then n else 16) ≤ 16
-    go n true e = omega (arith, ltb-true n 16 e)
-    go n false e = omega arith
-
 -- ---- one check
 
 module _ (B : Book) (k : ℕ) where

@@ -43,19 +43,11 @@ fn first_of(a: Answer, b: Answer) -> Answer
 
 // ---- the checks
 
-// How many agents there are.
-fn agents(image: &[u16; 4296]) -> u16
-    ensures { λ r. ⌜ (r ≡ length (book-in (now (image .entry)) [] .agents)) × (r ≤ 16) ⌝ }
-{
-    let n = table::word(image, 4);
-    if n < MOST_AGENTS { n } else { MOST_AGENTS }
-}
-
 // 9.
 fn check_agent(image: &[u16; 4296], agent: usize) -> Answer
     ensures { λ r. ⌜ r ≡ answer-of (check-agent (book-in (now (image .entry)) []) agent) ⌝ }
 {
-    if agent < agents(image) as usize {
+    if agent < pages::agents(image) as usize {
         answer(0, 0, 0)
     } else {
         answer(text::LOG_LINE, 0, 0)
@@ -66,7 +58,7 @@ fn check_agent(image: &[u16; 4296], agent: usize) -> Answer
 fn check_lent(image: &[u16; 4296], contents: &[u16], lent: usize) -> Answer
     ensures { λ r. ⌜ r ≡ answer-of (check-lent-step (book-in (now (image .entry)) []) (now (contents .entry)) lent) ⌝ }
 {
-    let all = table::total(image);
+    let all = pages::total(image);
     if contents.len() < all as usize {
         return answer(text::LENT_SHORT, all, CONTENTS);
     }

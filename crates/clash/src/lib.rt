@@ -66,7 +66,7 @@ pub fn first_clash(
 ) -> u32
     ensures { λ r. ⌜ r ≡ best (book-in (now (image .entry)) []) (now (contents .entry)) (items (now (list .entry)) len) (items (now (list .entry)) len) most ⌝ }
 {
-    let n = table::smaller(len, list.len());
+    let n = numbers::smaller(len, list.len());
     if MOST < n {
         return against::first_of_all(image, contents, list, len, most);
     }
@@ -95,7 +95,7 @@ pub fn first_clash(
 pub fn clash(image: &[u16; 4296], contents: &[u16], list: &[u64], len: usize) -> Found
     ensures { λ r. ⌜ r ≡ clash-by (now (image .entry)) (now (contents .entry)) (now (list .entry)) len ⌝ }
 {
-    let most = table::total(image);
+    let most = pages::total(image);
     let at = first_clash(image, contents, list, len, most);
     if at < most {
         return Found::Here(at);

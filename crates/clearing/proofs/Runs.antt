@@ -11,7 +11,7 @@ use lib.Seq.{getD-take, getD-drop}
 use Rattle.text.specs.Words.{if_then_else_}
 use Rattle.book.specs.declared.Function.{Function}
 use Rattle.book.specs.Book.{Book, size, function-at, place}
-use Rattle.table.proofs.Places.{From, from-start, from-at, from-next, from-past}
+use Rattle.pages.proofs.Places.{From, from-start, from-at, from-next, from-past}
 use Rattle.sweep.specs.Marks.{mark}
 use Rattle.traces.specs.Traces.{trace-in}
 use Rattle.sweep.specs.Part.{wiped-in, part-cleared, part-marked}

@@ -24,11 +24,11 @@ fn clear_run(
     ensures { λ _. ⌜ now (writers .exit) ≡ run-marked bit e f x first end (now (contents .entry)) (now (writers .entry)) ⌝ }
 {
     let n = contents.len();
-    let a = table::smaller(first, n);
-    let b = table::smaller(end, n);
+    let a = numbers::smaller(first, n);
+    let b = numbers::smaller(end, n);
     let m = writers.len();
-    let p = table::smaller(first, m);
-    let q = table::smaller(end, m);
+    let p = numbers::smaller(first, m);
+    let q = numbers::smaller(end, m);
     sweep::clear_part(&mut contents[a..b], &mut writers[p..q], e, f, x, bit);
 }
 
@@ -37,13 +37,13 @@ fn clear(image: &[u16; 4296], contents: &mut [u16], writers: &mut [u64], x: u16,
     ensures { λ _. ⌜ now (contents .exit) ≡ cleared (book-in (now (image .entry)) []) x (now (contents .entry)) ⌝ }
     ensures { λ _. ⌜ now (writers .exit) ≡ clear-marked bit (book-in (now (image .entry)) []) x (now (contents .entry)) (now (writers .entry)) ⌝ }
 {
-    let e = table::elements(image);
-    let n = table::functions(image);
+    let e = pages::elements(image);
+    let n = pages::functions(image);
     let mut first: usize = 0;
     let mut g: u16 = 0;
     while g < n {
-        let f = table::function_at(image, g);
-        let end = first + table::size(e, f.arity) as usize;
+        let f = pages::function_at(image, g);
+        let end = first + pages::size(e, f.arity) as usize;
         clear_run(contents, writers, e, f, x, bit, first, end);
         first = end;
         g = g + 1;
@@ -83,7 +83,7 @@ pub fn clear_all(
     ensures { λ _. ⌜ now (contents .exit) ≡ clears (book-in (now (image .entry)) []) (items (now (list .entry)) len) (now (contents .entry)) ⌝ }
     ensures { λ _. ⌜ now (writers .exit) ≡ clear-marks bit (book-in (now (image .entry)) []) (items (now (list .entry)) len) (now (contents .entry)) (now (writers .entry)) ⌝ }
 {
-    let n = table::smaller(len, list.len());
+    let n = numbers::smaller(len, list.len());
     let mut j: usize = 0;
     while j < n {
         let what = records::decode(list[j]);

@@ -1,17 +1,15 @@
--- The ends of a log's run: agents and 2, the start with no marks, and 17 from the marks.
+-- The ends of a log's run: 2, the start with no marks, and 17 from the marks.
 use mathlib.Core.Path.{_≡_, sym, ap, _∙_}
 use mathlib.Core.Bool.{true, false, true≢false, false≢true}
-use mathlib.Core.List.{List, [], _++_, append-nil}
+use mathlib.Core.List.{List, _++_, append-nil}
 use Prim.Native.Nat.{ℕ, _≤_, _<_}
 use native.Mathlib.Omega.{arith}
-use borrow.Author.Tests.{lt-ltb, le-ltb, lt-leb, le-leb}
+use borrow.Author.Tests.{lt-leb, le-leb}
 use lib.ListN.{length, getD, drop, replicate}
 use lib.Seq.{drop-length}
 use Rattle.text.specs.declared.Answer.{Answer}
 use Rattle.text.specs.Words.{_>>_, must, answer-of}
 use Rattle.book.specs.Book.{Book, L, start}
-use Rattle.book.specs.Image.{word, book-in}
-use Rattle.book.proofs.Image.{agents-long}
 use Rattle.order.specs.Pairs.{rows, TwoFound, no-two, two, least-two}
 use Rattle.order.specs.Log.{Log}
 use Rattle.order.specs.Run.{Run, touching, order-checked}
@@ -24,14 +22,6 @@ use Rattle.ends.proofs.Marks.{length-readers, length-writers}
 
 abbrev triple : ℕ → ℕ → ℕ → Answer
 triple n p q = record { number = n; p = p; q = q }
-
--- ---- the agents of an image
-
-pub few-agents : (m : List ℕ) (n : ℕ) → n ≡ word m 4 → n < 16 → n ≡ length (book-in m [] .agents)
-few-agents m n e h = let k : word m 4 < 16 = rw e at h in e ∙ sym (agents-long m [] ∙ rw (lt-ltb (word m 4) 16 k))
-
-pub many-agents : (m : List ℕ) (n : ℕ) → n ≡ word m 4 → 16 ≤ n → 16 ≡ length (book-in m [] .agents)
-many-agents m n e h = let k : 16 ≤ word m 4 = rw e at h in sym (agents-long m [] ∙ rw (le-ltb (word m 4) 16 k))
 
 -- ---- 2
 

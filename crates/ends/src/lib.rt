@@ -1,4 +1,4 @@
-// The two ends of a log's run: before its moves the agents, 2, and the start with no marks; after them 17.
+// The two ends of a log's run: before its moves 2 and the start with no marks, after them 17.
 use text::Answer;
 ghost use mathlib.Core.Path.{_≡_};
 ghost use mathlib.Core.List.{List, []};
@@ -30,14 +30,6 @@ pub fn triple(number: u32, p: u32, q: u32) -> Answer
     ensures { λ r. ⌜ r ≡ record { number = number; p = p; q = q } ⌝ }
 {
     Answer { number, p, q }
-}
-
-// How many agents there are.
-pub fn agents(image: &[u16; 4296]) -> u32
-    ensures { λ r. ⌜ r ≡ length (book-in (now (image .entry)) [] .agents) ⌝ }
-{
-    let n = table::word(image, 4);
-    if n < 16 { n as u32 } else { 16 }
 }
 
 // 2, lowest table first.

@@ -30,14 +30,14 @@ fn changes_own(n: u32, contents: &[u16], what: Instruction) -> bool
     ensures { λ r. ⌜ r ≡ change n (now (contents .entry)) what ⌝ }
 {
     let l = traces::own_location(what);
-    (l < n) & (table::fetch(contents, l as usize) != traces::own_value(what))
+    (l < n) & (numbers::fetch(contents, l as usize) != traces::own_value(what))
 }
 
 // An instruction of the list does.
 fn has_change(n: u32, contents: &[u16], list: &[u64], len: usize) -> bool
     ensures { λ r. ⌜ r ≡ any (change n (now (contents .entry))) (items (now (list .entry)) len) ⌝ }
 {
-    let m = table::smaller(len, list.len());
+    let m = numbers::smaller(len, list.len());
     let mut j: usize = 0;
     while j < m {
         let what = records::decode(list[j]);
@@ -53,7 +53,7 @@ fn has_change(n: u32, contents: &[u16], list: &[u64], len: usize) -> bool
 pub fn is_idle(image: &[u16; 4296], contents: &[u16], list: &[u64], len: usize) -> bool
     ensures { λ r. ⌜ (OffRoll (book-in (now (image .entry)) []) (now (contents .entry)) (items (now (list .entry)) len) → r ≡ idle (now (contents .entry)) (updates-by (now (image .entry)) (now (contents .entry)) (now (list .entry)) len)) ⌝ }
 {
-    !has_change(table::total(image), contents, list, len)
+    !has_change(pages::total(image), contents, list, len)
 }
 
 // ---- firing
@@ -74,7 +74,7 @@ fn put_all(contents: &mut [u16], writers: &mut [u64], list: &[u64], len: usize, 
     ensures { λ _. ⌜ now (contents .exit) ≡ puts (items (now (list .entry)) len) (now (contents .entry)) ⌝ }
     ensures { λ _. ⌜ now (writers .exit) ≡ put-marks bit (length (now (contents .entry))) (items (now (list .entry)) len) (now (writers .entry)) ⌝ }
 {
-    let n = table::smaller(len, list.len());
+    let n = numbers::smaller(len, list.len());
     let mut j: usize = 0;
     while j < n {
         let what = records::decode(list[j]);
@@ -118,7 +118,7 @@ pub fn settle(
 ) -> Outcome
     ensures { λ r. ⌜ (Ready (book-in (now (image .entry)) []) (now (contents .entry)) (items (now (list .entry)) len) → (ls : List ℕ) → Settled (move-by (now (image .entry)) (now (contents .entry)) (now (list .entry)) len ls) bit (now (contents .entry)) (now (writers .entry)) r (now (contents .exit)) (now (writers .exit))) ⌝ }
 {
-    let all = table::total(image);
+    let all = pages::total(image);
     let at = clash::first_clash(image, contents, list, len, all);
     let idle = is_idle(image, contents, list, len);
     if at < all {

@@ -20,12 +20,6 @@ pub struct Pace {
     pub node: u16,
 }
 
-fn smaller(a: usize, b: usize) -> usize
-    ensures { λ r. ⌜ r ≡ min a b ⌝ }
-{
-    if a < b { a } else { b }
-}
-
 // A refusal at node n, unless there is one already.
 fn refuse(s: Pace, number: u32, n: u16) -> Pace
     requires { ⌜ (0 < number) × (number < 65536) ⌝ }
@@ -50,7 +44,7 @@ fn give(list: &mut [u64], s: Pace, i: Instruction, n: u16) -> Pace
         return s;
     }
     let at = s.len as usize;
-    let room = smaller(256, list.len());
+    let room = numbers::smaller(256, list.len());
     if at < room {
         list[at] = records::code(i);
         Pace {
@@ -168,7 +162,7 @@ fn take(image: &[u16; 4296], list: &mut [u64], s: Pace, n: u16, u: u16, x: u16) 
 pub fn enroll(image: &[u16; 4296], list: &mut [u64], s: Pace, n: u16, u: u16, x: u16) -> Pace
     ensures { λ r. ⌜ (s .refused ≡ 0 → Room (now (list .entry)) → reached r (now (list .exit)) ≡ enrolling (held (now (image .entry))) u x n (walk-from s (now (list .entry)))) ⌝ }
 {
-    if x < term::elements(image) {
+    if x < pages::elements(image) {
         take(image, list, s, n, u, x)
     } else {
         refuse(s, text::NO_LABEL_LEFT, n)
@@ -179,7 +173,7 @@ pub fn enroll(image: &[u16; 4296], list: &mut [u64], s: Pace, n: u16, u: u16, x:
 pub fn free(image: &[u16; 4296], list: &mut [u64], s: Pace, n: u16, x: u16, v: u16) -> Pace
     ensures { λ r. ⌜ (Room (now (list .entry)) → reached r (now (list .exit)) ≡ (reached s (now (list .entry)) then freeing (held (now (image .entry))) x v n)) ⌝ }
 {
-    if x < term::permanent(image) {
+    if x < pages::permanent(image) {
         return refuse(s, text::NOT_RELEASABLE, n);
     }
     if v == 2 {

@@ -43,7 +43,7 @@ fn walk_first(image: &[u16; 4296], contents: &[u16], agent: u32, work: &mut [u64
     ensures { λ r. ⌜ (r .answer .number ≡ 0) × (r .count ≡ given-of (r .walk)) ⌝ }
     ensures { λ r. ⌜ On (book-in (now (image .entry)) []) (now (contents .entry)) agent (now (work .exit)) (r .walk) ⌝ }
 {
-    let all = table::total(image) as usize;
+    let all = pages::total(image) as usize;
     let mut readers = [0u64; 1];
     let s = walk::gather(image, &contents[..all], &mut readers[..0], 1, work, agent);
     let none = Answer {
@@ -81,12 +81,6 @@ pub fn first_half(
     walk_first(image, contents, agent as u32, work)
 }
 
-fn smaller(a: usize, b: usize) -> usize
-    ensures { λ r. ⌜ r ≡ min a b ⌝ }
-{
-    if a < b { a } else { b }
-}
-
 // The rest of the move, by the instructions that came back from the list.
 pub fn second_half(
     contents: &mut [u16],
@@ -100,8 +94,8 @@ pub fn second_half(
     if a.number != 0 {
         return a;
     }
-    let all = table::total(image) as usize;
-    let n = smaller(all, contents.len());
+    let all = pages::total(image) as usize;
+    let n = numbers::smaller(all, contents.len());
     let s = p.walk;
     let mut readers = [0u64; 1];
     let mut writers = [0u64; 1];

@@ -174,12 +174,12 @@ pub fn first_lap(
     if opened.number != 0 {
         return ended(opened);
     }
-    let checked = log::check_log(log, ends::agents(image));
+    let checked = log::check_log(log, pages::agents(image) as u32);
     let listed = checked.answer;
     if listed.number != 0 {
         return ended(listed);
     }
-    let all = table::total(image);
+    let all = pages::total(image);
     let short = ends::check_lent(all, contents.len(), readers.len(), writers.len(), lent);
     if short.number != 0 {
         return ended(short);
@@ -199,12 +199,6 @@ pub fn first_lap(
     )
 }
 
-fn smaller(a: usize, b: usize) -> usize
-    ensures { λ r. ⌜ r ≡ min a b ⌝ }
-{
-    if a < b { a } else { b }
-}
-
 // The rest of the move that is on, and the next one's walk.
 pub fn next_lap(
     log: &[u8],
@@ -217,9 +211,9 @@ pub fn next_lap(
 ) -> Turn
     ensures { λ r. ⌜ ((b : List ℕ) (lent : Tables) (n : ℕ) (is : List Instruction) (rest : List (List Instruction)) → Lap b (now (log .entry)) lent n (now (image .entry)) (is ∷ rest) t (now (work .entry)) (now (contents .entry)) (now (readers .entry)) (now (writers .entry)) → Lap b (now (log .entry)) lent n (now (image .entry)) rest r (now (work .exit)) (now (contents .exit)) (now (readers .exit)) (now (writers .exit))) × (r .more ≡ false → now (work .exit) ≡ now (work .entry)) × (t .at < 64 → t .at < t .moves → moves-left r < moves-left t) ⌝ }
 {
-    let all = table::total(image) as usize;
-    let two = smaller(readers.len(), writers.len());
-    let n = smaller(all, smaller(contents.len(), two));
+    let all = pages::total(image) as usize;
+    let two = numbers::smaller(readers.len(), writers.len());
+    let n = numbers::smaller(all, numbers::smaller(contents.len(), two));
     turn_on(
         log,
         &mut contents[..n],

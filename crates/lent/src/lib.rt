@@ -24,17 +24,11 @@ pub fn number_of(r: Record) -> u64
     records::code(what)
 }
 
-fn smaller(a: usize, b: usize) -> usize
-    ensures { λ r. ⌜ r ≡ min a b ⌝ }
-{
-    if a < b { a } else { b }
-}
-
 // The least of three.
 pub fn least(a: usize, b: usize, c: usize) -> usize
     ensures { λ r. ⌜ r ≡ min a (min b c) ⌝ }
 {
-    smaller(a, smaller(b, c))
+    numbers::smaller(a, numbers::smaller(b, c))
 }
 
 // The first n records of the list are those that the first n numbers stand for; every other is as

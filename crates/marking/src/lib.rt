@@ -14,12 +14,6 @@ ghost use Rattle.term.specs.Held.{held, function-run};
 ghost use Rattle.term.specs.Marks.{noted, marked, Placed, Runs};
 ghost use Rattle.marking.specs.Marking.{found-below, members-from, first-and-rest};
 
-fn smaller(a: usize, b: usize) -> usize
-    ensures { λ r. ⌜ r ≡ min a b ⌝ }
-{
-    if a < b { a } else { b }
-}
-
 // ---- parts
 
 // Keeps only the bits of the mask in all marks.
@@ -48,8 +42,8 @@ fn mark_part(part: &mut [u64], bit: u64)
 fn mark_between(readers: &mut [u64], bit: u64, first: usize, end: usize)
     ensures { λ _. ⌜ now (readers .exit) ≡ marked bit (table-from (λ l. l) first (end - first)) (now (readers .entry)) ⌝ }
 {
-    let stop = smaller(end, readers.len());
-    let start = smaller(first, stop);
+    let stop = numbers::smaller(end, readers.len());
+    let start = numbers::smaller(first, stop);
     mark_part(&mut readers[start..stop], bit);
 }
 
@@ -74,11 +68,11 @@ pub fn lowest(
 ) -> u16
     ensures { λ r. ⌜ Runs (held (now (image .entry))) (now (contents .entry)) bit (lowest from (held (now (image .entry)) .E - from)) (found-below (held (now (image .entry)) .E) r) (now (readers .entry)) (now (readers .exit)) ⌝ }
 {
-    let e = term::elements(image);
+    let e = pages::elements(image);
     let mut x = from;
     while x < e {
         term::mark(readers, bit, x as usize);
-        if term::fetch(contents, x as usize) == 2 {
+        if numbers::fetch(contents, x as usize) == 2 {
             return x;
         }
         x += 1;
@@ -90,7 +84,7 @@ pub fn lowest(
 fn roll(image: &[u16; 4296], x: u16) -> bool
     ensures { λ r. ⌜ (Placed (held (now (image .entry))) → r ≡ dynamic-at (held (now (image .entry))) x) ⌝ }
 {
-    if x < term::elements(image) {
+    if x < pages::elements(image) {
         return true;
     }
     term::dynamic_at(image, x as u32)
@@ -116,7 +110,7 @@ pub fn read_roll(
     ensures { λ r. ⌜ Runs (held (now (image .entry))) (now (contents .entry)) bit (read (reserve x)) r (now (readers .entry)) (now (readers .exit)) ⌝ }
 {
     note_roll(image, readers, bit, x);
-    term::fetch(contents, x as usize)
+    numbers::fetch(contents, x as usize)
 }
 
 // ---- universes
@@ -149,7 +143,7 @@ fn mark_run(readers: &mut [u64], bit: u64, run: Run, e: u16)
 pub fn universe(image: &[u16; 4296], readers: &mut [u64], bit: u64, u: u16)
     ensures { λ _. ⌜ ((c : List ℕ) → Placed (held (now (image .entry))) → now (readers .exit) ≡ marked bit (dynamic-among (held (now (image .entry))) (seen c (members (held (now (image .entry))) u 0 (held (now (image .entry)) .E)))) (now (readers .entry))) ⌝ }
 {
-    let e = term::elements(image);
+    let e = pages::elements(image);
     let run = term::function(image, u);
     let at = term::locate(run, e, 0, 0);
     if term::dynamic(image, u, 0, 0, at) {
@@ -165,7 +159,7 @@ pub fn next_member(contents: &[u16], run: Run, e: u16, from: u16) -> u16
     let mut y = from;
     while y < e {
         let at = term::locate(run, e, y, 0);
-        if term::fetch(contents, at as usize) == 2 {
+        if numbers::fetch(contents, at as usize) == 2 {
             return y;
         }
         y += 1;

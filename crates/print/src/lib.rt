@@ -12,13 +12,6 @@ ghost use Rattle.report.specs.Report.{contents-lines};
 ghost use Rattle.print.specs.Print.{line-for, shown, function-lines, lines-put, Prints};
 ghost use Rattle.print.specs.Split.{book-length, in-bounds};
 
-// The value at an index, 0 past the end.
-fn fetch(s: &[u16], i: usize) -> u16
-    ensures { λ r. ⌜ r ≡ getD (now (s .entry)) i 0 ⌝ }
-{
-    if i < s.len() { s[i] } else { 0 }
-}
-
 fn default_of(f: Function) -> u32
     ensures { λ r. ⌜ r ≡ default f ⌝ }
 {
@@ -83,7 +76,7 @@ fn print_function(image: &[u32], contents: &[u16], k: u32, n: u32, out: &mut [u8
     let mut lines = n;
     let mut i: u32 = 0;
     while i < all {
-        let v = fetch(contents, first + i as usize);
+        let v = numbers::fetch(contents, first + i as usize);
         lines = print_location(e, f, k, i, v, lines, out);
         i += 1;
     }

@@ -22,12 +22,6 @@ const MOST_INPUT: usize = 60000;
 // The input, as the q of a 2.
 const INPUT: u32 = 4;
 
-fn smaller(a: usize, b: usize) -> usize
-    ensures { λ r. ⌜ (r ≡ min a b) × (r ≤ b) ⌝ }
-{
-    if a < b { a } else { b }
-}
-
 // The header that the first two lines say.
 fn header(book: &[u8]) -> Header
     ensures { λ r. ⌜ r ≡ header-of (line (now (book .entry)) 0) (line (now (book .entry)) 1) ⌝ }
@@ -67,7 +61,7 @@ fn print_accepted(book: &[u8], contents: &[u16], answer: Answer, output: &mut [u
     let h = header(book);
     let mut image = [0u32; 4296];
     image::decode(book, h, &mut image);
-    let n = smaller(image::fetch(&image, 6) as usize, contents.len());
+    let n = numbers::smaller(image::fetch(&image, 6) as usize, contents.len());
     print::print_answer(&image, &contents[..n], answer, output)
 }
 

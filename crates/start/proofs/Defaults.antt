@@ -12,7 +12,7 @@ use borrow.Author.Tests.{ltb-true, ltb-false, leb-true, leb-false, le-leb, lt-le
 use Rattle.text.specs.Words.{if_then_else_, table}
 use Rattle.text.proofs.Words.{length-table-from, getD-table}
 use Rattle.book.specs.Book.{Book, L, size, default, default-at, function-at, Place, defaults}
-use Rattle.table.proofs.Places.{From, from-start, from-at, from-next, from-fits, from-end}
+use Rattle.pages.proofs.Places.{From, from-start, from-at, from-next, from-fits, from-end}
 use Rattle.start.specs.Written.{run-filled}
 
 -- ---- a part filled with v

@@ -35,14 +35,14 @@ fn fill_run(contents: &mut [u16], first: usize, end: usize, v: u16)
 fn write_defaults(image: &[u16; 4296], contents: &mut [u16])
     ensures { λ _. ⌜ (L (book-in (now (image .entry)) []) ≤ length (now (contents .entry)) → now (contents .exit) ≡ defaults (book-in (now (image .entry)) []) ++ drop (L (book-in (now (image .entry)) [])) (now (contents .entry))) ⌝ }
 {
-    let e = table::elements(image);
-    let n = table::functions(image);
+    let e = pages::elements(image);
+    let n = pages::functions(image);
     let mut first: usize = 0;
     let mut f: u16 = 0;
     while f < n {
-        let g = table::function_at(image, f);
-        let end = first + table::size(e, g.arity) as usize;
-        fill_run(contents, first, end, table::default_of(g));
+        let g = pages::function_at(image, f);
+        let end = first + pages::size(e, g.arity) as usize;
+        fill_run(contents, first, end, pages::default_of(g));
         first = end;
         f += 1;
     }
@@ -65,8 +65,8 @@ fn offset(e: u16, arity: u32, x: u16, y: u16) -> usize
 fn locate(image: &[u16; 4296], f: u16, x: u16, y: u16) -> usize
     ensures { λ r. ⌜ r ≡ location (book-in (now (image .entry)) []) f x y ⌝ }
 {
-    let e = table::elements(image);
-    let g = table::function_at(image, f);
+    let e = pages::elements(image);
+    let g = pages::function_at(image, f);
     g.first as usize + offset(e, g.arity, x, y)
 }
 

@@ -50,7 +50,7 @@ fn clear_one(
 {
     let held = part[i];
     if traces::is_trace_at(f, i, row, col, held, x) {
-        part[i] = table::default_of(f);
+        part[i] = pages::default_of(f);
         or_at(marks, i, bit);
     }
 }

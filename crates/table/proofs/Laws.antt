@@ -1,28 +1,14 @@
--- Laws of numbers: a product of two u16 fits, the row and the column of the next place, and what an image's book has. Assumes nothing.
-use mathlib.Core.Path.{_≡_, refl, sym, ap, _∙_, subst⁻¹}
+-- Laws of numbers: the row and the column of the next place, and the arguments of a location. Assumes nothing.
+use mathlib.Core.Path.{_≡_, refl, sym, ap, _∙_}
 use mathlib.Core.Bool.{Bool, true, false, _&&_, _||_}
-use mathlib.Core.List.{List, [], _∷_}
-use Prim.Native.Nat.{ℕ, zero, suc, _+_, _*_, _^_, _-_, _/_, _%_, _<_, _≤_}
-use native.Mathlib.Nat.{div-zero, mod-zero, mod-lt, div-add-mod', mul-add-div-right, mul-add-mod-self-right, div-eq-of-lt, mod-eq-of-lt, div-self, mod-self, le-of-lt, lt-of-le-of-lt, mul-le-mul-left, mul-le-mul-right, mul-lt-mul-of-pos-right}
+use Prim.Native.Nat.{ℕ, zero, suc, _+_, _*_, _/_, _%_, _<_}
+use native.Mathlib.Nat.{div-zero, mod-zero, mod-lt, div-add-mod', mul-add-div-right, mul-add-mod-self-right, div-eq-of-lt, mod-eq-of-lt, div-self, mod-self}
 use native.Mathlib.Omega.{arith}
 use borrow.Author.Tests.{eqb-true, eqb-false, le-ltb}
-use lib.Pow.{pow-pos, pow-add}
 use lib.Dec.{eqb, ltb}
-use lib.ListN.{length, getD}
-use Rattle.text.specs.Words.{table}
-use Rattle.text.proofs.Words.{or-no, length-table-from, getD-table, getD-table-past}
-use Rattle.book.specs.declared.Function.{Function}
-use Rattle.book.specs.Book.{Book, arguments, function-at, no-function}
-use Rattle.book.specs.Image.{word, row-in, capped, function-of, book-in}
+use Rattle.text.proofs.Words.{or-no}
+use Rattle.book.specs.Book.{arguments}
 use Rattle.table.specs.Part.{arguments-by}
-
-pub below : (k : ℕ) {a b : ℕ} → a < 2 ^ k → b < 2 ^ k → a * b < 2 ^ (k + k)
-below k {a} {b} ha hb =
-    subst⁻¹ (λ (n : ℕ). a * b < n) (pow-add 2 k k)
-    (lt-of-le-of-lt (mul-le-mul-left a (le-of-lt hb)) (mul-lt-mul-of-pos-right ha (pow-pos k)))
-
-pub square-low : (e : ℕ) → e ≤ 10000 → e * e ≤ 100000000
-square-low e h = omega (arith, mul-le-mul-left e h, mul-le-mul-right 10000 h)
 
 pub and-one : (b : Bool) → b && true ≡ b
 and-one true = refl
@@ -79,18 +65,3 @@ no-col e arity i h k = rw (no-elements e arity h k, mod-zero)
 -- any other has an element
 pub some-elements : (e arity : ℕ) → ltb arity 2 || eqb e 0 ≡ false → 0 < e
 some-elements e arity h = let n = eqb-false e 0 (or-no (ltb arity 2) (eqb e 0) h .1) in omega (arith, n)
-
--- ---- what an image's book has
-
-module _ (m : List ℕ) where
-  pub functions-long : length (book-in m [] .functions) ≡ capped (word m 2) 32
-  unfolding book-in
-  functions-long = length-table-from _ 0 (capped (word m 2) 32)
-
-  pub function-inside : (f : ℕ) → f < length (book-in m [] .functions) → function-at (book-in m []) f ≡ function-of (row-in m (2 + f))
-  unfolding book-in
-  function-inside f h = getD-table (λ f. function-of (row-in m (2 + f))) (capped (word m 2) 32) f no-function (rw functions-long at h)
-
-  pub function-past : (f : ℕ) → length (book-in m [] .functions) ≤ f → function-at (book-in m []) f ≡ no-function
-  unfolding book-in
-  function-past f h = getD-table-past (λ f. function-of (row-in m (2 + f))) (capped (word m 2) 32) f no-function (rw functions-long at h)

@@ -1,4 +1,4 @@
-// A contents table of the book that an image holds: its functions, how many locations it has, and refusal 8 of a lent one.
+// Refusal 8 of a lent contents table.
 use book::Function;
 use text::Found;
 ghost use mathlib.Core.Path.{_≡_};
@@ -13,128 +13,6 @@ ghost use Rattle.book.specs.Image.{word, capped, book-in};
 ghost use Rattle.book.specs.Contents.{some-on-roll, all-permanent, bad-value};
 ghost use Rattle.table.specs.Part.{arguments-by, Blameless, Past, Part};
 
-// The bounds of the counts in an image.
-pub const MOST_ELEMENTS: u16 = 10000;
-
-pub const MOST_FUNCTIONS: u16 = 32;
-
-pub fn smaller(a: usize, b: usize) -> usize
-    ensures { λ r. ⌜ r ≡ min a b ⌝ }
-{
-    if a < b { a } else { b }
-}
-
-// ---- the image
-
-// The number at an index, 0 past the end.
-pub fn fetch(s: &[u16], i: usize) -> u16
-    ensures { λ r. ⌜ r ≡ getD (now (s .entry)) i 0 ⌝ }
-{
-    if i < s.len() { s[i] } else { 0 }
-}
-
-pub fn word(image: &[u16; 4296], i: usize) -> u16
-    ensures { λ r. ⌜ r ≡ word (now (image .entry)) i ⌝ }
-{
-    fetch(image, i)
-}
-
-fn cap(n: u16, most: u16) -> u16
-    ensures { λ r. ⌜ (r ≡ capped n most) × (r ≤ most) ⌝ }
-{
-    if n < most { n } else { most }
-}
-
-// E.
-pub fn elements(image: &[u16; 4296]) -> u16
-    ensures { λ r. ⌜ (r ≡ book-in (now (image .entry)) [] .E) × (r ≤ 10000) ⌝ }
-{
-    cap(word(image, 0), MOST_ELEMENTS)
-}
-
-// P.
-pub fn permanent(image: &[u16; 4296]) -> u16
-    ensures { λ r. ⌜ r ≡ book-in (now (image .entry)) [] .P ⌝ }
-{
-    word(image, 1)
-}
-
-// How many functions there are.
-pub fn functions(image: &[u16; 4296]) -> u16
-    ensures { λ r. ⌜ (r ≡ length (book-in (now (image .entry)) [] .functions)) × (r ≤ 32) ⌝ }
-{
-    cap(word(image, 2), MOST_FUNCTIONS)
-}
-
-// Function f; past the last one all 0.
-pub fn function_at(image: &[u16; 4296], f: u16) -> Function
-    ensures { λ r. ⌜ r ≡ function-at (book-in (now (image .entry)) []) f ⌝ }
-{
-    if f < functions(image) {
-        let at = (2 + f as usize) * 4;
-        Function {
-            first: word(image, at) as u32,
-            arity: word(image, at + 1) as u32,
-            kind: word(image, at + 2) as u32,
-        }
-    } else {
-        Function {
-            first: 0,
-            arity: 0,
-            kind: 0,
-        }
-    }
-}
-
-// How many locations a function of that arity has.
-pub fn size(e: u16, arity: u32) -> u32
-    ensures { λ r. ⌜ (r ≡ size e arity) × (e ≤ 10000 → r ≤ 100000000) ⌝ }
-{
-    if arity == 0 {
-        return 1;
-    }
-    if arity == 1 {
-        return e as u32;
-    }
-    e as u32 * e as u32
-}
-
-// L.
-pub fn total(image: &[u16; 4296]) -> u32
-    ensures { λ r. ⌜ r ≡ L (book-in (now (image .entry)) []) ⌝ }
-{
-    let e = elements(image);
-    let n = functions(image);
-    let mut first: u32 = 0;
-    let mut g: u16 = 0;
-    while g < n {
-        let f = function_at(image, g);
-        first = first + size(e, f.arity);
-        g = g + 1;
-    }
-    first
-}
-
-// ---- functions and values
-
-pub fn is_relation(f: Function) -> bool
-    ensures { λ r. ⌜ r ≡ relation f ⌝ }
-{
-    (f.kind == 1) | (f.kind == 3)
-}
-
-pub fn is_dynamic(f: Function) -> bool
-    ensures { λ r. ⌜ r ≡ dynamic f ⌝ }
-{
-    2 <= f.kind
-}
-
-pub fn default_of(f: Function) -> u16
-    ensures { λ r. ⌜ r ≡ default f ⌝ }
-{
-    if is_relation(f) { 1 } else { 0 }
-}
-
 fn is_boolean(v: u16) -> bool
     ensures { λ r. ⌜ r ≡ boolean v ⌝ }
 {
@@ -147,7 +25,7 @@ fn is_boolean(v: u16) -> bool
 fn on_roll(contents: &[u16], e: u16, x: u32) -> bool
     ensures { λ r. ⌜ r ≡ (ltb x e && eqb (getD (now (contents .entry)) x 0) true-element) ⌝ }
 {
-    (x < e as u32) & (fetch(contents, x as usize) == 2)
+    (x < e as u32) & (numbers::fetch(contents, x as usize) == 2)
 }
 
 // The arguments are all permanent.
@@ -167,10 +45,10 @@ fn all_permanent(p: u16, arity: u32, i: u32, row: u32, col: u32) -> bool
 fn is_static_fine(p: u16, f: Function, v: u16, i: u32, row: u32, col: u32) -> bool
     ensures { λ r. ⌜ r ≡ (dynamic f || eqb v (default f) || all-permanent p (arguments-by (f .arity) i row col) && ltb v p) ⌝ }
 {
-    if is_dynamic(f) {
+    if pages::is_dynamic(f) {
         return true;
     }
-    (v == default_of(f)) | all_permanent(p, f.arity, i, row, col) & (v < p)
+    (v == pages::default_of(f)) | all_permanent(p, f.arity, i, row, col) & (v < p)
 }
 
 // One of the arguments is on the roll.
@@ -211,13 +89,15 @@ fn is_bad(contents: &[u16], e: u16, p: u16, f: Function, l: u32, i: u32) -> bool
 {
     let row = row_of(e, f.arity, i);
     let col = col_of(e, f.arity, i);
-    let v = fetch(contents, l as usize);
-    let lawful = (v < e) & (!is_relation(f) | is_boolean(v)) & is_static_fine(p, f, v, i, row, col);
+    let v = numbers::fetch(contents, l as usize);
+    let lawful = (v < e)
+        & (!pages::is_relation(f) | is_boolean(v))
+        & is_static_fine(p, f, v, i, row, col);
     if l < e as u32 {
         return !(lawful & (!(v == 2) | (p as u32 <= l)));
     }
     let trace = on_roll(contents, e, v as u32)
-        | !(v == default_of(f)) & some_on_roll(contents, e, f.arity, i, row, col);
+        | !(v == pages::default_of(f)) & some_on_roll(contents, e, f.arity, i, row, col);
     !(lawful & !trace)
 }
 
@@ -225,8 +105,8 @@ fn is_bad(contents: &[u16], e: u16, p: u16, f: Function, l: u32, i: u32) -> bool
 fn blameless(contents: &[u16], e: u16, f: Function) -> u32
     ensures { λ r. ⌜ Blameless (now (contents .entry)) e f r ⌝ }
 {
-    let v = default_of(f);
-    if (v < e) & (fetch(contents, v as usize) != 2) {
+    let v = pages::default_of(f);
+    if (v < e) & (numbers::fetch(contents, v as usize) != 2) {
         return v as u32;
     }
     65536
@@ -237,7 +117,7 @@ fn past(contents: &[u16], v: u32, l: u32, end: u32) -> u32
     requires { ⌜ l ≤ end ⌝ }
     ensures { λ r. ⌜ Past (now (contents .entry)) v l end r ⌝ }
 {
-    let n = smaller(end as usize, contents.len());
+    let n = numbers::smaller(end as usize, contents.len());
     let mut k = l as usize;
     while k < n {
         if contents[k] as u32 != v {
@@ -253,7 +133,7 @@ fn bad_part(contents: &[u16], e: u16, p: u16, f: Function, first: u32) -> Found
     requires { ⌜ (e ≤ 10000) × (first ≤ 3200000000) ⌝ }
     ensures { λ r. ⌜ ((B : Book) → Part B e p f first → r ≡ least (λ i. bad-value B (now (contents .entry)) (first + i)) (size e (f .arity))) ⌝ }
 {
-    let end = first + size(e, f.arity);
+    let end = first + pages::size(e, f.arity);
     let v = blameless(contents, e, f);
     let mut l = past(contents, v, first, end);
     while l < end {
@@ -269,18 +149,18 @@ fn bad_part(contents: &[u16], e: u16, p: u16, f: Function, first: u32) -> Found
 fn bad_in(image: &[u16; 4296], contents: &[u16]) -> Found
     ensures { λ r. ⌜ r ≡ least (bad-value (book-in (now (image .entry)) []) (now (contents .entry))) (L (book-in (now (image .entry)) [])) ⌝ }
 {
-    let e = elements(image);
-    let p = permanent(image);
-    let n = functions(image);
+    let e = pages::elements(image);
+    let p = pages::permanent(image);
+    let n = pages::functions(image);
     let mut first: u32 = 0;
     let mut g: u16 = 0;
     while g < n {
-        let f = function_at(image, g);
+        let f = pages::function_at(image, g);
         let found = bad_part(contents, e, p, f, first);
         if let Found::Here(i) = found {
             return Found::Here(first + i);
         }
-        first = first + size(e, f.arity);
+        first = first + pages::size(e, f.arity);
         g = g + 1;
     }
     Found::Nowhere
@@ -290,7 +170,7 @@ fn bad_in(image: &[u16; 4296], contents: &[u16]) -> Found
 pub fn bad_value(image: &[u16; 4296], contents: &[u16]) -> Found
     ensures { λ r. ⌜ r ≡ least (bad-value (book-in (now (image .entry)) []) (take (L (book-in (now (image .entry)) [])) (now (contents .entry)))) (L (book-in (now (image .entry)) [])) ⌝ }
 {
-    let n = total(image) as usize;
+    let n = pages::total(image) as usize;
     if n <= contents.len() {
         return bad_in(image, &contents[0..n]);
     }

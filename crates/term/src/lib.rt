@@ -24,46 +24,11 @@ pub struct Run {
     pub kind: u16,
 }
 
-// The number at an index, 0 past the end.
-pub fn fetch(s: &[u16], i: usize) -> u16
-    ensures { λ r. ⌜ r ≡ getD (now (s .entry)) i 0 ⌝ }
-{
-    if i < s.len() { s[i] } else { 0 }
-}
-
-// A count, or the most that it may be.
-pub fn capped(n: u16, most: u16) -> u16
-    ensures { λ r. ⌜ r ≡ capped n most ⌝ }
-{
-    if n < most { n } else { most }
-}
-
-// E, the number of elements.
-pub fn elements(image: &[u16; 4296]) -> u16
-    ensures { λ r. ⌜ r ≡ held (now (image .entry)) .E ⌝ }
-{
-    capped(image[0], 10000)
-}
-
-// P, the number of permanent elements.
-pub fn permanent(image: &[u16; 4296]) -> u16
-    ensures { λ r. ⌜ r ≡ held (now (image .entry)) .P ⌝ }
-{
-    image[1]
-}
-
-// F, the number of functions.
-pub fn functions(image: &[u16; 4296]) -> u16
-    ensures { λ r. ⌜ r ≡ length (held (now (image .entry)) .functions) ⌝ }
-{
-    capped(image[2], 32)
-}
-
 // Node n; past the last all 0.
 pub fn node(image: &[u16; 4296], n: u16) -> Row
     ensures { λ r. ⌜ node-row r ≡ node-at (held (now (image .entry))) n ⌝ }
 {
-    if n < capped(image[3], 1024) {
+    if n < pages::capped(image[3], 1024) {
         let at = n as usize * 4 + 200;
         Row {
             kind: image[at],
@@ -85,7 +50,7 @@ pub fn node(image: &[u16; 4296], n: u16) -> Row
 pub fn function(image: &[u16; 4296], f: u16) -> Run
     ensures { λ r. ⌜ function-run r ≡ function-at (held (now (image .entry))) f ⌝ }
 {
-    if f < capped(image[2], 32) {
+    if f < pages::capped(image[2], 32) {
         let at = f as usize * 4 + 8;
         Run {
             first: image[at],
@@ -129,15 +94,15 @@ pub fn locate(run: Run, e: u16, x: u16, y: u16) -> u32
 pub fn location(image: &[u16; 4296], f: u16, x: u16, y: u16) -> u32
     ensures { λ r. ⌜ r ≡ location (held (now (image .entry))) f x y ⌝ }
 {
-    locate(function(image, f), elements(image), x, y)
+    locate(function(image, f), pages::elements(image), x, y)
 }
 
 // Whether a location is dynamic, by the sizes of the functions from the first on.
 pub fn dynamic_at(image: &[u16; 4296], l: u32) -> bool
     ensures { λ r. ⌜ r ≡ dynamic-at (held (now (image .entry))) l ⌝ }
 {
-    let e = elements(image);
-    let count = functions(image);
+    let e = pages::elements(image);
+    let count = pages::functions(image);
     let mut left = l;
     let mut f: u16 = 0;
     while f < count {
@@ -156,10 +121,10 @@ pub fn dynamic_at(image: &[u16; 4296], l: u32) -> bool
 pub fn dynamic(image: &[u16; 4296], f: u16, x: u16, y: u16, at: u32) -> bool
     ensures { λ r. ⌜ (Placed (held (now (image .entry))) → at ≡ location (held (now (image .entry))) f x y → r ≡ dynamic-at (held (now (image .entry))) at) ⌝ }
 {
-    if functions(image) <= f {
+    if pages::functions(image) <= f {
         return dynamic_at(image, at);
     }
-    let e = elements(image);
+    let e = pages::elements(image);
     if e <= x {
         return dynamic_at(image, at);
     }
@@ -202,7 +167,7 @@ pub fn read(
 {
     let at = location(image, f, x, y);
     note(image, readers, bit, f, x, y, at);
-    fetch(contents, at as usize)
+    numbers::fetch(contents, at as usize)
 }
 
 pub fn truth(t: bool) -> u16
@@ -365,7 +330,7 @@ pub fn eval(
             _ => {
                 let x = eval(image, contents, readers, bit, scope, less, row.a);
                 let y = eval(image, contents, readers, bit, scope, less, row.b);
-                operate(permanent(image), k, x, y)
+                operate(pages::permanent(image), k, x, y)
             }
         },
         _ => 0,

@@ -14,12 +14,6 @@ pub struct Two {
     pub second: u32,
 }
 
-fn smaller(a: usize, b: usize) -> usize
-    ensures { λ r. ⌜ r ≡ min a b ⌝ }
-{
-    if a < b { a } else { b }
-}
-
 // To the moves that touch each of 64 come those that do so at a location with these marks: all its
 // users if the move writes it, its writers if it only reads it.
 fn meet(readers: u64, writers: u64, met: &mut [u64; 64])
@@ -116,7 +110,7 @@ pub fn touching(
 ) -> Two
     ensures { λ r. ⌜ r ≡ two-of (least-two (unordered-marked (now (rows .entry)) (now (readers .entry)) (now (writers .entry)) (clipped (now (readers .entry)) (now (writers .entry)) locations)) moves) ⌝ }
 {
-    let n = smaller(locations, smaller(readers.len(), writers.len()));
+    let n = numbers::smaller(locations, numbers::smaller(readers.len(), writers.len()));
     let met = met_of(readers, writers, n);
-    least_pair(&met, rows, smaller(moves as usize, 64))
+    least_pair(&met, rows, numbers::smaller(moves as usize, 64))
 }

@@ -43,5 +43,5 @@ fn has_argument(arity: u32, i: usize, row: usize, col: usize, x: u16) -> bool
 pub fn is_trace_at(f: Function, i: usize, row: usize, col: usize, held: u16, x: u16) -> bool
     ensures { λ r. ⌜ r ≡ trace-by f i row col held x ⌝ }
 {
-    table::is_dynamic(f) & (has_argument(f.arity, i, row, col, x) | (held == x))
+    pages::is_dynamic(f) & (has_argument(f.arity, i, row, col, x) | (held == x))
 }

@@ -183,7 +183,7 @@ fn each(
 ) -> Pace
     ensures { λ r. ⌜ (Room (now (list .entry)) → Runs (held (now (image .entry))) (now (contents .entry)) bit (after (reached s (now (list .entry))) (sweep-at (now (image .entry)) (now (contents .entry)) (now (scope .entry)) depth (row .b) (row .c) (row .a))) (reached r (now (list .exit))) (now (readers .entry)) (now (readers .exit))) ⌝ }
 {
-    let e = term::elements(image);
+    let e = pages::elements(image);
     let run = term::function(image, row.b);
     let mut r = s;
     let mut y = marking::next_member(contents, run, e, 0);
@@ -207,7 +207,7 @@ pub struct Actor {
 fn agent_at(image: &[u16; 4296], i: u32) -> Actor
     ensures { λ r. ⌜ agent-row r ≡ agent-at (held (now (image .entry))) i ⌝ }
 {
-    if i < term::capped(image[4], 16) as u32 {
+    if i < pages::capped(image[4], 16) as u32 {
         let at = i as usize * 4 + 136;
         Actor {
             root: image[at],
@@ -256,7 +256,7 @@ pub fn gather(
     let who = agent_at(image, agent);
     let s = Pace {
         len: 0,
-        label: term::permanent(image),
+        label: pages::permanent(image),
         refused: 0,
         node: 0,
     };
@@ -273,8 +273,8 @@ pub fn gather(
 pub fn mark_all(image: &[u16; 4296], readers: &mut [u64], bit: u64)
     ensures { λ _. ⌜ now (readers .exit) ≡ marked bit (all-dynamic (held (now (image .entry)))) (now (readers .entry)) ⌝ }
 {
-    let e = term::elements(image);
-    let count = term::functions(image);
+    let e = pages::elements(image);
+    let count = pages::functions(image);
     let mut first: usize = 0;
     let mut f: u16 = 0;
     while f < count {

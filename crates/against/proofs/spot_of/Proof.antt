@@ -8,7 +8,7 @@ use borrow.Author.Needs.{needs}
 use lib.ListN.{length}
 use Rattle.book.specs.Book.{size, function-at}
 use Rattle.book.specs.Image.{book-in}
-use Rattle.table.proofs.Places.{From, from-start, from-at, from-next, from-past}
+use Rattle.pages.proofs.Places.{From, from-start, from-at, from-next, from-past}
 use Rattle.against.proofs.Laws.{spot-is}
 use Rattle.against.proofs.spot_of.Statement.{statement}
 use Rattle.against.proofs.spot_of.Tie as tie

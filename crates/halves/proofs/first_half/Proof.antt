@@ -1,7 +1,8 @@
 -- `first_half` meets its contract.
+use mathlib.Core.List.{[]}
 use mathlib.Core.Path.{_≡_}
 use native.Mathlib.Omega.{arith}
-use Rattle.calls.proofs.Checks.{agents-low}
+use Rattle.book.proofs.Image.{agents-most}
 use Rattle.halves.proofs.Whole.{refused-book, refused-call, cleared}
 use Rattle.halves.proofs.Halves.{halted-half, walked-half}
 use borrow.Author.Needs.{needs}
@@ -43,7 +44,7 @@ cast-walk-first c =
     let o = c .before .before .before .before .before .before .before .«open» in
     let d = c .before .before .before .check-call in
     let e = cleared (a .book .now) (a .contents .now) (a .work .now) (a .agent) (a .lent) (o .last .1 .0) (o .ensures .1) (o .result) (o .ensures .0) (c .before .before .before .before .before .if1 .left) (d .result) (d .ensures) (c .before .if2 .left) in
-    record { fits = omega (arith, e .passed .agent, agents-low (o .last .1 .0)) }
+    record { fits = omega (arith, e .passed .agent, agents-most (o .last .1 .0) []) }
 
 walk-first-requires : tie.Need-walk-first-requires
 walk-first-requires c κs =

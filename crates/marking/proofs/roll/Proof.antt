@@ -12,7 +12,7 @@ elements-requires c κs = search needs
 returns : tie.Need-returns
 returns c =
     let a = c .before .before .args in
-    let h : a .x < held (a .image .now) .E = rw (← c .before .elements .ensures) (c .if1 .taken) in
+    let h : a .x < held (a .image .now) .E = rw (← c .before .elements .ensures .0) (c .if1 .taken) in
     λ p. sym (p .roll (a .x) h)
 
 dynamic-at-requires : tie.Need-dynamic-at-requires

@@ -30,15 +30,15 @@ returns : tie.Need-returns
 returns c =
     let a = c .before .before .before .before .before .before .before .before .before .before .args in
     let B = held (a .image .now) in
-    let q : c .before .before .before .before .before .before .locate .result ≡ location B (a .u) 0 0 = c .before .before .before .before .before .before .locate .ensures ∙ rw (← c .before .before .before .before .before .before .before .function .ensures, ← c .before .before .before .before .before .before .before .before .elements .ensures) in
+    let q : c .before .before .before .before .before .before .locate .result ≡ location B (a .u) 0 0 = c .before .before .before .before .before .before .locate .ensures ∙ rw (← c .before .before .before .before .before .before .before .function .ensures, ← c .before .before .before .before .before .before .before .before .elements .ensures .0) in
     λ c' p. let e : dynamic-at B (location B (a .u) 0 0) ≡ true = rw (← q) (sym (c .before .before .before .before .before .dynamic .ensures p q) ∙ c .before .before .before .before .if1 .taken) in
-    c .before .before .mark-run .ensures ∙ rw (universe-marks B p c' (a .u) (a .bit) (a .readers .now) true e, ← c .before .before .before .before .before .before .before .function .ensures, ← c .before .before .before .before .before .before .before .before .elements .ensures)
+    c .before .before .mark-run .ensures ∙ rw (universe-marks B p c' (a .u) (a .bit) (a .readers .now) true e, ← c .before .before .before .before .before .before .before .function .ensures, ← c .before .before .before .before .before .before .before .before .elements .ensures .0)
 
 returns-2 : tie.Need-returns-2
 returns-2 c =
     let a = c .before .before .before .before .before .before .args in
     let B = held (a .image .now) in
-    let q : c .before .before .locate .result ≡ location B (a .u) 0 0 = c .before .before .locate .ensures ∙ rw (← c .before .before .before .function .ensures, ← c .before .before .before .before .elements .ensures) in
+    let q : c .before .before .locate .result ≡ location B (a .u) 0 0 = c .before .before .locate .ensures ∙ rw (← c .before .before .before .function .ensures, ← c .before .before .before .before .elements .ensures .0) in
     λ c' p. let e : dynamic-at B (location B (a .u) 0 0) ≡ false = rw (← q) (sym (c .before .dynamic .ensures p q) ∙ c .if1 .left) in
     sym (universe-marks B p c' (a .u) (a .bit) (a .readers .now) false e)
 

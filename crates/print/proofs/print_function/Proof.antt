@@ -16,7 +16,7 @@ use Rattle.print.proofs.print_function.Lts as lts
 use Rattle.image.proofs.elements.Reads as elements-reads
 use Rattle.image.proofs.function_at.Reads as function-at-reads
 use Rattle.image.proofs.size.Reads as size-reads
-use Rattle.print.proofs.fetch.Reads as fetch-reads
+use Rattle.numbers.proofs.fetch.Reads as fetch-reads
 use Rattle.print.proofs.print_location.Reads as print-location-reads
 
 abbrev Inv-loop : tie.InvT-loop

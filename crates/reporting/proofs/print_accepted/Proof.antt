@@ -14,7 +14,7 @@ use Rattle.image.proofs.decode.Reads as decode-reads
 use Rattle.image.proofs.fetch.Reads as fetch-reads
 use Rattle.print.proofs.print_answer.Reads as print-answer-reads
 use Rattle.reporting.proofs.header.Reads as header-reads
-use Rattle.reporting.proofs.smaller.Reads as smaller-reads
+use Rattle.numbers.proofs.smaller.Reads as smaller-reads
 
 header-requires : tie.Need-header-requires
 header-requires c κs = search needs

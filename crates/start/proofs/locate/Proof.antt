@@ -4,8 +4,8 @@ use Rattle.start.proofs.locate.Tie as tie
 use Rattle.start.proofs.locate.Reads as reads
 use Rattle.start.proofs.locate.Lts as lts
 use Rattle.start.proofs.offset.Reads as offset-reads
-use Rattle.table.proofs.elements.Reads as elements-reads
-use Rattle.table.proofs.function_at.Reads as function-at-reads
+use Rattle.pages.proofs.elements.Reads as elements-reads
+use Rattle.pages.proofs.function_at.Reads as function-at-reads
 
 -- src/lib.rt:68:9
 elements-requires : tie.Need-elements-requires

@@ -12,11 +12,11 @@ use Rattle.start.proofs.write_defaults.Tie as tie
 use Rattle.start.proofs.write_defaults.Reads as reads
 use Rattle.start.proofs.write_defaults.Lts as lts
 use Rattle.start.proofs.fill_run.Reads as fill-run-reads
-use Rattle.table.proofs.default_of.Reads as default-of-reads
-use Rattle.table.proofs.elements.Reads as elements-reads
-use Rattle.table.proofs.function_at.Reads as function-at-reads
-use Rattle.table.proofs.functions.Reads as functions-reads
-use Rattle.table.proofs.size.Reads as size-reads
+use Rattle.pages.proofs.default_of.Reads as default-of-reads
+use Rattle.pages.proofs.elements.Reads as elements-reads
+use Rattle.pages.proofs.function_at.Reads as function-at-reads
+use Rattle.pages.proofs.functions.Reads as functions-reads
+use Rattle.pages.proofs.size.Reads as size-reads
 
 abbrev Inv-loop : tie.InvT-loop
 Inv-loop image contents₀ e n first₀ f₀ contents first f = Painted (book-in image []) contents₀ first f contents × (f ≤ n)

@@ -1,5 +1,7 @@
 use lib.ListN.{length}
-use Rattle.table.proofs.Places.{From, from-start, from-next, from-end, from-fits, part-of, part-pass, size-low, part-stop}
+use Rattle.book.proofs.Image.{size-most}
+use Rattle.pages.proofs.Places.{From, from-start, from-next, from-end, from-fits}
+use Rattle.table.proofs.Places.{part-of, part-pass, part-stop}
 use Rattle.table.specs.Part.{Part}
 use Rattle.book.specs.Contents.{bad-value}
 use Rattle.book.specs.Image.{book-in}
@@ -17,11 +19,11 @@ use Rattle.table.proofs.bad_in.Tie as tie
 use Rattle.table.proofs.bad_in.Reads as reads
 use Rattle.table.proofs.bad_in.Lts as lts
 use Rattle.table.proofs.bad_part.Reads as bad-part-reads
-use Rattle.table.proofs.elements.Reads as elements-reads
-use Rattle.table.proofs.function_at.Reads as function-at-reads
-use Rattle.table.proofs.functions.Reads as functions-reads
-use Rattle.table.proofs.permanent.Reads as permanent-reads
-use Rattle.table.proofs.size.Reads as size-reads
+use Rattle.pages.proofs.elements.Reads as elements-reads
+use Rattle.pages.proofs.function_at.Reads as function-at-reads
+use Rattle.pages.proofs.functions.Reads as functions-reads
+use Rattle.pages.proofs.permanent.Reads as permanent-reads
+use Rattle.pages.proofs.size.Reads as size-reads
 
 abbrev Inv-loop : tie.InvT-loop
 Inv-loop image contents e p n first₀ g₀ first g =
@@ -62,7 +64,7 @@ enum-known-found c = search needs
 
 -- src/lib.rt:243:32
 add-t12 : tie.Need-add-t12 Inv-loop μ-loop
-add-t12 c = let a = c .before .before .before .before .before .before .before .before .before .before .before .args in let B = book-in (a .image .now) [] in let l = c .before .before .before .before .before .before .loop in let f = c .before .before .before .before .function-at .result in let m : l .g < length (B .functions) = omega (arith, c .before .before .before .before .before .loop-test .taken, c .before .before .before .before .before .before .before .functions .ensures .0) in let q : size (c .before .before .before .before .before .before .before .before .before .elements .result) (f .arity) ≡ size (B .E) (function-at B (l .g) .arity) = rw (c .before .before .before .before .before .before .before .before .before .elements .ensures .0, c .before .before .before .before .function-at .ensures) in let k = part-of B (l .g) (l .first) (c .before .before .before .before .before .before .before .before .before .elements .result) (c .before .before .before .before .before .before .before .before .permanent .result) f (l .inv .0) m (c .before .before .before .before .before .before .before .before .before .elements .ensures .0) (c .before .before .before .before .before .before .before .before .permanent .ensures) (c .before .before .before .before .function-at .ensures) in let h : c .before .before .before .bad-part .result ≡ least (λ i. bad-value B (a .contents .now) (l .first + i)) (size (B .E) (function-at B (l .g) .arity)) = c .before .before .before .bad-part .ensures B k ∙ rw q in let w : l .first + size (B .E) (function-at B (l .g) .arity) ≤ L B = from-fits B (l .g) (l .first) (l .inv .0) m in let i = c .before .found .given .0 .0 in let o : least (λ i. bad-value B (a .contents .now) (l .first + i)) (size (B .E) (function-at B (l .g) .arity)) ≡ Here i = sym h ∙ c .before .found .given .1 in record { fits = omega (arith, least-here (λ i. bad-value B (a .contents .now) (l .first + i)) (size (B .E) (function-at B (l .g) .arity)) i o .0, l .inv .0 .low, c .before .before .before .before .before .loop-test .taken, c .before .before .before .before .before .before .before .functions .ensures .1, size-low (B .E) (function-at B (l .g) .arity) (omega (arith, c .before .before .before .before .before .before .before .before .before .elements .ensures))) }
+add-t12 c = let a = c .before .before .before .before .before .before .before .before .before .before .before .args in let B = book-in (a .image .now) [] in let l = c .before .before .before .before .before .before .loop in let f = c .before .before .before .before .function-at .result in let m : l .g < length (B .functions) = omega (arith, c .before .before .before .before .before .loop-test .taken, c .before .before .before .before .before .before .before .functions .ensures .0) in let q : size (c .before .before .before .before .before .before .before .before .before .elements .result) (f .arity) ≡ size (B .E) (function-at B (l .g) .arity) = rw (c .before .before .before .before .before .before .before .before .before .elements .ensures .0, c .before .before .before .before .function-at .ensures) in let k = part-of B (l .g) (l .first) (c .before .before .before .before .before .before .before .before .before .elements .result) (c .before .before .before .before .before .before .before .before .permanent .result) f (l .inv .0) m (c .before .before .before .before .before .before .before .before .before .elements .ensures .0) (c .before .before .before .before .before .before .before .before .permanent .ensures) (c .before .before .before .before .function-at .ensures) in let h : c .before .before .before .bad-part .result ≡ least (λ i. bad-value B (a .contents .now) (l .first + i)) (size (B .E) (function-at B (l .g) .arity)) = c .before .before .before .bad-part .ensures B k ∙ rw q in let w : l .first + size (B .E) (function-at B (l .g) .arity) ≤ L B = from-fits B (l .g) (l .first) (l .inv .0) m in let i = c .before .found .given .0 .0 in let o : least (λ i. bad-value B (a .contents .now) (l .first + i)) (size (B .E) (function-at B (l .g) .arity)) ≡ Here i = sym h ∙ c .before .found .given .1 in record { fits = omega (arith, least-here (λ i. bad-value B (a .contents .now) (l .first + i)) (size (B .E) (function-at B (l .g) .arity)) i o .0, l .inv .0 .low, c .before .before .before .before .before .loop-test .taken, c .before .before .before .before .before .before .before .functions .ensures .1, size-most (B .E) (function-at B (l .g) .arity) (omega (arith, c .before .before .before .before .before .before .before .before .before .elements .ensures))) }
 
 -- src/lib.rt:243:13
 returns : tie.Need-returns Inv-loop μ-loop

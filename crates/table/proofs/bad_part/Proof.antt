@@ -12,7 +12,7 @@ use Rattle.table.proofs.bad_part.Lts as lts
 use Rattle.table.proofs.blameless.Reads as blameless-reads
 use Rattle.table.proofs.is_bad.Reads as is-bad-reads
 use Rattle.table.proofs.past.Reads as past-reads
-use Rattle.table.proofs.size.Reads as size-reads
+use Rattle.pages.proofs.size.Reads as size-reads
 
 abbrev Inv-loop : tie.InvT-loop
 Inv-loop contents e p f first end v l₀ l =

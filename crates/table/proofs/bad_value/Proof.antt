@@ -15,7 +15,7 @@ use Rattle.table.proofs.bad_value.Tie as tie
 use Rattle.table.proofs.bad_value.Reads as reads
 use Rattle.table.proofs.bad_value.Lts as lts
 use Rattle.table.proofs.bad_in.Reads as bad-in-reads
-use Rattle.table.proofs.total.Reads as total-reads
+use Rattle.pages.proofs.total.Reads as total-reads
 
 -- src/lib.rt:261:13
 total-requires : tie.Need-total-requires

@@ -13,8 +13,8 @@ use Rattle.table.proofs.blameless.Statement.{statement}
 use Rattle.table.proofs.blameless.Tie as tie
 use Rattle.table.proofs.blameless.Reads as reads
 use Rattle.table.proofs.blameless.Lts as lts
-use Rattle.table.proofs.default_of.Reads as default-of-reads
-use Rattle.table.proofs.fetch.Reads as fetch-reads
+use Rattle.pages.proofs.default_of.Reads as default-of-reads
+use Rattle.numbers.proofs.fetch.Reads as fetch-reads
 
 -- src/lib.rt:204:9
 default-of-requires : tie.Need-default-of-requires

@@ -13,10 +13,10 @@ use Rattle.table.proofs.is_bad.Tie as tie
 use Rattle.table.proofs.is_bad.Reads as reads
 use Rattle.table.proofs.is_bad.Lts as lts
 use Rattle.table.proofs.col_of.Reads as col-of-reads
-use Rattle.table.proofs.default_of.Reads as default-of-reads
-use Rattle.table.proofs.fetch.Reads as fetch-reads
+use Rattle.pages.proofs.default_of.Reads as default-of-reads
+use Rattle.numbers.proofs.fetch.Reads as fetch-reads
 use Rattle.table.proofs.is_boolean.Reads as is-boolean-reads
-use Rattle.table.proofs.is_relation.Reads as is-relation-reads
+use Rattle.pages.proofs.is_relation.Reads as is-relation-reads
 use Rattle.table.proofs.is_static_fine.Reads as is-static-fine-reads
 use Rattle.table.proofs.on_roll.Reads as on-roll-reads
 use Rattle.table.proofs.row_of.Reads as row-of-reads

@@ -3,7 +3,7 @@ use Rattle.table.proofs.on_roll.Statement.{statement}
 use Rattle.table.proofs.on_roll.Tie as tie
 use Rattle.table.proofs.on_roll.Reads as reads
 use Rattle.table.proofs.on_roll.Lts as lts
-use Rattle.table.proofs.fetch.Reads as fetch-reads
+use Rattle.numbers.proofs.fetch.Reads as fetch-reads
 
 -- src/lib.rt:154:23
 fetch-requires : tie.Need-fetch-requires

@@ -10,7 +10,7 @@ use Rattle.table.proofs.past.Statement.{statement}
 use Rattle.table.proofs.past.Tie as tie
 use Rattle.table.proofs.past.Reads as reads
 use Rattle.table.proofs.past.Lts as lts
-use Rattle.table.proofs.smaller.Reads as smaller-reads
+use Rattle.numbers.proofs.smaller.Reads as smaller-reads
 
 abbrev Inv-loop : tie.InvT-loop
 Inv-loop contents v l end n k₀ k = Past contents v l end k

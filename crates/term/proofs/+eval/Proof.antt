@@ -19,7 +19,7 @@ use Rattle.term.proofs.+eval.Lts-eval as eval-lts
 use Rattle.term.proofs.node.Reads as node-reads
 use Rattle.term.proofs.not.Reads as not-reads
 use Rattle.term.proofs.operate.Reads as operate-reads
-use Rattle.term.proofs.permanent.Reads as permanent-reads
+use Rattle.pages.proofs.permanent.Reads as permanent-reads
 use Rattle.term.proofs.read.Reads as read-reads
 use Rattle.term.proofs.variable.Reads as variable-reads
 use Rattle.term.proofs.+eval.{statement}

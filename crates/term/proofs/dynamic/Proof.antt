@@ -39,9 +39,9 @@ returns-4 : tie.Need-returns-4
 returns-4 c =
     let a = c .before .before .before .before .before .before .before .args in
     let m = a .image .now in
-    let h : a .f < length (held m .functions) = rw (← c .before .before .before .before .before .before .functions .ensures) (c .before .before .before .before .before .if1 .left) in
-    let i : a .x < held m .E = rw (← c .before .before .before .before .elements .ensures) (c .before .before .before .if2 .left) in
-    let j : a .y < held m .E = rw (← c .before .before .before .before .elements .ensures) (c .before .before .if3 .left) in
+    let h : a .f < length (held m .functions) = rw (← c .before .before .before .before .before .before .functions .ensures .0) (c .before .before .before .before .before .if1 .left) in
+    let i : a .x < held m .E = rw (← c .before .before .before .before .elements .ensures .0) (c .before .before .before .if2 .left) in
+    let j : a .y < held m .E = rw (← c .before .before .before .before .elements .ensures .0) (c .before .before .if3 .left) in
     λ p e. ap dynamic (c .before .function .ensures) ∙ rw e (sym (p .own (a .f) (a .x) (a .y) h i j))
 
 pub dynamic-spec : {M : Type 1} → statement M

@@ -35,8 +35,8 @@ returns : tie.Need-returns Inv-loop μ-loop
 returns c =
     let m = c .before .before .before .before .before .before .before .before .args .image .now in
     let f = c .before .before .before .before .before .loop .f in
-    let h : f < length (held m .functions) = rw (← c .before .before .before .before .before .before .functions .ensures) (c .before .before .before .before .loop-test .taken) in
-    let k : c .before .before .before .before .before .loop .left < size (held m .E) (function-at (held m) f .arity) = rw (← c .before .before .before .function .ensures, ← c .before .before .before .before .before .before .before .elements .ensures, ← c .before .before .size .ensures) (c .before .if1 .taken) in
+    let h : f < length (held m .functions) = rw (← c .before .before .before .before .before .before .functions .ensures .0) (c .before .before .before .before .loop-test .taken) in
+    let k : c .before .before .before .before .before .loop .left < size (held m .E) (function-at (held m) f .arity) = rw (← c .before .before .before .function .ensures, ← c .before .before .before .before .before .before .before .elements .ensures .0, ← c .before .before .size .ensures) (c .before .if1 .taken) in
     ap dynamic (c .before .before .before .function .ensures ∙ sym (scan-stop (held m .E) (held m .functions) f (c .before .before .before .before .before .loop .left) h k)) ∙ c .before .before .before .before .before .loop .inv .2
 
 add-f : tie.Need-add-f Inv-loop μ-loop
@@ -49,15 +49,15 @@ loop-again : tie.Need-loop-again Inv-loop μ-loop
 loop-again c =
     let m = c .before .before .before .before .before .before .before .args .image .now in
     let f = c .before .before .before .before .loop .f in
-    let h : f < length (held m .functions) = rw (← c .before .before .before .before .before .functions .ensures) (c .before .before .before .loop-test .taken) in
-    let e : c .before .size .result ≡ size (held m .E) (function-at (held m) f .arity) = rw (← c .before .before .function .ensures, ← c .before .before .before .before .before .before .elements .ensures) (c .before .size .ensures) in
+    let h : f < length (held m .functions) = rw (← c .before .before .before .before .before .functions .ensures .0) (c .before .before .before .loop-test .taken) in
+    let e : c .before .size .result ≡ size (held m .E) (function-at (held m) f .arity) = rw (← c .before .before .function .ensures, ← c .before .before .before .before .before .before .elements .ensures .0) (c .before .size .ensures) in
     let k : size (held m .E) (function-at (held m) f .arity) ≤ c .before .before .before .before .loop .left = rw (← e) (c .if1 .left) in
     (omega arith, omega arith, rw e (ap (λ (p : Place). dynamic (p .function)) (scan-pass (held m .E) (held m .functions) f (c .before .before .before .before .loop .left) h k) ∙ c .before .before .before .before .loop .inv .2))
 
 returns-2 : tie.Need-returns-2 Inv-loop μ-loop
 returns-2 c =
     let m = c .before .before .before .before .args .image .now in
-    let h : length (held m .functions) ≤ c .before .loop .f = rw (← c .before .before .functions .ensures) (c .loop-test .left) in
+    let h : length (held m .functions) ≤ c .before .loop .f = rw (← c .before .before .functions .ensures .0) (c .loop-test .left) in
     sym (ap dynamic (scan-end (held m .E) (held m .functions) (c .before .loop .f) (c .before .loop .left) h)) ∙ c .before .loop .inv .2
 
 pub dynamic-at-spec : {M : Type 1} → statement M

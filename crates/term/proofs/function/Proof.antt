@@ -23,7 +23,7 @@ mul-t10 : tie.Need-mul-t10
 mul-t10 c = search needs
 
 element-copy-out-t14 : tie.Need-element-copy-out-t14
-element-copy-out-t14 c = omega (arith, capped-most (word (c .before .before .before .args .image .now) 2) 32, c .before .capped .ensures)
+element-copy-out-t14 c = omega (arith, capped-most (word (c .before .before .before .args .image .now) 2) 32, c .before .capped .ensures .0)
 
 add-t11 : tie.Need-add-t11
 add-t11 c = search needs
@@ -32,7 +32,7 @@ mul-t15 : tie.Need-mul-t15
 mul-t15 c = search needs
 
 element-copy-out-t18 : tie.Need-element-copy-out-t18
-element-copy-out-t18 c = omega (arith, capped-most (word (c .before .before .before .before .args .image .now) 2) 32, c .before .before .capped .ensures)
+element-copy-out-t18 c = omega (arith, capped-most (word (c .before .before .before .before .args .image .now) 2) 32, c .before .before .capped .ensures .0)
 
 add-t19 : tie.Need-add-t19
 add-t19 c = search needs
@@ -41,13 +41,13 @@ mul-t20 : tie.Need-mul-t20
 mul-t20 c = search needs
 
 element-copy-out-t23 : tie.Need-element-copy-out-t23
-element-copy-out-t23 c = omega (arith, capped-most (word (c .before .before .before .before .before .args .image .now) 2) 32, c .before .before .before .capped .ensures)
+element-copy-out-t23 c = omega (arith, capped-most (word (c .before .before .before .before .before .args .image .now) 2) 32, c .before .before .before .capped .ensures .0)
 
 returns : tie.Need-returns
-returns c = let a = c .before .before .before .before .before .before .args in let h : a .f < capped (word (a .image .now) 2) 32 = rw (← c .before .before .before .before .capped .ensures) (c .before .before .before .if1 .taken) in function-in (a .image .now) (a .f) h
+returns c = let a = c .before .before .before .before .before .before .args in let h : a .f < capped (word (a .image .now) 2) 32 = rw (← c .before .before .before .before .capped .ensures .0) (c .before .before .before .if1 .taken) in function-in (a .image .now) (a .f) h
 
 returns-2 : tie.Need-returns-2
-returns-2 c = let a = c .before .before .before .args in let h : capped (word (a .image .now) 2) 32 ≤ a .f = rw (← c .before .capped .ensures) (c .if1 .left) in function-past (a .image .now) (a .f) h
+returns-2 c = let a = c .before .before .before .args in let h : capped (word (a .image .now) 2) 32 ≤ a .f = rw (← c .before .capped .ensures .0) (c .if1 .left) in function-past (a .image .now) (a .f) h
 
 pub function-spec : {M : Type 1} → statement M
 function-spec =

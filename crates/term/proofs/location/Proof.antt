@@ -14,7 +14,7 @@ locate-requires : tie.Need-locate-requires
 locate-requires c κs = search needs
 
 returns : tie.Need-returns
-returns c = c .locate .ensures ∙ rw (← c .before .before .function .ensures, ← c .before .elements .ensures)
+returns c = c .locate .ensures ∙ rw (← c .before .before .function .ensures, ← c .before .elements .ensures .0)
 
 pub location-spec : {M : Type 1} → statement M
 location-spec = tie.close (tie.spec function-requires elements-requires locate-requires returns)

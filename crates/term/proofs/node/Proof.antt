@@ -23,7 +23,7 @@ mul-t10 : tie.Need-mul-t10
 mul-t10 c = search needs
 
 element-copy-out-t14 : tie.Need-element-copy-out-t14
-element-copy-out-t14 c = omega (arith, capped-most (word (c .before .before .before .args .image .now) 3) 1024, c .before .capped .ensures)
+element-copy-out-t14 c = omega (arith, capped-most (word (c .before .before .before .args .image .now) 3) 1024, c .before .capped .ensures .0)
 
 add-t11 : tie.Need-add-t11
 add-t11 c = search needs
@@ -32,7 +32,7 @@ mul-t15 : tie.Need-mul-t15
 mul-t15 c = search needs
 
 element-copy-out-t18 : tie.Need-element-copy-out-t18
-element-copy-out-t18 c = omega (arith, capped-most (word (c .before .before .before .before .args .image .now) 3) 1024, c .before .before .capped .ensures)
+element-copy-out-t18 c = omega (arith, capped-most (word (c .before .before .before .before .args .image .now) 3) 1024, c .before .before .capped .ensures .0)
 
 add-t19 : tie.Need-add-t19
 add-t19 c = search needs
@@ -41,7 +41,7 @@ mul-t20 : tie.Need-mul-t20
 mul-t20 c = search needs
 
 element-copy-out-t23 : tie.Need-element-copy-out-t23
-element-copy-out-t23 c = omega (arith, capped-most (word (c .before .before .before .before .before .args .image .now) 3) 1024, c .before .before .before .capped .ensures)
+element-copy-out-t23 c = omega (arith, capped-most (word (c .before .before .before .before .before .args .image .now) 3) 1024, c .before .before .before .capped .ensures .0)
 
 add-t24 : tie.Need-add-t24
 add-t24 c = search needs
@@ -50,13 +50,13 @@ mul-t25 : tie.Need-mul-t25
 mul-t25 c = search needs
 
 element-copy-out-t28 : tie.Need-element-copy-out-t28
-element-copy-out-t28 c = omega (arith, capped-most (word (c .before .before .before .before .before .before .args .image .now) 3) 1024, c .before .before .before .before .capped .ensures)
+element-copy-out-t28 c = omega (arith, capped-most (word (c .before .before .before .before .before .before .args .image .now) 3) 1024, c .before .before .before .before .capped .ensures .0)
 
 returns : tie.Need-returns
-returns c = let a = c .before .before .before .before .before .before .before .args in let h : a .n < capped (word (a .image .now) 3) 1024 = rw (← c .before .before .before .before .before .capped .ensures) (c .before .before .before .before .if1 .taken) in node-in (a .image .now) (a .n) h
+returns c = let a = c .before .before .before .before .before .before .before .args in let h : a .n < capped (word (a .image .now) 3) 1024 = rw (← c .before .before .before .before .before .capped .ensures .0) (c .before .before .before .before .if1 .taken) in node-in (a .image .now) (a .n) h
 
 returns-2 : tie.Need-returns-2
-returns-2 c = let a = c .before .before .before .args in let h : capped (word (a .image .now) 3) 1024 ≤ a .n = rw (← c .before .capped .ensures) (c .if1 .left) in node-past (a .image .now) (a .n) h
+returns-2 c = let a = c .before .before .before .args in let h : capped (word (a .image .now) 3) 1024 ≤ a .n = rw (← c .before .capped .ensures .0) (c .if1 .left) in node-past (a .image .now) (a .n) h
 
 pub node-spec : {M : Type 1} → statement M
 node-spec =

@@ -8,7 +8,7 @@ use Rattle.touch.proofs.touching.Reads as reads
 use Rattle.touch.proofs.touching.Lts as lts
 use Rattle.touch.proofs.least_pair.Reads as least-pair-reads
 use Rattle.touch.proofs.met_of.Reads as met-of-reads
-use Rattle.touch.proofs.smaller.Reads as smaller-reads
+use Rattle.numbers.proofs.smaller.Reads as smaller-reads
 
 -- src/lib.rt:108:32
 smaller-requires : tie.Need-smaller-requires

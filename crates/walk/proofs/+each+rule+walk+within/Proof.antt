@@ -41,7 +41,7 @@ use Rattle.marking.proofs.lowest.Reads as lowest-reads
 use Rattle.marking.proofs.next_member.Reads as next-member-reads
 use Rattle.marking.proofs.read_roll.Reads as read-roll-reads
 use Rattle.marking.proofs.universe.Reads as universe-reads
-use Rattle.term.proofs.elements.Reads as elements-reads
+use Rattle.pages.proofs.elements.Reads as elements-reads
 use Rattle.term.proofs.eval.Reads as eval-reads
 use Rattle.term.proofs.function.Reads as function-reads
 use Rattle.term.proofs.node.Reads as node-reads
@@ -124,7 +124,7 @@ each-loop-holds t c =
     let f : ℕ → Walk → Look Walked = body-at (a .image .now) (a .scope .now) (a .depth) (a .row .c) (a .row .a) in (
       refl,
       refl,
-      λ room z n h. sweep-as B (a .contents .now) (a .bit) (a .row .b) f _ _ (reached (a .s) (a .list .now)) z _ n (c .next-member .ensures .1 B (a .row .b) (c .before .function .ensures) (c .before .before .elements .ensures)) h,
+      λ room z n h. sweep-as B (a .contents .now) (a .bit) (a .row .b) f _ _ (reached (a .s) (a .list .now)) z _ n (c .next-member .ensures .1 B (a .row .b) (c .before .function .ensures) (c .before .before .elements .ensures .0)) h,
     )
 
 each-within-requires : (t : ℕ) → each-lts.Need-within-requires (claims-each t) (each-at t) each.Post each-Inv-loop each-μ-loop
@@ -143,7 +143,7 @@ each-returns t c =
     let f : ℕ → Walk → Look Walked = body-at (a .image .now) (a .scope .now) (a .depth) (a .row .c) (a .row .a) in
     let l = c .before .before .before .before .before .before .before .before .before .before .loop in
     let k = c .before .before .before .before .before .before .within in
-    let h : l .y < B .E = rw (← c .before .before .before .before .before .before .before .before .before .before .before .before .before .elements .ensures) (c .before .before .before .before .before .before .before .before .before .loop-test .taken) in
+    let h : l .y < B .E = rw (← c .before .before .before .before .before .before .before .before .before .before .before .before .before .elements .ensures .0) (c .before .before .before .before .before .before .before .before .before .loop-test .taken) in
     λ room. sweep-all B (a .contents .now) (a .bit) (a .row .b) f (reached (a .s) (a .list .now)) _ _ _ (l .inv .2 room _ _
     (sweep-more B (a .contents .now) (a .bit) (a .row .b) f (l .y) (reached (l .r) (l .list)) _ _ _ _ _ h (k .ensures (omega (arith, l .inv .1)))
     (runs-met B (a .contents .now) (a .bit) _ _ _ _ _ (reached-met (k .result) _ (c .if1 .taken)))))
@@ -164,12 +164,12 @@ each-loop-again t c =
     let f : ℕ → Walk → Look Walked = body-at (a .image .now) (a .scope .now) (a .depth) (a .row .c) (a .row .a) in
     let l = c .before .before .before .before .before .before .before .before .before .before .before .loop in
     let k = c .before .before .before .before .before .before .before .within in
-    let h : l .y < B .E = rw (← c .before .before .before .before .before .before .before .before .before .before .before .before .before .before .elements .ensures) (c .before .before .before .before .before .before .before .before .before .before .loop-test .taken) in (
+    let h : l .y < B .E = rw (← c .before .before .before .before .before .before .before .before .before .before .before .before .before .before .elements .ensures .0) (c .before .before .before .before .before .before .before .before .before .before .loop-test .taken) in (
       k .kept .1 .1 .0 ∙ l .inv .0,
       k .kept .1 .1 .1 .1 .0 ∙ l .inv .1,
       λ room z n t. l .inv .2 room z n
           (sweep-more B (a .contents .now) (a .bit) (a .row .b) f (l .y) (reached (l .r) (l .list)) _ z _ _ n h (k .ensures (omega (arith, l .inv .1)))
-          (sweep-as B (a .contents .now) (a .bit) (a .row .b) f _ _ (reached (k .result) (k .last .1 .1 .1 .1 .0)) z _ n (c .next-member2 .ensures .1 B (a .row .b) (c .before .before .before .before .before .before .before .before .before .before .before .before .before .function .ensures) (c .before .before .before .before .before .before .before .before .before .before .before .before .before .before .elements .ensures)) t)),
+          (sweep-as B (a .contents .now) (a .bit) (a .row .b) f _ _ (reached (k .result) (k .last .1 .1 .1 .1 .0)) z _ n (c .next-member2 .ensures .1 B (a .row .b) (c .before .before .before .before .before .before .before .before .before .before .before .before .before .function .ensures) (c .before .before .before .before .before .before .before .before .before .before .before .before .before .before .elements .ensures .0)) t)),
     )
 
 each-same-length-3 : (t : ℕ) → each-lts.Need-same-length-3 (claims-each t) (each-at t) each.Post each-Inv-loop each-μ-loop
@@ -184,7 +184,7 @@ each-returns-2 t c =
     let B = held (a .image .now) in
     let f : ℕ → Walk → Look Walked = body-at (a .image .now) (a .scope .now) (a .depth) (a .row .c) (a .row .a) in
     let l = c .before .loop in
-    let h : B .E ≤ l .y = rw (← c .before .before .before .before .elements .ensures) (c .loop-test .left) in
+    let h : B .E ≤ l .y = rw (← c .before .before .before .before .elements .ensures .0) (c .loop-test .left) in
     λ room. sweep-all B (a .contents .now) (a .bit) (a .row .b) f (reached (a .s) (a .list .now)) _ _ _ (l .inv .2 room _ _ (sweep-end B (a .contents .now) (a .bit) (a .row .b) f (l .y) (reached (l .r) (l .list)) (l .readers) h))
 
 rule-sub-less : (t : ℕ) → rule-lts.Need-sub-less (claims-rule t) (rule-at t) rule.Post

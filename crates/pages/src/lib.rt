@@ -1,0 +1,124 @@
+// A checked book as the engine reads it, from an image in words of sixteen bits: its counts, its functions, and how many
+// locations it has.
+use book::Function;
+ghost use mathlib.Core.Path.{_≡_};
+ghost use mathlib.Core.List.{[]};
+ghost use Prim.Native.Nat.{_≤_};
+ghost use lib.ListN.{length};
+ghost use Rattle.book.specs.Book.{L, size, relation, dynamic, default, function-at};
+ghost use Rattle.book.specs.Image.{word, capped, book-in};
+
+// The bounds of the counts in an image.
+pub const MOST_ELEMENTS: u16 = 10000;
+
+pub const MOST_FUNCTIONS: u16 = 32;
+
+const MOST_AGENTS: u16 = 16;
+
+pub fn word(image: &[u16; 4296], i: usize) -> u16
+    ensures { λ r. ⌜ r ≡ word (now (image .entry)) i ⌝ }
+{
+    numbers::fetch(image, i)
+}
+
+// A count, or the most that it may be.
+pub fn capped(n: u16, most: u16) -> u16
+    ensures { λ r. ⌜ (r ≡ capped n most) × (r ≤ most) ⌝ }
+{
+    if n < most { n } else { most }
+}
+
+// E.
+pub fn elements(image: &[u16; 4296]) -> u16
+    ensures { λ r. ⌜ (r ≡ book-in (now (image .entry)) [] .E) × (r ≤ 10000) ⌝ }
+{
+    capped(word(image, 0), MOST_ELEMENTS)
+}
+
+// P.
+pub fn permanent(image: &[u16; 4296]) -> u16
+    ensures { λ r. ⌜ r ≡ book-in (now (image .entry)) [] .P ⌝ }
+{
+    word(image, 1)
+}
+
+// How many functions there are.
+pub fn functions(image: &[u16; 4296]) -> u16
+    ensures { λ r. ⌜ (r ≡ length (book-in (now (image .entry)) [] .functions)) × (r ≤ 32) ⌝ }
+{
+    capped(word(image, 2), MOST_FUNCTIONS)
+}
+
+// How many agents there are.
+pub fn agents(image: &[u16; 4296]) -> u16
+    ensures { λ r. ⌜ (r ≡ length (book-in (now (image .entry)) [] .agents)) × (r ≤ 16) ⌝ }
+{
+    capped(word(image, 4), MOST_AGENTS)
+}
+
+// Function f; past the last one all 0.
+pub fn function_at(image: &[u16; 4296], f: u16) -> Function
+    ensures { λ r. ⌜ r ≡ function-at (book-in (now (image .entry)) []) f ⌝ }
+{
+    if f < functions(image) {
+        let at = (2 + f as usize) * 4;
+        Function {
+            first: word(image, at) as u32,
+            arity: word(image, at + 1) as u32,
+            kind: word(image, at + 2) as u32,
+        }
+    } else {
+        Function {
+            first: 0,
+            arity: 0,
+            kind: 0,
+        }
+    }
+}
+
+// How many locations a function of that arity has.
+pub fn size(e: u16, arity: u32) -> u32
+    ensures { λ r. ⌜ (r ≡ size e arity) × (e ≤ 10000 → r ≤ 100000000) ⌝ }
+{
+    if arity == 0 {
+        return 1;
+    }
+    if arity == 1 {
+        return e as u32;
+    }
+    e as u32 * e as u32
+}
+
+// L.
+pub fn total(image: &[u16; 4296]) -> u32
+    ensures { λ r. ⌜ r ≡ L (book-in (now (image .entry)) []) ⌝ }
+{
+    let e = elements(image);
+    let n = functions(image);
+    let mut first: u32 = 0;
+    let mut g: u16 = 0;
+    while g < n {
+        let f = function_at(image, g);
+        first = first + size(e, f.arity);
+        g = g + 1;
+    }
+    first
+}
+
+pub fn is_relation(f: Function) -> bool
+    ensures { λ r. ⌜ r ≡ relation f ⌝ }
+{
+    (f.kind == 1) | (f.kind == 3)
+}
+
+pub fn is_dynamic(f: Function) -> bool
+    ensures { λ r. ⌜ r ≡ dynamic f ⌝ }
+{
+    2 <= f.kind
+}
+
+pub fn default_of(f: Function) -> u16
+    ensures { λ r. ⌜ r ≡ default f ⌝ }
+{
+    if is_relation(f) { 1 } else { 0 }
+}
