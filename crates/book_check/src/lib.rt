@@ -3,16 +3,14 @@ use book::Header;
 use text::Answer;
 use text::Found;
 ghost use mathlib.Core.Path.{_≡_};
-ghost use mathlib.Core.List.{[]};
 ghost use Prim.Native.Nat.{_+_};
-ghost use lib.ListN.{length};
 ghost use Rattle.text.specs.declared.Found.the-variants.{Nowhere};
 ghost use Rattle.text.specs.Words.{least, answer-of};
-ghost use Rattle.text.specs.Text.{line, bad-line};
+ghost use Rattle.text.specs.Text.{bad-line};
 ghost use Rattle.book.specs.Image.{Holds, Room};
 ghost use Rattle.book.specs.Check.{check-lines, check-book, packed};
 ghost use Rattle.book_check.specs.Opened.{Opened};
-ghost use Rattle.book_check.specs.Chain.{refusal, from-contents, from-agents, from-around, from-use, from-nodes, from-locations, from-functions, from-surplus, from-present, from-header};
+ghost use Rattle.book_check.specs.Chain.{refusal, from-contents, from-agents, from-around, from-use, from-nodes, from-locations, from-functions, from-present, from-header};
 
 // The place of L among the fields of the header.
 const FIELD_OF_L: u32 = 8;

@@ -1,7 +1,7 @@
 // The two ends of a log's run: before its moves 2 and the start with no marks, after them 17.
 use text::Answer;
 ghost use mathlib.Core.Path.{_≡_};
-ghost use mathlib.Core.List.{List, []};
+ghost use mathlib.Core.List.{List};
 ghost use Prim.Native.Nat.{ℕ, _≤_};
 ghost use lib.ListN.{length, replicate};
 ghost use Rattle.text.specs.Words.{good, answer-of};

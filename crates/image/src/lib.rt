@@ -11,7 +11,7 @@ ghost use mathlib.Core.List.{[]};
 ghost use Rattle.text.specs.Text.{line};
 ghost use Rattle.book.specs.Book.{size, location, function-at, node-at, agent-at};
 ghost use Rattle.book.specs.Lines.{book-of};
-ghost use Rattle.book.specs.Image.{image-length, word, row-in, capped, book-in, Holds, Counts, Room, stored, filled, first-of, laid-row};
+ghost use Rattle.book.specs.Image.{image-length, row-in, capped, book-in, Holds, Counts, Room, stored, filled, first-of, laid-row};
 
 // The image: rows of four numbers, the first of each kind of row, and how many numbers there are.
 pub const FUNCTION_ROWS: u32 = 2;

@@ -3,7 +3,7 @@
 use engine::Record;
 ghost use mathlib.Core.Path.{_≡_};
 ghost use mathlib.Core.List.{map};
-ghost use Prim.Native.Nat.{ℕ, _≤_, min};
+ghost use Prim.Native.Nat.{_≤_, min};
 ghost use lib.ListN.{length, take};
 ghost use Rattle.records.specs.Code.{decode-of, items};
 ghost use Rattle.lent.specs.Written.{what-of, written};

@@ -2,7 +2,7 @@
 use term::Run;
 ghost use mathlib.Core.Path.{_≡_};
 ghost use mathlib.Core.List.{List, map};
-ghost use Prim.Native.Nat.{ℕ, _+_, _-_, _≤_, min};
+ghost use Prim.Native.Nat.{ℕ, _+_, _-_, _≤_};
 ghost use lib.Bits.{bitOr, bitAnd};
 ghost use lib.Dec.{leb};
 ghost use Rattle.text.specs.Words.{if_then_else_, table, table-from};

@@ -6,7 +6,6 @@ ghost use mathlib.Core.Path.{_≡_};
 ghost use mathlib.Core.Logic.{_≢_};
 ghost use mathlib.Core.List.{[]};
 ghost use Prim.Native.Nat.{_+_, _-_, _≤_};
-ghost use lib.ListN.{length};
 ghost use Rattle.text.specs.Words.{least};
 ghost use Rattle.text.specs.Text.{line};
 ghost use Rattle.book.specs.Kinds.{sort-table, is-term, is-rule};

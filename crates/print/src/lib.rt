@@ -5,7 +5,7 @@ use text::Line;
 ghost use mathlib.Core.Path.{_≡_};
 ghost use mathlib.Core.List.{[]};
 ghost use Prim.Native.Nat.{_+_, _<_, _≤_};
-ghost use lib.ListN.{length, getD};
+ghost use lib.ListN.{length};
 ghost use Rattle.book.specs.Book.{size, default};
 ghost use Rattle.book.specs.Image.{book-in};
 ghost use Rattle.report.specs.Report.{contents-lines};

@@ -4,12 +4,12 @@ use text::Found;
 ghost use mathlib.Core.Path.{_≡_};
 ghost use mathlib.Core.Bool.{_&&_, _||_};
 ghost use mathlib.Core.List.{[]};
-ghost use Prim.Native.Nat.{_+_, _*_, _/_, _%_, _<_, _≤_, min};
+ghost use Prim.Native.Nat.{_+_, _/_, _%_, _<_, _≤_};
 ghost use lib.Dec.{eqb, ltb};
-ghost use lib.ListN.{length, getD, take};
+ghost use lib.ListN.{getD, take};
 ghost use Rattle.text.specs.Words.{least};
-ghost use Rattle.book.specs.Book.{Book, L, true-element, size, boolean, relation, dynamic, default, function-at, place};
-ghost use Rattle.book.specs.Image.{word, capped, book-in};
+ghost use Rattle.book.specs.Book.{Book, L, true-element, size, boolean, dynamic, default, place};
+ghost use Rattle.book.specs.Image.{book-in};
 ghost use Rattle.book.specs.Contents.{some-on-roll, all-permanent, bad-value};
 ghost use Rattle.table.specs.Part.{arguments-by, Blameless, Past, Part};
 

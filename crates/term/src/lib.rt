@@ -1,9 +1,8 @@
 // Terms: their values in the book that an image holds, and the marks of what they read.
 ghost use mathlib.Core.Path.{_≡_};
 ghost use Prim.Native.Nat.{_+_};
-ghost use lib.ListN.{length, getD};
+ghost use lib.ListN.{getD};
 ghost use Rattle.book.specs.Book.{undef, boolean, truth, size, offset, node-at, function-at, location, dynamic-at};
-ghost use Rattle.book.specs.Image.{capped};
 ghost use Rattle.engine.specs.Look.{read};
 ghost use Rattle.engine.specs.Term.{both, either, plus, minus, less, number, negate, apply, shapes, no-term};
 ghost use Rattle.term.specs.Held.{held, node-row, function-run, variables-of, value-at, aim-at, operated};

@@ -1,7 +1,7 @@
 // The order check: the least pair of unordered moves that touch, from the marks alone.
 ghost use mathlib.Core.Path.{_≡_};
 ghost use mathlib.Core.Bool.{_&&_, not};
-ghost use Prim.Native.Nat.{_<_, _≤_, min};
+ghost use Prim.Native.Nat.{_<_, _≤_};
 ghost use lib.ListN.{length, getD};
 ghost use Rattle.order.specs.Sets.{bit};
 ghost use Rattle.order.specs.Pairs.{ordered-by, least-two};
