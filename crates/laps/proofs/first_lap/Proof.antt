@@ -19,6 +19,9 @@ returns c = let a = c .before .before .before .before .before .before .before .b
 agents-requires : tie.Need-agents-requires
 agents-requires c κs = search needs
 
+cast-check-log : tie.Need-cast-check-log
+cast-check-log c = search needs
+
 check-log-requires : tie.Need-check-log-requires
 check-log-requires c κs = search needs
 
@@ -26,7 +29,7 @@ ended-requires-2 : tie.Need-ended-requires-2
 ended-requires-2 c κs = search needs
 
 returns-2 : tie.Need-returns-2
-returns-2 c = let a = c .before .before .before .before .before .before .before .before .before .before .before .before .before .before .before .before .args in let t = tables (a .contents .now) (a .readers .now) (a .writers .now) in let o = c .before .before .before .before .before .before .before .before .before .«open» in lap-log (a .book .now) (a .log .now) t (a .lent) (a .work .now) (o .last .1 .0) (o .result) (o .ensures .0) (c .before .before .before .before .before .before .before .if1 .left) (o .ensures .1) (c .before .before .before .before .before .agents .result) (c .before .before .before .before .before .agents .ensures) (c .before .before .before .before .check-log .result) (c .before .before .before .before .check-log .ensures) (c .before .if2 .taken) (c .ended2 .result) (c .ended2 .ensures .0) (c .ended2 .ensures .1)
+returns-2 c = let a = c .before .before .before .before .before .before .before .before .before .before .before .before .before .before .before .before .args in let t = tables (a .contents .now) (a .readers .now) (a .writers .now) in let o = c .before .before .before .before .before .before .before .before .before .«open» in lap-log (a .book .now) (a .log .now) t (a .lent) (a .work .now) (o .last .1 .0) (o .result) (o .ensures .0) (c .before .before .before .before .before .before .before .if1 .left) (o .ensures .1) (c .before .before .before .before .before .agents .result) (c .before .before .before .before .before .agents .ensures .0) (c .before .before .before .before .check-log .result) (c .before .before .before .before .check-log .ensures) (c .before .if2 .taken) (c .ended2 .result) (c .ended2 .ensures .0) (c .ended2 .ensures .1)
 
 total-requires : tie.Need-total-requires
 total-requires c κs = search needs
@@ -38,7 +41,7 @@ ended-requires-3 : tie.Need-ended-requires-3
 ended-requires-3 c κs = search needs
 
 returns-3 : tie.Need-returns-3
-returns-3 c = let a = c .before .before .before .before .before .before .before .before .before .before .before .before .before .before .before .before .before .before .before .before .before .args in let t = tables (a .contents .now) (a .readers .now) (a .writers .now) in let o = c .before .before .before .before .before .before .before .before .before .before .before .before .before .before .«open» in lap-lent (a .book .now) (a .log .now) t (a .lent) (a .work .now) (o .last .1 .0) (o .result) (o .ensures .0) (c .before .before .before .before .before .before .before .before .before .before .before .before .if1 .left) (o .ensures .1) (c .before .before .before .before .before .before .before .before .before .before .agents .result) (c .before .before .before .before .before .before .before .before .before .before .agents .ensures) (c .before .before .before .before .before .before .before .before .before .check-log .result) (c .before .before .before .before .before .before .before .before .before .check-log .ensures) (c .before .before .before .before .before .before .if2 .left) (c .before .before .before .before .total .result) (c .before .before .before .before .total .ensures) (c .before .before .before .check-lent .result) (c .before .before .before .check-lent .ensures .0) (c .before .if3 .taken) (c .ended3 .result) (c .ended3 .ensures .0) (c .ended3 .ensures .1)
+returns-3 c = let a = c .before .before .before .before .before .before .before .before .before .before .before .before .before .before .before .before .before .before .before .before .before .args in let t = tables (a .contents .now) (a .readers .now) (a .writers .now) in let o = c .before .before .before .before .before .before .before .before .before .before .before .before .before .before .«open» in lap-lent (a .book .now) (a .log .now) t (a .lent) (a .work .now) (o .last .1 .0) (o .result) (o .ensures .0) (c .before .before .before .before .before .before .before .before .before .before .before .before .if1 .left) (o .ensures .1) (c .before .before .before .before .before .before .before .before .before .before .agents .result) (c .before .before .before .before .before .before .before .before .before .before .agents .ensures .0) (c .before .before .before .before .before .before .before .before .before .check-log .result) (c .before .before .before .before .before .before .before .before .before .check-log .ensures) (c .before .before .before .before .before .before .if2 .left) (c .before .before .before .before .total .result) (c .before .before .before .before .total .ensures) (c .before .before .before .check-lent .result) (c .before .before .before .check-lent .ensures .0) (c .before .if3 .taken) (c .ended3 .result) (c .ended3 .ensures .0) (c .ended3 .ensures .1)
 
 cast-n : tie.Need-cast-n
 cast-n c = search needs
@@ -74,7 +77,7 @@ same-length-3 : tie.Need-same-length-3
 same-length-3 c = search needs
 
 returns-4 : tie.Need-returns-4
-returns-4 c = let a = c .before .before .before .before .before .before .before .before .before .before .before .before .before .before .before .before .before .before .before .before .before .before .before .before .before .before .before .before .before .before .before .before .before .args in let t = tables (a .contents .now) (a .readers .now) (a .writers .now) in let o = c .before .before .before .before .before .before .before .before .before .before .before .before .before .before .before .before .before .before .before .before .before .before .before .before .before .before .«open» in let s = c .before .before .before .before .before .before .start-on in lap-first (a .book .now) (a .log .now) t (a .lent) (a .work .now) (o .last .1 .0) (o .result) (o .ensures .0) (c .before .before .before .before .before .before .before .before .before .before .before .before .before .before .before .before .before .before .before .before .before .before .before .before .if1 .left) (o .ensures .1) (c .before .before .before .before .before .before .before .before .before .before .before .before .before .before .before .before .before .before .before .before .before .before .agents .result) (c .before .before .before .before .before .before .before .before .before .before .before .before .before .before .before .before .before .before .before .before .before .before .agents .ensures) (c .before .before .before .before .before .before .before .before .before .before .before .before .before .before .before .before .before .before .before .before .before .check-log .result) (c .before .before .before .before .before .before .before .before .before .before .before .before .before .before .before .before .before .before .before .before .before .check-log .ensures) (c .before .before .before .before .before .before .before .before .before .before .before .before .before .before .before .before .before .before .if2 .left) (c .before .before .before .before .before .before .before .before .before .before .before .before .before .before .before .before .total .result) (c .before .before .before .before .before .before .before .before .before .before .before .before .before .before .before .before .total .ensures) (c .before .before .before .before .before .before .before .before .before .before .before .before .before .before .before .check-lent .result) (c .before .before .before .before .before .before .before .before .before .before .before .before .before .before .before .check-lent .ensures .0) (c .before .before .before .before .before .before .before .before .before .before .before .before .before .if3 .left) (c .before .before .before .before .before .before .before .before .before .before .before .before .before .before .before .check-lent .ensures .1 (c .before .before .before .before .before .before .before .before .before .before .before .before .before .if3 .left)) (s .result) (s .last .1 .1 .1 .1 .1 .1 .0) (s .last .1 .1 .0) (s .last .1 .1 .1 .0) (s .last .1 .1 .1 .1 .0) (s .kept .1 .1 .0) (s .kept .1 .1 .1 .0) (s .kept .1 .1 .1 .1 .0) (s .ensures)
+returns-4 c = let a = c .before .before .before .before .before .before .before .before .before .before .before .before .before .before .before .before .before .before .before .before .before .before .before .before .before .before .before .before .before .before .before .before .before .args in let t = tables (a .contents .now) (a .readers .now) (a .writers .now) in let o = c .before .before .before .before .before .before .before .before .before .before .before .before .before .before .before .before .before .before .before .before .before .before .before .before .before .before .«open» in let s = c .before .before .before .before .before .before .start-on in lap-first (a .book .now) (a .log .now) t (a .lent) (a .work .now) (o .last .1 .0) (o .result) (o .ensures .0) (c .before .before .before .before .before .before .before .before .before .before .before .before .before .before .before .before .before .before .before .before .before .before .before .before .if1 .left) (o .ensures .1) (c .before .before .before .before .before .before .before .before .before .before .before .before .before .before .before .before .before .before .before .before .before .before .agents .result) (c .before .before .before .before .before .before .before .before .before .before .before .before .before .before .before .before .before .before .before .before .before .before .agents .ensures .0) (c .before .before .before .before .before .before .before .before .before .before .before .before .before .before .before .before .before .before .before .before .before .check-log .result) (c .before .before .before .before .before .before .before .before .before .before .before .before .before .before .before .before .before .before .before .before .before .check-log .ensures) (c .before .before .before .before .before .before .before .before .before .before .before .before .before .before .before .before .before .before .if2 .left) (c .before .before .before .before .before .before .before .before .before .before .before .before .before .before .before .before .total .result) (c .before .before .before .before .before .before .before .before .before .before .before .before .before .before .before .before .total .ensures) (c .before .before .before .before .before .before .before .before .before .before .before .before .before .before .before .check-lent .result) (c .before .before .before .before .before .before .before .before .before .before .before .before .before .before .before .check-lent .ensures .0) (c .before .before .before .before .before .before .before .before .before .before .before .before .before .if3 .left) (c .before .before .before .before .before .before .before .before .before .before .before .before .before .before .before .check-lent .ensures .1 (c .before .before .before .before .before .before .before .before .before .before .before .before .before .if3 .left)) (s .result) (s .last .1 .1 .1 .1 .1 .1 .0) (s .last .1 .1 .0) (s .last .1 .1 .1 .0) (s .last .1 .1 .1 .1 .0) (s .kept .1 .1 .0) (s .kept .1 .1 .1 .0) (s .kept .1 .1 .1 .1 .0) (s .ensures)
 
 pub first-lap-spec : {M : Type 1} → statement M
 first-lap-spec =
@@ -84,6 +87,7 @@ first-lap-spec =
     ended-requires
     returns
     agents-requires
+    cast-check-log
     check-log-requires
     ended-requires-2
     returns-2
