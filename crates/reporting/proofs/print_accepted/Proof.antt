@@ -41,7 +41,7 @@ slice-aggregate-print-answer : tie.Need-slice-aggregate-print-answer
 slice-aggregate-print-answer c = search needs
 
 slice-aggregate-print-answer-2 : tie.Need-slice-aggregate-print-answer-2
-slice-aggregate-print-answer-2 c = sym (length-take-le (c .before .before .smaller .result) (c .before .before .before .before .before .before .before .before .before .before .before .before .args .contents .now) (c .before .before .smaller .ensures .1))
+slice-aggregate-print-answer-2 c = sym (length-take-le (c .before .before .smaller .result) (c .before .before .before .before .before .before .before .before .before .before .before .before .args .contents .now) (omega (arith, c .before .before .smaller .ensures)))
 
 print-answer-requires : tie.Need-print-answer-requires
 print-answer-requires c κs = search needs
@@ -50,7 +50,7 @@ same-length : tie.Need-same-length
 same-length c = search needs
 
 returns : tie.Need-returns
-returns c = let a = c .before .before .before .before .before .before .before .before .before .before .before .before .before .before .before .before .args in λ B e few long. accepted-shown (a .book .now) B e (c .before .before .before .before .before .before .before .before .before .before .before .before .header .result) (c .before .before .before .before .before .before .before .before .before .before .before .before .header .ensures) (c .before .before .before .before .before .before .before .before .before .before .decode .last .1 .1 .0) (λ room. c .before .before .before .before .before .before .before .before .before .before .decode .ensures (rw (length-replicate {A = ℕ} 4296 0) (omega arith)) room .0) (a .contents .now) (a .answer) (c .before .before .before .before .before .before .smaller .result) (a .output .now) (c .before .before .print-answer .result) (c .before .before .print-answer .last .1 .1 .1 .0) (rw (← (c .before .before .before .before .before .before .before .fetch .ensures)) (c .before .before .before .before .before .before .smaller .ensures .0)) few long (c .before .before .before .before .before .before .before .before .before .before .before .before .before .before .before .before .pre) (c .before .before .print-answer .ensures)
+returns c = let a = c .before .before .before .before .before .before .before .before .before .before .before .before .before .before .before .before .args in λ B e few long. accepted-shown (a .book .now) B e (c .before .before .before .before .before .before .before .before .before .before .before .before .header .result) (c .before .before .before .before .before .before .before .before .before .before .before .before .header .ensures) (c .before .before .before .before .before .before .before .before .before .before .decode .last .1 .1 .0) (λ room. c .before .before .before .before .before .before .before .before .before .before .decode .ensures (rw (length-replicate {A = ℕ} 4296 0) (omega arith)) room .0) (a .contents .now) (a .answer) (c .before .before .before .before .before .before .smaller .result) (a .output .now) (c .before .before .print-answer .result) (c .before .before .print-answer .last .1 .1 .1 .0) (rw (← (c .before .before .before .before .before .before .before .fetch .ensures)) (c .before .before .before .before .before .before .smaller .ensures)) few long (c .before .before .before .before .before .before .before .before .before .before .before .before .before .before .before .before .pre) (c .before .before .print-answer .ensures)
 
 pub print-accepted-spec : {M : Type 1} → statement M
 print-accepted-spec =
