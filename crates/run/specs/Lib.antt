@@ -1,1 +1,1 @@
-pub mod ForC
+pub mod Left

@@ -9,7 +9,8 @@ ghost use Rattle.order.specs.Call.{log-call};
 ghost use Rattle.order.specs.Demand.{Demand3};
 ghost use Rattle.order.specs.Lists.{log-listed};
 ghost use Rattle.laps.specs.Turns.{tables, answered};
-ghost use Rattle.run.specs.ForC.{tables-of, packed};
+ghost use Rattle.records.specs.ForC.{packed};
+ghost use Rattle.run.specs.Left.{tables-of};
 
 // The call, lap by lap; the instructions of the last move walked are left in the list as numbers.
 fn run_into(

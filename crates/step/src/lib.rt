@@ -6,7 +6,7 @@ ghost use Prim.Native.Nat.{_≤_};
 ghost use Rattle.engine.specs.Single.{step-call};
 ghost use Rattle.records.specs.Items.{listed};
 ghost use Rattle.halves.specs.Stages.{Tells};
-ghost use Rattle.step.specs.ForC.{packed};
+ghost use Rattle.records.specs.ForC.{packed};
 
 // The call, its instructions left in the list as numbers.
 fn step_into(

@@ -10,7 +10,7 @@ use Rattle.book.specs.declared.Function.{Function}
 use Rattle.book.specs.Book.{Book, size, place}
 use Rattle.book.specs.Contents.{bad-value}
 
--- the arguments of location i of a function of that arity; row and column are i / E and i % E, which the code counts
+-- the arguments of location i of a function of that arity; row and column are i / E and i % E
 abbrev pub arguments-by : ℕ → ℕ → ℕ → ℕ → List ℕ
 arguments-by arity i row col = if eqb arity 0 then [] else if eqb arity 1 then i ∷ [] else row ∷ col ∷ []
 

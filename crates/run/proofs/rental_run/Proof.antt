@@ -3,7 +3,8 @@ use mathlib.Core.Path.{ap}
 use native.Mathlib.Omega.{arith}
 use Rattle.order.specs.Run.{LogAnswer}
 use Rattle.laps.specs.Turns.{tables}
-use Rattle.run.specs.ForC.{tables-of, packed}
+use Rattle.records.specs.ForC.{packed}
+use Rattle.run.specs.Left.{tables-of}
 use Rattle.run.proofs.Call.{number-most}
 use borrow.Author.Needs.{needs}
 use Rattle.run.proofs.rental_run.Statement.{statement}

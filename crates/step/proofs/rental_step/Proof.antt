@@ -2,7 +2,7 @@
 use mathlib.Core.Path.{ap}
 use native.Mathlib.Omega.{arith}
 use Rattle.text.specs.declared.Answer.{Answer}
-use Rattle.step.specs.ForC.{packed}
+use Rattle.records.specs.ForC.{packed}
 use Rattle.calls.proofs.Numbered.{low}
 use borrow.Author.Needs.{needs}
 use Rattle.step.proofs.rental_step.Statement.{statement}
