@@ -1,4 +1,4 @@
-// The whole check of a book, refusals 1 and 3 to 8 in 01's order, and its export to C.
+// The whole check of a book, refusals 1 and 3 to 8 in 01's order.
 use book::Header;
 use text::Answer;
 use text::Found;
@@ -8,7 +8,7 @@ ghost use Rattle.text.specs.declared.Found.the-variants.{Nowhere};
 ghost use Rattle.text.specs.Words.{least, answer-of};
 ghost use Rattle.text.specs.Text.{bad-line};
 ghost use Rattle.book.specs.Image.{Holds, Room};
-ghost use Rattle.book.specs.Check.{check-lines, check-book, packed};
+ghost use Rattle.book.specs.Check.{check-lines, check-book};
 ghost use Rattle.book_check.specs.Opened.{Opened};
 ghost use Rattle.book_check.specs.Chain.{refusal, from-contents, from-agents, from-around, from-use, from-nodes, from-locations, from-functions, from-present, from-header};
 
@@ -176,13 +176,4 @@ pub fn check_book(book: &[u8]) -> Answer
 {
     let mut image = [0u32; 4296];
     check_into(book, &mut image)
-}
-
-// The same for C: number × 2^32 + p. Each refusal of a book has q 0.
-#[no_mangle]
-pub extern "C" fn rental_check_book(book: &[u8]) -> u64
-    ensures { λ r. ⌜ r ≡ packed (answer-of (check-book (now (book .entry)))) ⌝ }
-{
-    let a = check_book(book);
-    a.number as u64 * 4294967296 + a.p as u64
 }

@@ -105,9 +105,8 @@ pub fn report(input: &[u8], output: &mut [u8; 51225]) -> usize
     report_input(input, output)
 }
 
-// The same for C. An output of fewer bytes than an answer may need is left as it is, and 0 given.
-#[no_mangle]
-pub extern "C" fn rental_report(input: &[u8], output: &mut [u8]) -> usize
+// The same for an output of any length: one of fewer bytes than an answer may need is left as it is, and 0 given.
+pub fn report_into(input: &[u8], output: &mut [u8]) -> usize
     ensures { λ r. ⌜ (most-output ≤ length (now (output .entry)) → (r ≡ length (rental (now (input .entry)))) × (now (output .exit) ≡ rental (now (input .entry)) ++ drop (length (rental (now (input .entry)))) (now (output .entry)))) × (length (now (output .entry)) < most-output → (r ≡ 0) × (now (output .exit) ≡ now (output .entry))) ⌝ }
 {
     if output.len() < 51225 {

@@ -1,4 +1,4 @@
-// A log's run: the call, with the instructions by value, and for C.
+// A log's run: the call, with the instructions by value.
 use records::Outcome;
 use records::Told;
 ghost use mathlib.Core.Path.{_≡_};
@@ -9,11 +9,9 @@ ghost use Rattle.order.specs.Call.{log-call};
 ghost use Rattle.order.specs.Demand.{Demand3};
 ghost use Rattle.order.specs.Lists.{log-listed};
 ghost use Rattle.laps.specs.Turns.{tables, answered};
-ghost use Rattle.records.specs.ForC.{packed};
-ghost use Rattle.run.specs.Left.{tables-of};
 
 // The call, lap by lap; the instructions of the last move walked are left in the list as numbers.
-fn run_into(
+pub fn run_into(
     book: &[u8],
     log: &[u8],
     contents: &mut [u16],
@@ -65,22 +63,4 @@ pub fn run_core(
     let mut list = [0u64; 256];
     let t = run_into(book, log, contents, readers, writers, lent, &mut list);
     records::with_list(t, &list)
-}
-
-// The answer for C: number × 2^48 + p × 2^24 + q.
-#[no_mangle]
-pub extern "C" fn rental_run(
-    book: &[u8],
-    log: &[u8],
-    contents: &mut [u16],
-    readers: &mut [u64],
-    writers: &mut [u64],
-    lent: usize,
-) -> u64
-    ensures { λ r. ⌜ (r ≡ packed (log-call (now (book .entry)) (now (log .entry)) (tables (now (contents .entry)) (now (readers .entry)) (now (writers .entry))) lent .answer)) × (tables (now (contents .exit)) (now (readers .exit)) (now (writers .exit)) ≡ tables-of (log-call (now (book .entry)) (now (log .entry)) (tables (now (contents .entry)) (now (readers .entry)) (now (writers .entry))) lent)) ⌝ }
-{
-    let mut list = [0u64; 256];
-    let t = run_into(book, log, contents, readers, writers, lent, &mut list);
-    let a = t.answer;
-    a.number as u64 * 281474976710656 + a.p as u64 * 16777216 + a.q as u64
 }

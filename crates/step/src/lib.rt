@@ -1,4 +1,4 @@
-// A single move: a book's checks, then 9, 2 and 8, then an agent's move as move 0; with the instructions by value, and for C.
+// A single move: a book's checks, then 9, 2 and 8, then an agent's move as move 0; with the instructions by value.
 use records::Outcome;
 use records::Told;
 ghost use mathlib.Core.Path.{_≡_};
@@ -6,10 +6,9 @@ ghost use Prim.Native.Nat.{_≤_};
 ghost use Rattle.engine.specs.Single.{step-call};
 ghost use Rattle.records.specs.Items.{listed};
 ghost use Rattle.halves.specs.Stages.{Tells};
-ghost use Rattle.records.specs.ForC.{packed};
 
 // The call, its instructions left in the list as numbers.
-fn step_into(
+pub fn step_into(
     book: &[u8],
     contents: &mut [u16],
     agent: usize,
@@ -39,16 +38,4 @@ pub fn step_core(book: &[u8], contents: &mut [u16], agent: usize, lent: usize) -
     let mut list = [0u64; 256];
     let t = step_into(book, contents, agent, lent, &mut list);
     records::with_list(t, &list)
-}
-
-// The answer for C: number × 2^48 + p × 2^24 + q.
-#[no_mangle]
-pub extern "C" fn rental_step(book: &[u8], contents: &mut [u16], agent: usize, lent: usize) -> u64
-    ensures { λ r. ⌜ r ≡ packed (step-call (now (book .entry)) (now (contents .entry)) agent lent .answer) ⌝ }
-    ensures { λ _. ⌜ now (contents .exit) ≡ step-call (now (book .entry)) (now (contents .entry)) agent lent .contents ⌝ }
-{
-    let mut list = [0u64; 256];
-    let t = step_into(book, contents, agent, lent, &mut list);
-    let a = t.answer;
-    a.number as u64 * 281474976710656 + a.p as u64 * 16777216 + a.q as u64
 }

@@ -3,12 +3,11 @@ use mathlib.Core.Path.{ap}
 use native.Mathlib.Omega.{arith}
 use Rattle.order.specs.Run.{LogAnswer}
 use Rattle.laps.specs.Turns.{tables}
-use Rattle.records.specs.ForC.{packed}
-use Rattle.run.specs.Left.{tables-of}
+use Rattle.for_c.specs.Packed.{packed, tables-of}
 use Rattle.run.proofs.Call.{number-most}
 use borrow.Author.Needs.{needs}
-use Rattle.run.proofs.rental_run.Statement.{statement}
-use Rattle.run.proofs.rental_run.Tie as tie
+use Rattle.for_c.proofs.rental_run.Statement.{statement}
+use Rattle.for_c.proofs.rental_run.Tie as tie
 
 run-into-requires : tie.Need-run-into-requires
 run-into-requires c κs = search needs

@@ -2,11 +2,11 @@
 use mathlib.Core.Path.{ap}
 use native.Mathlib.Omega.{arith}
 use Rattle.text.specs.declared.Answer.{Answer}
-use Rattle.records.specs.ForC.{packed}
+use Rattle.for_c.specs.Packed.{packed}
 use Rattle.calls.proofs.Numbered.{low}
 use borrow.Author.Needs.{needs}
-use Rattle.step.proofs.rental_step.Statement.{statement}
-use Rattle.step.proofs.rental_step.Tie as tie
+use Rattle.for_c.proofs.rental_step.Statement.{statement}
+use Rattle.for_c.proofs.rental_step.Tie as tie
 
 step-into-requires : tie.Need-step-into-requires
 step-into-requires c κs = search needs

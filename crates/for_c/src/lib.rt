@@ -1,0 +1,61 @@
+// What C can call. An answer comes in one number.
+ghost use mathlib.Core.Path.{_≡_};
+ghost use mathlib.Core.List.{_++_};
+ghost use Prim.Native.Nat.{_≤_, _<_};
+ghost use lib.ListN.{length, drop};
+ghost use Rattle.text.specs.Words.{answer-of};
+ghost use Rattle.book.specs.Check.{check-book};
+ghost use Rattle.book.specs.Check.{packed as short};
+ghost use Rattle.engine.specs.Single.{step-call};
+ghost use Rattle.order.specs.Call.{log-call};
+ghost use Rattle.report.specs.Report.{rental};
+ghost use Rattle.print.specs.Print.{most-output};
+ghost use Rattle.laps.specs.Turns.{tables};
+ghost use Rattle.for_c.specs.Packed.{packed, tables-of};
+
+// The check of a book: number × 2^32 + p. Each refusal of a book has q 0.
+#[no_mangle]
+pub extern "C" fn rental_check_book(book: &[u8]) -> u64
+    ensures { λ r. ⌜ r ≡ short (answer-of (check-book (now (book .entry)))) ⌝ }
+{
+    let a = book_check::check_book(book);
+    a.number as u64 * 4294967296 + a.p as u64
+}
+
+// A single move: number × 2^48 + p × 2^24 + q; `lent` is how many instruction records there are.
+#[no_mangle]
+pub extern "C" fn rental_step(book: &[u8], contents: &mut [u16], agent: usize, lent: usize) -> u64
+    ensures { λ r. ⌜ r ≡ packed (step-call (now (book .entry)) (now (contents .entry)) agent lent .answer) ⌝ }
+    ensures { λ _. ⌜ now (contents .exit) ≡ step-call (now (book .entry)) (now (contents .entry)) agent lent .contents ⌝ }
+{
+    let mut list = [0u64; 256];
+    let t = step::step_into(book, contents, agent, lent, &mut list);
+    let a = t.answer;
+    a.number as u64 * 281474976710656 + a.p as u64 * 16777216 + a.q as u64
+}
+
+// A log's run: number × 2^48 + p × 2^24 + q.
+#[no_mangle]
+pub extern "C" fn rental_run(
+    book: &[u8],
+    log: &[u8],
+    contents: &mut [u16],
+    readers: &mut [u64],
+    writers: &mut [u64],
+    lent: usize,
+) -> u64
+    ensures { λ r. ⌜ (r ≡ packed (log-call (now (book .entry)) (now (log .entry)) (tables (now (contents .entry)) (now (readers .entry)) (now (writers .entry))) lent .answer)) × (tables (now (contents .exit)) (now (readers .exit)) (now (writers .exit)) ≡ tables-of (log-call (now (book .entry)) (now (log .entry)) (tables (now (contents .entry)) (now (readers .entry)) (now (writers .entry))) lent)) ⌝ }
+{
+    let mut list = [0u64; 256];
+    let t = run::run_into(book, log, contents, readers, writers, lent, &mut list);
+    let a = t.answer;
+    a.number as u64 * 281474976710656 + a.p as u64 * 16777216 + a.q as u64
+}
+
+// What `rental` prints. An output of fewer bytes than an answer may need is left as it is, and 0 given.
+#[no_mangle]
+pub extern "C" fn rental_report(input: &[u8], output: &mut [u8]) -> usize
+    ensures { λ r. ⌜ (most-output ≤ length (now (output .entry)) → (r ≡ length (rental (now (input .entry)))) × (now (output .exit) ≡ rental (now (input .entry)) ++ drop (length (rental (now (input .entry)))) (now (output .entry)))) × (length (now (output .entry)) < most-output → (r ≡ 0) × (now (output .exit) ≡ now (output .entry))) ⌝ }
+{
+    reporting::report_into(input, output)
+}
