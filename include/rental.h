@@ -1,11 +1,24 @@
-/* The exported functions of the rule engine. A text is its bytes and their number; nothing is kept or freed. */
+/* What C can call of the rule engine. A text or a table is its first element and its length; nothing is kept or freed. docs/REFUSALS.md has the
+   refusals, their numbers and their places. */
 #ifndef RENTAL_H
 #define RENTAL_H
 
 #include <stddef.h>
 #include <stdint.h>
 
-/* The check of a rule book: 0 when it is accepted, else number * 2^32 + p, the refusal's number and its place (docs/REFUSALS.md). */
+/* The check of a rule book: 0 when it is accepted, else number * 2^32 + p, the refusal's number and its place. */
 uint64_t rental_check_book(const uint8_t *book, size_t length);
+
+/* One move of an agent on a contents table: 0 when it fires, else number * 2^48 + p * 2^24 + q, and the table is as it was. `lent` is how many
+   instruction records the caller has; 256 are enough. */
+uint64_t rental_step(const uint8_t *book, size_t length, uint16_t *contents, size_t locations, size_t agent, size_t lent);
+
+/* The run of a log from the start of its book: 0 when it is accepted, else number * 2^48 + p * 2^24 + q. The tables get the contents reached and, for
+   each location, the moves that read it and that write it as bits. */
+uint64_t rental_run(const uint8_t *book, size_t book_length, const uint8_t *log, size_t log_length, uint16_t *contents, size_t contents_length,
+                    uint64_t *readers, size_t readers_length, uint64_t *writers, size_t writers_length, size_t lent);
+
+/* What the program `rental` prints for an input, and how many bytes that are; 0, and nothing written, for an output of fewer than 51,225 bytes. */
+size_t rental_report(const uint8_t *input, size_t length, uint8_t *output, size_t output_length);
 
 #endif

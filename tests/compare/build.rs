@@ -2,8 +2,6 @@
 fn main() {
     let library = concat!(env!("CARGO_MANIFEST_DIR"), "/../../target/staticlib");
     println!("cargo:rustc-link-search=native={library}");
-    for name in ["book_check", "step", "run", "reporting"] {
-        println!("cargo:rustc-link-lib=static={name}");
-    }
+    println!("cargo:rustc-link-lib=static=for_c");
     println!("cargo:rerun-if-changed={library}");
 }

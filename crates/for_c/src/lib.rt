@@ -1,4 +1,5 @@
 // What C can call. An answer comes in one number.
+use text::Answer;
 ghost use mathlib.Core.Path.{_≡_};
 ghost use mathlib.Core.List.{_++_};
 ghost use Prim.Native.Nat.{_≤_, _<_};
@@ -22,6 +23,14 @@ pub extern "C" fn rental_check_book(book: &[u8]) -> u64
     a.number as u64 * 4294967296 + a.p as u64
 }
 
+// An answer in one number. The numbers of 01 end at 17, so nothing wraps.
+fn in_one(a: Answer) -> u64
+    requires { ⌜ a .number ≤ 17 ⌝ }
+    ensures { λ r. ⌜ r ≡ packed a ⌝ }
+{
+    a.number as u64 * 281474976710656 + a.p as u64 * 16777216 + a.q as u64
+}
+
 // A single move: number × 2^48 + p × 2^24 + q; `lent` is how many instruction records there are.
 #[no_mangle]
 pub extern "C" fn rental_step(book: &[u8], contents: &mut [u16], agent: usize, lent: usize) -> u64
@@ -30,8 +39,7 @@ pub extern "C" fn rental_step(book: &[u8], contents: &mut [u16], agent: usize, l
 {
     let mut list = [0u64; 256];
     let t = step::step_into(book, contents, agent, lent, &mut list);
-    let a = t.answer;
-    a.number as u64 * 281474976710656 + a.p as u64 * 16777216 + a.q as u64
+    in_one(t.answer)
 }
 
 // A log's run: number × 2^48 + p × 2^24 + q.
@@ -48,8 +56,7 @@ pub extern "C" fn rental_run(
 {
     let mut list = [0u64; 256];
     let t = run::run_into(book, log, contents, readers, writers, lent, &mut list);
-    let a = t.answer;
-    a.number as u64 * 281474976710656 + a.p as u64 * 16777216 + a.q as u64
+    in_one(t.answer)
 }
 
 // What `rental` prints. An output of fewer bytes than an answer may need is left as it is, and 0 given.
