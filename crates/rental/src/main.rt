@@ -2,6 +2,9 @@
 use libc::STDERR_FILENO;
 use libc::STDIN_FILENO;
 use libc::STDOUT_FILENO;
+ghost use Prim.Native.Nat.{_≤_};
+ghost use lib.ListN.{length};
+ghost use Rattle.io.specs.Counts.{Counts};
 
 // Writes all bytes, or says that it cannot.
 fn write_out(bytes: &[u8]) {
@@ -22,22 +25,54 @@ fn write_output(output: &[u8; 51225], n: usize) {
     write_front(output, n);
 }
 
-// Another read fails: an input of which nothing came is broken, and not empty.
-fn is_broken() -> bool {
-    let mut one = [0u8; 1];
-    libc::read(STDIN_FILENO, &mut one) < 0
+// How much of a buffer is filled, and whether the last read failed.
+struct Input {
+    len: usize,
+    broken: bool,
+}
+
+// One read, into the buffer from there on.
+fn read_on(buf: &mut [u8], from: usize) -> Input
+    requires { ⌜ from ≤ length (now buf) ⌝ }
+    ensures { λ r. ⌜ r .len ≤ length (now (buf .exit)) ⌝ }
+{
+    let got = libc::read(STDIN_FILENO, &mut buf[from..]);
+    let more = io::count(got, &buf[from..]);
+    Input {
+        len: from + more,
+        broken: got < 0,
+    }
+}
+
+// Reads until the buffer is full, the input ends or a read fails. A failure is told by the read that
+// meets it: a socket tells it only once.
+fn read_all(buf: &mut [u8]) -> Input
+    ensures { λ r. ⌜ Counts (r .len) (now (buf .exit)) ⌝ }
+{
+    let most = buf.len();
+    let mut n: usize = 0;
+    while n < most {
+        let next = read_on(buf, n);
+        if next.len <= n {
+            return next;
+        }
+        n = next.len;
+    }
+    Input {
+        len: n,
+        broken: false,
+    }
 }
 
 // Reads one byte more than it takes, so that a longer input shows. What cannot be read has no answer.
 fn main() {
     let mut input = [0u8; 60001];
-    let n = io::read_full(STDIN_FILENO, &mut input);
-    if n == 0 {
-        if is_broken() {
-            io::write_all(STDERR_FILENO, b"rental: the input cannot be read\n");
-            return;
-        }
+    let came = read_all(&mut input);
+    if came.broken {
+        io::write_all(STDERR_FILENO, b"rental: the input cannot be read\n");
+        return;
     }
+    let n = came.len;
     let mut output = [0u8; 51225];
     let written = reporting::report(&input[..n], &mut output);
     write_output(&output, written);

@@ -6,6 +6,8 @@ use inputs::marked::{limits, marked, refusals, Case};
 use inputs::{report_input, Rng};
 use std::fs;
 use std::io::{self, Write};
+use std::os::fd::OwnedFd;
+use std::os::unix::net::UnixStream;
 use std::os::unix::process::ExitStatusExt;
 use std::path::{Path, PathBuf};
 use std::process::{Command, ExitCode, Output, Stdio};
@@ -102,6 +104,12 @@ impl Trial {
             let end = Command::new("sh").arg("-c").arg(script).arg(&self.program).output();
             self.count(name, end.is_ok_and(|end| said(&end, output, message)));
         }
+        let whole = &marked()[0].input;
+        for came in [0, 1, 600, whole.len()] {
+            let end = broken_after(&self.program, &whole[..came]);
+            let holds = end.is_ok_and(|end| said(&end, b"", unread));
+            self.count(&format!("an input that breaks after {came} bytes"), holds);
+        }
         let gone = reader_gone(&self.program, &marked()[0].input);
         self.count("a reader that is gone", gone.is_ok_and(|end| end));
     }
@@ -133,6 +141,15 @@ fn fed(program: &Path, input: &[u8], piece: usize) -> io::Result<Output> {
 /// It ended with status 0 and printed this, with this message.
 fn said(end: &Output, output: &[u8], message: &str) -> bool {
     end.status.code() == Some(0) && end.stdout == output && end.stderr == message.as_bytes()
+}
+
+/// Runs the program on a socket that gives these bytes and whose next read fails, since its other end was closed with a byte unread.
+fn broken_after(program: &Path, bytes: &[u8]) -> io::Result<Output> {
+    let (mut writer, mut reader) = UnixStream::pair()?;
+    reader.write_all(b"0")?;
+    writer.write_all(bytes)?;
+    drop(writer);
+    Command::new(program).stdin(OwnedFd::from(reader)).output()
 }
 
 /// With no reader of its output the program ends, by itself or as programs do that write to nobody.
