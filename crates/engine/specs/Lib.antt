@@ -5,4 +5,5 @@ pub mod Move
 pub mod Single
 pub mod Open
 pub mod Examples
+pub mod Operators
 pub mod Claims

@@ -1,0 +1,90 @@
+-- What each term kind, 1 to 13, gives, from books' text, as a table under the lemma of Quoted (01, "Node kinds"). Elements are 0 to 6: undef, false,
+-- true, the numbers 0, 1 and 2, and a label.
+use mathlib.Core.Path.{_≡_, refl}
+use mathlib.Core.Bool.{true, false}
+use mathlib.Core.List.{List, [], _∷_, _++_}
+use Prim.Native.Nat.{ℕ, suc, _+_, _<_}
+use Prim.Native.String.{String}
+use lib.ListN.{length, getD, replicate}
+use Rattle.text.specs.Text.{written}
+use Rattle.text.specs.Quoted.{bytes, numbers, padded, Case, case, all-right, each-right}
+use Rattle.engine.specs.Open.{open-engine}
+use Rattle.engine.specs.Examples.{Question, leaves, asked, no-example}
+
+-- the numbers of a quoted text, one after the other
+abbrev pub numbers-of : String → List ℕ
+numbers-of s = numbers 0 false (bytes s)
+
+-- ---- kinds 1 and 3 to 6
+
+abbrev pub line : ℕ → ℕ → ℕ → ℕ → List ℕ
+line a b c d = written (record { a = a; b = b; c = c; d = d })
+
+-- the agent, whose element is 3, sets r to the term of node n; the nodes 1 to n are given
+abbrev pub set-to : ℕ → String → List ℕ
+set-to n nodes =
+    line 7 6 5 (n + 2)
+    ++ (padded "1 0 0 0 / 1 3 0 0 / 0 2 0 0 / 0 2 0 0 / 1 2 0 0 / 2 2 0 0 / 4 1 0 0" ++ (padded nodes ++ (line 21 0 n 0 ++ line (suc n) 3 0 0)))
+
+-- Reserve; r, which is x; then functions 2 to 4, of 0, 1 and 2 arguments
+abbrev pub with-r : ℕ → List ℕ
+with-r x =
+    numbers-of "1 1 1 1 1 1 1"
+    ++ (x ∷ 4 ∷ numbers-of "0 2 1 4 5 3 6"
+    ++ numbers-of "0 0 0 0 0 0 0 / 0 0 5 0 0 0 0 / 0 3 0 0 0 0 0 / 0 0 0 0 0 0 0 / 0 0 0 0 0 0 0 / 0 0 0 0 0 0 0 / 0 0 0 0 0 0 0")
+
+-- r is the label, and then v
+abbrev pub term-gives : ℕ → String → ℕ → Case Question
+term-gives n nodes v = case (leaves (set-to n nodes) (with-r 6)) (0 ∷ 0 ∷ 0 ∷ with-r v)
+
+-- ---- kinds 2 and 7 to 13: the universe U holds all seven elements, and g, so far the label everywhere, is set for all of them
+
+-- Reserve and U
+abbrev pub all-in : List ℕ
+all-in = numbers-of "1 1 1 1 1 1 1 / 2 2 2 2 2 2 2"
+
+-- for all x, y in U: g(x, y) := node 5, of x and y, which are nodes 3 and 4
+abbrev pub for-pairs : String → List ℕ
+for-pairs node =
+    padded "7 6 3 9 / 1 0 0 0 / 1 3 0 0 / 1 3 0 0 / 2 2 0 0 / 2 0 0 0 / 2 1 0 0 / 6 2 0 1 / 2 0 0 0 / 2 1 0 0"
+    ++ (padded node ++ padded "21 2 5 0 / 25 1 1 6 / 25 0 1 7 / 8 3 0 0")
+
+-- a row for each x
+abbrev pub pairs-give : String → String → Case Question
+pairs-give node rows = case (leaves (for-pairs node) (all-in ++ replicate 49 6)) (0 ∷ 0 ∷ 0 ∷ all-in ++ numbers-of rows)
+
+-- for all x in U: g(x) := not x
+abbrev pub for-each : List ℕ
+for-each = padded "7 6 3 6 / 1 0 0 0 / 1 3 0 0 / 1 3 0 0 / 1 2 0 0 / 2 0 0 0 / 5 2 0 0 / 2 0 0 0 / 8 2 0 0 / 21 1 3 0 / 25 0 1 4 / 5 3 0 0"
+
+-- ---- the table
+
+unfoldable pub operators : List (Case Question)
+operators =
+    -- 1, 3: number 2; the agent's element
+    term-gives 1 "1 5 0 0" 5
+    ∷ term-gives 1 "3 0 0 0" 3
+    -- 4 to 6: a function of none, of 4, of 1 and 2
+    ∷ term-gives 1 "4 2 0 0" 4
+    ∷ term-gives 2 "1 4 0 0 / 5 3 1 0" 5
+    ∷ term-gives 3 "1 1 0 0 / 1 2 0 0 / 6 4 1 2" 5
+    -- 7: equal
+    ∷ pairs-give "7 3 4 0" "2 1 1 1 1 1 1 / 1 2 1 1 1 1 1 / 1 1 2 1 1 1 1 / 1 1 1 2 1 1 1 / 1 1 1 1 2 1 1 / 1 1 1 1 1 2 1 / 1 1 1 1 1 1 2"
+    -- 8: not
+    ∷ case (leaves for-each (all-in ++ replicate 7 6)) (0 ∷ 0 ∷ 0 ∷ all-in ++ numbers-of "0 2 1 0 0 0 0")
+    -- 9, 10: and, or
+    ∷ pairs-give "9 3 4 0" "0 0 0 0 0 0 0 / 0 1 1 0 0 0 0 / 0 1 2 0 0 0 0 / 0 0 0 0 0 0 0 / 0 0 0 0 0 0 0 / 0 0 0 0 0 0 0 / 0 0 0 0 0 0 0"
+    ∷ pairs-give "10 3 4 0" "0 0 0 0 0 0 0 / 0 1 2 0 0 0 0 / 0 2 2 0 0 0 0 / 0 0 0 0 0 0 0 / 0 0 0 0 0 0 0 / 0 0 0 0 0 0 0 / 0 0 0 0 0 0 0"
+    -- 11, 12, 13: plus, minus, less
+    ∷ pairs-give "11 3 4 0" "0 0 0 0 0 0 0 / 0 0 0 0 0 0 0 / 0 0 0 0 0 0 0 / 0 0 0 3 4 5 0 / 0 0 0 4 5 0 0 / 0 0 0 5 0 0 0 / 0 0 0 0 0 0 0"
+    ∷ pairs-give "12 3 4 0" "0 0 0 0 0 0 0 / 0 0 0 0 0 0 0 / 0 0 0 0 0 0 0 / 0 0 0 3 0 0 0 / 0 0 0 4 3 0 0 / 0 0 0 5 4 3 0 / 0 0 0 0 0 0 0"
+    ∷ pairs-give "13 3 4 0" "0 0 0 0 0 0 0 / 0 0 0 0 0 0 0 / 0 0 0 0 0 0 0 / 0 0 0 1 2 2 0 / 0 0 0 1 1 2 0 / 0 0 0 1 1 1 0 / 0 0 0 0 0 0 0"
+    ∷ []
+
+operators-right : all-right asked operators ≡ true
+unfolding operators open-engine
+operators-right = refl
+
+-- each kind gives what the table says
+pub operated : (i : ℕ) → i < length operators → asked (getD operators i no-example .question) ≡ getD operators i no-example .answer
+operated i h = each-right asked operators no-example i operators-right h
