@@ -21,7 +21,7 @@ use Rattle.order.specs.Log.{Log, move-at, check-log}
 use Rattle.order.specs.Run.{Run, Ran, ran, halted, run, touch, fired-at, unordered-touching, LogAnswer, order-checked, finish, run-from, run-log}
 use Rattle.order.specs.Call.{Tables, Lengths, lengths, check-lent, check-all, left-in, log-answer, log-call}
 use Rattle.order.specs.Orders.{Moves, listed, one, more, from, Keeps, Agrees, LeastPair}
-use Rattle.order.specs.Demand.{PairOf, moves-of, count, Ordered, Does, AllFire, Clash, Passes, Demand3}
+use Rattle.order.specs.Demand.{PairOf, moves-of, count, Ordered, Does, AllFire, UnorderedTouch, Passes, Demand3}
 use Rattle.order.proofs.Listed.{agrees}
 use Rattle.order.proofs.Rows.{rows-set}
 use Rattle.order.proofs.Pairs.{Passing, two-none, two-least}
@@ -30,6 +30,10 @@ use Rattle.order.proofs.Log.{Passed, passed}
 use Rattle.order.proofs.Numbers.{Within, Early, off, all-early}
 use Rattle.order.proofs.Swap.{act-fires, laws}
 use Rattle.order.proofs.Touching.{touch-iff}
+
+-- 17, at the place (i, j)
+abbrev Is17 : LogAnswer → ℕ → ℕ → Type 0
+Is17 a i j = (a .answer .number ≡ 17) × (a .answer .p ≡ i) × (a .answer .q ≡ j)
 
 module _ (B : Book) (g : Log) where
   abbrev S : Moves
@@ -76,10 +80,10 @@ module _ (B : Book) (g : Log) where
           go true e n = absurd (n (r .0 e))
           go false e n = refl
 
-      clash-iff : (i j : ℕ) → Passing (test s) m i j ↔ Clash B g i j
-      clash-iff i j = (to, from)
+      unordered-touch-iff : (i j : ℕ) → Passing (test s) m i j ↔ UnorderedTouch B g i j
+      unordered-touch-iff i j = (to, from)
         where
-          to : Passing (test s) m i j → Clash B g i j
+          to : Passing (test s) m i j → UnorderedTouch B g i j
           to (a, b, e) =
               let h : i < m = omega arith in
               let x = fired-at (s .fired) i in
@@ -87,7 +91,7 @@ module _ (B : Book) (g : Log) where
               let p = and-cases (not (ordered-by (rows (g .pairs) m) i j)) (touch (L B) x y) e in
               (a, b, unordered-iff i j b .0 (p .0), (λ f. omega (arith, before-up f)), (x, y, k .fired i h, k .fired j b, touch-iff B g (L B) x y (long i h) (long j b) .0 (p .1)))
 
-          from : Clash B g i j → Passing (test s) m i j
+          from : UnorderedTouch B g i j → Passing (test s) m i j
           from (a, b, n, o, (x, y, dx, dy, t)) =
               let h : i < m = omega arith in
               let p = is-act i x h dx in
@@ -95,10 +99,10 @@ module _ (B : Book) (g : Log) where
               let u = touch-iff B g (L B) (fired-at (s .fired) i) (fired-at (s .fired) j) (long i h) (long j b) .1 (rw (p, q) t) in
               (a, b, rw (unordered-iff i j b .1 n, u))
 
-      least-iff : (i j : ℕ) → LeastPair (Passing (test s) m) i j ↔ LeastPair (Clash B g) i j
+      least-iff : (i j : ℕ) → LeastPair (Passing (test s) m) i j ↔ LeastPair (UnorderedTouch B g) i j
       least-iff i j = (
-        λ p. record { holds = clash-iff i j .0 (p .holds); least = λ a b t. p .least a b (clash-iff a b .1 t) },
-        λ p. record { holds = clash-iff i j .1 (p .holds); least = λ a b t. p .least a b (clash-iff a b .0 t) },
+        λ p. record { holds = unordered-touch-iff i j .0 (p .holds); least = λ a b t. p .least a b (unordered-touch-iff a b .1 t) },
+        λ p. record { holds = unordered-touch-iff i j .1 (p .holds); least = λ a b t. p .least a b (unordered-touch-iff a b .0 t) },
       )
 
     -- ---- what the run answers
@@ -107,53 +111,62 @@ module _ (B : Book) (g : Log) where
     found s = least-two (test s) m
 
     accepted-to : run-log B g .answer .number ≡ 0
-        → AllFire B g m × ((i j : ℕ) → ¬ Clash B g i j) × (run-log B g .contents ≡ listed S (start B) m)
+        → AllFire B g m × ((i j : ℕ) → ¬ UnorderedTouch B g i j) × (run-log B g .contents ≡ listed S (start B) m)
     unfolding run-log run-from finish
     accepted-to e = go (run B g (start B) m) refl e
       where
         on-two : (s : Run) → run B g (start B) m ≡ ran s → (o : TwoFound) → found s ≡ o → order-checked B s o .answer .number ≡ 0
-            → AllFire B g m × ((i j : ℕ) → ¬ Clash B g i j) × (order-checked B s o .contents ≡ listed S (start B) m)
+            → AllFire B g m × ((i j : ℕ) → ¬ UnorderedTouch B g i j) × (order-checked B s o .contents ≡ listed S (start B) m)
         on-two s q (two a b) p f = absurd (omega arith)
         on-two s q no-two p f =
             let k = run-left B g (start B) m s q in
-            (all-fire s k, (λ i j t. two-none (test s) m .0 p i j (clash-iff s k i j .1 t)), k .contents)
+            (all-fire s k, (λ i j t. two-none (test s) m .0 p i j (unordered-touch-iff s k i j .1 t)), k .contents)
 
         go : (o : Ran) → run B g (start B) m ≡ o → finish B g o .answer .number ≡ 0
-            → AllFire B g m × ((i j : ℕ) → ¬ Clash B g i j) × (finish B g o .contents ≡ listed S (start B) m)
+            → AllFire B g m × ((i j : ℕ) → ¬ UnorderedTouch B g i j) × (finish B g o .contents ≡ listed S (start B) m)
         go (halted a b d s) q f = absurd (omega (arith, halted-number B g (start B) m a b d s q .0))
         go (ran s) q f = on-two s q (found s) refl f
 
-    accepted-from : AllFire B g m → ((i j : ℕ) → ¬ Clash B g i j) → run-log B g .answer .number ≡ 0
+    accepted-from : AllFire B g m → ((i j : ℕ) → ¬ UnorderedTouch B g i j) → run-log B g .answer .number ≡ 0
     unfolding run-log run-from finish
     accepted-from f n =
         let t = run-through B g (start B) m f in
         let k = run-left B g (start B) m (t .0) (t .1) in
-        rw (t .1, two-none (test (t .0)) m .1 (λ i j p. n i j (clash-iff (t .0) k i j .0 p)))
+        rw (t .1, two-none (test (t .0)) m .1 (λ i j p. n i j (unordered-touch-iff (t .0) k i j .0 p)))
 
-    abbrev Is17 : LogAnswer → ℕ → ℕ → Type 0
-    Is17 a i j = (a .answer .number ≡ 17) × (a .answer .p ≡ i) × (a .answer .q ≡ j)
-
-    refused-to : (i j : ℕ) → Is17 (run-log B g) i j → AllFire B g m × LeastPair (Clash B g) i j
+    refused-to : (i j : ℕ) → Is17 (run-log B g) i j → AllFire B g m × LeastPair (UnorderedTouch B g) i j
     unfolding run-log run-from finish
     refused-to i j e = go (run B g (start B) m) refl e
       where
         on-two : (s : Run) → run B g (start B) m ≡ ran s → (o : TwoFound) → found s ≡ o → Is17 (order-checked B s o) i j
-            → AllFire B g m × LeastPair (Clash B g) i j
+            → AllFire B g m × LeastPair (UnorderedTouch B g) i j
         on-two s q no-two p f = absurd (omega (arith, f .0))
         on-two s q (two a b) p f =
             let k = run-left B g (start B) m s q in
             (all-fire s k, least-iff s k i j .0 (two-least (test s) m i j .0 (p ∙ ap₂ two (f .1) (f .2))))
 
-        go : (o : Ran) → run B g (start B) m ≡ o → Is17 (finish B g o) i j → AllFire B g m × LeastPair (Clash B g) i j
+        go : (o : Ran) → run B g (start B) m ≡ o → Is17 (finish B g o) i j → AllFire B g m × LeastPair (UnorderedTouch B g) i j
         go (halted a b d s) q f = absurd (omega (arith, f .0, halted-number B g (start B) m a b d s q .1))
         go (ran s) q f = on-two s q (found s) refl f
 
-    refused-from : (i j : ℕ) → AllFire B g m → LeastPair (Clash B g) i j → Is17 (run-log B g) i j
+    refused-from : (i j : ℕ) → AllFire B g m → LeastPair (UnorderedTouch B g) i j → Is17 (run-log B g) i j
     unfolding run-log run-from finish
     refused-from i j f n =
         let t = run-through B g (start B) m f in
         let k = run-left B g (start B) m (t .0) (t .1) in
         rw (t .1, two-least (test (t .0)) m i j .1 (least-iff (t .0) k i j .1 n)) (refl, refl, refl)
+
+    -- whichever pair it is
+    seventeen-from : (i j : ℕ) → AllFire B g m → UnorderedTouch B g i j → run-log B g .answer .number ≡ 17
+    unfolding run-log run-from finish
+    seventeen-from i j f n =
+        let t = run-through B g (start B) m f in
+        let k = run-left B g (start B) m (t .0) (t .1) in
+        rw (t .1) (go (t .0) (unordered-touch-iff (t .0) k i j .1 n) (found (t .0)) refl)
+      where
+        go : (s : Run) → Passing (test s) m i j → (o : TwoFound) → found s ≡ o → order-checked B s o .answer .number ≡ 17
+        go s p no-two q = absurd (two-none (test s) m .0 q i j p)
+        go s p (two a b) q = refl
 
     -- ---- every order
 
@@ -198,14 +211,26 @@ module _ (book log : List ℕ) (t : Tables) (n : ℕ) where
   unfolding log-call
   as-run B g e = rw e
 
+  -- a call refused by 17 names the least pair
+  refuse : (i j : ℕ) → Is17 (log-call book log t n) i j → (B : Book) × (g : Log) × Passes book log t n B g × LeastPair (UnorderedTouch B g) i j
+  refuse i j e = let r = passes 17 (inr (omega arith)) (e .0) in go (r .0) (r .1) (r .2) (rw (as-run (r .0) (r .1) (r .2)) at e)
+    where
+      go : (B : Book) (g : Log) → checks ≡ good (B, g) → Is17 (run-log B g) i j
+          → (B : Book) × (g : Log) × Passes book log t n B g × LeastPair (UnorderedTouch B g) i j
+      go B g p e = let k = all-passed book log (lengths t n) B g p in let r = refused-to B g (k .0) (k .1) i j e in (B, g, (p, r .0), r .1)
+
   pub demand3 : Demand3 book log t n
   demand3 = record {
     accepted = (
       λ e. let r = passes 0 (inl refl) e in accept (r .0) (r .1) (r .2) (rw (as-run (r .0) (r .1) (r .2)) at e),
       λ (B, g, (p, f), q). let k = all-passed book log (lengths t n) B g p in rw (as-run B g p) (accepted-from B g (k .0) (k .1) f q),
     );
+    seventeen = (
+      λ e. let r = refuse _ _ (e, refl, refl) in (r .0, r .1, r .2, (_, _, r .3 .holds)),
+      λ (B, g, (p, f), (i, j, q)). let k = all-passed book log (lengths t n) B g p in rw (as-run B g p) (seventeen-from B g (k .0) (k .1) i j f q),
+    );
     refused = λ i j. (
-      λ e. let r = passes 17 (inr (omega arith)) (e .0) in refuse i j (r .0) (r .1) (r .2) (rw (as-run (r .0) (r .1) (r .2)) at e),
+      refuse i j,
       λ (B, g, (p, f), q). let k = all-passed book log (lengths t n) B g p in rw (as-run B g p) (refused-from B g (k .0) (k .1) i j f q),
     );
     orders = λ e B g p is k.
@@ -216,10 +241,5 @@ module _ (book log : List ℕ) (t : Tables) (n : ℕ) where
   }
     where
       accept : (B : Book) (g : Log) → checks ≡ good (B, g) → run-log B g .answer .number ≡ 0
-          → (B : Book) × (g : Log) × Passes book log t n B g × ((i j : ℕ) → ¬ Clash B g i j)
+          → (B : Book) × (g : Log) × Passes book log t n B g × ((i j : ℕ) → ¬ UnorderedTouch B g i j)
       accept B g p e = let k = all-passed book log (lengths t n) B g p in let r = accepted-to B g (k .0) (k .1) e in (B, g, (p, r .0), r .1)
-
-      refuse : (i j : ℕ) (B : Book) (g : Log) → checks ≡ good (B, g)
-          → (run-log B g .answer .number ≡ 17) × (run-log B g .answer .p ≡ i) × (run-log B g .answer .q ≡ j)
-          → (B : Book) × (g : Log) × Passes book log t n B g × LeastPair (Clash B g) i j
-      refuse i j B g p e = let k = all-passed book log (lengths t n) B g p in let r = refused-to B g (k .0) (k .1) i j e in (B, g, (p, r .0), r .1)

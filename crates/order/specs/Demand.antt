@@ -60,8 +60,8 @@ abbrev pub AllFire : Book → Log → ℕ → Type 0
 AllFire B g n = (i : ℕ) → i < n → (f : Fired) × Does B g i f
 
 -- moves i and j, the first before the second in the listing, are unordered and touch
-abbrev pub Clash : Book → Log → ℕ → ℕ → Type 0
-Clash B g i j =
+abbrev pub UnorderedTouch : Book → Log → ℕ → ℕ → Type 0
+UnorderedTouch B g i j =
     (i < j) × (j < count g) × ¬ Ordered g i j × ¬ Ordered g j i
     × ((e : Fired) × (f : Fired) × Does B g i e × Does B g j f × Touch (moves-of B g) e f)
 
@@ -77,10 +77,12 @@ module _ (book log : List ℕ) (t : Tables) (n : ℕ) where
 
   pub record Demand3 : Type 0 where
     -- accepted exactly when the order of refusals names none
-    pub accepted : (answered .answer .number ≡ 0) ↔ ((B : Book) × (g : Log) × Passes B g × ((i j : ℕ) → ¬ Clash B g i j))
-    -- 17 exactly when nothing earlier is named, all moves fire as listed, and unordered ones touch; its place is the least such pair
+    pub accepted : (answered .answer .number ≡ 0) ↔ ((B : Book) × (g : Log) × Passes B g × ((i j : ℕ) → ¬ UnorderedTouch B g i j))
+    -- 17 exactly when nothing earlier is named, all moves fire as listed, and some two unordered ones touch
+    pub seventeen : (answered .answer .number ≡ 17) ↔ ((B : Book) × (g : Log) × Passes B g × ((i : ℕ) × (j : ℕ) × UnorderedTouch B g i j))
+    -- its place is the least such pair
     pub refused : (i j : ℕ)
-        → ((answered .answer .number ≡ 17) × (answered .answer .p ≡ i) × (answered .answer .q ≡ j)) ↔ ((B : Book) × (g : Log) × Passes B g × LeastPair (Clash B g) i j)
+        → ((answered .answer .number ≡ 17) × (answered .answer .p ≡ i) × (answered .answer .q ≡ j)) ↔ ((B : Book) × (g : Log) × Passes B g × LeastPair (UnorderedTouch B g) i j)
     -- In every order that keeps the pairs of an accepted log no move is refused, each does what it does in the listed order, the end is the answer's
     -- contents, and the contents are sound, the roll rule with it, at the start and after each move.
     pub orders : answered .answer .number ≡ 0 → (B : Book) (g : Log) → check-all book log (lengths t n) ≡ good (B, g)
