@@ -17,7 +17,7 @@ use Rattle.book.specs.declared.Node.{Node}
 use Rattle.book.specs.Book.{Book}
 use Rattle.engine.specs.Look.{Look, done}
 use Rattle.engine.specs.Term.{term-at, eval}
-use Rattle.engine.specs.Rule.{Rule, skip, Walk, Walked, going, met, after, import-of, walk}
+use Rattle.engine.specs.Rule.{Rule, skip, pair, test, Walk, Walked, going, met, after, import-of, walk}
 use Rattle.engine.proofs.Steps.{rule-pair, rule-test, rule-skip, no-rule-at}
 use Rattle.term.specs.Held.{variables-of, agent-of}
 use Rattle.term.specs.Marks.{Runs}
@@ -82,6 +82,11 @@ module _ (B : Book) (c : List ℕ) (bit : ℕ) where
       go (going w) = runs-done B c bit (going w) m
       go (met a q) = runs-done B c bit (met a q) m
 
+  -- the rule t, known to be r
+  pub runs-rule : (me : ℕ) (vs : List ℕ) (t r : Rule) (s : Pace) (l : List ℕ) (z : Walked) (m n : List ℕ) → s .refused ≡ 0 → t ≡ r
+      → Runs B c bit (walk B me r vs (walk-from s l)) z m n → Runs B c bit (after (reached s l) (walk B me t vs)) z m n
+  runs-rule me vs t r s l z m n h e k = rw e (runs-after (walk B me r vs) s l h z m n k)
+
   -- ---- rules: a pair, a test, an import, none
 
   module _ (me : ℕ) (vs : List ℕ) (ns : ℕ → Node) (d i : ℕ) (x : Node) (some : 2 ≤ d) (loaded : x ≡ ns i) (s : Pace) (l : List ℕ) (h : s .refused ≡ 0) where
@@ -92,9 +97,8 @@ module _ (B : Book) (c : List ℕ) (bit : ℕ) where
         → Runs B c bit (after (reached s l) (walk B me (rule-from ns d i) vs)) z j n
     unfolding walk
     runs-pair p z j m n k r t =
-        runs-after (walk B me (rule-from ns d i) vs) s l h z j n
-        (rw (rule-pair ns d i x some loaded k)
-        (runs-bind B c bit (go (x .a) (walk-from s l)) (λ o. after o (go (x .b))) p z j m n (runs-from (go (x .a)) s l h p j m r) t))
+        runs-rule me vs (rule-from ns d i) (pair (rule-from ns (d - 1) (x .a)) (rule-from ns (d - 1) (x .b))) s l z j n h (rule-pair ns d i x some loaded k)
+        (runs-bind B c bit (go (x .a) (walk-from s l)) (λ o. after o (go (x .b))) p z j m n (runs-from (go (x .a)) s l h p j m r) t)
 
     pub runs-test : (v next : ℕ) (z : Walked) (j m n : List ℕ) → x .kind ≡ 23 → next ≡ (if eqb v 2 then x .b else x .c)
         → Runs B c bit (eval B me vs (term-at ns (d - 1) (x .a))) v j m → Runs B c bit (after (reached s l) (go next)) z m n
@@ -102,10 +106,9 @@ module _ (B : Book) (c : List ℕ) (bit : ℕ) where
     unfolding walk
     runs-test v next z j m n k e r t =
         let w = walk-from s l in
-        runs-after (walk B me (rule-from ns d i) vs) s l h z j n
-        (rw (rule-test ns d i x some loaded k)
+        runs-rule me vs (rule-from ns d i) (test (term-at ns (d - 1) (x .a)) (rule-from ns (d - 1) (x .b)) (rule-from ns (d - 1) (x .c))) s l z j n h (rule-test ns d i x some loaded k)
         (runs-bind B c bit (eval B me vs (term-at ns (d - 1) (x .a))) (λ y. if eqb y 2 then go (x .b) w else go (x .c) w) v z j m n r
-        (branch (eqb v 2) e (runs-from (go next) s l h z m n t))))
+        (branch (eqb v 2) e (runs-from (go next) s l h z m n t)))
       where
         branch : (b : Bool) → next ≡ (if b then x .b else x .c) → Runs B c bit (go next (walk-from s l)) z m n
             → Runs B c bit (if b then go (x .b) (walk-from s l) else go (x .c) (walk-from s l)) z m n

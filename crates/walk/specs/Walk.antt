@@ -6,8 +6,8 @@ use lib.ListN.{length, set}
 use Rattle.text.specs.Words.{if_then_else_}
 use Rattle.book.specs.declared.Node.{Node}
 use Rattle.book.specs.Book.{node-at}
-use Rattle.engine.specs.Look.{Look, gives}
-use Rattle.engine.specs.Rule.{Rule, rule-shape, rule-tree, Walk, Walked, going, met, most-instructions, members, each, walk}
+use Rattle.engine.specs.Look.{Look}
+use Rattle.engine.specs.Rule.{Rule, rule-shape, rule-tree, Walk, Walked, going, met, most-instructions, walk}
 use Rattle.records.specs.Code.{items}
 use Rattle.term.specs.Held.{held, variables-of, agent-of}
 use Rattle.walk.specs.declared.State.{State}
@@ -36,7 +36,3 @@ walk-at m s d n w = walk (held m) (agent-of s) (rule-from (node-at (held m)) d n
 -- the same with variable a at y
 abbrev pub body-at : List ℕ → List ℕ → ℕ → ℕ → ℕ → ℕ → Walk → Look Walked
 body-at m s d n a y w = walk (held m) (agent-of s) (rule-from (node-at (held m)) d n) (set (variables-of s) a y) w
-
--- and with it at each member of the universe u in turn
-abbrev pub sweep-at : List ℕ → List ℕ → List ℕ → ℕ → ℕ → ℕ → ℕ → Walk → Look Walked
-sweep-at m c s d u n a w = each (body-at m s d n a) (gives c (members (held m) u 0 (held m .E))) w

@@ -3,19 +3,19 @@ use giving::Pace;
 use term::Row;
 ghost use mathlib.Core.Path.{_≡_};
 ghost use mathlib.Core.List.{List};
-ghost use Prim.Native.Nat.{ℕ, _≤_};
+ghost use Prim.Native.Nat.{ℕ};
 ghost use lib.Dec.{eqb};
 ghost use lib.ListN.{set};
 ghost use Rattle.text.specs.Words.{if_then_else_};
 ghost use Rattle.book.specs.Book.{node-at, agent-at};
 ghost use Rattle.engine.specs.Move.{all-dynamic};
 ghost use Rattle.engine.specs.Term.{term-at};
-ghost use Rattle.engine.specs.Rule.{assign, after, walk};
-ghost use Rattle.term.specs.Held.{held, node-row, variables-of, agent-of};
+ghost use Rattle.engine.specs.Rule.{assign, bind, for-all, import, free, after, walk};
+ghost use Rattle.term.specs.Held.{held, variables-of, agent-of};
 ghost use Rattle.term.specs.Marks.{marked, Runs};
 ghost use Rattle.giving.specs.Giving.{walk-from, reached};
 ghost use Rattle.walk.specs.Gather.{agent-row, cleared, Gathered};
-ghost use Rattle.walk.specs.Walk.{Room, outcome, walk-at, body-at, sweep-at};
+ghost use Rattle.walk.specs.Walk.{Room, outcome, rule-from, walk-at, body-at};
 
 // How far a walk came: how many instructions it has given, the label from which the next import looks,
 // its refusal (0 for none) and the refusal's node.
@@ -64,8 +64,29 @@ fn assign(
     giving::update(image, list, s, n, f, at, x)
 }
 
+// Rule 27: the label that term a gives goes back to the roll.
+fn release(
+    image: &[u16; 4296],
+    contents: &[u16],
+    readers: &mut [u64],
+    bit: u64,
+    list: &mut [u64],
+    scope: &[u16; 9],
+    depth: usize,
+    s: Pace,
+    n: u16,
+    row: Row,
+) -> Pace
+    requires { ⌜ s .refused ≡ 0 ⌝ }
+    ensures { λ r. ⌜ (Room (now (list .entry)) → Runs (held (now (image .entry))) (now (contents .entry)) bit (walk (held (now (image .entry))) (agent-of (now (scope .entry))) (free n (term-at (node-at (held (now (image .entry)))) depth (row .a))) (variables-of (now (scope .entry))) (walk-from s (now (list .entry)))) (reached r (now (list .exit))) (now (readers .entry)) (now (readers .exit))) ⌝ }
+{
+    let x = term::eval(image, contents, readers, bit, scope, depth, row.a);
+    let v = marking::read_roll(image, contents, readers, bit, x);
+    giving::free(image, list, s, n, x, v)
+}
+
 // The rule at node n, looking at most `depth` nodes down; after a refusal nothing more is done.
-// A pair's second part and a test's branch take their node's place, with no call.
+// Its kind decides: a pair's second part and a test's branch take the node's place, with no call; the other kinds end the walk.
 fn walk(
     image: &[u16; 4296],
     contents: &[u16],
@@ -88,65 +109,29 @@ fn walk(
         }
         let row = term::node(image, at);
         let less = left - 1;
-        if row.kind == 23 {
-            let x = term::eval(image, contents, readers, bit, scope, less, row.a);
-            at = branch(x, row.b, row.c);
-            left = less;
-            continue;
+        let k = row.kind;
+        match k {
+            20..=27 => match k {
+                21 => return assign(image, contents, readers, bit, list, scope, less, r, at, row),
+                22 => {
+                    r = walk(image, contents, readers, bit, list, scope, less, r, row.a);
+                    at = row.b;
+                }
+                23 => {
+                    let x = term::eval(image, contents, readers, bit, scope, less, row.a);
+                    at = branch(x, row.b, row.c);
+                }
+                24 => return let_in(image, contents, readers, bit, list, scope, less, r, row),
+                25 => return each(image, contents, readers, bit, list, scope, less, r, row),
+                26 => return import(image, contents, readers, bit, list, scope, less, r, at, row),
+                27 => return release(image, contents, readers, bit, list, scope, less, r, at, row),
+                _ => return r,
+            },
+            _ => return r,
         }
-        if row.kind != 22 {
-            return rule(image, contents, readers, bit, list, scope, left, r, at, row);
-        }
-        r = walk(image, contents, readers, bit, list, scope, less, r, row.a);
-        at = row.b;
         left = less;
     }
     r
-}
-
-// The same for node n's row, which is neither a pair nor a test.
-fn rule(
-    image: &[u16; 4296],
-    contents: &[u16],
-    readers: &mut [u64],
-    bit: u64,
-    list: &mut [u64],
-    scope: &[u16; 9],
-    depth: usize,
-    s: Pace,
-    n: u16,
-    row: Row,
-) -> Pace
-    requires { ⌜ (2 ≤ depth) × (s .refused ≡ 0) × (node-row row ≡ node-at (held (now image)) n) × ((row .kind ≡ 22) → ⊥) × ((row .kind ≡ 23) → ⊥) ⌝ }
-    ensures { λ r. ⌜ (Room (now (list .entry)) → Runs (held (now (image .entry))) (now (contents .entry)) bit (walk-at (now (image .entry)) (now (scope .entry)) depth n (walk-from s (now (list .entry)))) (reached r (now (list .exit))) (now (readers .entry)) (now (readers .exit))) ⌝ }
-{
-    let less = depth - 1;
-    let k = row.kind;
-    match k {
-        20..=27 => match k {
-            21 => assign(image, contents, readers, bit, list, scope, less, s, n, row),
-            24 => {
-                let x = term::eval(image, contents, readers, bit, scope, less, row.b);
-                within(image, contents, readers, bit, list, scope, less, s, row, x)
-            }
-            25 => {
-                marking::universe(image, readers, bit, row.b);
-                each(image, contents, readers, bit, list, scope, less, s, row)
-            }
-            26 => {
-                let x = marking::lowest(image, contents, readers, bit, s.label);
-                let t = giving::enroll(image, list, s, n, row.b, x);
-                within(image, contents, readers, bit, list, scope, less, t, row, x)
-            }
-            27 => {
-                let x = term::eval(image, contents, readers, bit, scope, less, row.a);
-                let v = marking::read_roll(image, contents, readers, bit, x);
-                giving::free(image, list, s, n, x, v)
-            }
-            _ => s,
-        },
-        _ => s,
-    }
 }
 
 // The body c of a row that binds variable a, with a at x.
@@ -169,7 +154,26 @@ fn within(
     walk(image, contents, readers, bit, list, &inner, depth, s, row.c)
 }
 
-// Rule 25, its universe b marked: the body for each member, ascending.
+// Rule 24: the body c with variable a at the value of term b.
+fn let_in(
+    image: &[u16; 4296],
+    contents: &[u16],
+    readers: &mut [u64],
+    bit: u64,
+    list: &mut [u64],
+    scope: &[u16; 9],
+    depth: usize,
+    s: Pace,
+    row: Row,
+) -> Pace
+    requires { ⌜ s .refused ≡ 0 ⌝ }
+    ensures { λ r. ⌜ (Room (now (list .entry)) → Runs (held (now (image .entry))) (now (contents .entry)) bit (walk (held (now (image .entry))) (agent-of (now (scope .entry))) (bind (row .a) (term-at (node-at (held (now (image .entry)))) depth (row .b)) (rule-from (node-at (held (now (image .entry)))) depth (row .c))) (variables-of (now (scope .entry))) (walk-from s (now (list .entry)))) (reached r (now (list .exit))) (now (readers .entry)) (now (readers .exit))) ⌝ }
+{
+    let x = term::eval(image, contents, readers, bit, scope, depth, row.b);
+    within(image, contents, readers, bit, list, scope, depth, s, row, x)
+}
+
+// Rule 25: the body c with variable a at each member of the universe b, ascending.
 fn each(
     image: &[u16; 4296],
     contents: &[u16],
@@ -181,8 +185,10 @@ fn each(
     s: Pace,
     row: Row,
 ) -> Pace
-    ensures { λ r. ⌜ (Room (now (list .entry)) → Runs (held (now (image .entry))) (now (contents .entry)) bit (after (reached s (now (list .entry))) (sweep-at (now (image .entry)) (now (contents .entry)) (now (scope .entry)) depth (row .b) (row .c) (row .a))) (reached r (now (list .exit))) (now (readers .entry)) (now (readers .exit))) ⌝ }
+    requires { ⌜ s .refused ≡ 0 ⌝ }
+    ensures { λ r. ⌜ (Room (now (list .entry)) → Runs (held (now (image .entry))) (now (contents .entry)) bit (walk (held (now (image .entry))) (agent-of (now (scope .entry))) (for-all (row .a) (row .b) (rule-from (node-at (held (now (image .entry)))) depth (row .c))) (variables-of (now (scope .entry))) (walk-from s (now (list .entry)))) (reached r (now (list .exit))) (now (readers .entry)) (now (readers .exit))) ⌝ }
 {
+    marking::universe(image, readers, bit, row.b);
     let e = pages::elements(image);
     let run = term::function(image, row.b);
     let mut r = s;
@@ -195,6 +201,27 @@ fn each(
         y = marking::next_member(contents, run, e, y + 1);
     }
     r
+}
+
+// Rule 26: the lowest label of the roll enters the universe b; the body c with variable a at it.
+fn import(
+    image: &[u16; 4296],
+    contents: &[u16],
+    readers: &mut [u64],
+    bit: u64,
+    list: &mut [u64],
+    scope: &[u16; 9],
+    depth: usize,
+    s: Pace,
+    n: u16,
+    row: Row,
+) -> Pace
+    requires { ⌜ s .refused ≡ 0 ⌝ }
+    ensures { λ r. ⌜ (Room (now (list .entry)) → Runs (held (now (image .entry))) (now (contents .entry)) bit (walk (held (now (image .entry))) (agent-of (now (scope .entry))) (import n (row .a) (row .b) (rule-from (node-at (held (now (image .entry)))) depth (row .c))) (variables-of (now (scope .entry))) (walk-from s (now (list .entry)))) (reached r (now (list .exit))) (now (readers .entry)) (now (readers .exit))) ⌝ }
+{
+    let x = marking::lowest(image, contents, readers, bit, s.label);
+    let t = giving::enroll(image, list, s, n, row.b, x);
+    within(image, contents, readers, bit, list, scope, depth, t, row, x)
 }
 
 // An agent as the image has it.
