@@ -4,29 +4,22 @@ use mathlib.Core.Bool.{Bool, true, false, _&&_}
 use mathlib.Core.List.{List, _++_}
 use Prim.Native.Nat.{ℕ, _+_, _-_, _<_, _≤_, min}
 use native.Mathlib.Omega.{arith}
-use borrow.Author.Tests.{ltb-true, ltb-false, lt-ltb, le-ltb, lt-leb, le-leb}
-use lib.Dec.{ltb, leb}
+use borrow.Author.Tests.{ltb-true, ltb-false, lt-ltb, le-ltb}
+use lib.Dec.{ltb}
 use lib.ListN.{length, getD, take, drop, length-take, length-drop}
 use lib.Seq.{getD-take, getD-drop}
 use Rattle.text.specs.Words.{if_then_else_}
 use Rattle.book.specs.declared.Function.{Function}
 use Rattle.book.specs.Book.{Book, size, function-at, place}
+use Rattle.pages.specs.Part.{between}
+use Rattle.pages.proofs.Parts.{between-before, between-inside, between-after}
 use Rattle.pages.proofs.Places.{From, from-start, from-at, from-next, from-past}
 use Rattle.sweep.specs.Marks.{mark}
 use Rattle.traces.specs.Traces.{trace-in}
 use Rattle.sweep.specs.Part.{wiped-in, part-cleared, part-marked}
-use Rattle.clearing.specs.Steps.{between, run-cleared, run-marked, trace, wiped, cleared, clear-marked}
+use Rattle.clearing.specs.Steps.{run-cleared, run-marked, trace, wiped, cleared, clear-marked}
 use Rattle.traces.proofs.Laws.{and-none}
 use Rattle.sweep.proofs.Sweep.{Swept, sweep-start, sweep-run, sweep-end, part-back}
-
-between-before : (a e k : ℕ) → k < a → between a e k ≡ false
-between-before a e k h = rw (lt-leb a k h)
-
-between-inside : (a e k : ℕ) → a ≤ k → k < e → between a e k ≡ true
-between-inside a e k h l = rw (le-leb a k h, lt-ltb k e l)
-
-between-after : (a e k : ℕ) → e ≤ k → between a e k ≡ false
-between-after a e k h = rw (le-ltb k e h) (and-none (leb a k))
 
 -- the function's part of the contents is lent, and its part of the marks, each as far as the table goes
 module _ (E : ℕ) (f : Function) (x bit first end : ℕ) (c ms : List ℕ) (ordered : first ≤ end) (a b : ℕ) (a-is : a ≡ min first (length c))

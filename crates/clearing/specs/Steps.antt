@@ -2,11 +2,12 @@
 use mathlib.Core.Bool.{Bool, _&&_}
 use mathlib.Core.List.{List, [], _∷_}
 use Prim.Native.Nat.{ℕ, _-_}
-use lib.Dec.{ltb, leb}
+use lib.Dec.{ltb}
 use lib.ListN.{length, getD}
 use Rattle.text.specs.Words.{if_then_else_}
 use Rattle.book.specs.declared.Function.{Function}
 use Rattle.book.specs.Book.{Book, place}
+use Rattle.pages.specs.Part.{between}
 use Rattle.engine.specs.declared.Instruction.{Instruction}
 use Rattle.engine.specs.declared.Instruction.the-variants.{Update, Release}
 use Rattle.traces.specs.Traces.{trace-in}
@@ -14,9 +15,6 @@ use Rattle.sweep.specs.Marks.{each, mark}
 use Rattle.sweep.specs.Part.{wiped-in}
 
 -- a function's run of the whole table
-abbrev pub between : ℕ → ℕ → ℕ → Bool
-between first end l = leb first l && ltb l end
-
 abbrev pub run-cleared : ℕ → Function → ℕ → ℕ → ℕ → List ℕ → List ℕ
 run-cleared E f x first end c = each (λ l v. if between first end l then wiped-in E f x (l - first) v else v) 0 c
 

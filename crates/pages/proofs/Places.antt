@@ -11,6 +11,9 @@ use Rattle.book.specs.Book.{Book, L, size, total, no-function, function-at, pla
 use Rattle.book.proofs.Image.{size-most}
 
 module _ (B : Book) where
+  pub functions-from : (g : ℕ) → g < length (B .functions) → drop g (B .functions) ≡ function-at B g ∷ drop (g + 1) (B .functions)
+  functions-from g more = drop-cons (B .functions) g no-function more ∙ rw add-one
+
   -- the locations of the functions from g on start at first
   pub record From (g first : ℕ) : Type 0 where
     pub sum : first + total (B .E) (drop g (B .functions)) ≡ L B
@@ -22,7 +25,7 @@ module _ (B : Book) where
 
   module _ (g first : ℕ) (at : From g first) (more : g < length (B .functions)) where
     cons : drop g (B .functions) ≡ function-at B g ∷ drop (g + 1) (B .functions)
-    cons = drop-cons (B .functions) g no-function more ∙ rw add-one
+    cons = functions-from g more
 
     abbrev n : ℕ
     n = size (B .E) (function-at B g .arity)

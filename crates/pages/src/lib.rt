@@ -7,6 +7,7 @@ ghost use Prim.Native.Nat.{_≤_};
 ghost use lib.ListN.{length};
 ghost use Rattle.book.specs.Book.{L, size, relation, dynamic, default, function-at};
 ghost use Rattle.book.specs.Image.{word, capped, book-in};
+ghost use Rattle.pages.specs.Part.{part-of};
 
 // The bounds of the counts in an image.
 pub const MOST_ELEMENTS: u16 = 10000;
@@ -14,6 +15,12 @@ pub const MOST_ELEMENTS: u16 = 10000;
 pub const MOST_FUNCTIONS: u16 = 32;
 
 const MOST_AGENTS: u16 = 16;
+
+// A run of the contents table, from location `first` up to `end`.
+pub struct Part {
+    pub first: usize,
+    pub end: usize,
+}
 
 pub fn word(image: &[u16; 4296], i: usize) -> u16
     ensures { λ r. ⌜ r ≡ word (now (image .entry)) i ⌝ }
@@ -103,6 +110,32 @@ pub fn total(image: &[u16; 4296]) -> u32
         g = g + 1;
     }
     first
+}
+
+// The part that location l is in: the locations of its function. Past L it is empty.
+pub fn part_of(image: &[u16; 4296], l: usize) -> Part
+    ensures { λ r. ⌜ r ≡ part-of (book-in (now (image .entry)) []) l ⌝ }
+{
+    let e = elements(image);
+    let n = functions(image);
+    let mut first: usize = 0;
+    let mut g: u16 = 0;
+    while g < n {
+        let f = function_at(image, g);
+        let end = first + size(e, f.arity) as usize;
+        if l < end {
+            return Part {
+                first: first,
+                end: end,
+            };
+        }
+        first = end;
+        g = g + 1;
+    }
+    Part {
+        first: first,
+        end: first,
+    }
 }
 
 pub fn is_relation(f: Function) -> bool

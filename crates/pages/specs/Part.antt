@@ -1,0 +1,28 @@
+-- A function's part of the contents table: its locations are one unbroken run (01, "Elements, functions, locations").
+use mathlib.Core.Bool.{Bool, _&&_}
+use mathlib.Core.List.{List, [], _∷_}
+use Prim.Native.Nat.{ℕ, _+_}
+use lib.Dec.{ltb, leb}
+use lib.ListN.{set}
+use Rattle.text.specs.Words.{if_then_else_}
+use Rattle.book.specs.declared.Function.{Function}
+use Rattle.book.specs.Book.{Book, size}
+use Rattle.pages.specs.declared.Part.{Part}
+
+abbrev pub between : ℕ → ℕ → ℕ → Bool
+between first end l = leb first l && ltb l end
+
+-- location l of the part from `first` to `end` gets v; outside the part nothing is put
+abbrev pub put-in : ℕ → ℕ → ℕ → ℕ → List ℕ → List ℕ
+put-in first end l v c = if between first end l then set c l v else c
+
+-- the part that l is in, the functions' parts following each other from `first` on; past the last one an empty part
+unfoldable pub part-from : ℕ → ℕ → List Function → ℕ → Part
+part-from E first [] l = record { first = first; end = first }
+part-from E first (f ∷ fs) l =
+    let end = first + size E (f .arity) in
+    let r = part-from E end fs l in
+    if ltb l end then record { first = first; end = end } else r
+
+abbrev pub part-of : Book → ℕ → Part
+part-of B l = part-from (B .E) 0 (B .functions) l
