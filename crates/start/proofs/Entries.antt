@@ -13,7 +13,7 @@ use Rattle.text.specs.Text.{line}
 use Rattle.text.proofs.Words.{so-true, length-table-from, getD-table}
 use Rattle.book.specs.declared.Header.{Header}
 use Rattle.book.specs.declared.Entry.{Entry}
-use Rattle.book.specs.Book.{Book, L, no-entry, entry-at, entry-location, default-at, defaults, enter, start}
+use Rattle.book.specs.Book.{Book, L, size, function-at, no-entry, entry-at, entry-location, default-at, defaults, enter, start}
 use Rattle.book.specs.Bare.{bare}
 use Rattle.book.specs.Lines.{first-entry, entry-of, book-of}
 use Rattle.book.specs.Contents.{in-bounds, bad-entry}
@@ -24,14 +24,12 @@ use Rattle.book.proofs.Accepted.{header-bounded, header-is, lines-book, book-le
 use Rattle.book.proofs.Bare.{bare-image}
 use Rattle.book.proofs.Places.{spot}
 use Rattle.book.proofs.Start.{in-bounds-is}
+use Rattle.pages.proofs.Parts.{between-inside, part-numbered, part-own}
 use Rattle.open.specs.Narrow.{narrowed}
 use Rattle.open.proofs.Fits.{narrowed-same}
 use Rattle.start.specs.Written.{line-put, lines-put, first-line, contents-lines}
 
 -- ---- the loop over the lines
-
-pub length-put : (B : Book) (l : Line) (c d : List ℕ) → d ≡ line-put B l c → length d ≡ length c
-length-put B l c d e = ap length e ∙ simp length-set
 
 module _ (B : Book) (at : ℕ → Line) where
   pub lines-first : (n : ℕ) (c : List ℕ) → lines-put B (table-from at 0 (n - 0)) c ≡ lines-put B (table at n) c
@@ -58,11 +56,15 @@ module _ (B : Book) (ok : Lawful B) (few : length (B .functions) ≤ 32) (rest :
   put-same : (l : Line) (c : List ℕ) → length c ≡ L B → Small B l → line-put (bare B) l (c ++ rest) ≡ set c (entry-location B (entry-of l)) (l .d) ++ rest
   put-same l c e s =
       let inside = spot B ok (l .a) (l .b) (l .c) (s .function) (s .first) (s .second) .inside in
+      let f = function-at B (l .a) in
+      let own : entry-location B (entry-of l) < f .first + size (B .E) (f .arity) =
+      rw (part-own B ok (l .a) (l .b) (l .c) (s .function) (s .first) (s .second)) at (part-numbered B (entry-location B (entry-of l)) inside .inside) in
       rw (
         narrowed-same (l .a) (omega (arith, s .function)),
         narrowed-same (l .b) (omega (arith, s .first, ok .elements)),
         narrowed-same (l .c) (omega (arith, s .second, ok .elements)),
         narrowed-same (l .d) (omega (arith, s .value, ok .elements)),
+        between-inside (f .first) (f .first + size (B .E) (f .arity)) (entry-location B (entry-of l)) (omega arith) own,
       ) (set-append-left c rest (entry-location B (entry-of l)) (l .d) (omega (arith, e, inside)))
 
   put-all : (at : ℕ → Line) (i n : ℕ) (c : List ℕ) → length c ≡ L B → ((k : ℕ) → i ≤ k → k < i + n → Small B (at k))

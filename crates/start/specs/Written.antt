@@ -2,11 +2,13 @@
 use mathlib.Core.List.{List, [], _∷_, _++_}
 use Prim.Native.Nat.{ℕ, _+_, _-_}
 use lib.Dec.{leb}
-use lib.ListN.{length, set, take, drop, replicate}
+use lib.ListN.{length, take, drop, replicate}
 use Rattle.text.specs.declared.Line.{Line}
 use Rattle.text.specs.Words.{if_then_else_, table}
 use Rattle.text.specs.Text.{line}
-use Rattle.book.specs.Book.{Book, location}
+use Rattle.book.specs.declared.Function.{Function}
+use Rattle.book.specs.Book.{Book, size, location, function-at}
+use Rattle.pages.specs.Part.{put-in}
 use Rattle.open.specs.Narrow.{narrowed}
 
 -- the places from `first` to `end` hold v, if there are as many
@@ -14,9 +16,14 @@ abbrev pub run-filled : ℕ → ℕ → ℕ → List ℕ → List ℕ
 run-filled first end v c =
     if leb end (length c) then take first c ++ (replicate (end - first) v ++ drop (end - first) (drop first c)) else c
 
+-- location l of function g put in that function's part: it starts at the function's first location
+abbrev pub function-put : ℕ → Function → ℕ → ℕ → List ℕ → List ℕ
+function-put E g l v c = put-in (g .first) (g .first + size E (g .arity)) l v c
+
 -- a contents line put at its location: in an accepted book each of its numbers fits in sixteen bits
 abbrev pub line-put : Book → Line → List ℕ → List ℕ
-line-put B l c = set c (location B (narrowed (l .a)) (narrowed (l .b)) (narrowed (l .c))) (narrowed (l .d))
+line-put B l c =
+    function-put (B .E) (function-at B (narrowed (l .a))) (location B (narrowed (l .a)) (narrowed (l .b)) (narrowed (l .c))) (narrowed (l .d)) c
 
 unfoldable pub lines-put : Book → List Line → List ℕ → List ℕ
 lines-put B [] c = c

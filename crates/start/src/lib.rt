@@ -2,12 +2,13 @@
 use text::Line;
 ghost use mathlib.Core.Path.{_≡_};
 ghost use mathlib.Core.List.{[], _++_};
-ghost use Prim.Native.Nat.{_+_, _<_, _≤_};
+ghost use Prim.Native.Nat.{_+_, _≤_};
 ghost use lib.ListN.{length, set, drop, replicate};
 ghost use Rattle.text.specs.Words.{good};
-ghost use Rattle.book.specs.Book.{Book, L, offset, location, defaults, start};
+ghost use Rattle.book.specs.Book.{Book, L, offset, defaults, start};
 ghost use Rattle.book.specs.Image.{book-in};
 ghost use Rattle.book.specs.Check.{check-book};
+ghost use Rattle.pages.specs.Part.{put-in};
 ghost use Rattle.start.specs.Written.{run-filled, line-put, lines-put, contents-lines};
 
 // Every place of a part gets v.
@@ -50,7 +51,7 @@ fn write_defaults(image: &[u16; 4296], contents: &mut [u16])
 
 // A location's number within its function.
 fn offset(e: u16, arity: u32, x: u16, y: u16) -> usize
-    ensures { λ r. ⌜ (r ≡ offset e arity x y) × (r < 10000000000) ⌝ }
+    ensures { λ r. ⌜ r ≡ offset e arity x y ⌝ }
 {
     if arity == 0 {
         0
@@ -61,33 +62,43 @@ fn offset(e: u16, arity: u32, x: u16, y: u16) -> usize
     }
 }
 
-// The location of function f at the arguments x and y.
-fn locate(image: &[u16; 4296], f: u16, x: u16, y: u16) -> usize
-    ensures { λ r. ⌜ r ≡ location (book-in (now (image .entry)) []) f x y ⌝ }
+// Past the end nothing is put.
+fn put(part: &mut [u16], i: usize, v: u16)
+    ensures { λ _. ⌜ now (part .exit) ≡ set (now (part .entry)) i v ⌝ }
 {
-    let e = pages::elements(image);
-    let g = pages::function_at(image, f);
-    g.first as usize + offset(e, g.arity, x, y)
+    if i < part.len() {
+        part[i] = v;
+    }
 }
 
-// Past the end nothing is put.
-fn put(contents: &mut [u16], at: usize, v: u16)
-    ensures { λ _. ⌜ now (contents .exit) ≡ set (now (contents .entry)) at v ⌝ }
+// A function's own part is lent, from its first location, as far as the table goes; place i of it gets v.
+fn put_in(contents: &mut [u16], first: usize, end: usize, i: usize, v: u16)
+    requires { ⌜ first ≤ end ⌝ }
+    ensures { λ _. ⌜ now (contents .exit) ≡ put-in first end (first + i) v (now (contents .entry)) ⌝ }
 {
-    if at < contents.len() {
-        contents[at] = v;
-    }
+    let n = contents.len();
+    let a = numbers::smaller(first, n);
+    let b = numbers::smaller(end, n);
+    put(&mut contents[a..b], i, v);
 }
 
 // A contents line's value is put at its location.
 fn write_line(image: &[u16; 4296], contents: &mut [u16], l: Line)
     ensures { λ _. ⌜ now (contents .exit) ≡ line-put (book-in (now (image .entry)) []) l (now (contents .entry)) ⌝ }
 {
-    let f = open::narrow_word(l.a);
     let x = open::narrow_word(l.b);
     let y = open::narrow_word(l.c);
-    let at = locate(image, f, x, y);
-    put(contents, at, open::narrow_word(l.d));
+    let e = pages::elements(image);
+    let g = pages::function_at(image, open::narrow_word(l.a));
+    let first = g.first as usize;
+    let end = first + pages::size(e, g.arity) as usize;
+    put_in(
+        contents,
+        first,
+        end,
+        offset(e, g.arity, x, y),
+        open::narrow_word(l.d),
+    );
 }
 
 // All contents lines, one by one; the header says where they start and how many there are.

@@ -14,19 +14,14 @@ mul-result c = let a = c .before .before .fits in record { fits = omega (arith, 
 add-result : tie.Need-add-result
 add-result c = let a = c .before .before .fits in record { fits = omega (arith, below 16 (a .x .fits) (a .e .fits), a .y .fits) }
 
--- src/lib.rt:52:1
 returns : tie.Need-returns
-returns c = (rw (eq-eqb _ _ (c .if1 .taken)), omega arith)
+returns c = rw (eq-eqb _ _ (c .if1 .taken))
 
--- src/lib.rt:52:1
 returns-2 : tie.Need-returns-2
-returns-2 c = (rw (ne-eqb _ _ (c .before .if1 .left), eq-eqb _ _ (c .if2 .taken)), omega (arith, c .before .before .fits .x .fits))
+returns-2 c = rw (ne-eqb _ _ (c .before .if1 .left), eq-eqb _ _ (c .if2 .taken))
 
--- src/lib.rt:52:1
 returns-3 : tie.Need-returns-3
-returns-3 c =
-    let a = c .before .before .fits in
-    (rw (ne-eqb _ _ (c .before .if1 .left), ne-eqb _ _ (c .if2 .left)), omega (arith, below 16 (a .x .fits) (a .e .fits), a .y .fits))
+returns-3 c = rw (ne-eqb _ _ (c .before .if1 .left), ne-eqb _ _ (c .if2 .left))
 
 pub offset-spec : {M : Type 1} → statement M
 offset-spec = tie.close (tie.spec mul-result add-result returns returns-2 returns-3)

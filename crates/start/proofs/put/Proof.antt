@@ -7,12 +7,12 @@ use Rattle.start.proofs.put.Reads as reads
 use Rattle.start.proofs.put.Lts as lts
 
 -- src/lib.rt:78:9
-mul-contents : tie.Need-mul-contents
-mul-contents c = search needs
+mul-part : tie.Need-mul-part
+mul-part c = search needs
 
 -- src/lib.rt:78:9
-slice-write-contents : tie.Need-slice-write-contents
-slice-write-contents c = search needs
+slice-write-part : tie.Need-slice-write-part
+slice-write-part c = search needs
 
 -- src/lib.rt:74:1
 same-length : tie.Need-same-length
@@ -24,7 +24,7 @@ returns c = search needs
 
 -- src/lib.rt:74:1
 returns-2 : tie.Need-returns-2
-returns-2 c = let a = c .before .args in sym (set-out (a .contents .now) (a .at) (a .v) (c .if1 .left))
+returns-2 c = let a = c .before .args in sym (set-out (a .part .now) (a .i) (a .v) (c .if1 .left))
 
 pub put-spec : {M : Type 1} → statement M
-put-spec = tie.close (tie.spec mul-contents slice-write-contents same-length returns returns-2)
+put-spec = tie.close (tie.spec mul-part slice-write-part same-length returns returns-2)

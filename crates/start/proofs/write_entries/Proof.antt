@@ -8,7 +8,7 @@ use Rattle.text.specs.Words.{table-from}
 use Rattle.text.specs.Text.{line}
 use Rattle.book.specs.Image.{book-in}
 use Rattle.start.specs.Written.{line-put, lines-put, first-line, contents-lines}
-use Rattle.start.proofs.Entries.{length-put, lines-first, lines-next, lines-last}
+use Rattle.start.proofs.Entries.{lines-first, lines-next, lines-last}
 use Rattle.start.proofs.write_entries.Statement.{statement}
 use Rattle.start.proofs.write_entries.Tie as tie
 use Rattle.start.proofs.write_entries.Reads as reads
@@ -110,7 +110,7 @@ loop-again c =
       c .before .before .before .before .before .before .before .before .before .before .before .read-line .ensures,
     ) in
     let e = c .before .before .write-line .ensures ∙ ap (λ (x : Line). line-put B x (l .contents)) here in (
-      length-put B (line t (first-line t + l .i)) (l .contents) _ e ∙ l .inv .0,
+      c .before .before .write-line .kept .1 .0 ∙ l .inv .0,
       lines-next B (λ k. line t (first-line t + k)) (c .before .before .before .before .before .before .before .before .before .before .read-line2 .result .b) (l .i) (l .contents) _ (c .before .before .before .before .before .loop-test .taken) e ∙ l .inv .1,
     )
 

@@ -5,47 +5,77 @@ use Rattle.start.proofs.write_line.Tie as tie
 use Rattle.start.proofs.write_line.Reads as reads
 use Rattle.start.proofs.write_line.Lts as lts
 use Rattle.open.proofs.narrow_word.Reads as narrow-word-reads
-use Rattle.start.proofs.locate.Reads as locate-reads
-use Rattle.start.proofs.put.Reads as put-reads
+use Rattle.pages.proofs.elements.Reads as elements-reads
+use Rattle.pages.proofs.function_at.Reads as function-at-reads
+use Rattle.pages.proofs.size.Reads as size-reads
+use Rattle.start.proofs.offset.Reads as offset-reads
+use Rattle.start.proofs.put_in.Reads as put-in-reads
 
--- src/lib.rt:86:9
+-- src/lib.rt:89:9
 narrow-word-requires : tie.Need-narrow-word-requires
 narrow-word-requires c κs = search needs
 
--- src/lib.rt:87:9
+-- src/lib.rt:90:9
 narrow-word-requires-2 : tie.Need-narrow-word-requires-2
 narrow-word-requires-2 c κs = search needs
 
--- src/lib.rt:88:9
+-- src/lib.rt:91:9
+elements-requires : tie.Need-elements-requires
+elements-requires c κs = search needs
+
+-- src/lib.rt:92:39
 narrow-word-requires-3 : tie.Need-narrow-word-requires-3
 narrow-word-requires-3 c κs = search needs
 
--- src/lib.rt:89:9
-locate-requires : tie.Need-locate-requires
-locate-requires c κs = search needs
+-- src/lib.rt:92:9
+function-at-requires : tie.Need-function-at-requires
+function-at-requires c κs = search needs
 
--- src/lib.rt:90:23
+-- src/lib.rt:93:17
+cast-first : tie.Need-cast-first
+cast-first c = search needs
+
+-- src/lib.rt:94:23
+size-requires : tie.Need-size-requires
+size-requires c κs = search needs
+
+-- src/lib.rt:94:23
+cast-end : tie.Need-cast-end
+cast-end c = search needs
+
+-- src/lib.rt:94:15
+add-end : tie.Need-add-end
+add-end c = search needs
+
+-- src/lib.rt:99:9
+offset-requires : tie.Need-offset-requires
+offset-requires c κs = search needs
+
+-- src/lib.rt:100:9
 narrow-word-requires-4 : tie.Need-narrow-word-requires-4
 narrow-word-requires-4 c κs = search needs
 
--- src/lib.rt:90:5
-put-requires : tie.Need-put-requires
-put-requires c κs = search needs
+-- src/lib.rt:95:5
+put-in-requires : tie.Need-put-in-requires
+put-in-requires c κs = search needs
 
--- src/lib.rt:83:1
+-- src/lib.rt:86:1
 same-length : tie.Need-same-length
 same-length c = search needs
 
--- src/lib.rt:83:1
+-- src/lib.rt:86:1
 returns : tie.Need-returns
 returns c =
-    c .before .before .put .ensures
+    c .before .before .put-in .ensures
     ∙ rw (
-      c .before .before .before .before .before .locate .ensures,
+      c .before .before .before .before .offset .ensures,
+      c .before .before .before .before .before .before .size .ensures .0,
+      c .before .before .before .before .before .before .before .before .function-at .ensures,
+      c .before .before .before .before .before .before .before .before .before .before .elements .ensures .0,
       c .before .before .before .narrow-word4 .ensures,
-      c .before .before .before .before .before .before .narrow-word3 .ensures,
-      c .before .before .before .before .before .before .before .narrow-word2 .ensures,
-      c .before .before .before .before .before .before .before .before .narrow-word .ensures,
+      c .before .before .before .before .before .before .before .before .before .narrow-word3 .ensures,
+      c .before .before .before .before .before .before .before .before .before .before .before .narrow-word2 .ensures,
+      c .before .before .before .before .before .before .before .before .before .before .before .before .narrow-word .ensures,
     )
 
 pub write-line-spec : {M : Type 1} → statement M
@@ -54,9 +84,15 @@ write-line-spec =
     (tie.spec
     narrow-word-requires
     narrow-word-requires-2
+    elements-requires
     narrow-word-requires-3
-    locate-requires
+    function-at-requires
+    cast-first
+    size-requires
+    cast-end
+    add-end
+    offset-requires
     narrow-word-requires-4
-    put-requires
+    put-in-requires
     same-length
     returns)
