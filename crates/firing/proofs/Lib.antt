@@ -1,4 +1,5 @@
 pub mod Idle
 pub mod Fires
 pub mod Judged
+pub mod Own
 pub mod Ready

@@ -1,20 +1,23 @@
 // The firing of a move: whether it clashes or is idle, and the contents and the writer marks after it.
 use engine::Instruction;
+use pages::Part;
 ghost use mathlib.Core.Path.{_≡_};
 ghost use mathlib.Core.List.{List, []};
-ghost use Prim.Native.Nat.{ℕ};
+ghost use Prim.Native.Nat.{ℕ, _≤_, _<_};
+ghost use lib.Bits.{bitOr};
 ghost use lib.Dec.{ltb};
 ghost use lib.ListN.{length, getD, set};
 ghost use Rattle.text.specs.declared.Found.the-variants.{Nowhere};
 ghost use Rattle.book.specs.Book.{L};
 ghost use Rattle.book.specs.Image.{book-in};
+ghost use Rattle.pages.specs.Part.{put-in};
 ghost use Rattle.engine.specs.Move.{idle, fire};
 ghost use Rattle.records.specs.Code.{items};
 ghost use Rattle.traces.specs.Traces.{any};
 ghost use Rattle.clash.specs.Clash.{updates-by, clash-by};
 ghost use Rattle.sweep.specs.Marks.{mark};
 ghost use Rattle.firing.specs.Outcome.{move-by, marked, OffRoll, Ready, Settled};
-ghost use Rattle.firing.specs.Steps.{change, puts, put-marks};
+ghost use Rattle.firing.specs.Steps.{change, part-after, puts, put-marks};
 
 // What becomes of a move.
 pub enum Outcome {
@@ -58,30 +61,82 @@ pub fn is_idle(image: &[u16; 4296], contents: &[u16], list: &[u64], len: usize) 
 
 // ---- firing
 
-// Location at gets v, and its mark the bit.
-fn put(contents: &mut [u16], writers: &mut [u64], at: usize, v: u16, bit: u64)
-    ensures { λ _. ⌜ now (contents .exit) ≡ set (now (contents .entry)) at v ⌝ }
-    ensures { λ _. ⌜ now (writers .exit) ≡ set (now (writers .entry)) at (mark bit (ltb at (length (now (contents .entry)))) (getD (now (writers .entry)) at 0)) ⌝ }
+// Place i of a part gets v.
+fn put(part: &mut [u16], i: usize, v: u16)
+    requires { ⌜ i < length (now part) ⌝ }
+    ensures { λ _. ⌜ now (part .exit) ≡ set (now (part .entry)) i v ⌝ }
 {
-    if at < contents.len() {
-        contents[at] = v;
-        sweep::or_at(writers, at, bit);
+    part[i] = v;
+}
+
+// A function's part of the marks is lent, from its first location, as far as they go; the mark of `at` gets the bit there.
+fn mark_in(writers: &mut [u64], first: usize, end: usize, at: usize, bit: u64)
+    requires { ⌜ first ≤ at ⌝ }
+    ensures { λ _. ⌜ now (writers .exit) ≡ put-in first end at (bitOr (getD (now (writers .entry)) at 0) bit) (now (writers .entry)) ⌝ }
+{
+    let e = numbers::smaller(end, writers.len());
+    if at < e {
+        sweep::or_at(&mut writers[first..e], at - first, bit);
     }
 }
 
-// Each instruction's own location gets its own value.
-fn put_all(contents: &mut [u16], writers: &mut [u64], list: &[u64], len: usize, bit: u64)
-    ensures { λ _. ⌜ now (contents .exit) ≡ puts (items (now (list .entry)) len) (now (contents .entry)) ⌝ }
-    ensures { λ _. ⌜ now (writers .exit) ≡ put-marks bit (length (now (contents .entry))) (items (now (list .entry)) len) (now (writers .entry)) ⌝ }
+// A function's own part is lent, from its first location, as far as the table goes; location `at` gets v there, and its mark the bit.
+fn put_in(
+    contents: &mut [u16],
+    writers: &mut [u64],
+    first: usize,
+    end: usize,
+    at: usize,
+    v: u16,
+    bit: u64,
+)
+    requires { ⌜ first ≤ at ⌝ }
+    ensures { λ _. ⌜ now (contents .exit) ≡ put-in first end at v (now (contents .entry)) ⌝ }
+    ensures { λ _. ⌜ now (writers .exit) ≡ put-in first end at (mark bit (ltb at (length (now (contents .entry)))) (getD (now (writers .entry)) at 0)) (now (writers .entry)) ⌝ }
+{
+    let e = numbers::smaller(end, contents.len());
+    if at < e {
+        put(&mut contents[first..e], at - first, v);
+        mark_in(writers, first, end, at, bit);
+    }
+}
+
+// The part that location `at` is in; the one held, if that has it.
+fn part_at(image: &[u16; 4296], held: Part, at: usize) -> Part
+    ensures { λ r. ⌜ r ≡ part-after (book-in (now (image .entry)) []) held at ⌝ }
+{
+    if (held.first <= at) & (at < held.end) {
+        held
+    } else {
+        pages::part_of(image, at)
+    }
+}
+
+// Each instruction's own location gets its own value, in its function's part.
+fn put_all(
+    image: &[u16; 4296],
+    contents: &mut [u16],
+    writers: &mut [u64],
+    list: &[u64],
+    len: usize,
+    bit: u64,
+)
+    ensures { λ _. ⌜ (length (now (contents .entry)) ≡ L (book-in (now (image .entry)) []) → now (contents .exit) ≡ puts (items (now (list .entry)) len) (now (contents .entry))) ⌝ }
+    ensures { λ _. ⌜ (length (now (contents .entry)) ≡ L (book-in (now (image .entry)) []) → now (writers .exit) ≡ put-marks bit (length (now (contents .entry))) (items (now (list .entry)) len) (now (writers .entry))) ⌝ }
 {
     let n = numbers::smaller(len, list.len());
+    let mut part = Part { first: 0, end: 0 };
     let mut j: usize = 0;
     while j < n {
         let what = records::decode(list[j]);
-        put(
+        let at = traces::own_location(what) as usize;
+        part = part_at(image, part, at);
+        put_in(
             contents,
             writers,
-            traces::own_location(what) as usize,
+            part.first,
+            part.end,
+            at,
             traces::own_value(what),
             bit,
         );
@@ -102,7 +157,7 @@ pub fn fire(
     ensures { λ _. ⌜ (length (now (contents .entry)) ≡ L (book-in (now (image .entry)) []) → now (writers .exit) ≡ marked bit (updates-by (now (image .entry)) (now (contents .entry)) (now (list .entry)) len) (now (writers .entry))) ⌝ }
 {
     clearing::clear_all(image, contents, writers, list, len, bit);
-    put_all(contents, writers, list, len, bit);
+    put_all(image, contents, writers, list, len, bit);
 }
 
 // ---- the move

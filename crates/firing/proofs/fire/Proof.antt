@@ -25,7 +25,17 @@ same-length-2 : tie.Need-same-length-2
 same-length-2 c = search needs
 
 returns : tie.Need-returns
-returns c = let a = c .before .before .before .before .before .before .before .before .before .before .before .before .before .before .before .before .before .args in let B = book-in (a .image .now) [] in let is = items (a .list .now) (a .len) in (λ long free. c .before .before .before .before .put-all .ensures .0 ∙ ap (puts is) (c .before .before .before .before .before .before .before .before .before .before .before .clear-all .ensures .0) ∙ fired-is B is (a .contents .now) long free, λ long. c .before .before .before .before .put-all .ensures .1 ∙ ap₂ (λ (C W : List ℕ). put-marks (a .bit) (length C) is W) (c .before .before .before .before .before .before .before .before .before .before .before .clear-all .ensures .0) (c .before .before .before .before .before .before .before .before .before .before .before .clear-all .ensures .1) ∙ marked-is B is (a .contents .now) long (a .bit) (a .writers .now))
+returns c =
+    let a = c .before .before .before .before .before .before .before .before .before .before .before .before .before .before .before .before .before .args in
+    let B = book-in (a .image .now) [] in
+    let is = items (a .list .now) (a .len) in
+    let k = c .before .before .before .before .before .before .before .before .before .before .before .clear-all in
+    let r = c .before .before .before .before .put-all in (
+      λ long free. r .ensures .0 (k .kept .1 .0 ∙ long) ∙ ap (puts is) (k .ensures .0) ∙ fired-is B is (a .contents .now) long free,
+      λ long.
+          r .ensures .1 (k .kept .1 .0 ∙ long) ∙ ap₂ (λ (C W : List ℕ). put-marks (a .bit) (length C) is W) (k .ensures .0) (k .ensures .1)
+          ∙ marked-is B is (a .contents .now) long (a .bit) (a .writers .now),
+    )
 
 pub fire-spec : {M : Type 1} → statement M
 fire-spec =

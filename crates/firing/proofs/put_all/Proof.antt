@@ -1,75 +1,139 @@
 use mathlib.Core.Path.{_≡_, refl, sym, ap, _∙_}
-use mathlib.Core.List.{List}
+use mathlib.Core.List.{List, []}
 use Prim.Native.Nat.{_+_, _-_}
 use borrow.Author.Needs.{needs}
 use lib.Dec.{ltb}
-use lib.ListN.{length, getD, drop, set, length-set}
+use lib.ListN.{length, getD, drop, set}
+use Rattle.book.specs.Book.{L}
+use Rattle.book.specs.Image.{book-in}
+use Rattle.pages.specs.Part.{part-of}
+use Rattle.pages.proofs.Parts.{part-starts}
 use Rattle.engine.specs.declared.Instruction.{Instruction}
 use Rattle.records.specs.Code.{decode-of, items}
 use Rattle.sweep.specs.Marks.{mark}
 use Rattle.traces.specs.Traces.{own, gets}
 use Rattle.firing.specs.Steps.{puts, put-marks}
 use Rattle.traces.proofs.Laws.{items-cons, items-end}
+use Rattle.firing.proofs.Own.{Whole, none-held, next-held, own-part, put-value, put-mark}
 use Rattle.firing.proofs.put_all.Statement.{statement}
 use Rattle.firing.proofs.put_all.Tie as tie
 use Rattle.firing.proofs.put_all.Reads as reads
 use Rattle.firing.proofs.put_all.Lts as lts
+use Rattle.firing.proofs.part_at.Reads as part-at-reads
+use Rattle.firing.proofs.put_in.Reads as put-in-reads
+use Rattle.numbers.proofs.smaller.Reads as smaller-reads
+use Rattle.records.proofs.decode.Reads as decode-reads
+use Rattle.traces.proofs.own_location.Reads as own-location-reads
+use Rattle.traces.proofs.own_value.Reads as own-value-reads
 
 abbrev Inv-loop : tie.InvT-loop
-Inv-loop contents₀ writers₀ list len bit n j₀ contents writers j =
-    (puts (drop j (items list len)) contents ≡ puts (items list len) contents₀)
-    × (put-marks bit (length contents₀) (drop j (items list len)) writers ≡ put-marks bit (length contents₀) (items list len) writers₀)
-    × (length contents ≡ length contents₀) × (length writers ≡ length writers₀)
+Inv-loop image contents₀ writers₀ list len bit n part₀ j₀ contents writers part j =
+    (length contents₀ ≡ L (book-in image []) → puts (drop j (items list len)) contents ≡ puts (items list len) contents₀)
+    × (length contents₀ ≡ L (book-in image []) → put-marks bit (length contents₀) (drop j (items list len)) writers ≡ put-marks bit (length contents₀) (items list len) writers₀)
+    × (length contents ≡ length contents₀) × (length writers ≡ length writers₀) × Whole (book-in image []) part
 
 abbrev μ-loop : tie.MeasureT-loop
-μ-loop contents₀ writers₀ list len bit n j₀ contents writers j = n - j
+μ-loop image contents₀ writers₀ list len bit n part₀ j₀ contents writers part j = n - j
 
+-- src/lib.rt:120:9
 smaller-requires : tie.Need-smaller-requires Inv-loop μ-loop
 smaller-requires c κs = search needs
 
+-- src/lib.rt:123:5
 loop-holds : tie.Need-loop-holds Inv-loop μ-loop
-loop-holds c = (refl, refl, refl, refl)
+loop-holds c = (λ long. refl, λ long. refl, refl, refl, none-held (book-in (c .before .before .before .before .args .image .now) []))
 
+-- src/lib.rt:124:36
 mul-decode : tie.Need-mul-decode Inv-loop μ-loop
 mul-decode c = search needs
 
+-- src/lib.rt:124:36
 shared-slice-read-decode : tie.Need-shared-slice-read-decode Inv-loop μ-loop
 shared-slice-read-decode c = search needs
 
+-- src/lib.rt:124:13
 decode-requires : tie.Need-decode-requires Inv-loop μ-loop
 decode-requires c κs = search needs
 
+-- src/lib.rt:125:18
 own-location-requires : tie.Need-own-location-requires Inv-loop μ-loop
 own-location-requires c κs = search needs
 
-cast-put : tie.Need-cast-put Inv-loop μ-loop
-cast-put c = search needs
+-- src/lib.rt:125:18
+cast-at : tie.Need-cast-at Inv-loop μ-loop
+cast-at c = search needs
 
+-- src/lib.rt:126:9
+part-at-requires : tie.Need-part-at-requires Inv-loop μ-loop
+part-at-requires c κs = search needs
+
+-- src/lib.rt:133:13
 own-value-requires : tie.Need-own-value-requires Inv-loop μ-loop
 own-value-requires c κs = search needs
 
-put-requires : tie.Need-put-requires Inv-loop μ-loop
-put-requires c κs = search needs
+-- src/lib.rt:127:9
+put-in-requires : tie.Need-put-in-requires Inv-loop μ-loop
+put-in-requires c κs =
+    let B = book-in (c .before .before .before .before .before .before .before .before .before .before .before .before .before .args .image .now) [] in
+    let at = c .before .before .before .before .own-location .result in
+    let h : c .before .before .before .part-at .result ≡ part-of B at = c .before .before .before .part-at .ensures ∙ next-held B (c .before .before .before .before .before .before .before .before .loop .part) at (c .before .before .before .before .before .before .before .before .loop .inv .4) in
+    rw h (part-starts B at .0)
 
+-- src/lib.rt:136:13
 add-j : tie.Need-add-j Inv-loop μ-loop
 add-j c = search needs
 
+-- src/lib.rt:123:5
 loop-less : tie.Need-loop-less Inv-loop μ-loop
 loop-less c = search needs
 
+-- src/lib.rt:123:5
 loop-again : tie.Need-loop-again Inv-loop μ-loop
 unfolding puts put-marks
-loop-again c = let a = c .before .before .before .before .before .before .before .before .before .before .before .before .before .before .before .before .before .args in let n = c .before .before .before .before .before .before .before .before .before .before .before .before .before .smaller in let l = c .before .before .before .before .before .before .before .before .before .before .before .before .loop in let w = decode-of (getD (a .list .now) (l .j) 0) in let d = items-cons (a .list .now) (a .len) (n .result) (n .ensures) (l .j) (c .before .before .before .before .before .before .before .before .before .before .before .loop-test .taken) in let at : c .before .before .before .before .before .before .own-location .result ≡ own w = c .before .before .before .before .before .before .own-location .ensures ∙ ap own (c .before .before .before .before .before .before .before .before .before .decode .ensures) in let q : c .before .before .before .before .put .last .0 ≡ set (l .contents) (own w) (gets w) = c .before .before .before .before .put .ensures .0 ∙ rw (at, c .before .before .before .before .before .own-value .ensures, c .before .before .before .before .before .before .before .before .before .decode .ensures) in let p : c .before .before .before .before .put .last .1 .0 ≡ set (l .writers) (own w) (mark (a .bit) (ltb (own w) (length (a .contents .now))) (getD (l .writers) (own w) 0)) = c .before .before .before .before .put .ensures .1 ∙ rw (at, l .inv .2) in (ap (puts (drop (l .j + 1) (items (a .list .now) (a .len)))) q ∙ sym (ap (λ (is : List Instruction). puts is (l .contents)) d) ∙ l .inv .0, ap (put-marks (a .bit) (length (a .contents .now)) (drop (l .j + 1) (items (a .list .now) (a .len)))) p ∙ sym (ap (λ (is : List Instruction). put-marks (a .bit) (length (a .contents .now)) is (l .writers)) d) ∙ l .inv .1, ap length q ∙ length-set (l .contents) (own w) (gets w) ∙ l .inv .2, ap length p ∙ simp length-set (l .inv .3))
+loop-again c =
+    let a = c .before .before .before .before .before .before .before .before .before .before .before .before .before .before .before .before .before .before .args in
+    let B = book-in (a .image .now) [] in
+    let n = c .before .before .before .before .before .before .before .before .before .before .before .before .before .before .smaller in
+    let l = c .before .before .before .before .before .before .before .before .before .before .before .before .before .loop in
+    let is = items (a .list .now) (a .len) in
+    let w = decode-of (getD (a .list .now) (l .j) 0) in
+    let d = items-cons (a .list .now) (a .len) (n .result) (n .ensures) (l .j) (c .before .before .before .before .before .before .before .before .before .before .before .before .loop-test .taken) in
+    let at : c .before .before .before .before .before .before .before .before .before .own-location .result ≡ own w = c .before .before .before .before .before .before .before .before .before .own-location .ensures ∙ ap own (c .before .before .before .before .before .before .before .before .before .before .decode .ensures) in
+    let v : c .before .before .before .before .before .own-value .result ≡ gets w = c .before .before .before .before .before .own-value .ensures ∙ ap gets (c .before .before .before .before .before .before .before .before .before .before .decode .ensures) in
+    let h : c .before .before .before .before .before .before .before .before .part-at .result ≡ part-of B (own w) = c .before .before .before .before .before .before .before .before .part-at .ensures ∙ rw at (next-held B (l .part) (own w) (l .inv .4)) in
+    let r = c .before .before .before .before .put-in in (
+      λ long.
+          let q : r .last .0 ≡ set (l .contents) (own w) (gets w) = r .ensures .0 ∙ rw (h, at, v) (put-value B (own w) (gets w) (l .contents) (l .inv .2 ∙ long)) in
+          ap (puts (drop (l .j + 1) is)) q ∙ sym (ap (λ (is : List Instruction). puts is (l .contents)) d) ∙ l .inv .0 long,
+      λ long.
+          let p : r .last .1 .0 ≡ set (l .writers) (own w) (mark (a .bit) (ltb (own w) (length (a .contents .now))) (getD (l .writers) (own w) 0)) =
+          r .ensures .1 ∙ rw (h, at, l .inv .2) (put-mark B (own w) (a .bit) (length (a .contents .now)) (l .writers) long) in
+          ap (put-marks (a .bit) (length (a .contents .now)) (drop (l .j + 1) is)) p
+          ∙ sym (ap (λ (is : List Instruction). put-marks (a .bit) (length (a .contents .now)) is (l .writers)) d) ∙ l .inv .1 long,
+      r .kept .0 ∙ l .inv .2,
+      r .kept .1 .0 ∙ l .inv .3,
+      rw h (own-part B (own w)),
+    )
 
+-- src/lib.rt:109:1
 same-length : tie.Need-same-length Inv-loop μ-loop
 same-length c = c .before .loop .inv .2
 
+-- src/lib.rt:109:1
 same-length-2 : tie.Need-same-length-2 Inv-loop μ-loop
 same-length-2 c = c .before .loop .inv .3
 
+-- src/lib.rt:109:1
 returns : tie.Need-returns Inv-loop μ-loop
 unfolding puts put-marks
-returns c = let a = c .before .before .before .before .before .before .args in let n = c .before .before .smaller in let l = c .before .loop in let d = items-end (a .list .now) (a .len) (n .result) (n .ensures) (l .j) (c .loop-test .left) in (sym (ap (λ (is : List Instruction). puts is (l .contents)) d) ∙ l .inv .0, sym (ap (λ (is : List Instruction). put-marks (a .bit) (length (a .contents .now)) is (l .writers)) d) ∙ l .inv .1)
+returns c =
+    let a = c .before .before .before .before .before .before .args in
+    let n = c .before .before .smaller in
+    let l = c .before .loop in
+    let d = items-end (a .list .now) (a .len) (n .result) (n .ensures) (l .j) (c .loop-test .left) in (
+      λ long. sym (ap (λ (is : List Instruction). puts is (l .contents)) d) ∙ l .inv .0 long,
+      λ long. sym (ap (λ (is : List Instruction). put-marks (a .bit) (length (a .contents .now)) is (l .writers)) d) ∙ l .inv .1 long,
+    )
 
 pub put-all-spec : {M : Type 1} → statement M
 put-all-spec =
@@ -83,9 +147,10 @@ put-all-spec =
     shared-slice-read-decode
     decode-requires
     own-location-requires
-    cast-put
+    cast-at
+    part-at-requires
     own-value-requires
-    put-requires
+    put-in-requires
     add-j
     loop-less
     loop-again

@@ -1,0 +1,100 @@
+use mathlib.Core.Path.{_∙_}
+use Prim.Native.Nat.{_<_}
+use native.Mathlib.Omega.{arith}
+use borrow.Author.Tests.{lt-ltb, le-ltb}
+use lib.Dec.{ltb}
+use lib.ListN.{length, getD}
+use lib.Seq.{set-out, set-getD}
+use Rattle.sweep.specs.Marks.{mark}
+use Rattle.firing.proofs.Own.{put-inside, put-outside}
+use borrow.Author.Needs.{needs}
+use Rattle.firing.proofs.put_in.Statement.{statement}
+use Rattle.firing.proofs.put_in.Tie as tie
+use Rattle.firing.proofs.put_in.Reads as reads
+use Rattle.firing.proofs.put_in.Lts as lts
+use Rattle.firing.proofs.mark_in.Reads as mark-in-reads
+use Rattle.firing.proofs.put.Reads as put-reads
+use Rattle.numbers.proofs.smaller.Reads as smaller-reads
+
+-- src/lib.rt:97:9
+smaller-requires : tie.Need-smaller-requires
+smaller-requires c κs = search needs
+
+-- src/lib.rt:99:13
+mul-put : tie.Need-mul-put
+mul-put c = search needs
+
+-- src/lib.rt:99:13
+sub-put : tie.Need-sub-put
+sub-put c = search needs
+
+-- src/lib.rt:99:13
+part-put-start : tie.Need-part-put-start
+part-put-start c = search needs
+
+-- src/lib.rt:99:13
+part-put-end : tie.Need-part-put-end
+part-put-end c = search needs
+
+-- src/lib.rt:99:38
+sub-put-2 : tie.Need-sub-put-2
+sub-put-2 c = search needs
+
+-- src/lib.rt:99:9
+put-requires : tie.Need-put-requires
+put-requires c κs = search needs
+
+-- src/lib.rt:100:9
+mark-in-requires : tie.Need-mark-in-requires
+mark-in-requires c κs = search needs
+
+-- src/lib.rt:84:1
+same-length : tie.Need-same-length
+same-length c = search needs
+
+-- src/lib.rt:84:1
+same-length-2 : tie.Need-same-length-2
+same-length-2 c = search needs
+
+-- src/lib.rt:84:1
+returns : tie.Need-returns
+returns c =
+    let s = c .before .before .before .before .before .before .before .before .before .before .before .before in
+    let a = s .args in
+    let e = c .before .before .before .before .before .before .before .before .before .smaller in
+    let r = c .before .before .before .before .before .before .put in
+    let h : a .at < e .result = c .before .before .before .before .before .before .before .before .if1 .taken in
+    let k : a .at < length (a .contents .now) = omega (arith, e .ensures, h) in (
+      put-inside (a .first) (a .end) (a .at) (a .contents .now) (s .pre) (e .result) (e .ensures) (a .v) h (r .last .0) (r .ensures),
+      c .before .before .mark-in .ensures ∙ rw (lt-ltb (a .at) (length (a .contents .now)) k),
+    )
+
+-- src/lib.rt:84:1
+returns-2 : tie.Need-returns-2
+returns-2 c =
+    let s = c .before .before .before .before in
+    let a = s .args in
+    let e = c .before .smaller in
+    let n = length (a .contents .now) in
+    let m = getD (a .writers .now) (a .at) 0 in (
+      put-outside (a .first) (a .end) (a .at) (a .contents .now) (s .pre) (e .result) (e .ensures) (a .v) (a .contents .now) (c .if1 .left) (λ h. set-out (a .contents .now) (a .at) (a .v) h),
+      put-outside (a .first) (a .end) (a .at) (a .contents .now) (s .pre) (e .result) (e .ensures) (mark (a .bit) (ltb (a .at) n) m) (a .writers .now) (c .if1 .left)
+          (λ h. rw (le-ltb (a .at) n h) (set-getD (a .writers .now) (a .at) 0)),
+    )
+
+pub put-in-spec : {M : Type 1} → statement M
+put-in-spec =
+    tie.close
+    (tie.spec
+    smaller-requires
+    mul-put
+    sub-put
+    part-put-start
+    part-put-end
+    sub-put-2
+    put-requires
+    mark-in-requires
+    same-length
+    same-length-2
+    returns
+    returns-2)
