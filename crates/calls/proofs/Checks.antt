@@ -17,7 +17,7 @@ use Rattle.book.specs.Contents.{bad-value}
 use Rattle.book.specs.Image.{word, capped, book-in}
 use Rattle.engine.specs.Single.{check-agent, check-lent-step, check-contents}
 use Rattle.calls.specs.Call.{check-call, first-of}
-use Rattle.calls.proofs.Numbered.{Numbered, agent-numbered, lent-numbered}
+use Rattle.calls.proofs.Numbered.{Numbered, on, off, agent-numbered, lent-numbered}
 
 abbrev pub Refusal : ℕ → ℕ → ℕ → Answer
 Refusal n p q = record { number = n; p = p; q = q }
@@ -59,8 +59,8 @@ module _ (B : Book) (c : List ℕ) where
 
 first-then : {A B : Type 0} (x : Checked A) (y : Checked B) → Numbered x → first-of (answer-of x) (answer-of y) ≡ answer-of (x >> y)
 unfolding _>>_
-first-then (good a) y h = refl
-first-then (refused n p q) y h = rw (ne-eqb n 0 (λ e. omega (arith, h .range, e)))
+first-then (good a) y (on h) = refl
+first-then (refused n p q) y (off h) = rw (ne-eqb n 0 (λ e. omega (arith, h .0, e)))
 
 in-turn : (B : Book) (c : List ℕ) (k n : ℕ) →
     first-of (answer-of (check-agent B k)) (first-of (answer-of (check-lent-step B c n)) (answer-of (check-contents B (take (L B) c))))

@@ -8,6 +8,7 @@ pub mod Walks
 pub mod Moves
 pub mod Clash
 pub mod Numbers
+pub mod Refusals
 pub mod Fuel
 pub mod Steps
 pub mod Entries

@@ -12,12 +12,14 @@ ghost use Rattle.order.specs.Call.{log-call};
 ghost use Rattle.report.specs.Report.{rental};
 ghost use Rattle.print.specs.Print.{most-output};
 ghost use Rattle.laps.specs.Turns.{tables};
-ghost use Rattle.for_c.specs.Packed.{packed, tables-of};
+ghost use Rattle.for_c.specs.Packed.{packed, unpacked, unpacked-check, tables-of};
 
-// The check of a book: number × 2^32 + p. Each refusal of a book has q 0.
+// The check of a book: number × 2^32 + p. Each refusal of a book has q 0. C has number and p back by
+// shift and mask.
 #[no_mangle]
 pub extern "C" fn rental_check_book(book: &[u8]) -> u64
     ensures { λ r. ⌜ r ≡ short (answer-of (check-book (now (book .entry)))) ⌝ }
+    ensures { λ r. ⌜ unpacked-check r ≡ answer-of (check-book (now (book .entry))) ⌝ }
 {
     let a = book_check::check_book(book);
     a.number as u64 * 4294967296 + a.p as u64
@@ -35,6 +37,7 @@ fn in_one(a: Answer) -> u64
 #[no_mangle]
 pub extern "C" fn rental_step(book: &[u8], contents: &mut [u16], agent: usize, lent: usize) -> u64
     ensures { λ r. ⌜ r ≡ packed (step-call (now (book .entry)) (now (contents .entry)) agent lent .answer) ⌝ }
+    ensures { λ r. ⌜ unpacked r ≡ step-call (now (book .entry)) (now (contents .entry)) agent lent .answer ⌝ }
     ensures { λ _. ⌜ now (contents .exit) ≡ step-call (now (book .entry)) (now (contents .entry)) agent lent .contents ⌝ }
 {
     let mut list = [0u64; 256];
@@ -53,6 +56,7 @@ pub extern "C" fn rental_run(
     lent: usize,
 ) -> u64
     ensures { λ r. ⌜ (r ≡ packed (log-call (now (book .entry)) (now (log .entry)) (tables (now (contents .entry)) (now (readers .entry)) (now (writers .entry))) lent .answer)) × (tables (now (contents .exit)) (now (readers .exit)) (now (writers .exit)) ≡ tables-of (log-call (now (book .entry)) (now (log .entry)) (tables (now (contents .entry)) (now (readers .entry)) (now (writers .entry))) lent)) ⌝ }
+    ensures { λ r. ⌜ unpacked r ≡ log-call (now (book .entry)) (now (log .entry)) (tables (now (contents .entry)) (now (readers .entry)) (now (writers .entry))) lent .answer ⌝ }
 {
     let mut list = [0u64; 256];
     let t = run::run_into(book, log, contents, readers, writers, lent, &mut list);

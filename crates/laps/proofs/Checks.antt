@@ -73,7 +73,7 @@ module _ (book log : List ℕ) (t : Tables) (n : ℕ) where
   not-zero : (p q : ℕ) → check-all book log (lengths t n) ≡ refused 0 p q → ⊥
   not-zero p q e = go (subst Early e (all-early book log (lengths t n)))
     where
-      go : Early {A = Book × Log} (refused 0 p q) → ⊥
+      go : Early (refused 0 p q) → ⊥
       go (off h) = omega arith
 
   module _ (a : Answer) where

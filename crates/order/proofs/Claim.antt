@@ -3,7 +3,7 @@ use mathlib.Core.Path.{_≡_, refl, sym, ap, ap₂, subst, _∙_}
 use mathlib.Core.Logic.{_↔_, _⊎_, inl, inr}
 use mathlib.Core.Bool.{Bool, true, false, not, true≢false}
 use mathlib.Core.List.{List}
-use Prim.Native.Nat.{ℕ, _<_}
+use Prim.Native.Nat.{ℕ, _≤_, _<_}
 use native.Mathlib.Omega.{arith}
 use lib.ListN.{length}
 use Rattle.text.specs.Words.{Checked, good, refused}
@@ -27,7 +27,7 @@ use Rattle.order.proofs.Rows.{rows-set}
 use Rattle.order.proofs.Pairs.{Passing, two-none, two-least}
 use Rattle.order.proofs.Marks.{Left, run-left, run-through, halted-number}
 use Rattle.order.proofs.Log.{Passed, passed}
-use Rattle.order.proofs.Numbers.{Within, Early, off, all-early}
+use Rattle.order.proofs.Numbers.{Early, on, off, all-early}
 use Rattle.order.proofs.Swap.{act-fires, laws}
 use Rattle.order.proofs.Touching.{touch-iff}
 
@@ -198,13 +198,13 @@ module _ (book log : List ℕ) (t : Tables) (n : ℕ) where
   unfolding log-call
   passes k h e = go checks refl (all-early book log (lengths t n)) e
     where
-      far : (a : ℕ) → Within 1 a 10 → (k ≡ 0) ⊎ (10 < k) → a ≡ k → ⊥
+      far : (a : ℕ) → (1 ≤ a) × (a ≤ 10) → (k ≡ 0) ⊎ (10 < k) → a ≡ k → ⊥
       far a b (inl p) q = omega arith
       far a b (inr p) q = omega arith
 
       go : (o : Checked (Book × Log)) → checks ≡ o → Early o → log-answer t o .answer .number ≡ k → (B : Book) × (g : Log) × (checks ≡ good (B, g))
-      go (good x) q f e = (x .0, x .1, q)
-      go (refused a p r) q (off f) e = absurd (far a f h e)
+      go (good x) q (on f) e = (x .0, x .1, q)
+      go (refused a p r) q (off f) e = absurd (far a (f .0, f .1) h e)
 
   -- and its answer is the run's
   as-run : (B : Book) (g : Log) → checks ≡ good (B, g) → log-call book log t n ≡ left-in t (run-log B g)

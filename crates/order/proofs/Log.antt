@@ -44,7 +44,8 @@ pair-up m k l i e =
     let t0 = and-cases (ltb (l .a) (l .b)) (ltb (l .b) m) t1 in
     (ltb-true (l .a) (l .b) (t0 .0), ltb-true (l .b) m (t0 .1))
 
-header-few : (text : List ℕ) (h : Line) → check-log-header text ≡ good h → h .a ≤ most-moves
+-- the bounds of the log's header
+pub header-few : (text : List ℕ) (h : Line) → check-log-header text ≡ good h → (h .a ≤ most-moves) × (h .b ≤ most-pairs)
 unfolding check-log-header
 header-few text h e =
     let l = line text 0 in
@@ -52,8 +53,8 @@ header-few text h e =
     let e9 = test-good (log-header-ok l) log-line 0 0 (good l) h (e1 .1) in
     let t2 = and-cases (leb (l .a) most-moves && leb (l .b) most-pairs && eqb (l .c) 0) (eqb (l .d) 0) (e9 .0) .0 in
     let t1 = and-cases (leb (l .a) most-moves && leb (l .b) most-pairs) (eqb (l .c) 0) t2 .0 in
-    let t0 = and-cases (leb (l .a) most-moves) (leb (l .b) most-pairs) t1 .0 in
-    subst (λ (x : Line). x .a ≤ most-moves) (good-same l h (e9 .1)) (leb-true (l .a) most-moves t0)
+    let t0 = and-cases (leb (l .a) most-moves) (leb (l .b) most-pairs) t1 in
+    subst (λ (x : Line). (x .a ≤ most-moves) × (x .b ≤ most-pairs)) (good-same l h (e9 .1)) (leb-true (l .a) most-moves (t0 .0), leb-true (l .b) most-pairs (t0 .1))
 
 lines-up : (B : Book) (h : Line) (text : List ℕ) (u : Unit {0}) → check-log-lines B h text ≡ good u
     → (a b : ℕ) → PairOf (log-of h text .pairs) a b → (a < b) × (b < h .a)
@@ -80,6 +81,6 @@ passed B text g e =
     let v = then-good (check-agents (log-of h text)) (good (log-of h text)) g (u .2) in
     let m : count (log-of h text) ≡ h .a = length-table-from (λ i. input-of (line text (1 + i))) 0 (h .a) in
     subst Passed (good-same (log-of h text) g (v .2)) (record {
-      few = rw m (header-few text h (r .1));
+      few = rw m (header-few text h (r .1) .0);
       up = λ a b p. rw m (lines-up B h text (u .0) (u .1) a b p);
     })

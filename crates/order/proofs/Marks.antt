@@ -12,7 +12,7 @@ use lib.ListN.{length, getD, length-append, List·getD-append}
 use lib.Seq.{getD-at}
 use borrow.Author.Tests.{eqb-true, eq-eqb}
 use Rattle.text.specs.Words.{if_then_else_}
-use Rattle.book.specs.Book.{Book}
+use Rattle.book.specs.Book.{Book, L}
 use Rattle.engine.specs.Move.{Fired, Moved, fires, stopped, move, fire}
 use Rattle.engine.proofs.Numbers.{move-number}
 use Rattle.order.specs.Sets.{bit, with-move}
@@ -152,6 +152,6 @@ module _ (B : Book) (g : Log) (c : List ℕ) where
       go (ran t) k e r = one t (run-left n t k) (move B (t .contents) (move-at g n)) refl e
       go (halted b x d t) k e r = let h = r (k ∙ e) in (omega (arith, h .0), h .1, h .2)
 
-  -- The number of a move's refusal is one of 11 to 16.
-  pub halted-number : (n a p q : ℕ) (s : Run) → run B g c n ≡ halted a p q s → (11 ≤ a) × (a ≤ 16)
+  -- The number of a move's refusal is one of 11 to 16, and its q a node, a location or 0.
+  pub halted-number : (n a p q : ℕ) (s : Run) → run B g c n ≡ halted a p q s → (11 ≤ a) × (a ≤ 16) × (q ≤ length (B .nodes) + L B)
   halted-number n a p q s e = move-number B (listed S c p) (move-at g p) a q (run-halted n a p q s e .2)

@@ -1,96 +1,108 @@
--- The checks before the first move refuse with 1 to 10.
-use mathlib.Core.Bool.{Bool, true, false}
+-- The checks before the first move refuse with 1 to 10; and the answer of a log's call fits one number, for all inputs: its number is at most 17,
+-- its p and its q are below 2^24.
+use mathlib.Core.Path.{_≡_, refl}
+use mathlib.Core.Bool.{Bool}
 use mathlib.Core.List.{List}
-use Prim.Native.Nat.{ℕ, _≤_}
+use Prim.Native.Nat.{ℕ, _+_, _≤_, _<_}
 use native.Mathlib.Omega.{arith}
-use Rattle.text.specs.declared.Found.{Found}
-use Rattle.text.specs.declared.Found.the-variants.{Nowhere, Here}
 use Rattle.text.specs.declared.Line.{Line}
-use Rattle.text.specs.Words.{Checked, good, refused, _>>=_, _>>_, none-at, must}
-use Rattle.book.specs.declared.Header.{Header}
-use Rattle.book.specs.Book.{Book}
-use Rattle.book.specs.Check.{check-header, check-present, check-surplus, check-lines, check-book}
-use Rattle.order.specs.Pairs.{TwoFound, no-two, two, none-two}
-use Rattle.order.specs.Log.{Log, check-agents, check-log-header, check-log-text, check-log-lines, check-log}
-use Rattle.order.specs.Call.{Lengths, check-lent, check-all}
+use Rattle.text.specs.Words.{Checked, good, refused}
+use Rattle.text.specs.Text.{bad-line, line}
+use Rattle.text.proofs.Words.{length-table-from}
+pub use Rattle.text.proofs.Checks.{on, off}
+use Rattle.text.proofs.Checks.{Ends, Any, also, bind-ends, then-ends, none-ends, must-ends, Before, Small}
+use Rattle.book.specs.Book.{Book, L, start}
+use Rattle.book.proofs.Refusals.{Fits, book-before}
+use Rattle.order.specs.Pairs.{TwoFound, no-two, two, least-two, none-two}
+use Rattle.order.specs.Log.{Log, log-lines, input-of, log-of, check-agents, check-log-header, check-log-text, check-log-lines, check-log}
+use Rattle.order.specs.Run.{Run, Ran, ran, halted, run, touching, order-checked, finish, run-from, run-log}
+use Rattle.order.specs.Call.{Tables, Lengths, lengths, check-lent, check-all, log-answer, log-call}
+use Rattle.order.specs.Demand.{count}
+use Rattle.order.proofs.Pairs.{two-least}
+use Rattle.order.proofs.Marks.{run-halted, halted-number}
+use Rattle.order.proofs.Log.{header-few, passed}
 
-abbrev pub Within : ℕ → ℕ → ℕ → Type 0
-Within lo n hi = (lo ≤ n) × (n ≤ hi)
-
-pub data Early {A : Type 0} : Checked A → Type 0 where
-  on : {a : A} → Early (good a)
-  off : {n p q : ℕ} → Within 1 n 10 → Early (refused n p q)
-
-early-bind : {A B : Type 0} {c : Checked A} {f : A → Checked B} → Early c → ((a : A) → Early (f a)) → Early (c >>= f)
-unfolding _>>=_
-early-bind (on {a}) k = k a
-early-bind (off h) k = off h
-
-early-then : {A B : Type 0} {c : Checked A} {d : Checked B} → Early c → Early d → Early (c >> d)
-unfolding _>>_
-early-then on k = k
-early-then (off h) k = off h
-
-found : (n first q : ℕ) (o : Found) → Within 1 n 10 → Early (none-at n first q o)
-unfolding none-at
-found n first q Nowhere h = on
-found n first q (Here p) h = off h
-
-tested : (t : Bool) (n p q : ℕ) → Within 1 n 10 → Early (must t n p q)
-unfolding must
-tested true n p q h = on
-tested false n p q h = off h
-
-paired : (n : ℕ) (o : TwoFound) → Within 1 n 10 → Early (none-two n o)
-unfolding none-two
-paired n no-two h = on
-paired n (two p q) h = off h
-
--- ---- the book
-
-header-early : (text : List ℕ) → Early (check-header text)
-unfolding check-header
-header-early text = early-then (found 1 0 0 _ (omega arith)) (early-then (found 3 0 0 _ (omega arith)) on)
-
-lines-early : (h : Header) (text : List ℕ) → Early (check-lines h text)
-unfolding check-lines
-lines-early h text =
-    early-then (found 4 0 0 _ (omega arith)) (early-then (tested _ 3 8 0 (omega arith)) (early-then (found 5 0 0 _ (omega arith)) (early-then (found 6 0 0 _ (omega arith))
-    (early-then (found 6 0 0 _ (omega arith)) (early-then (found 7 0 0 _ (omega arith)) (early-then (found 8 _ 0 _ (omega arith)) on))))))
-
-book-early : (text : List ℕ) → Early (check-book text)
-unfolding check-book check-present check-surplus
-book-early text = early-bind (header-early text) (λ h. early-then (found 1 0 0 _ (omega arith)) (early-then (tested _ 1 _ 0 (omega arith)) (lines-early h text)))
+-- a pair of moves that is found is of the m moves
+found-pair : (f : ℕ → ℕ → Bool) (m i j : ℕ) → least-two f m ≡ two i j → (i < m) × (j < m)
+found-pair f m i j e = let r = two-least f m i j .0 e .holds in (omega (arith, r .0, r .1), r .1)
 
 -- ---- the log
 
-log-header-early : (text : List ℕ) → Early (check-log-header text)
+-- the bounds of its header
+abbrev LogBounded : Line → Type 0
+LogBounded h = (h .a ≤ 64) × (h .b ≤ 2016)
+
+log-header-ends : (text : List ℕ) → Ends LogBounded Before (check-log-header text)
 unfolding check-log-header
-log-header-early text = early-then (found 1 0 1 _ (omega arith)) (early-then (tested _ 9 0 0 (omega arith)) on)
+log-header-ends text =
+    also {S = Before} (then-ends (none-ends Before 1 0 1 _ 1 (λ p k. omega arith)) (then-ends {H = Any} (must-ends Before _ 9 0 0 (omega arith)) (on tt)))
+    (header-few text) (λ n p q r. r)
 
-log-text-early : (h : Line) (text : List ℕ) → Early (check-log-text h text)
+log-text-ends : (h : Line) (text : List ℕ) → LogBounded h → Ends Any Before (check-log-text h text)
 unfolding check-log-text
-log-text-early h text = early-then (found 1 0 1 _ (omega arith)) (tested _ 1 _ 1 (omega arith))
+log-text-ends h text b =
+    then-ends (none-ends Before 1 0 1 (bad-line text) (log-lines h) (λ p k. omega arith)) (must-ends Before _ 1 (log-lines h) 1 (omega arith))
 
-log-lines-early : (B : Book) (h : Line) (text : List ℕ) → Early (check-log-lines B h text)
+log-lines-ends : (B : Book) (h : Line) (text : List ℕ) → LogBounded h → Ends Any Before (check-log-lines B h text)
 unfolding check-log-lines
-log-lines-early B h text = early-then (found 9 1 0 _ (omega arith)) (found 9 _ 0 _ (omega arith))
+log-lines-ends B h text b =
+    then-ends (none-ends Before 9 1 0 _ (h .a) (λ p k. omega arith)) (none-ends Before 9 (1 + h .a) 0 _ (h .b) (λ p k. omega arith))
 
-agents-early : (g : Log) → Early (check-agents g)
-unfolding check-agents
-agents-early g = paired 10 _ (omega arith)
+agents-ends : (g : Log) → count g ≤ 64 → Ends Any Before (check-agents g)
+unfolding check-agents none-two
+agents-ends g few = go _ (count g) few
+  where
+    go : (f : ℕ → ℕ → Bool) (m : ℕ) → m ≤ 64 → Ends Any Before (none-two 10 (least-two f m))
+    go f m k = one (least-two f m) refl
+      where
+        one : (o : TwoFound) → least-two f m ≡ o → Ends Any Before (none-two 10 o)
+        one no-two e = on tt
+        one (two i j) e = let r : Before 10 i j = omega (arith, found-pair f m i j e) in off r
 
-log-early : (B : Book) (text : List ℕ) → Early (check-log B text)
-unfolding check-log
-log-early B text = early-bind (log-header-early text) (λ h.
-    early-then (log-text-early h text) (early-then (log-lines-early B h text) (early-then (agents-early _) on)))
+log-ends : (B : Book) (text : List ℕ) → Ends (λ g. count g ≤ 64) Before (check-log B text)
+unfolding check-log log-of
+log-ends B text =
+    also {S = Before} (bind-ends {H = Any} (log-header-ends text) (λ h b.
+    let few : count (log-of h text) ≤ 64 = omega (arith, length-table-from (λ i. input-of (line text (1 + i))) 0 (h .a)) in
+    then-ends (log-text-ends h text b) (then-ends (log-lines-ends B h text b) (then-ends (agents-ends (log-of h text) few) (on tt)))))
+    (λ g e. passed B text g e .few) (λ n p q r. r)
 
 -- ---- the lent tables, and all checks
 
-lent-early : (B : Book) (n : Lengths) → Early (check-lent B n)
+lent-ends : (B : Book) (n : Lengths) → Fits B → Ends Any Before (check-lent B n)
 unfolding check-lent
-lent-early B n = early-then (tested _ 2 _ 0 (omega arith)) (early-then (tested _ 2 _ 1 (omega arith)) (early-then (tested _ 2 _ 2 (omega arith)) (tested _ 2 256 3 (omega arith))))
+lent-ends B n fits =
+    then-ends (must-ends Before _ 2 (L B) 0 (omega arith)) (then-ends (must-ends Before _ 2 (L B) 1 (omega arith))
+    (then-ends (must-ends Before _ 2 (L B) 2 (omega arith)) (must-ends Before _ 2 256 3 (omega arith))))
+
+-- what passes them is a book and a log in their bounds
+abbrev pub Early : Checked (Book × Log) → Type 0
+Early = Ends (λ x. Fits (x .0) × (count (x .1) ≤ 64)) Before
 
 pub all-early : (book log : List ℕ) (n : Lengths) → Early (check-all book log n)
 unfolding check-all
-all-early book log n = early-bind (book-early book) (λ B. early-bind (log-early B log) (λ g. early-then (lent-early B n) on))
+all-early book log n = bind-ends (book-before book) (λ B fits. bind-ends (log-ends B log) (λ g few. then-ends (lent-ends B n fits) (on (fits, few))))
+
+-- ---- the call
+
+run-small : (B : Book) (g : Log) → Fits B → count g ≤ 64 → Small (run-log B g .answer)
+unfolding run-log run-from finish
+run-small B g fits few = go (run B g (start B) (count g)) refl
+  where
+    two-way : (s : Run) (o : TwoFound) → ((i j : ℕ) → o ≡ two i j → (i < count g) × (j < count g)) → Small (order-checked B s o .answer)
+    two-way s no-two h = record { number = omega arith; p = omega arith; q = omega arith }
+    two-way s (two i j) h = let r = h i j refl in record { number = omega arith; p = omega (arith, r .0); q = omega (arith, r .1) }
+
+    go : (o : Ran) → run B g (start B) (count g) ≡ o → Small (finish B g o .answer)
+    go (ran s) e = two-way s (touching B g (s .fired)) (found-pair _ (count g))
+    go (halted a p q s) e =
+        let m = halted-number B g (start B) (count g) a p q s e in
+        record { number = omega (arith, m .1); p = omega (arith, run-halted B g (start B) (count g) a p q s e .0); q = omega (arith, m .2) }
+
+pub log-small : (book log : List ℕ) (t : Tables) (n : ℕ) → Small (log-call book log t n .answer)
+unfolding log-call
+log-small book log t n = go (check-all book log (lengths t n)) (all-early book log (lengths t n))
+  where
+    go : (o : Checked (Book × Log)) → Early o → Small (log-answer t o .answer)
+    go (good x) (on h) = run-small (x .0) (x .1) (h .0) (h .1)
+    go (refused a p q) (off h) = record { number = omega arith; p = h .2; q = h .3 }

@@ -189,7 +189,7 @@ module _ (book log : List ℕ) where
           go (refused x p q) w k =
               let zero-number : x ≡ 0 = sym (ap (λ (y : LogAnswer). y .answer .number) k) ∙ z in absurd (never (subst Early w (all-early book log own-tables)) zero-number)
             where
-              never : Early {A = Book × Log} (refused x p q) → x ≡ 0 → ⊥
+              never : Early (refused x p q) → x ≡ 0 → ⊥
               never (off h) e = omega (arith, h .0, e)
           go (good (B, g)) w k =
               let r = all-good B g w in

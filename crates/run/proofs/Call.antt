@@ -1,21 +1,13 @@
--- The call: its laps in turn, and its number.
+-- The call: its laps in turn.
 use mathlib.Core.Path.{_≡_, refl, sym, ap, _∙_}
 use mathlib.Core.Bool.{true, false, false≢true}
 use mathlib.Core.List.{List, [], _∷_}
 use Prim.Native.Nat.{ℕ, _≤_, _<_}
 use native.Mathlib.Omega.{arith}
-use lib.ListN.{length}
-use Rattle.text.specs.Words.{Checked, good, refused}
-use Rattle.book.specs.Book.{Book, start}
 use Rattle.engine.specs.declared.Instruction.{Instruction}
 use Rattle.records.specs.Code.{items}
-use Rattle.order.specs.Pairs.{TwoFound, no-two, two}
-use Rattle.order.specs.Log.{Log}
-use Rattle.order.specs.Run.{Run, Ran, ran, halted, run, touching, order-checked, finish, run-from, run-log}
-use Rattle.order.specs.Call.{Tables, lengths, check-all, log-answer, log-call}
+use Rattle.order.specs.Call.{Tables, log-call}
 use Rattle.order.specs.Lists.{call-lists, last-of, log-listed}
-use Rattle.order.proofs.Marks.{halted-number}
-use Rattle.order.proofs.Numbers.{Early, on, off, all-early}
 use Rattle.laps.specs.declared.Turn.{Turn}
 use Rattle.laps.specs.Turns.{answered}
 use Rattle.laps.specs.Laps.{Lap}
@@ -66,25 +58,3 @@ module _ (b l : List ℕ) (lent : Tables) (n : ℕ) (m : List ℕ) where
               last = far-last rest r x x′ c′ rs′ ws′ (t .count) h′ same ∙ ap (λ (z : List Instruction). last-of z rest) (sym (lap-now b l lent n m is rest t x c rs ws h)) ∙ q;
               few = lap-few b l lent n m is rest t x c rs ws h .1;
             }
-
--- ---- the number is at most 17, so that an answer fits one number
-
-run-most : (B : Book) (g : Log) → run-log B g .answer .number ≤ 17
-unfolding run-log run-from finish
-run-most B g = go (run B g (start B) (length (g .moves))) refl
-  where
-    two-way : (s : Run) (o : TwoFound) → order-checked B s o .answer .number ≤ 17
-    two-way s no-two = omega arith
-    two-way s (two i j) = omega arith
-
-    go : (o : Ran) → run B g (start B) (length (g .moves)) ≡ o → finish B g o .answer .number ≤ 17
-    go (ran s) e = two-way s (touching B g (s .fired))
-    go (halted a p q s) e = omega (arith, halted-number B g (start B) (length (g .moves)) a p q s e .1)
-
-pub number-most : (book log : List ℕ) (t : Tables) (n : ℕ) → log-call book log t n .answer .number ≤ 17
-unfolding log-call
-number-most book log t n = go (check-all book log (lengths t n)) (all-early book log (lengths t n))
-  where
-    go : (o : Checked (Book × Log)) → Early o → log-answer t o .answer .number ≤ 17
-    go (good x) e = run-most (x .0) (x .1)
-    go (refused a p q) (off h) = omega arith

@@ -1,7 +1,7 @@
 -- `rental_check_book` meets its contract.
-use Rattle.book.specs.Check.{packed}
-use mathlib.Core.Path.{ap}
+use mathlib.Core.Path.{refl}
 use borrow.Author.Needs.{needs}
+use Rattle.for_c.proofs.Unpacked.{back-check}
 use Rattle.for_c.proofs.rental_check_book.Statement.{statement}
 use Rattle.for_c.proofs.rental_check_book.Tie as tie
 
@@ -21,7 +21,7 @@ add-result : tie.Need-add-result
 add-result c = search needs
 
 returns : tie.Need-returns
-returns c = ap packed (c .before .before .check-book .ensures)
+returns c = let s = c .before .before .check-book in back-check _ (s .result) (c .before .before .before .before .args .book .now) refl (s .ensures)
 
 pub rental-check-book-spec : {M : Type 1} → statement M
 rental-check-book-spec =

@@ -1,11 +1,13 @@
--- `rental_run` meets its contract: the number is at most 17.
-use mathlib.Core.Path.{ap, _∙_}
+-- `rental_run` meets its contract.
+use mathlib.Core.Path.{ap}
 use native.Mathlib.Omega.{arith}
 use Rattle.order.specs.Run.{LogAnswer}
 use Rattle.laps.specs.Turns.{tables}
-use Rattle.run.proofs.Call.{number-most}
+use Rattle.order.specs.Call.{log-call}
+use Rattle.order.proofs.Numbers.{log-small}
 use borrow.Author.Needs.{needs}
-use Rattle.for_c.specs.Packed.{packed, tables-of}
+use Rattle.for_c.specs.Packed.{tables-of}
+use Rattle.for_c.proofs.Unpacked.{back}
 use Rattle.for_c.proofs.rental_run.Statement.{statement}
 use Rattle.for_c.proofs.rental_run.Tie as tie
 
@@ -16,7 +18,7 @@ in-one-requires : tie.Need-in-one-requires
 in-one-requires c κs =
     let a = c .before .before .before .before .before .before .before .before .before .before .before .before .before .before .before .before .args in
     let e = c .before .before .before .before .before .before .run-into .ensures .0 in
-    omega (arith, ap (λ (x : LogAnswer). x .answer .number) e, number-most (a .book .now) (a .log .now) (tables (a .contents .now) (a .readers .now) (a .writers .now)) (a .lent))
+    omega (arith, ap (λ (x : LogAnswer). x .answer .number) e, log-small (a .book .now) (a .log .now) (tables (a .contents .now) (a .readers .now) (a .writers .now)) (a .lent) .number)
 
 same-length : tie.Need-same-length
 same-length c = search needs
@@ -28,7 +30,13 @@ same-length-3 : tie.Need-same-length-3
 same-length-3 c = search needs
 
 returns : tie.Need-returns
-returns c = let e = c .before .before .before .before .before .before .before .run-into .ensures .0 in (c .in-one .ensures ∙ ap (λ (x : LogAnswer). packed (x .answer)) e, ap tables-of e)
+returns c =
+    let a = c .before .before .before .before .before .before .before .before .before .before .before .before .before .before .before .before .before .args in
+    let s = c .before .before .before .before .before .before .before .run-into in
+    let t = tables (a .contents .now) (a .readers .now) (a .writers .now) in
+    let r = back _ (s .result .answer) (log-call (a .book .now) (a .log .now) t (a .lent) .answer) (log-small (a .book .now) (a .log .now) t (a .lent))
+    (c .in-one .ensures) (ap (λ (x : LogAnswer). x .answer) (s .ensures .0)) in
+    ((r .0, ap tables-of (s .ensures .0)), r .1)
 
 pub rental-run-spec : {M : Type 1} → statement M
 rental-run-spec = tie.close (tie.spec run-into-requires in-one-requires same-length same-length-2 same-length-3 returns)

@@ -1,9 +1,11 @@
 -- `rental_step` meets its contract.
-use mathlib.Core.Path.{ap, _∙_}
+use mathlib.Core.Path.{ap}
 use native.Mathlib.Omega.{arith}
-use Rattle.calls.proofs.Numbered.{low}
+use Rattle.text.specs.declared.Answer.{Answer}
+use Rattle.engine.specs.Single.{step-call}
+use Rattle.engine.proofs.Refusals.{step-small}
 use borrow.Author.Needs.{needs}
-use Rattle.for_c.specs.Packed.{packed}
+use Rattle.for_c.proofs.Unpacked.{back}
 use Rattle.for_c.proofs.rental_step.Statement.{statement}
 use Rattle.for_c.proofs.rental_step.Tie as tie
 
@@ -14,13 +16,18 @@ in-one-requires : tie.Need-in-one-requires
 in-one-requires c κs =
     let a = c .before .before .before .before .before .before .before .args in
     let s = c .before .before .step-into in
-    omega (arith, low (a .book .now) (a .contents .now) (a .agent) (a .lent) (s .result .answer) (s .ensures .0 .answer))
+    omega (arith, ap (λ (x : Answer). x .number) (s .ensures .0 .answer), step-small (a .book .now) (a .contents .now) (a .agent) (a .lent) .number)
 
 same-length : tie.Need-same-length
 same-length c = search needs
 
 returns : tie.Need-returns
-returns c = let s = c .before .before .before .step-into in (c .in-one .ensures ∙ ap packed (s .ensures .0 .answer), s .ensures .0 .contents)
+returns c =
+    let a = c .before .before .before .before .before .before .before .before .args in
+    let s = c .before .before .before .step-into in
+    let r = back _ (s .result .answer) (step-call (a .book .now) (a .contents .now) (a .agent) (a .lent) .answer)
+    (step-small (a .book .now) (a .contents .now) (a .agent) (a .lent)) (c .in-one .ensures) (s .ensures .0 .answer) in
+    (r .0, (r .1, s .ensures .0 .contents))
 
 pub rental-step-spec : {M : Type 1} → statement M
 rental-step-spec = tie.close (tie.spec step-into-requires in-one-requires same-length returns)

@@ -1,0 +1,67 @@
+-- A book's check refuses with 1 to 8, at a line, field, function, node or agent below 2^24, with q 0; and an accepted book has few nodes and locations.
+use mathlib.Core.Path.{_≡_}
+use mathlib.Core.List.{List}
+use Prim.Native.Nat.{ℕ, _^_, _≤_, _<_}
+use native.Mathlib.Omega.{arith}
+use lib.ListN.{length}
+use Rattle.text.specs.Words.{Checked, good, refused, answer-of}
+use Rattle.text.specs.Text.{bad-line}
+use Rattle.text.proofs.Checks.{Ends, on, off, Any, also, bind-ends, then-ends, none-ends, must-ends, Before}
+use Rattle.book.specs.declared.Header.{Header}
+use Rattle.book.specs.Book.{Book, L}
+use Rattle.book.specs.Lines.{first-entry, line-count}
+use Rattle.book.specs.Check.{check-header, check-present, check-surplus, check-lines, check-book}
+use Rattle.book.proofs.Accepted.{Bounded, header-bounded, book-lengths, lines-book, accepted-lines, accepted}
+
+abbrev pub OfBook : ℕ → ℕ → ℕ → Type 0
+OfBook n p q = (1 ≤ n) × (n ≤ 8) × (p < 2 ^ 24) × (q ≡ 0)
+
+header-ends : (text : List ℕ) → Ends Bounded OfBook (check-header text)
+unfolding check-header
+header-ends text =
+    also {S = OfBook} (then-ends (none-ends OfBook 1 0 0 _ 2 (λ p k. omega arith)) (then-ends {H = Any} (none-ends OfBook 3 0 0 _ 8 (λ p k. omega arith)) (on tt)))
+    (header-bounded text) (λ n p q r. r)
+
+lines-ends : (h : Header) (text : List ℕ) → Bounded h → Ends Any OfBook (check-lines h text)
+unfolding check-lines
+lines-ends h text b =
+    then-ends (none-ends OfBook 4 0 0 _ (h .functions) (λ p k. omega arith)) (then-ends (must-ends OfBook _ 3 8 0 (omega arith))
+    (then-ends (none-ends OfBook 5 0 0 _ (h .nodes) (λ p k. omega arith)) (then-ends (none-ends OfBook 6 0 0 _ (h .nodes) (λ p k. omega arith))
+    (then-ends (none-ends OfBook 6 0 0 _ (h .nodes) (λ p k. omega arith)) (then-ends (none-ends OfBook 7 0 0 _ (h .agents) (λ p k. omega arith))
+    (then-ends (none-ends OfBook 8 (first-entry h) 0 _ (h .contents) (λ p k. omega arith)) (on tt)))))))
+
+-- what an accepted book's nodes and locations number at most
+pub record Fits (B : Book) : Type 0 where
+  pub nodes : length (B .nodes) ≤ 1024
+  pub locations : L B ≤ 65536
+
+accepted-fits : (text : List ℕ) (B : Book) → check-book text ≡ good B → Fits B
+accepted-fits text B e =
+    let r = accepted-lines text B e in
+    let h = r .0 in
+    record {
+      nodes = rw (lines-book text h B (r .2)) (omega (arith, book-lengths h text .1, header-bounded text h (r .1)));
+      locations = accepted text B e .locations;
+    }
+
+pub book-ends : (text : List ℕ) → Ends Fits OfBook (check-book text)
+unfolding check-book check-present check-surplus
+book-ends text =
+    also {S = OfBook} (bind-ends {H = Any} (header-ends text) (λ h b.
+    then-ends (none-ends OfBook 1 0 0 (bad-line text) (line-count h) (λ p k. omega arith))
+    (then-ends (must-ends OfBook _ 1 (line-count h) 0 (omega arith)) (lines-ends h text b))))
+    (accepted-fits text) (λ n p q r. r)
+
+-- as one of the checks before the first move
+pub book-before : (text : List ℕ) → Ends Fits Before (check-book text)
+book-before text = also (book-ends text) (accepted-fits text) (λ n p q r. omega arith)
+
+-- its answer fits one number
+pub book-answer : (text : List ℕ) → (
+    let a = answer-of (check-book text) in (a .number ≤ 8) × (a .p < 2 ^ 24) × (a .q ≡ 0)
+    )
+book-answer text = go (check-book text) (book-ends text)
+  where
+    go : (c : Checked Book) → Ends Fits OfBook c → (let a = answer-of c in (a .number ≤ 8) × (a .p < 2 ^ 24) × (a .q ≡ 0))
+    go (good B) (on g) = omega arith
+    go (refused n p q) (off r) = omega arith

@@ -1,0 +1,61 @@
+-- How checks end: with a fact of what they give, or with one of their refusal's number and place.
+use mathlib.Core.Path.{_≡_, refl}
+use mathlib.Core.Bool.{Bool, true, false}
+use Prim.Native.Nat.{ℕ, _+_, _^_, _≤_, _<_}
+use Rattle.text.specs.declared.Answer.{Answer}
+use Rattle.text.specs.declared.Found.{Found}
+use Rattle.text.specs.declared.Found.the-variants.{Nowhere, Here}
+use Rattle.text.specs.Words.{least, Checked, good, refused, _>>=_, _>>_, none-at, must}
+use Rattle.text.proofs.Words.{least-here}
+
+pub data Ends {A : Type 0} (G : A → Type 0) (R : ℕ → ℕ → ℕ → Type 0) : Checked A → Type 0 where
+  on : {a : A} → G a → Ends G R (good a)
+  off : {n p q : ℕ} → R n p q → Ends G R (refused n p q)
+
+-- nothing is said of what it gives
+abbrev pub Any : {A : Type 0} → A → Type 0
+Any a = Unit {0}
+
+module _ {A : Type 0} {G H : A → Type 0} {R S : ℕ → ℕ → ℕ → Type 0} where
+  -- what it gives has another fact, and what its refusal has follows
+  pub also : {c : Checked A} → Ends G R c → ((a : A) → c ≡ good a → H a) → ((n p q : ℕ) → R n p q → S n p q) → Ends H S c
+  also (on {a} g) h s = on (h a refl)
+  also (off {n} {p} {q} r) h s = off (s n p q r)
+
+module _ {A B : Type 0} {G : A → Type 0} {H : B → Type 0} {R : ℕ → ℕ → ℕ → Type 0} where
+  pub bind-ends : {c : Checked A} {f : A → Checked B} → Ends G R c → ((a : A) → G a → Ends H R (f a)) → Ends H R (c >>= f)
+  unfolding _>>=_
+  bind-ends (on {a} g) k = k a g
+  bind-ends (off r) k = off r
+
+  pub then-ends : {c : Checked A} {d : Checked B} → Ends G R c → Ends H R d → Ends H R (c >> d)
+  unfolding _>>_
+  then-ends (on g) k = k
+  then-ends (off r) k = off r
+
+module _ (R : ℕ → ℕ → ℕ → Type 0) where
+  -- a search below m
+  pub none-ends : (n first q : ℕ) (bad : ℕ → Bool) (m : ℕ) → ((p : ℕ) → p < m → R n (first + p) q) → Ends Any R (none-at n first q (least bad m))
+  unfolding none-at
+  none-ends n first q bad m k = go (least bad m) refl
+    where
+      go : (o : Found) → least bad m ≡ o → Ends Any R (none-at n first q o)
+      go Nowhere e = on tt
+      go (Here p) e = off (k p (least-here bad m p e .0))
+
+  pub must-ends : (t : Bool) (n p q : ℕ) → R n p q → Ends Any R (must t n p q)
+  unfolding must
+  must-ends true n p q r = on tt
+  must-ends false n p q r = off r
+
+-- ---- refusals and answers that fit one number
+
+-- of a check before the first move
+abbrev pub Before : ℕ → ℕ → ℕ → Type 0
+Before n p q = (1 ≤ n) × (n ≤ 10) × (p < 2 ^ 24) × (q < 2 ^ 24)
+
+-- of a call
+pub record Small (a : Answer) : Type 0 where
+  pub number : a .number ≤ 17
+  pub p : a .p < 2 ^ 24
+  pub q : a .q < 2 ^ 24
