@@ -1,16 +1,14 @@
 // What C can call. An answer comes in one number.
 use text::Answer;
 ghost use mathlib.Core.Path.{_≡_};
-ghost use mathlib.Core.List.{_++_};
-ghost use Prim.Native.Nat.{_≤_, _<_};
-ghost use lib.ListN.{length, drop};
+ghost use Prim.Native.Nat.{_≤_};
 ghost use Rattle.text.specs.Words.{answer-of};
 ghost use Rattle.book.specs.Check.{check-book};
 ghost use Rattle.book.specs.Check.{packed as short};
 ghost use Rattle.engine.specs.Single.{step-call};
 ghost use Rattle.order.specs.Call.{log-call};
 ghost use Rattle.report.specs.Report.{rental};
-ghost use Rattle.print.specs.Print.{most-output};
+ghost use Rattle.reporting.specs.Shown.{Shown, fitting};
 ghost use Rattle.laps.specs.Turns.{tables};
 ghost use Rattle.for_c.specs.Packed.{packed, unpacked, unpacked-check, tables-of};
 
@@ -40,9 +38,7 @@ pub extern "C" fn rental_step(book: &[u8], contents: &mut [u16], agent: usize, l
     ensures { λ r. ⌜ unpacked r ≡ step-call (now (book .entry)) (now (contents .entry)) agent lent .answer ⌝ }
     ensures { λ _. ⌜ now (contents .exit) ≡ step-call (now (book .entry)) (now (contents .entry)) agent lent .contents ⌝ }
 {
-    let mut list = [0u64; 256];
-    let t = step::step_into(book, contents, agent, lent, &mut list);
-    in_one(t.answer)
+    in_one(lending::step(book, contents, agent, lent))
 }
 
 // A log's run: number × 2^48 + p × 2^24 + q.
@@ -58,15 +54,13 @@ pub extern "C" fn rental_run(
     ensures { λ r. ⌜ (r ≡ packed (log-call (now (book .entry)) (now (log .entry)) (tables (now (contents .entry)) (now (readers .entry)) (now (writers .entry))) lent .answer)) × (tables (now (contents .exit)) (now (readers .exit)) (now (writers .exit)) ≡ tables-of (log-call (now (book .entry)) (now (log .entry)) (tables (now (contents .entry)) (now (readers .entry)) (now (writers .entry))) lent)) ⌝ }
     ensures { λ r. ⌜ unpacked r ≡ log-call (now (book .entry)) (now (log .entry)) (tables (now (contents .entry)) (now (readers .entry)) (now (writers .entry))) lent .answer ⌝ }
 {
-    let mut list = [0u64; 256];
-    let t = run::run_into(book, log, contents, readers, writers, lent, &mut list);
-    in_one(t.answer)
+    in_one(lending::run(book, log, contents, readers, writers, lent))
 }
 
 // What `rental` prints. An output of fewer bytes than an answer may need is left as it is, and 0 given.
 #[no_mangle]
 pub extern "C" fn rental_report(input: &[u8], output: &mut [u8]) -> usize
-    ensures { λ r. ⌜ (most-output ≤ length (now (output .entry)) → (r ≡ length (rental (now (input .entry)))) × (now (output .exit) ≡ rental (now (input .entry)) ++ drop (length (rental (now (input .entry)))) (now (output .entry)))) × (length (now (output .entry)) < most-output → (r ≡ 0) × (now (output .exit) ≡ now (output .entry))) ⌝ }
+    ensures { λ r. ⌜ Shown (fitting (rental (now (input .entry))) (now (output .entry))) (now (output .entry)) r (now (output .exit)) ⌝ }
 {
-    reporting::report_into(input, output)
+    reporting::report(input, output)
 }

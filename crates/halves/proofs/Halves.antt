@@ -44,9 +44,9 @@ on B c k n l s rs e h r z f g = record {
 }
 
 module _ (text c : List ℕ) (k n : ℕ) (m l : List ℕ) (p : Paused) where
-  pub halted-half : (a : Answer) → p .answer ≡ a → p .count ≡ 0 → a .number ≢ 0 → Tells (record { answer = a; len = 0 }) l c (step-call text c k n) → Halfway text c k n m l p
+  pub halted-half : (a : Answer) → p .answer ≡ a → p .count ≡ 0 → a .number ≢ 0 → Tells a 0 l c (step-call text c k n) → Halfway text c k n m l p
   halted-half a e z h t = record {
-    stops = λ _. (z, subst (λ (b : Answer). Tells (record { answer = b; len = 0 }) l c (step-call text c k n)) (sym e) t);
+    stops = λ _. (z, subst (λ (b : Answer). Tells b 0 l c (step-call text c k n)) (sym e) t);
     walks = λ y. absurd (h (ap (λ (b : Answer). b .number) (sym e) ∙ y));
   }
 
@@ -78,7 +78,7 @@ module _ (text c : List ℕ) (k n : ℕ) (m l : List ℕ) (p : Paused) (h : Half
 
   -- and its answer and contents
   half-tells : (a : Answer) (d : List ℕ) → (a ≡ step-call text c k n .answer) × (d ≡ step-call text c k n .contents)
-      → Tells (record { answer = a; len = p .count }) l d (step-call text c k n)
+      → Tells a (p .count) l d (step-call text c k n)
   half-tells a d s = record { answer = s .0; instructions = half-made; contents = s .1 }
 
   pub half-few : (p .count ≤ 256) × (p .count ≤ n)
@@ -114,12 +114,12 @@ module _ (text c : List ℕ) (k n : ℕ) (m l : List ℕ) (p : Paused) (h : Half
 
   -- ---- the second half
 
-  pub second-stops : p .answer .number ≢ 0 → Tells (record { answer = p .answer; len = p .count }) l c (step-call text c k n)
+  pub second-stops : p .answer .number ≢ 0 → Tells (p .answer) (p .count) l c (step-call text c k n)
   second-stops z = let t = h .stops z .1 in half-tells (p .answer) c (t .answer, t .contents)
 
   pub second-moves : p .answer .number ≡ 0 → (all j : ℕ) → all ≡ L A → j ≡ min all (length c) → (v : Verdict) (d rs ws : List ℕ)
       → ((i : ℕ) (t : Tables) → After A i 1 t (p .walk) l (tables (take j c) [] []) → Effect A i 1 t v (tables d rs ws))
-      → Tells (record { answer = answer-by v; len = p .count }) l (d ++ drop j c) (step-call text c k n)
+      → Tells (answer-by v) (p .count) l (d ++ drop j c) (step-call text c k n)
   second-moves z all j ea ej v d rs ws does =
       let w = h .walks z .1 in
       let o = w .on in

@@ -16,7 +16,6 @@ use Rattle.book.proofs.Accepted.{accepted}
 use Rattle.book.proofs.Claims.{accepted-table}
 use Rattle.engine.specs.Move.{Input}
 use Rattle.engine.specs.Single.{check-agent, check-lent-step, check-contents, check-step, step-move, step-answer, step-call}
-use Rattle.records.specs.declared.Told.{Told}
 use Rattle.calls.specs.Call.{check-call}
 use Rattle.halves.specs.Stages.{Ready, Tells}
 use Rattle.calls.proofs.Numbered.{book-numbered, call-numbered, accepts}
@@ -24,16 +23,13 @@ use Rattle.calls.proofs.Checks.{Passed, call-passed}
 use Rattle.calls.proofs.Same.{lawful-same, walked-same, move-same, L-same, call-same}
 
 -- a refusal before the move: no instruction, and the contents as they were
-abbrev none : Answer → Told
-none a = record { answer = a; len = 0 }
-
 module _ (c l : List ℕ) (k : ℕ) where
-  book-stops : (x : Checked Book) (f : Book → Checked Book) → answer-of x .number ≢ 0 → Tells (none (answer-of x)) l c (step-answer c k (x >>= f))
+  book-stops : (x : Checked Book) (f : Book → Checked Book) → answer-of x .number ≢ 0 → Tells (answer-of x) 0 l c (step-answer c k (x >>= f))
   unfolding _>>=_
   book-stops (good B) f h = absurd (h refl)
   book-stops (refused n p q) f h = record { answer = refl; instructions = refl; contents = refl }
 
-  call-stops : (x : Checked (Unit {0})) (B : Book) → answer-of x .number ≢ 0 → Tells (none (answer-of x)) l c (step-answer c k (x >> good B))
+  call-stops : (x : Checked (Unit {0})) (B : Book) → answer-of x .number ≢ 0 → Tells (answer-of x) 0 l c (step-answer c k (x >> good B))
   unfolding _>>_
   call-stops (good u) B h = absurd (h refl)
   call-stops (refused n p q) B h = record { answer = refl; instructions = refl; contents = refl }
@@ -63,7 +59,7 @@ joined (refused n p q) y z w = refl
 module _ (text c l : List ℕ) (k n : ℕ) where
   -- ---- the book is refused
 
-  pub refused-book : (a : Answer) → a ≡ answer-of (check-book text) → a .number ≢ 0 → Tells (none a) l c (step-call text c k n)
+  pub refused-book : (a : Answer) → a ≡ answer-of (check-book text) → a .number ≢ 0 → Tells a 0 l c (step-call text c k n)
   unfolding step-call check-step
   refused-book a e h = rw e (book-stops c l k (check-book text) _ (rw e at h))
 
@@ -90,7 +86,7 @@ module _ (text c l : List ℕ) (k n : ℕ) where
     call-held : check-call (book-in m []) c k n ≡ check-call B c k n
     call-held = call-same m (B .entries) c k n ∙ ap (λ (A : Book). check-call A c k n) held
 
-    pub refused-call : b .number ≢ 0 → Tells (none b) l c (step-call text c k n)
+    pub refused-call : b .number ≢ 0 → Tells b 0 l c (step-call text c k n)
     refused-call h =
         let e : b ≡ answer-of (check-call B c k n) = call ∙ ap (λ (x : Checked (Unit {0})). answer-of x) call-held in
         rw (e, step-good B (accepted-as .1)) (call-stops c l k (check-call B c k n) B (λ z. h (ap (λ (r : Answer). r .number) e ∙ z)))

@@ -28,5 +28,5 @@ pub record Walks (text c : List ℕ) (k n : ℕ) (m l : List ℕ) (s : State) : 
 
 -- a call up to the list
 pub record Halfway (text c : List ℕ) (k n : ℕ) (m l : List ℕ) (p : Paused) : Type 0 where
-  pub stops : p .answer .number ≢ 0 → (p .count ≡ 0) × Tells (record { answer = p .answer; len = 0 }) l c (step-call text c k n)
+  pub stops : p .answer .number ≢ 0 → (p .count ≡ 0) × Tells (p .answer) 0 l c (step-call text c k n)
   pub walks : p .answer .number ≡ 0 → (p .count ≡ given-of (p .walk)) × Walks text c k n m l (p .walk)

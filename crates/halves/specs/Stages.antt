@@ -3,10 +3,10 @@ use mathlib.Core.Path.{_≡_}
 use mathlib.Core.List.{List}
 use Prim.Native.Nat.{ℕ, _<_}
 use lib.ListN.{length}
+use Rattle.text.specs.declared.Answer.{Answer}
 use Rattle.book.specs.Book.{Book}
 use Rattle.book.specs.Sound.{Lawful, Sound}
 use Rattle.engine.specs.Single.{Stepped}
-use Rattle.records.specs.declared.Told.{Told}
 use Rattle.records.specs.Code.{items}
 
 -- what the move is made on: an accepted book, sound contents and one of its agents
@@ -15,8 +15,8 @@ pub record Ready (B : Book) (c : List ℕ) (k : ℕ) : Type 0 where
   pub sound : Sound B c
   pub agent : k < length (B .agents)
 
--- the answer and length r, the list l of numbers and the contents d are those of a call
-pub record Tells (r : Told) (l d : List ℕ) (s : Stepped) : Type 0 where
-  pub answer : r .answer ≡ s .answer
-  pub instructions : items l (r .len) ≡ s .instructions
+-- the answer a, the first n numbers of the list l and the contents d are those of a call
+pub record Tells (a : Answer) (n : ℕ) (l d : List ℕ) (s : Stepped) : Type 0 where
+  pub answer : a ≡ s .answer
+  pub instructions : items l n ≡ s .instructions
   pub contents : d ≡ s .contents

@@ -1,12 +1,11 @@
-// A log's run with an instruction list of its own, for callers that hold no records: whoever calls it
-// needs no walk by hand.
+// A log's run and a single move with an instruction list of their own, for callers that hold no records: whoever
+// calls these needs no walk by hand.
 use engine::Instruction;
 use engine::Record;
 use text::Answer;
 ghost use mathlib.Core.Path.{_≡_};
-ghost use Prim.Native.Nat.{ℕ, _≤_};
-ghost use Rattle.engine.specs.Rule.{most-instructions};
 ghost use Rattle.engine.specs.declared.Instruction.the-variants.{Release};
+ghost use Rattle.engine.specs.Single.{step-call};
 ghost use Rattle.order.specs.Call.{log-call};
 ghost use Rattle.order.specs.Demand.{Demand3};
 ghost use Rattle.laps.specs.Turns.{answered, tables};
@@ -20,17 +19,29 @@ fn blank() -> Record
     }
 }
 
-// The run with a list of 256 records, which it lends; a longer one makes no difference.
-pub fn run_alone(
+// The single-move entry with a list of `lent` records. It lends 256 at most; a longer list makes no difference.
+pub fn step(book: &[u8], contents: &mut [u16], agent: usize, lent: usize) -> Answer
+    ensures { λ r. ⌜ (r ≡ step-call (now (book .entry)) (now (contents .entry)) agent lent .answer) × (now (contents .exit) ≡ step-call (now (book .entry)) (now (contents .entry)) agent lent .contents) ⌝ }
+{
+    let none = blank();
+    let mut list = [none; 256];
+    let n = numbers::smaller(lent, 256);
+    lent_step::step(book, contents, agent, &mut list[..n])
+}
+
+// The log entry with a list of `lent` records; the same.
+pub fn run(
     book: &[u8],
     log: &[u8],
     contents: &mut [u16],
     readers: &mut [u64],
     writers: &mut [u64],
+    lent: usize,
 ) -> Answer
-    ensures { λ r. ⌜ ((n : ℕ) → most-instructions ≤ n → (answered r (now (contents .exit)) (now (readers .exit)) (now (writers .exit)) ≡ log-call (now (book .entry)) (now (log .entry)) (tables (now (contents .entry)) (now (readers .entry)) (now (writers .entry))) n) × Demand3 (now (book .entry)) (now (log .entry)) (tables (now (contents .entry)) (now (readers .entry)) (now (writers .entry))) n) ⌝ }
+    ensures { λ r. ⌜ (answered r (now (contents .exit)) (now (readers .exit)) (now (writers .exit)) ≡ log-call (now (book .entry)) (now (log .entry)) (tables (now (contents .entry)) (now (readers .entry)) (now (writers .entry))) lent) × Demand3 (now (book .entry)) (now (log .entry)) (tables (now (contents .entry)) (now (readers .entry)) (now (writers .entry))) lent ⌝ }
 {
     let none = blank();
     let mut list = [none; 256];
-    lent_run::run(book, log, contents, readers, writers, &mut list)
+    let n = numbers::smaller(lent, 256);
+    lent_run::run(book, log, contents, readers, writers, &mut list[..n])
 }

@@ -1,8 +1,7 @@
 -- A move's effect from what its walk gathered and how it was settled. Assumes nothing.
 use mathlib.Core.Path.{_≡_, refl, sym, ap, subst, _∙_}
 use mathlib.Core.List.{List, _++_}
-use Prim.Native.Nat.{ℕ, min}
-use lib.ListN.{length}
+use Prim.Native.Nat.{ℕ}
 use Rattle.text.specs.Words.{has}
 use Rattle.text.specs.Refusals.{clash, idle-move}
 use Rattle.book.specs.Book.{Book}
@@ -11,7 +10,6 @@ use Rattle.engine.specs.Rule.{Walk, Walked, going, met}
 use Rattle.engine.specs.Move.{Moved, fires, stopped, released, if-releasing, Input, walked, looked, fired-of, judged, settle, move}
 use Rattle.engine.specs.Move as moved
 use Rattle.records.specs.Code.{items}
-use Rattle.records.proofs.Lists.{clipped}
 use Rattle.firing.specs.declared.Outcome.{Outcome}
 use Rattle.firing.specs.declared.Outcome.the-variants.{Fired, Clash, Idle}
 use Rattle.firing.specs.Outcome.{Ready, Settled, moved-by, contents-after, marks-after}
@@ -116,16 +114,16 @@ module _ (B : Book) (k bit : ℕ) (t : Tables) (s : State) (l c rs ws : List ℕ
   refused-state h =
       as-begun _ _ (refused-effect B k bit c (t .readers) ws fit (walk.outcome s l) rs walks (s .refused) (s .node) (outcome-met s l h))
 
-  -- the list is settled by its first n
-  module _ (h : s .refused ≡ 0) (n : ℕ) (clips : n ≡ min (s .len) (length l)) where
+  -- it is settled by the list's first
+  module _ (h : s .refused ≡ 0) where
     abbrev is : List Instruction
-    is = items l n
+    is = items l (s .len)
 
     abbrev w : Walk
     w = record { made = is; next = s .label }
 
     ended : walk.outcome s l ≡ going w
-    ended = outcome-going s l h ∙ rw (clipped l (s .len) n clips)
+    ended = outcome-going s l h
 
     pub finished-state : (r : Verdict) (c″ rs″ ws″ : List ℕ)
         → (Ready B c is → (ls : List ℕ) → Finished B is (fired-of B c ls is) bit c rs ws r c″ rs″ ws″)

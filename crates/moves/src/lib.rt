@@ -53,7 +53,7 @@ fn is_release(what: Instruction) -> bool
 fn has_release(list: &[u64], len: usize) -> bool
     ensures { λ r. ⌜ r ≡ is-some (released (items (now (list .entry)) len)) ⌝ }
 {
-    let n = records::within(list, len);
+    let n = numbers::smaller(len, list.len());
     let mut j: usize = 0;
     while j < n {
         let what = records::decode(list[j]);
@@ -142,6 +142,5 @@ pub fn settle_move(
             q: s.node as u32,
         };
     }
-    let len = records::within(list, s.len);
-    finish(image, contents, readers, writers, bit, list, len)
+    finish(image, contents, readers, writers, bit, list, s.len)
 }

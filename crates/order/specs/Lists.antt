@@ -27,12 +27,3 @@ lists-of (good x) = lists-from (x .0) (x .1) (start (x .0)) (length (x .1 .moves
 
 unfoldable pub call-lists : List ℕ → List ℕ → Tables → ℕ → List (List Instruction)
 call-lists book log t n = lists-of (check-all book log (lengths t n))
-
--- the last of the lists, d if there is none
-unfoldable pub last-of : List Instruction → List (List Instruction) → List Instruction
-last-of d [] = d
-last-of d (x ∷ rest) = last-of x rest
-
--- the instructions of the last move that was walked, none if none was; 01 leaves them free
-unfoldable pub log-listed : List ℕ → List ℕ → Tables → ℕ → List Instruction
-log-listed book log t n = last-of [] (call-lists book log t n)

@@ -3,9 +3,8 @@ use book::Header;
 use text::Answer;
 use text::Line;
 ghost use mathlib.Core.Path.{_≡_};
-ghost use mathlib.Core.List.{_++_};
-ghost use Prim.Native.Nat.{_≤_, _<_};
-ghost use lib.ListN.{length, take, drop};
+ghost use Prim.Native.Nat.{_≤_};
+ghost use lib.ListN.{length, take};
 ghost use Rattle.text.specs.Words.{good};
 ghost use Rattle.text.specs.Text.{line, written};
 ghost use Rattle.book.specs.Book.{Book, L};
@@ -14,7 +13,7 @@ ghost use Rattle.book.specs.Check.{check-book};
 ghost use Rattle.order.specs.Call.{check-all};
 ghost use Rattle.report.specs.Report.{own-tables, first-line, print-checked, rental};
 ghost use Rattle.print.specs.Print.{printed, most-output};
-ghost use Rattle.reporting.specs.Shown.{Shown};
+ghost use Rattle.reporting.specs.Shown.{Shown, fitting};
 
 // How many bytes are read.
 const MOST_INPUT: usize = 60000;
@@ -73,7 +72,7 @@ fn report_parts(book: &[u8], log: &[u8], output: &mut [u8]) -> usize
     let mut contents = [0u16; 2048];
     let mut readers = [0u64; 2048];
     let mut writers = [0u64; 2048];
-    let answer = lending::run_alone(book, log, &mut contents, &mut readers, &mut writers);
+    let answer = lending::run(book, log, &mut contents, &mut readers, &mut writers, 2048);
     if answer.number == 0 {
         print_accepted(book, &contents, answer, output)
     } else {
@@ -98,16 +97,10 @@ fn report_input(input: &[u8], output: &mut [u8]) -> usize
     report_parts(&input[..n], &input[n..], output)
 }
 
-// What `rental` prints for any input. Gives how many bytes it writes; those past them stay.
-pub fn report(input: &[u8], output: &mut [u8; 51225]) -> usize
-    ensures { λ r. ⌜ (r ≡ length (rental (now (input .entry)))) × (now (output .exit) ≡ rental (now (input .entry)) ++ drop (length (rental (now (input .entry)))) (now (output .entry))) ⌝ }
-{
-    report_input(input, output)
-}
-
-// The same for an output of any length: one of fewer bytes than an answer may need is left as it is, and 0 given.
-pub fn report_into(input: &[u8], output: &mut [u8]) -> usize
-    ensures { λ r. ⌜ (most-output ≤ length (now (output .entry)) → (r ≡ length (rental (now (input .entry)))) × (now (output .exit) ≡ rental (now (input .entry)) ++ drop (length (rental (now (input .entry)))) (now (output .entry)))) × (length (now (output .entry)) < most-output → (r ≡ 0) × (now (output .exit) ≡ now (output .entry))) ⌝ }
+// What `rental` prints for any input. Gives how many bytes it writes; those past them stay. An output of fewer bytes than an answer may need is left as it is,
+// and 0 given.
+pub fn report(input: &[u8], output: &mut [u8]) -> usize
+    ensures { λ r. ⌜ Shown (fitting (rental (now (input .entry))) (now (output .entry))) (now (output .entry)) r (now (output .exit)) ⌝ }
 {
     if output.len() < 51225 {
         return 0;

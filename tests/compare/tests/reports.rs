@@ -1,5 +1,5 @@
 // What the proved code prints for whole inputs is what the independent implementation prints, and bytes past it are not touched.
-use compare::{report, Tally};
+use compare::{report, report_into, Tally, MOST_OUTPUT};
 use inputs::{report_input, Rng};
 
 const SEED: u64 = 1;
@@ -19,4 +19,15 @@ fn printed_bytes_are_the_papers() {
     let all: Vec<u32> = (0..18).collect();
     let short = tally.short_of(&all, 500);
     assert!(short.is_empty(), "too few of {short:?}: {tally}");
+}
+
+// An output of fewer bytes than an answer may need is left as it is, however short the answer.
+#[test]
+fn short_outputs_are_left() {
+    let input = report_input(&mut Rng::for_input(SEED, 0));
+    for length in [0, 1, 25, MOST_OUTPUT - 1] {
+        let mut output = vec![0xa5; length];
+        assert_eq!(report_into(&input, &mut output), 0, "{length} bytes");
+        assert!(output.iter().all(|&byte| byte == 0xa5), "{length} bytes: some were touched");
+    }
 }

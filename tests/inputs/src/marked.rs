@@ -45,10 +45,10 @@ fn one_rule(functions: &str, nodes: &str, contents: &str) -> Vec<u8> {
     padded(&format!("{head} / {functions} / {nodes} / {} 3 0 0 / {contents} / {ONE_MOVE}", n - 1))
 }
 
-/// f := a ∘ b of two elements; where f is to become undef it held number 0, so that the move is not idle.
-fn value(operator: u32, a: u32, b: u32, held: bool) -> Vec<u8> {
+/// f := a ∘ b of two elements; f held number 0, so that the move is not idle where it becomes undef.
+fn value(operator: u32, a: u32, b: u32) -> Vec<u8> {
     let nodes = format!("4 1 0 0 / 1 {a} 0 0 / 1 {b} 0 0 / {operator} 1 2 0 / 21 0 3 0");
-    one_rule("0 2 0 0", &nodes, if held { "1 0 0 3" } else { "" })
+    one_rule("0 2 0 0", &nodes, "1 0 0 3")
 }
 
 /// (a) to (l).
@@ -66,11 +66,11 @@ pub fn marked() -> Vec<Case> {
             with_log("3 2 0 0 / 1 0 0 0 / 1 0 0 0 / 1 0 0 0 / 0 1 0 0 / 1 2 0 0"),
             "16 2 0 0",
         ),
-        Case::new("(f) 1 plus 1", value(11, 4, 4, false), "0 0 0 1 / 1 0 0 5"),
-        Case::new("(g) 2 plus 1", value(11, 5, 4, true), "0 0 0 0"),
-        Case::new("(h) 0 minus 1", value(12, 3, 4, true), "0 0 0 0"),
-        Case::new("(i) undef equal undef", value(7, 0, 0, false), "0 0 0 1 / 1 0 0 2"),
-        Case::new("(j) false and undef", value(9, 1, 0, true), "0 0 0 0"),
+        Case::new("(f) 1 plus 1", value(11, 4, 4), "0 0 0 1 / 1 0 0 5"),
+        Case::new("(g) 2 plus 1", value(11, 5, 4), "0 0 0 0"),
+        Case::new("(h) 0 minus 1", value(12, 3, 4), "0 0 0 0"),
+        Case::new("(i) undef equal undef", value(7, 0, 0), "0 0 0 1 / 1 0 0 2"),
+        Case::new("(j) false and undef", value(9, 1, 0), "0 0 0 0"),
         Case::new("(k) a swap", padded(swap), "0 0 0 2 / 1 0 0 4 / 2 0 0 3"),
         Case::new(
             "(l) release 6",

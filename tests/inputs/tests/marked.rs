@@ -26,32 +26,35 @@ fn quoted(part: &str) -> Vec<String> {
     part.split('"').skip(1).step_by(2).map(|text| text.replace("\\n", "\n")).collect()
 }
 
-/// The inputs and outputs in the definitions' table, where both are printed text: (a) to (e), (k) and (l).
+/// The inputs and outputs in the definitions' table, (a) to (l). An input is a text, 01's book and a log, or the nodes of a rule between the
+/// two texts of `f-set-to`.
 fn defined() -> Vec<(Vec<u8>, Vec<u8>)> {
     let path = concat!(env!("CARGO_MANIFEST_DIR"), "/../../crates/report/specs/Cases.antt");
     let file = fs::read_to_string(path).expect("the definitions");
     let lines: Vec<&str> = file.lines().filter(|line| !line.trim_start().starts_with("--")).collect();
     let code = lines.join("\n");
     let (head, table) = code.split_once("\ntable =").expect("a table");
-    let book = padded(quoted(head).first().expect("the book"));
+    let [book, before, after] = quoted(head).try_into().expect("the book, and what stands around the nodes");
     let text = |text: &str| if text.contains('\n') { text.as_bytes().to_vec() } else { padded(text) };
     let case = |part: &str| {
-        let before = if part.contains("book ++") { &book[..] } else { &[] };
-        let [input, output] = quoted(part).try_into().ok()?;
-        Some(([before, &text(&input)].concat(), text(&output)))
+        let [input, output] = quoted(part).try_into().expect("an input and an output");
+        let input = if part.contains("book ++") {
+            [padded(&book), padded(&input)].concat()
+        } else if part.contains("f-set-to") {
+            [padded(&before), padded(&input), padded(&after)].concat()
+        } else {
+            padded(&input)
+        };
+        (input, text(&output))
     };
-    table.split("case").filter_map(case).collect()
+    table.split("case").filter(|part| part.contains('"')).map(case).collect()
 }
 
 #[test]
 fn proved_of_the_definitions() {
-    let letters = ["(a)", "(b)", "(c)", "(d)", "(e)", "(k)", "(l)"];
     let defined = defined();
-    assert_eq!(defined.len(), letters.len());
-    let named =
-        |letter: &str| marked().into_iter().find(|case| case.name.starts_with(letter)).expect("a case");
-    for (letter, (input, output)) in letters.iter().zip(defined) {
-        let Case { input: ours, output: printed, .. } = named(letter);
-        assert_eq!((input, output), (ours, printed), "{letter}");
+    assert_eq!(defined.len(), marked().len());
+    for (Case { name, input: ours, output: printed }, (input, output)) in marked().into_iter().zip(defined) {
+        assert_eq!((input, output), (ours, printed), "{name}");
     }
 }

@@ -11,13 +11,13 @@ use Rattle.for_c.proofs.Unpacked.{back}
 use Rattle.for_c.proofs.rental_run.Statement.{statement}
 use Rattle.for_c.proofs.rental_run.Tie as tie
 
-run-into-requires : tie.Need-run-into-requires
-run-into-requires c κs = search needs
+run-requires : tie.Need-run-requires
+run-requires c κs = search needs
 
 in-one-requires : tie.Need-in-one-requires
 in-one-requires c κs =
-    let a = c .before .before .before .before .before .before .before .before .before .before .before .before .before .before .before .before .args in
-    let e = c .before .before .before .before .before .before .run-into .ensures .0 in
+    let a = c .before .before .before .before .before .before .before .before .before .before .before .before .before .before .before .args in
+    let e = c .before .before .before .before .before .before .run .ensures .0 in
     omega (arith, ap (λ (x : LogAnswer). x .answer .number) e, log-small (a .book .now) (a .log .now) (tables (a .contents .now) (a .readers .now) (a .writers .now)) (a .lent) .number)
 
 same-length : tie.Need-same-length
@@ -31,12 +31,12 @@ same-length-3 c = search needs
 
 returns : tie.Need-returns
 returns c =
-    let a = c .before .before .before .before .before .before .before .before .before .before .before .before .before .before .before .before .before .args in
-    let s = c .before .before .before .before .before .before .before .run-into in
+    let a = c .before .before .before .before .before .before .before .before .before .before .before .before .before .before .before .before .args in
+    let s = c .before .before .before .before .before .before .before .run in
     let t = tables (a .contents .now) (a .readers .now) (a .writers .now) in
-    let r = back _ (s .result .answer) (log-call (a .book .now) (a .log .now) t (a .lent) .answer) (log-small (a .book .now) (a .log .now) t (a .lent))
+    let r = back _ (s .result) (log-call (a .book .now) (a .log .now) t (a .lent) .answer) (log-small (a .book .now) (a .log .now) t (a .lent))
     (c .in-one .ensures) (ap (λ (x : LogAnswer). x .answer) (s .ensures .0)) in
     ((r .0, ap tables-of (s .ensures .0)), r .1)
 
 pub rental-run-spec : {M : Type 1} → statement M
-rental-run-spec = tie.close (tie.spec run-into-requires in-one-requires same-length same-length-2 same-length-3 returns)
+rental-run-spec = tie.close (tie.spec run-requires in-one-requires same-length same-length-2 same-length-3 returns)

@@ -9,25 +9,25 @@ use Rattle.for_c.proofs.Unpacked.{back}
 use Rattle.for_c.proofs.rental_step.Statement.{statement}
 use Rattle.for_c.proofs.rental_step.Tie as tie
 
-step-into-requires : tie.Need-step-into-requires
-step-into-requires c κs = search needs
+step-requires : tie.Need-step-requires
+step-requires c κs = search needs
 
 in-one-requires : tie.Need-in-one-requires
 in-one-requires c κs =
-    let a = c .before .before .before .before .before .before .before .args in
-    let s = c .before .before .step-into in
-    omega (arith, ap (λ (x : Answer). x .number) (s .ensures .0 .answer), step-small (a .book .now) (a .contents .now) (a .agent) (a .lent) .number)
+    let a = c .before .before .before .before .before .before .args in
+    let s = c .before .before .step in
+    omega (arith, ap (λ (x : Answer). x .number) (s .ensures .0), step-small (a .book .now) (a .contents .now) (a .agent) (a .lent) .number)
 
 same-length : tie.Need-same-length
 same-length c = search needs
 
 returns : tie.Need-returns
 returns c =
-    let a = c .before .before .before .before .before .before .before .before .args in
-    let s = c .before .before .before .step-into in
-    let r = back _ (s .result .answer) (step-call (a .book .now) (a .contents .now) (a .agent) (a .lent) .answer)
-    (step-small (a .book .now) (a .contents .now) (a .agent) (a .lent)) (c .in-one .ensures) (s .ensures .0 .answer) in
-    (r .0, (r .1, s .ensures .0 .contents))
+    let a = c .before .before .before .before .before .before .before .args in
+    let s = c .before .before .before .step in
+    let r = back _ (s .result) (step-call (a .book .now) (a .contents .now) (a .agent) (a .lent) .answer)
+    (step-small (a .book .now) (a .contents .now) (a .agent) (a .lent)) (c .in-one .ensures) (s .ensures .0) in
+    (r .0, (r .1, s .ensures .1))
 
 pub rental-step-spec : {M : Type 1} → statement M
-rental-step-spec = tie.close (tie.spec step-into-requires in-one-requires same-length returns)
+rental-step-spec = tie.close (tie.spec step-requires in-one-requires same-length returns)

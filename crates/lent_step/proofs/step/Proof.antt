@@ -142,7 +142,7 @@ module _ {M : Type 1} (𝓤 : URA M) (H : Heap 𝓤) (A : Atoms 𝓤) (W : Given
   module _ (p : Paused) (mi us us′ : List ℕ) (zs : List Record) (ds : List ℕ) (r : Answer) (w : Val) (is-r : Is N.the-row r (w ∷ []))
       (e₁ : Halfway (xb .now) cs k n mi us p)
       (e₂ : (zs ≡ written (items us (p .count)) (xl .now)) × (p .count ≤ n → p .count ≤ length us → items us′ (p .count) ≡ items us (p .count)))
-      (e₃ : (text : List ℕ) (j i : ℕ) → Halfway text cs j i mi us′ p → Tells (record { answer = r; len = p .count }) us′ ds (step-call text cs j i))
+      (e₃ : (text : List ℕ) (j i : ℕ) → Halfway text cs j i mi us′ p → Tells r (p .count) us′ ds (step-call text cs j i))
       (l256 : length us ≡ 256) (lw : length us′ ≡ length us) (ll : length zs ≡ n) (lc : length ds ≡ length cs)
     where
       passed : Halfway (xb .now) cs k n mi us′ p
@@ -293,7 +293,7 @@ module _ {M : Type 1} (𝓤 : URA M) (H : Heap 𝓤) (A : Atoms 𝓤) (W : Given
         move ! (1 ∷ 0 ∷ []) $ use2 W (raw (Second 𝓤 H A mem run .pre (to-second ν₅ ν₆ ν₇ γ₅ γ₆ γ₇ l₆ l₇ (zs .1 .1 .1 .1 .0) (ls .1 .0) p))) (asked-second ν₅ ν₆ ν₇ γ₅ γ₆ γ₇ l₆ l₇ (zs .1 .1 .1 .1 .0) (ls .1 .0) p) $
         calls-at ! fm (Second 𝓤 H A mem run) known-second (to-second ν₅ ν₆ ν₇ γ₅ γ₆ γ₇ l₆ l₇ (zs .1 .1 .1 .1 .0) (ls .1 .0) p) (and-then ! (load ! (from ! (stop !)) (look ! 15 refl)) (and-then ! (load ! (from ! (stop !)) (look ! 13 refl)) (and-then ! (load ! (from ! (stop !)) (look ! 11 refl)) (and-then ! (load ! (from ! (stop !)) (look ! 39 refl)) (no-more !))))) (λ w₃.
         use1 W (later (some (λ (r : Answer). ((‵ (flft (ν₅ ∷ []) fullShare) ⊛ ‵ (flft (ν₆ ∷ []) fullShare) ⊛ ‵ (flft (ν₇ ∷ []) fullShare) ⊛ ‵ ftrue) ⊛ ‵ (N.the-row .own r (w₃ ∷ []))) ⊛ raw (ensured 𝓤 H A second.ended (second.clauses 𝓤 H A mem run) ((ν₅ ∷ []), ((ν₆ ∷ []), ((ν₇ ∷ []), tt))) (second-a γ₅ γ₆ γ₇ l₆ l₇ (zs .1 .1 .1 .1 .0) (ls .1 .0) p) tt r)))) (id⊢ 𝓤 _) $ await ! tt $ pick ! (λ r. split ! $ move ! (1 ∷ []) $
-        use1 W (some (λ (ds : List ℕ × (Unit {0} × (Unit {0} × (Unit {0} × Unit {0})))). ‵ (lasts second.ended ((ν₅ ∷ []), ((ν₆ ∷ []), ((ν₇ ∷ []), tt))) (second-a γ₅ γ₆ γ₇ l₆ l₇ (zs .1 .1 .1 .1 .0) (ls .1 .0) p) ds) ⊛ raw (fact 𝓤 ((text : List ℕ) (j i : ℕ) → Halfway text cs j i (zs .1 .1 .1 .1 .0) (ls .1 .0) p → Tells (record { answer = r; len = p .count }) (ls .1 .0) (ds .0) (step-call text cs j i))))) (id⊢ 𝓤 _) $ pick ! (λ ds. split ! $ move ! (1 ∷ []) $ heard ! ((text : List ℕ) (j i : ℕ) → Halfway text cs j i (zs .1 .1 .1 .1 .0) (ls .1 .0) p → Tells (record { answer = r; len = p .count }) (ls .1 .0) (ds .0) (step-call text cs j i)) (λ e₃.
+        use1 W (some (λ (ds : List ℕ × (Unit {0} × (Unit {0} × (Unit {0} × Unit {0})))). ‵ (lasts second.ended ((ν₅ ∷ []), ((ν₆ ∷ []), ((ν₇ ∷ []), tt))) (second-a γ₅ γ₆ γ₇ l₆ l₇ (zs .1 .1 .1 .1 .0) (ls .1 .0) p) ds) ⊛ raw (fact 𝓤 ((text : List ℕ) (j i : ℕ) → Halfway text cs j i (zs .1 .1 .1 .1 .0) (ls .1 .0) p → Tells r (p .count) (ls .1 .0) (ds .0) (step-call text cs j i))))) (id⊢ 𝓤 _) $ pick ! (λ ds. split ! $ move ! (1 ∷ []) $ heard ! ((text : List ℕ) (j i : ℕ) → Halfway text cs j i (zs .1 .1 .1 .1 .0) (ls .1 .0) p → Tells r (p .count) (ls .1 .0) (ds .0) (step-call text cs j i)) (λ e₃.
         fsplit ! $ fsplit ! $ move ! (1 ∷ []) $ feqL ! (λ lc. move ! (1 ∷ []) $ fsplit ! $ drop ! $ fsplit ! $ drop ! $ fsplit ! $ drop ! $ drop ! $
         move ! (1 ∷ []) $ split ! $ move ! (1 ∷ []) $ peeks ! N.the-row (Is N.the-row) (shows 𝓤 H A N.the-row) r (w₃ ∷ []) (λ is-r.
         land ! (from ! (stop !)) (init ! 55 refl (LL.lawful N.the-type N′.the-laws 𝓤 H A W .typed r _ is-r .0)) $

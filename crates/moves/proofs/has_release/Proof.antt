@@ -12,7 +12,7 @@ use Rattle.moves.proofs.has_release.Reads as reads
 use Rattle.moves.proofs.has_release.Lts as lts
 use Rattle.records.proofs.decode.Reads as decode-reads
 use Rattle.moves.proofs.is_release.Reads as is-release-reads
-use Rattle.records.proofs.within.Reads as within-reads
+use Rattle.numbers.proofs.smaller.Reads as smaller-reads
 
 abbrev Inv-loop : tie.InvT-loop
 Inv-loop list len n j₀ j = any release (drop j (items list len)) ≡ any release (items list len)
@@ -21,8 +21,8 @@ abbrev μ-loop : tie.MeasureT-loop
 μ-loop list len n j₀ j = n - j
 
 -- src/lib.rt:60:9
-within-requires : tie.Need-within-requires Inv-loop μ-loop
-within-requires c κs = search needs
+smaller-requires : tie.Need-smaller-requires Inv-loop μ-loop
+smaller-requires c κs = search needs
 
 -- src/lib.rt:62:5
 loop-holds : tie.Need-loop-holds Inv-loop μ-loop
@@ -46,7 +46,7 @@ is-release-requires c κs = search needs
 
 -- src/lib.rt:65:13
 returns : tie.Need-returns Inv-loop μ-loop
-returns c = let a = c .before .before .before .before .before .before .before .before .args in let l = c .before .before .before .before .before .loop in let n = c .before .before .before .before .before .before .within in sym (found (a .list .now) (a .len) (n .result) (n .ensures) release (l .j) (c .before .before .before .before .loop-test .taken) (sym (ap release (c .before .before .decode .ensures)) ∙ sym (c .before .is-release .ensures) ∙ c .if1 .taken)) ∙ l .inv ∙ sym (released-any (items (a .list .now) (a .len)))
+returns c = let a = c .before .before .before .before .before .before .before .before .args in let l = c .before .before .before .before .before .loop in let n = c .before .before .before .before .before .before .smaller in sym (found (a .list .now) (a .len) (n .result) (n .ensures) release (l .j) (c .before .before .before .before .loop-test .taken) (sym (ap release (c .before .before .decode .ensures)) ∙ sym (c .before .is-release .ensures) ∙ c .if1 .taken)) ∙ l .inv ∙ sym (released-any (items (a .list .now) (a .len)))
 
 -- src/lib.rt:67:13
 add-j : tie.Need-add-j Inv-loop μ-loop
@@ -58,11 +58,11 @@ loop-less c = search needs
 
 -- src/lib.rt:62:5
 loop-again : tie.Need-loop-again Inv-loop μ-loop
-loop-again c = let a = c .before .before .before .before .before .before .before .before .args in let l = c .before .before .before .before .before .loop in let n = c .before .before .before .before .before .before .within in next (a .list .now) (a .len) (n .result) (n .ensures) release (l .j) (c .before .before .before .before .loop-test .taken) (sym (ap release (c .before .before .decode .ensures)) ∙ sym (c .before .is-release .ensures) ∙ c .if1 .left) ∙ l .inv
+loop-again c = let a = c .before .before .before .before .before .before .before .before .args in let l = c .before .before .before .before .before .loop in let n = c .before .before .before .before .before .before .smaller in next (a .list .now) (a .len) (n .result) (n .ensures) release (l .j) (c .before .before .before .before .loop-test .taken) (sym (ap release (c .before .before .decode .ensures)) ∙ sym (c .before .is-release .ensures) ∙ c .if1 .left) ∙ l .inv
 
 -- src/lib.rt:57:1
 returns-2 : tie.Need-returns-2 Inv-loop μ-loop
-returns-2 c = let a = c .before .before .before .before .args in let l = c .before .loop in let n = c .before .before .within in sym (ended (a .list .now) (a .len) (n .result) (n .ensures) release (l .j) (c .loop-test .left)) ∙ l .inv ∙ sym (released-any (items (a .list .now) (a .len)))
+returns-2 c = let a = c .before .before .before .before .args in let l = c .before .loop in let n = c .before .before .smaller in sym (ended (a .list .now) (a .len) (n .result) (n .ensures) release (l .j) (c .loop-test .left)) ∙ l .inv ∙ sym (released-any (items (a .list .now) (a .len)))
 
 pub has-release-spec : {M : Type 1} → statement M
 has-release-spec =
@@ -70,7 +70,7 @@ has-release-spec =
     (tie.spec
     Inv-loop
     μ-loop
-    within-requires
+    smaller-requires
     loop-holds
     mul-decode
     shared-slice-read-decode

@@ -6,16 +6,13 @@ use Rattle.moves.proofs.Effect.{refused-state, finished-state}
 use Rattle.moves.proofs.settle_move.Statement.{statement}
 use Rattle.moves.proofs.settle_move.Tie as tie
 
-cast-t10 : tie.Need-cast-t10
-cast-t10 c = search needs
+cast-t9 : tie.Need-cast-t9
+cast-t9 c = search needs
 
 returns : tie.Need-returns
 returns c =
     let a = c .before .before .before .before .before .before .args in
     λ k t h. refused-state (book-in (a .image .now) []) k (a .bit) t (a .s) (a .list .now) (a .contents .now) (a .readers .now) (a .writers .now) h (c .before .if1 .taken)
-
-within-requires : tie.Need-within-requires
-within-requires c κs = search needs
 
 finish-requires : tie.Need-finish-requires
 finish-requires c κs = search needs
@@ -31,18 +28,16 @@ same-length-3 c = search needs
 
 returns-2 : tie.Need-returns-2
 returns-2 c =
-    let a = c .before .before .before .before .before .before .before .before .before .before .before .before .before .before .before .before .before .args in
+    let a = c .before .before .before .before .before .before .before .before .before .before .before .before .before .before .before .args in
     let f = c .before .before .before .before .before .before .finish in
-    let m = c .before .before .before .before .before .before .before .before .before .before .within in
-    λ k t h. finished-state (book-in (a .image .now) []) k (a .bit) t (a .s) (a .list .now) (a .contents .now) (a .readers .now) (a .writers .now) h (c .before .before .before .before .before .before .before .before .before .before .before .before .if1 .left) (m .result) (m .ensures) (f .result) (f .last .1 .0) (f .last .1 .1 .0) (f .last .1 .1 .1 .0) (f .ensures)
+    λ k t h. finished-state (book-in (a .image .now) []) k (a .bit) t (a .s) (a .list .now) (a .contents .now) (a .readers .now) (a .writers .now) h (c .before .before .before .before .before .before .before .before .before .before .if1 .left) (f .result) (f .last .1 .0) (f .last .1 .1 .0) (f .last .1 .1 .1 .0) (f .ensures)
 
 pub settle-move-spec : {M : Type 1} → statement M
 settle-move-spec =
     tie.close
     (tie.spec
-    cast-t10
+    cast-t9
     returns
-    within-requires
     finish-requires
     same-length
     same-length-2

@@ -9,19 +9,19 @@ use Rattle.reporting.proofs.report_parts.Reads as reads
 use Rattle.reporting.proofs.report_parts.Lts as lts
 use Rattle.reporting.proofs.print_accepted.Reads as print-accepted-reads
 use Rattle.reporting.proofs.print_refusal.Reads as print-refusal-reads
-use Rattle.lending.proofs.run_alone.Reads as run-alone-reads
+use Rattle.lending.proofs.run.Reads as run-reads
 
-slice-aggregate-run-alone : tie.Need-slice-aggregate-run-alone
-slice-aggregate-run-alone c = search needs
+slice-aggregate-run : tie.Need-slice-aggregate-run
+slice-aggregate-run c = search needs
 
-slice-aggregate-run-alone-2 : tie.Need-slice-aggregate-run-alone-2
-slice-aggregate-run-alone-2 c = search needs
+slice-aggregate-run-2 : tie.Need-slice-aggregate-run-2
+slice-aggregate-run-2 c = search needs
 
-slice-aggregate-run-alone-3 : tie.Need-slice-aggregate-run-alone-3
-slice-aggregate-run-alone-3 c = search needs
+slice-aggregate-run-3 : tie.Need-slice-aggregate-run-3
+slice-aggregate-run-3 c = search needs
 
-run-alone-requires : tie.Need-run-alone-requires
-run-alone-requires c κs = search needs
+run-requires : tie.Need-run-requires
+run-requires c κs = search needs
 
 slice-aggregate-print-accepted : tie.Need-slice-aggregate-print-accepted
 slice-aggregate-print-accepted c = search needs
@@ -36,22 +36,22 @@ same-length : tie.Need-same-length
 same-length c = search needs
 
 returns : tie.Need-returns
-returns c = let a = c .before .before .before .before .before .before .before .before .before .before .before .before .before .before .before .before .before .args in let r = c .before .before .before .before .before .before .before .before .before .before .run-alone in let p = c .before .before .print-accepted in let k = parts-accepted (a .book .now) (a .log .now) own 2048 own-lengths (r .result) (r .last .1 .1 .0) (r .last .1 .1 .1 .0) (r .last .1 .1 .1 .1 .0) (r .ensures 2048 (omega arith) .0) (c .before .before .before .before .before .if1 .taken) in shown-as _ _ (a .output .now) (p .result) (p .last .1 .1 .1 .0) (k .text) (p .ensures (k .says) (k .is) (k .few) (rw (c .before .before .before .before .before .before .before .before .before .before .run-alone .kept .1 .1 .0) (k .few)))
+returns c = let a = c .before .before .before .before .before .before .before .before .before .before .before .before .before .before .before .before .before .args in let r = c .before .before .before .before .before .before .before .before .before .before .run in let p = c .before .before .print-accepted in let k = parts-accepted (a .book .now) (a .log .now) own 2048 own-lengths (r .result) (r .last .1 .1 .0) (r .last .1 .1 .1 .0) (r .last .1 .1 .1 .1 .0) (r .ensures .0) (c .before .before .before .before .before .if1 .taken) in shown-as _ _ (a .output .now) (p .result) (p .last .1 .1 .1 .0) (k .text) (p .ensures (k .says) (k .is) (k .few) (rw (c .before .before .before .before .before .before .before .before .before .before .run .kept .1 .1 .0) (k .few)))
 
 same-length-2 : tie.Need-same-length-2
 same-length-2 c = search needs
 
 returns-2 : tie.Need-returns-2
-returns-2 c = let a = c .before .before .before .before .before .before .before .before .before .before .before .before .before .before .before .before .args in let r = c .before .before .before .before .before .before .before .before .before .run-alone in let p = c .before .before .print-refusal in shown-as _ _ (a .output .now) (p .result) (p .last .1 .0) (parts-refused (a .book .now) (a .log .now) own 2048 own-lengths (r .result) (r .last .1 .1 .0) (r .last .1 .1 .1 .0) (r .last .1 .1 .1 .1 .0) (r .ensures 2048 (omega arith) .0) (c .before .before .before .before .if1 .left)) (p .ensures)
+returns-2 c = let a = c .before .before .before .before .before .before .before .before .before .before .before .before .before .before .before .before .args in let r = c .before .before .before .before .before .before .before .before .before .run in let p = c .before .before .print-refusal in shown-as _ _ (a .output .now) (p .result) (p .last .1 .0) (parts-refused (a .book .now) (a .log .now) own 2048 own-lengths (r .result) (r .last .1 .1 .0) (r .last .1 .1 .1 .0) (r .last .1 .1 .1 .1 .0) (r .ensures .0) (c .before .before .before .before .if1 .left)) (p .ensures)
 
 pub report-parts-spec : {M : Type 1} → statement M
 report-parts-spec =
     tie.close
     (tie.spec
-    slice-aggregate-run-alone
-    slice-aggregate-run-alone-2
-    slice-aggregate-run-alone-3
-    run-alone-requires
+    slice-aggregate-run
+    slice-aggregate-run-2
+    slice-aggregate-run-3
+    run-requires
     slice-aggregate-print-accepted
     print-accepted-requires
     print-refusal-requires

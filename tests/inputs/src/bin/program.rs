@@ -92,7 +92,8 @@ impl Trial {
     /// What the program does when a shell gives it such streams.
     fn streams(&mut self) {
         let nothing = paper::padded("1 0 0 0");
-        let (unread, unwritten) = ("rental: the input cannot be read\n", "rental: the output cannot be written\n");
+        let (unread, unwritten) =
+            ("rental: the input cannot be read\n", "rental: the output cannot be written\n");
         for (name, redirected, output, message) in [
             ("no input", "<&-", &b""[..], unread),
             ("a folder as input", "</", b"", unread),
