@@ -11,7 +11,7 @@ use Rattle.text.specs.Words.{if_then_else_, has, least}
 use Rattle.text.specs.declared.Found.{Found}
 use Rattle.text.specs.declared.Found.the-variants.{Nowhere, Here}
 use Rattle.text.proofs.Words.{or-no, least-none, least-all, least-here}
-use Rattle.book.specs.Book.{Book, L, dynamic-at, default-at, concerns}
+use Rattle.book.specs.Book.{Program, L, dynamic-at, default-at, concerns}
 use Rattle.engine.specs.declared.Instruction.{Instruction}
 use Rattle.engine.specs.declared.Instruction.the-variants.{Update, Release}
 use Rattle.engine.specs.Move.{given, values, updates, released, other, two-values, sets-label, set-to-label, clashes}
@@ -39,7 +39,7 @@ least-is bad n m h e none = go (least bad n) refl
 -- ---- at one location
 
 -- any other gives it nothing, or its default
-else-given : (B : Book) (c : List ℕ) (l : ℕ) (i : Instruction) → (own i ≡ l → ⊥) → other (default-at B l) (given B c l i) ≡ false
+else-given : (B : Program) (c : List ℕ) (l : ℕ) (i : Instruction) → (own i ≡ l → ⊥) → other (default-at B l) (given B c l i) ≡ false
 unfolding given other
 else-given B c l (Update k v) e = rw (ne-eqb k l e)
 else-given B c l (Release x) e = rw (ne-eqb x l e) (step (dynamic-at B l && concerns B l (getD c l 0) x))
@@ -75,7 +75,7 @@ two-other v (w ∷ ws) e = step (eqb w v) refl e
     step true f h = rw (f, eqb-true w v f)
     step false f h = rw f (sym (has-other v w ws h (eqb-false w v f)))
 
-has-values : (v : ℕ) (B : Book) (c : List ℕ) (l : ℕ) (is : List Instruction) → has (values B c l is) v ≡ any (λ i. has (given B c l i) v) is
+has-values : (v : ℕ) (B : Program) (c : List ℕ) (l : ℕ) (is : List Instruction) → has (values B c l is) v ≡ any (λ i. has (given B c l i) v) is
 unfolding any values
 has-values v B c l [] = refl
 has-values v B c l (i ∷ is) =
@@ -91,7 +91,7 @@ sets-any xs l (i ∷ is) = rw (sets-any xs l is) (ap (λ (b : Bool). b || any (�
     step (Release x) = sym (and-none (eqb x l))
 
 -- no instruction is about the location: it is given its default, or nothing
-none-own : (B : Book) (c : List ℕ) (l : ℕ) (is : List Instruction) → any (λ i. eqb (own i) l) is ≡ false → other (default-at B l) (values B c l is) ≡ false
+none-own : (B : Program) (c : List ℕ) (l : ℕ) (is : List Instruction) → any (λ i. eqb (own i) l) is ≡ false → other (default-at B l) (values B c l is) ≡ false
 unfolding any values other
 none-own B c l [] h = refl
 none-own B c l (i ∷ is) h =
@@ -127,7 +127,7 @@ module _ (all : List Instruction) where
       step true g k n = rw (f i (first-in i is h) g)
       step false g k n = rw (n k) (or-true (r i))
 
-module _ (B : Book) (c : List ℕ) (all : List Instruction) where
+module _ (B : Program) (c : List ℕ) (all : List Instruction) where
   -- an instruction of the list gives its own location its own value
   pub gives-own : (i : Instruction) → Member all i → has (values B c (own i) all) (gets i) ≡ true
   gives-own i h =

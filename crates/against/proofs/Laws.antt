@@ -7,7 +7,7 @@ use lib.Dec.{eqb}
 use lib.ListN.{getD}
 use Rattle.text.specs.Words.{has}
 use Rattle.book.specs.declared.Function.{Function}
-use Rattle.book.specs.Book.{Book, place}
+use Rattle.book.specs.Book.{Program, place}
 use Rattle.engine.specs.declared.Instruction.{Instruction}
 use Rattle.engine.specs.declared.Instruction.the-variants.{Update, Release}
 use Rattle.engine.specs.Move.{given, values, label-of, released, other}
@@ -18,17 +18,17 @@ use Rattle.against.specs.Steps.{gives, spot}
 
 -- a location whose function and number within it are known
 pub spot-is :
-    (B : Book) (c : List ℕ) (l : ℕ) (f : Function) (i v : ℕ) → place B l ≡ record { function = f; index = i } → v ≡ getD c l 0 →
+    (B : Program) (c : List ℕ) (l : ℕ) (f : Function) (i v : ℕ) → place B l ≡ record { function = f; index = i } → v ≡ getD c l 0 →
     _≡_ {A = Spot} (record { location = l; function = f; index = i; held = v }) (spot B c l)
 spot-is B c l f i v p h = rw (p, h)
 
 -- what an instruction gives a location, seen from there
-pub given-spot : (B : Book) (c : List ℕ) (l : ℕ) (i : Instruction) → given B c l i ≡ gives (B .E) (spot B c l) i
+pub given-spot : (B : Program) (c : List ℕ) (l : ℕ) (i : Instruction) → given B c l i ≡ gives (B .E) (spot B c l) i
 unfolding given gives
 given-spot B c l (Update k v) = refl
 given-spot B c l (Release x) = refl
 
-pub other-any : (w : ℕ) (B : Book) (c : List ℕ) (l : ℕ) (is : List Instruction) → other w (values B c l is) ≡ any (λ i. other w (gives (B .E) (spot B c l) i)) is
+pub other-any : (w : ℕ) (B : Program) (c : List ℕ) (l : ℕ) (is : List Instruction) → other w (values B c l is) ≡ any (λ i. other w (gives (B .E) (spot B c l) i)) is
 unfolding any other values
 other-any w B c l [] = refl
 other-any w B c l (i ∷ is) =

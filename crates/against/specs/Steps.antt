@@ -5,7 +5,7 @@ use Prim.Native.Nat.{ℕ}
 use lib.Dec.{eqb, ltb}
 use lib.ListN.{getD}
 use Rattle.text.specs.Words.{if_then_else_, has}
-use Rattle.book.specs.Book.{Book, true-element, default, place}
+use Rattle.book.specs.Book.{Program, true-element, default, place}
 use Rattle.engine.specs.declared.Instruction.{Instruction}
 use Rattle.engine.specs.declared.Instruction.the-variants.{Update, Release}
 use Rattle.engine.specs.Move.{values, released, other}
@@ -14,7 +14,7 @@ use Rattle.against.specs.declared.Spot.{Spot}
 
 -- ---- one location
 
-abbrev pub spot : Book → List ℕ → ℕ → Spot
+abbrev pub spot : Program → List ℕ → ℕ → Spot
 spot B c l = record { location = l; function = place B l .function; index = place B l .index; held = getD c l 0 }
 
 -- what an instruction gives it
@@ -33,12 +33,12 @@ doomed xs (Update l v) = has xs v
 doomed xs (Release x) = false
 
 -- an instruction's own value is not the only one at its location, or is released
-abbrev pub trouble : Book → List ℕ → List Instruction → Instruction → Bool
+abbrev pub trouble : Program → List ℕ → List Instruction → Instruction → Bool
 trouble B c all i = other (gets i) (values B c (own i) all) || doomed (released all) i
 
-abbrev pub better : Book → List ℕ → List Instruction → Instruction → ℕ → ℕ
+abbrev pub better : Program → List ℕ → List Instruction → Instruction → ℕ → ℕ
 better B c all i b = if ltb (own i) b && trouble B c all i then own i else b
 
-unfoldable pub best : Book → List ℕ → List Instruction → List Instruction → ℕ → ℕ
+unfoldable pub best : Program → List ℕ → List Instruction → List Instruction → ℕ → ℕ
 best B c all [] b = b
 best B c all (i ∷ is) b = best B c all is (better B c all i b)

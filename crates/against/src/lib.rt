@@ -4,7 +4,7 @@ use engine::Instruction;
 ghost use mathlib.Core.Path.{_≡_};
 ghost use mathlib.Core.List.{[]};
 ghost use Rattle.text.specs.Words.{has};
-ghost use Rattle.book.specs.Image.{book-in};
+ghost use Rattle.book.specs.Image.{program-in};
 ghost use Rattle.engine.specs.Move.{label-of, released, other};
 ghost use Rattle.records.specs.Code.{items};
 ghost use Rattle.traces.specs.Traces.{any, trace-in};
@@ -35,7 +35,7 @@ fn is_trace(e: u16, s: Spot, x: u16) -> bool
 
 // Location l as it stands; past the last function there is none.
 fn spot_of(image: &[u16; 4296], contents: &[u16], l: u32) -> Spot
-    ensures { λ r. ⌜ r ≡ spot (book-in (now (image .entry)) []) (now (contents .entry)) l ⌝ }
+    ensures { λ r. ⌜ r ≡ spot (program-in (now (image .entry))) (now (contents .entry)) l ⌝ }
 {
     let held = numbers::fetch(contents, l as usize);
     let e = pages::elements(image);
@@ -154,7 +154,7 @@ fn better_of(
     what: Instruction,
     best: u32,
 ) -> u32
-    ensures { λ r. ⌜ r ≡ better (book-in (now (image .entry)) []) (now (contents .entry)) (items (now (list .entry)) len) what best ⌝ }
+    ensures { λ r. ⌜ r ≡ better (program-in (now (image .entry))) (now (contents .entry)) (items (now (list .entry)) len) what best ⌝ }
 {
     let at = traces::own_location(what);
     if best <= at {
@@ -179,7 +179,7 @@ pub fn first_of_all(
     len: usize,
     most: u32,
 ) -> u32
-    ensures { λ r. ⌜ r ≡ best (book-in (now (image .entry)) []) (now (contents .entry)) (items (now (list .entry)) len) (items (now (list .entry)) len) most ⌝ }
+    ensures { λ r. ⌜ r ≡ best (program-in (now (image .entry))) (now (contents .entry)) (items (now (list .entry)) len) (items (now (list .entry)) len) most ⌝ }
 {
     let n = numbers::smaller(len, list.len());
     let mut least = most;

@@ -13,7 +13,7 @@ use lib.ListN.{length, getD, set, replicate, length-set, length-replicate, getD-
 use lib.Seq.{getD-set-same, getD-set-other}
 use Rattle.text.specs.Words.{if_then_else_, one-if, some-below}
 use Rattle.book.specs.declared.Node.{Node}
-use Rattle.book.specs.Book.{Book, node-at, agent-at}
+use Rattle.book.specs.Book.{Program, node-at, agent-at}
 use Rattle.book.specs.Kinds.{is-node, is-binder, forall-kind}
 use Rattle.book.specs.Use.{is-root, places, uses, bad-use}
 use Rattle.book.specs.Around.{bit-of, put-if, hand, handed, deeper, as-it-is, forall-more, bound-more, depths, foralls, bounds, misplaced, bad-around}
@@ -21,23 +21,23 @@ use Rattle.around.specs.Tables.{one-more, bumped, counted, rooted, talli
 
 -- ---- one step of each loop
 
-pub roots-step : (B : Book) (a : ℕ) (s : List ℕ) → rooted B (a + 1) s ≡ set (rooted B a s) (agent-at B a .root) 1
+pub roots-step : (B : Program) (a : ℕ) (s : List ℕ) → rooted B (a + 1) s ≡ set (rooted B a s) (agent-at B a .root) 1
 unfolding rooted
 roots-step B a s = rw (add-one a)
 
-pub roots-none : (B : Book) (s : List ℕ) → s ≡ rooted B 0 s
+pub roots-none : (B : Program) (s : List ℕ) → s ≡ rooted B 0 s
 unfolding rooted
 roots-none B s = refl
 
-pub tally-step : (B : Book) (m : ℕ) (s : List ℕ) → tallied B (m + 1) s ≡ counted (node-at B m) (tallied B m s)
+pub tally-step : (B : Program) (m : ℕ) (s : List ℕ) → tallied B (m + 1) s ≡ counted (node-at B m) (tallied B m s)
 unfolding tallied
 tally-step B m s = rw (add-one m)
 
-pub tally-none : (B : Book) (s : List ℕ) → s ≡ tallied B 0 s
+pub tally-none : (B : Program) (s : List ℕ) → s ≡ tallied B 0 s
 unfolding tallied
 tally-none B s = refl
 
-module _ (B : Book) (ab c : Node → ℕ → ℕ) (s : List ℕ) where
+module _ (B : Program) (ab c : Node → ℕ → ℕ) (s : List ℕ) where
   pub handed-step :
       (k : ℕ) → handed B ab c (k + 1) s
       ≡ hand (node-at B (length (B .nodes) - (k + 1))) (ab (node-at B (length (B .nodes) - (k + 1))) (getD (handed B ab c k s) (length (B .nodes) - (k + 1)) 0))
@@ -113,13 +113,13 @@ count-at y n k s h p =
 length-count : (y : Node) (s : List ℕ) → length (counted y s) ≡ length s
 length-count y s = simp length-bump
 
-length-tally : (B : Book) (m : ℕ) (s : List ℕ) → length (tallied B m s) ≡ length s
+length-tally : (B : Program) (m : ℕ) (s : List ℕ) → length (tallied B m s) ≡ length s
 unfolding tallied
 length-tally B zero s = refl
 length-tally B (suc m) s = length-count (node-at B m) (tallied B m s) ∙ length-tally B m s
 
 tally-at :
-    (B : Book) (m n k : ℕ) (s : List ℕ) → n < length s → getD s n 0 ≡ cap k → getD (tallied B m s) n 0 ≡ cap (k + uses B n m)
+    (B : Program) (m n k : ℕ) (s : List ℕ) → n < length s → getD s n 0 ≡ cap k → getD (tallied B m s) n 0 ≡ cap (k + uses B n m)
 unfolding tallied uses
 tally-at B zero n k s h p = let e : k + 0 ≡ k = omega arith in rw e p
 tally-at B (suc m) n k s h p =
@@ -129,13 +129,13 @@ tally-at B (suc m) n k s h p =
 
 -- ---- roots
 
-length-roots : (B : Book) (a : ℕ) (s : List ℕ) → length (rooted B a s) ≡ length s
+length-roots : (B : Program) (a : ℕ) (s : List ℕ) → length (rooted B a s) ≡ length s
 unfolding rooted
 length-roots B zero s = refl
 length-roots B (suc a) s = length-set (rooted B a s) (agent-at B a .root) 1 ∙ length-roots B a s
 
 roots-at :
-    (B : Book) (a n : ℕ) (s : List ℕ) → n < length s → getD s n 0 ≡ 0 → getD (rooted B a s) n 0 ≡ one-if (some-below (λ i. eqb (agent-at B i .root) n) a)
+    (B : Program) (a n : ℕ) (s : List ℕ) → n < length s → getD s n 0 ≡ 0 → getD (rooted B a s) n 0 ≡ one-if (some-below (λ i. eqb (agent-at B i .root) n) a)
 unfolding rooted some-below
 roots-at B zero n s h p = p
 roots-at B (suc a) n s h p =
@@ -154,7 +154,7 @@ cap-bool false = refl
 
 -- the table of counts tells exactly whether a node is used once
 pub used-once :
-    (B : Book) (n : ℕ) (s : List ℕ) → n < length s → getD s n 0 ≡ 0 →
+    (B : Program) (n : ℕ) (s : List ℕ) → n < length s → getD s n 0 ≡ 0 →
     not (eqb (getD (tallied B (length (B .nodes)) (rooted B (length (B .agents)) s)) n 0) 1) ≡ bad-use B n
 unfolding bad-use
 used-once B n s h p =
@@ -176,7 +176,7 @@ length-hand : (y : Node) (v w : ℕ) (s : List ℕ) → length (hand y v w s) �
 unfolding hand
 length-hand y v w s = simp length-put-if
 
-length-handed : (B : Book) (ab c : Node → ℕ → ℕ) (k : ℕ) (s : List ℕ) → length (handed B ab c k s) ≡ length s
+length-handed : (B : Program) (ab c : Node → ℕ → ℕ) (k : ℕ) (s : List ℕ) → length (handed B ab c k s) ≡ length s
 unfolding handed
 length-handed B ab c zero s = refl
 length-handed B ab c (suc k) s = length-hand _ _ _ _ ∙ length-handed B ab c k s
@@ -210,7 +210,7 @@ module _ (R : ℕ → ℕ → Type 0) (N : ℕ) where
       let b2 : Beside s2 t2 = put-beside (is-node (y .kind) 1) (y .b) v v′ s1 t1 (omega arith) (omega arith) e b1 in
       put-beside (is-node (y .kind) 2) (y .c) w w′ s2 t2 (omega arith) (omega arith) f b2
 
-  module _ (B : Book) (is : N ≡ length (B .nodes)) (ab c ab′ c′ : Node → ℕ → ℕ)
+  module _ (B : Program) (is : N ≡ length (B .nodes)) (ab c ab′ c′ : Node → ℕ → ℕ)
       (eab : (y : Node) (x v : ℕ) → R x v → R (ab y x) (ab′ y v)) (ec : (y : Node) (x v : ℕ) → R x v → R (c y x) (c′ y v)) where
     handed-beside :
         (k : ℕ) (s t : List ℕ) → k ≤ N → N ≤ length s → N ≤ length t → Beside s t → Beside (handed B ab c k s) (handed B ab′ c′ k t)
@@ -398,7 +398,7 @@ cap-two f = go (decLt f 2)
     go (yes h) = rw (cap-low f h)
     go (no h) = rw (cap-high f (omega arith), le-leb 2 f (omega arith))
 
-module _ (B : Book) (hN : length (B .nodes) ≤ 1024) where
+module _ (B : Program) (hN : length (B .nodes) ≤ 1024) where
   full : (r : ℕ) → length (B .nodes) ≤ length (replicate (length (B .nodes)) r)
   full r = rw (length-replicate {A = ℕ} (length (B .nodes)) r) (omega arith)
 

@@ -7,7 +7,7 @@ use lib.Dec.{eqb, ltb}
 use lib.ListN.{getD, set}
 use Rattle.text.specs.Words.{if_then_else_}
 use Rattle.book.specs.declared.Node.{Node}
-use Rattle.book.specs.Book.{Book, node-at, agent-at}
+use Rattle.book.specs.Book.{Program, node-at, agent-at}
 use Rattle.book.specs.Kinds.{is-node, is-binder, forall-kind}
 use Rattle.book.specs.Around.{bit-of, misplaced}
 
@@ -25,12 +25,12 @@ abbrev pub counted : Node → List ℕ → List ℕ
 counted y s = bumped (is-node (y .kind) 2) (y .c) (bumped (is-node (y .kind) 1) (y .b) (bumped (is-node (y .kind) 0) (y .a) s))
 
 -- the roots of the first i agents marked
-unfoldable pub rooted : Book → ℕ → List ℕ → List ℕ
+unfoldable pub rooted : Program → ℕ → List ℕ → List ℕ
 rooted B zero s = s
 rooted B (suc i) s = set (rooted B i s) (agent-at B i .root) 1
 
 -- the operand places of the first m nodes counted
-unfoldable pub tallied : Book → ℕ → List ℕ → List ℕ
+unfoldable pub tallied : Program → ℕ → List ℕ → List ℕ
 tallied B zero s = s
 tallied B (suc m) s = counted (node-at B m) (tallied B m s)
 
@@ -66,5 +66,5 @@ abbrev pub to-c : Node → ℕ → ℕ
 to-c y v = in-binder y (in-forall y (below v))
 
 -- node n is misplaced by the table s
-abbrev pub misplaced-at : Book → List ℕ → ℕ → Bool
+abbrev pub misplaced-at : Program → List ℕ → ℕ → Bool
 misplaced-at B s n = misplaced (node-at B n) (depth-of (getD s n 0)) (foralls-of (getD s n 0)) (bound-of (getD s n 0))

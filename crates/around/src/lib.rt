@@ -10,7 +10,7 @@ ghost use Rattle.text.specs.Words.{least};
 ghost use Rattle.book.specs.Kinds.{sort-table};
 ghost use Rattle.book.specs.Use.{bad-use};
 ghost use Rattle.book.specs.Around.{bit-of, binds, put-if, hand, handed, misplaced, bad-around};
-ghost use Rattle.book.specs.Image.{book-in};
+ghost use Rattle.book.specs.Image.{program-in};
 ghost use Rattle.around.specs.Tables.{one-more, bumped, counted, rooted, tallied, below, in-forall, in-binder, to-ab, to-c, misplaced-at};
 
 // A count stops at 2, which is already too many.
@@ -43,7 +43,7 @@ fn count(table: &[u8; 84], s: &mut [u8], y: Node)
 
 // Marks the roots of the first n agents. Agents may share one.
 fn mark_roots(image: &[u32], n: u32, s: &mut [u8])
-    ensures { λ _. ⌜ now (s .exit) ≡ rooted (book-in (now (image .entry)) []) n (now (s .entry)) ⌝ }
+    ensures { λ _. ⌜ now (s .exit) ≡ rooted (program-in (now (image .entry))) n (now (s .entry)) ⌝ }
 {
     let mut i: u32 = 0;
     while i < n {
@@ -55,7 +55,7 @@ fn mark_roots(image: &[u32], n: u32, s: &mut [u8])
 
 // Counts the operand places of the first n nodes.
 fn tally(image: &[u32], n: u32, s: &mut [u8])
-    ensures { λ _. ⌜ now (s .exit) ≡ tallied (book-in (now (image .entry)) []) n (now (s .entry)) ⌝ }
+    ensures { λ _. ⌜ now (s .exit) ≡ tallied (program-in (now (image .entry))) n (now (s .entry)) ⌝ }
 {
     let table = nodes::SORTS;
     let mut i: u32 = 0;
@@ -81,7 +81,7 @@ fn not_once(s: &[u8], n: u32) -> Found
 
 // 6, use: the least node that is not used exactly once.
 pub fn bad_use(image: &[u32]) -> Found
-    ensures { λ r. ⌜ r ≡ least (bad-use (book-in (now (image .entry)) [])) (length (book-in (now (image .entry)) [] .nodes)) ⌝ }
+    ensures { λ r. ⌜ r ≡ least (bad-use (program-in (now (image .entry)))) (length (program-in (now (image .entry)) .nodes)) ⌝ }
 {
     let mut counts = [0u8; 1024];
     let a = image::agents(image);
@@ -150,7 +150,7 @@ fn hand(table: &[u8; 84], s: &mut [u32], y: Node, v: u32, w: u32)
 
 // Each node, from the highest on, hands down what stands around it.
 fn hand_down(image: &[u32], s: &mut [u32])
-    ensures { λ _. ⌜ now (s .exit) ≡ handed (book-in (now (image .entry)) []) to-ab to-c (length (book-in (now (image .entry)) [] .nodes)) (now (s .entry)) ⌝ }
+    ensures { λ _. ⌜ now (s .exit) ≡ handed (program-in (now (image .entry))) to-ab to-c (length (program-in (now (image .entry)) .nodes)) (now (s .entry)) ⌝ }
 {
     let table = nodes::SORTS;
     let n = image::nodes(image);
@@ -186,7 +186,7 @@ fn is_misplaced(y: Node, depth: u32, foralls: u32, bound: u32) -> bool
 }
 
 fn misplaced_at<'a>(image: &'a [u32], s: &'a [u32], i: u32) -> bool
-    ensures { λ r. ⌜ r ≡ misplaced-at (book-in (now (image .entry)) []) (now (s .entry)) i ⌝ }
+    ensures { λ r. ⌜ r ≡ misplaced-at (program-in (now (image .entry))) (now (s .entry)) i ⌝ }
 {
     let y = image::node_at(image, i);
     let v = image::fetch(s, i as usize);
@@ -194,7 +194,7 @@ fn misplaced_at<'a>(image: &'a [u32], s: &'a [u32], i: u32) -> bool
 }
 
 fn misplaced_in<'a>(image: &'a [u32], s: &'a [u32], n: u32) -> Found
-    ensures { λ r. ⌜ r ≡ least (misplaced-at (book-in (now (image .entry)) []) (now (s .entry))) n ⌝ }
+    ensures { λ r. ⌜ r ≡ least (misplaced-at (program-in (now (image .entry))) (now (s .entry))) n ⌝ }
 {
     let mut i: u32 = 0;
     while i < n {
@@ -208,7 +208,7 @@ fn misplaced_in<'a>(image: &'a [u32], s: &'a [u32], n: u32) -> Found
 
 // 6, binding, depth and nesting: the least node at fault.
 pub fn bad_around(image: &[u32]) -> Found
-    ensures { λ r. ⌜ r ≡ least (bad-around (book-in (now (image .entry)) [])) (length (book-in (now (image .entry)) [] .nodes)) ⌝ }
+    ensures { λ r. ⌜ r ≡ least (bad-around (program-in (now (image .entry)))) (length (program-in (now (image .entry)) .nodes)) ⌝ }
 {
     let mut around = [0u32; 1024];
     let n = image::nodes(image);

@@ -15,9 +15,9 @@ use Rattle.text.specs.Words.{table-from, table, least, good}
 use Rattle.text.specs.Text.{line, no-line}
 use Rattle.text.proofs.Words.{so-true, length-table-from, getD-table, getD-table-past, least-none, bind-good, found-good, test-good, good-same}
 use Rattle.book.specs.declared.Header.{Header}
-use Rattle.book.specs.Book.{Book, L, size, no-function, no-agent, function-at, node-at, agent-at}
+use Rattle.book.specs.Book.{Program, Book, L, size, no-function, no-agent, function-at, node-at, agent-at}
 use Rattle.book.specs.Kinds.{is-rule}
-use Rattle.book.specs.Lines.{header-of, bad-field, most-locations, first-function, first-agent, lay-out, agent-of, book-of, bad-function, bad-node, bad-agent}
+use Rattle.book.specs.Lines.{header-of, bad-field, most-locations, first-function, first-agent, lay-out, agent-of, program-of, entries-of, book-of, bad-function, bad-node, bad-agent}
 use Rattle.book.specs.Use.{bad-use}
 use Rattle.book.specs.Around.{bad-around}
 use Rattle.book.specs.Contents.{bad-entry}
@@ -119,7 +119,7 @@ first-good E at (suc n) h e =
 
 -- ---- agents
 
-agent-good : (B : Book) (l : Line) (i : ℕ) → bad-agent B l i ≡ false → (l .a < length (B .nodes)) × (is-rule (node-at B (l .a) .kind) ≡ true) × (l .b < B .P)
+agent-good : (B : Program) (l : Line) (i : ℕ) → bad-agent B l i ≡ false → (l .a < length (B .nodes)) × (is-rule (node-at B (l .a) .kind) ≡ true) × (l .b < B .P)
 unfolding bad-agent
 agent-good B l i h = (
   ltb-true (l .a) (length (B .nodes)) (so-true (ltb (l .a) (length (B .nodes))) (bad-agent B l i) h (λ q. simp q)),
@@ -132,26 +132,26 @@ agent-good B l i h = (
 -- what the checks from 4 on have passed
 record Passed (h : Header) (text : List ℕ) : Type 0 where
   pub functions : (f : ℕ) → f < h .functions → bad-function (line text (first-function + f)) f ≡ false
-  pub locations : L (book-of h text) ≤ 65536
-  pub nodes : (n : ℕ) → n < h .nodes → bad-node (book-of h text) n ≡ false
-  pub uses : (n : ℕ) → n < h .nodes → bad-use (book-of h text) n ≡ false
-  pub around : (n : ℕ) → n < h .nodes → bad-around (book-of h text) n ≡ false
-  pub agents : (i : ℕ) → i < h .agents → bad-agent (book-of h text) (line text (first-agent h + i)) i ≡ false
-  pub entries : (i : ℕ) → i < h .contents → bad-entry (book-of h text) i ≡ false
+  pub locations : L (program-of h text) ≤ 65536
+  pub nodes : (n : ℕ) → n < h .nodes → bad-node (program-of h text) n ≡ false
+  pub uses : (n : ℕ) → n < h .nodes → bad-use (program-of h text) n ≡ false
+  pub around : (n : ℕ) → n < h .nodes → bad-around (program-of h text) n ≡ false
+  pub agents : (i : ℕ) → i < h .agents → bad-agent (program-of h text) (line text (first-agent h + i)) i ≡ false
+  pub entries : (i : ℕ) → i < h .contents → bad-entry (program-of h text) (entries-of h text) i ≡ false
 
-passed : (h : Header) (text : List ℕ) (B : Book) → check-lines h text ≡ good B → Passed h text × (book-of h text ≡ B)
+passed : (h : Header) (text : List ℕ) (b : Book) → check-lines h text ≡ good b → Passed h text × (book-of h text ≡ b)
 unfolding check-lines
-passed h text B e =
-    let A = book-of h text in
+passed h text b e =
+    let A = program-of h text in
     let bad4 : ℕ → Bool = λ f. bad-function (line text (first-function + f)) f in
     let bad7 : ℕ → Bool = λ i. bad-agent A (line text (first-agent h + i)) i in
-    let e4 = found-good _ _ _ _ _ B e in
-    let e3 = test-good _ _ _ _ _ B (e4 .1) in
-    let e5 = found-good _ _ _ _ _ B (e3 .1) in
-    let e6 = found-good _ _ _ _ _ B (e5 .1) in
-    let e6′ = found-good _ _ _ _ _ B (e6 .1) in
-    let e7 = found-good _ _ _ _ _ B (e6′ .1) in
-    let e8 = found-good _ _ _ _ (good A) B (e7 .1) in (
+    let e4 = found-good _ _ _ _ _ b e in
+    let e3 = test-good _ _ _ _ _ b (e4 .1) in
+    let e5 = found-good _ _ _ _ _ b (e3 .1) in
+    let e6 = found-good _ _ _ _ _ b (e5 .1) in
+    let e6′ = found-good _ _ _ _ _ b (e6 .1) in
+    let e7 = found-good _ _ _ _ _ b (e6′ .1) in
+    let e8 = found-good _ _ _ _ (good (book-of h text)) b (e7 .1) in (
       record {
         functions = least-none bad4 (h .functions) (e4 .0);
         locations = leb-true (L A) most-locations (e3 .0);
@@ -159,15 +159,15 @@ passed h text B e =
         uses = least-none (bad-use A) (h .nodes) (e6 .0);
         around = least-none (bad-around A) (h .nodes) (e6′ .0);
         agents = least-none bad7 (h .agents) (e7 .0);
-        entries = least-none (bad-entry A) (h .contents) (e8 .0);
+        entries = least-none (bad-entry A (entries-of h text)) (h .contents) (e8 .0);
       },
-      good-same A B (e8 .1),
+      good-same (book-of h text) b (e8 .1),
     )
 
 -- the book has as many of each as the header says
-pub book-lengths : (h : Header) (text : List ℕ) → (length (book-of h text .functions) ≡ h .functions) × (length (book-of h text .nodes) ≡ h .nodes)
-    × (length (book-of h text .agents) ≡ h .agents) × (length (book-of h text .entries) ≡ h .contents)
-unfolding book-of
+pub book-lengths : (h : Header) (text : List ℕ) → (length (program-of h text .functions) ≡ h .functions) × (length (program-of h text .nodes) ≡ h .nodes)
+    × (length (program-of h text .agents) ≡ h .agents) × (length (entries-of h text) ≡ h .contents)
+unfolding program-of entries-of
 book-lengths h text = (
   length-lay-out (h .elements) 0 (table (λ i. line text (first-function + i)) (h .functions)) ∙ length-table-from _ 0 (h .functions),
   length-table-from _ 0 (h .nodes),
@@ -175,10 +175,10 @@ book-lengths h text = (
   length-table-from _ 0 (h .contents),
 )
 
-book-lawful : (h : Header) (text : List ℕ) → Bounded h → Passed h text → Lawful (book-of h text)
-unfolding book-of
+book-lawful : (h : Header) (text : List ℕ) → Bounded h → Passed h text → Lawful (program-of h text)
+unfolding program-of
 book-lawful h text b p =
-    let A = book-of h text in
+    let A = program-of h text in
     let at : ℕ → Line = λ i. line text (first-function + i) in
     let ls = table at (h .functions) in
     let long = book-lengths h text in
@@ -206,41 +206,48 @@ book-lawful h text b p =
       agents = λ k. dite (decLt k (h .agents))
           (λ r. rw (agent k r) (agent-good A (line text (first-agent h + k)) k (p .agents k r) .2))
           (λ (r : ¬ (k < h .agents)). rw (getD-table-past (λ i. agent-of (line text (first-agent h + i))) (h .agents) k no-agent (omega arith)) (omega (arith, b .permanent .0)));
-      entries = λ i q. p .entries i (omega (arith, long .3));
     }
 
 -- the book is the one that the lines say
-pub lines-book : (text : List ℕ) (h : Header) (B : Book) → check-lines h text ≡ good B → B ≡ book-of h text
-lines-book text h B e = sym (passed h text B e .1)
+pub lines-book : (text : List ℕ) (h : Header) (b : Book) → check-lines h text ≡ good b → b ≡ book-of h text
+lines-book text h b e = sym (passed h text b e .1)
 
-pub lines-lawful : (text : List ℕ) (h : Header) (B : Book) → check-header text ≡ good h → check-lines h text ≡ good B → Lawful B
-lines-lawful text h B e f =
-    let r = passed h text B f in
-    subst Lawful (r .1) (book-lawful h text (header-bounded text h e) (r .0))
+pub lines-lawful : (text : List ℕ) (h : Header) (b : Book) → check-header text ≡ good h → check-lines h text ≡ good b → Lawful (b .program)
+lines-lawful text h b e f =
+    let r = passed h text b f in
+    subst (λ (x : Book). Lawful (x .program)) (r .1) (book-lawful h text (header-bounded text h e) (r .0))
 
 -- the parts of an accepted book's check
-pub accepted-lines : (text : List ℕ) (B : Book) → check-book text ≡ good B → (h : Header) × (check-header text ≡ good h) × (check-lines h text ≡ good B)
+pub accepted-lines : (text : List ℕ) (b : Book) → check-book text ≡ good b → (h : Header) × (check-header text ≡ good h) × (check-lines h text ≡ good b)
 unfolding check-book check-present check-surplus
-accepted-lines text B e =
-    let r = bind-good (check-header text) _ B e in
+accepted-lines text b e =
+    let r = bind-good (check-header text) _ b e in
     let h = r .0 in
-    let e1 = found-good _ _ _ _ _ B (r .2) in
-    let e2 = test-good _ _ _ _ (check-lines h text) B (e1 .1) in
+    let e1 = found-good _ _ _ _ _ b (r .2) in
+    let e2 = test-good _ _ _ _ (check-lines h text) b (e1 .1) in
     (h, r .1, e2 .1)
 
-pub accepted : (text : List ℕ) (B : Book) → check-book text ≡ good B → Lawful B
-accepted text B e = let r = accepted-lines text B e in lines-lawful text (r .0) B (r .1) (r .2)
+pub accepted : (text : List ℕ) (b : Book) → check-book text ≡ good b → Lawful (b .program)
+accepted text b e = let r = accepted-lines text b e in lines-lawful text (r .0) b (r .1) (r .2)
+
+-- no contents line is at fault
+pub accepted-entries : (text : List ℕ) (b : Book) → check-book text ≡ good b → (i : ℕ) → i < length (b .entries) → bad-entry (b .program) (b .entries) i ≡ false
+accepted-entries text b e =
+    let r = accepted-lines text b e in
+    let p = passed (r .0) text b (r .2) in
+    subst (λ (x : Book). (i : ℕ) → i < length (x .entries) → bad-entry (x .program) (x .entries) i ≡ false) (p .1)
+    (λ i q. p .0 .entries i (omega (arith, book-lengths (r .0) text .3)))
 
 -- its functions are of one of the four kinds
-pub accepted-kinds : (text : List ℕ) (B : Book) → check-book text ≡ good B → (f : ℕ) → function-at B f .kind ≤ 3
-unfolding book-of
-accepted-kinds text B e f =
-    let r = accepted-lines text B e in
+pub accepted-kinds : (text : List ℕ) (b : Book) → check-book text ≡ good b → (f : ℕ) → function-at (b .program) f .kind ≤ 3
+unfolding program-of
+accepted-kinds text b e f =
+    let r = accepted-lines text b e in
     let h = r .0 in
-    let p = passed h text B (r .2) in
+    let p = passed h text b (r .2) in
     let at : ℕ → Line = λ i. line text (first-function + i) in
     let ls = table at (h .functions) in
-    subst (λ (X : Book). function-at X f .kind ≤ 3) (p .1)
+    subst (λ (x : Book). function-at (x .program) f .kind ≤ 3) (p .1)
     (rw (laid-kind (h .elements) 0 ls f)
     (dite (decLt f (h .functions))
     (λ q. rw (getD-table at (h .functions) f no-line q) (function-kind (at f) f (p .0 .functions f q)))

@@ -13,7 +13,7 @@ use borrow.Author.Tests.{eqb-true, eqb-false, eq-eqb, ne-eqb, ltb-true, ltb-fals
 use Rattle.text.specs.Words.{if_then_else_, one-if}
 use Rattle.text.proofs.Words.{so-true, so-false, some-below-from}
 use Rattle.book.specs.declared.Node.{Node}
-use Rattle.book.specs.Book.{Book, node-at, agent-at}
+use Rattle.book.specs.Book.{Program, node-at, agent-at}
 use Rattle.book.specs.Kinds.{is-node, sort}
 use Rattle.book.specs.Lines.{fits, bad-node}
 use Rattle.book.specs.Use.{is-root, places, uses, bad-use}
@@ -21,7 +21,7 @@ use Rattle.book.specs.Around.{most-depth, put-if, hand, handed, deeper, 
 use Rattle.book.specs.Sound.{Lawful}
 
 -- the depth of node n
-abbrev pub depth-at : Book → ℕ → ℕ
+abbrev pub depth-at : Program → ℕ → ℕ
 depth-at B n = getD (depths B) n 0
 
 -- ---- operands have lower numbers
@@ -32,7 +32,7 @@ operand y zero = y .a
 operand y (suc zero) = y .b
 operand y (suc (suc j)) = y .c
 
-fits-low : (B : Book) (n s x : ℕ) → 9 ≤ s → fits B n s x ≡ true → x < n
+fits-low : (B : Program) (n s x : ℕ) → 9 ≤ s → fits B n s x ≡ true → x < n
 unfolding fits
 fits-low B n s x k h =
     ltb-true x n
@@ -53,12 +53,12 @@ fits-low B n s x k h =
 -- ---- counts of uses
 
 -- node m is one of the first k
-uses-one : (B : Book) (x m k : ℕ) → m < k → places (node-at B m) x ≤ uses B x k
+uses-one : (B : Program) (x m k : ℕ) → m < k → places (node-at B m) x ≤ uses B x k
 unfolding uses
 uses-one B x m zero h = absurd (omega arith)
 uses-one B x m (suc k) h = dite (ℕ-discrete m k) (λ (q : m ≡ k). rw q (omega arith)) (λ (q : m ≢ k). omega (arith, uses-one B x m k (omega arith)))
 
-uses-two : (B : Book) (x m n k : ℕ) → m < k → n < k → m ≢ n → places (node-at B m) x + places (node-at B n) x ≤ uses B x k
+uses-two : (B : Program) (x m n k : ℕ) → m < k → n < k → m ≢ n → places (node-at B m) x + places (node-at B n) x ≤ uses B x k
 unfolding uses
 uses-two B x m n zero h g d = absurd (omega arith)
 uses-two B x m n (suc k) h g d =
@@ -153,7 +153,7 @@ hand-here y v w (suc (suc zero)) s k e h o =
     rw (hand-at y v w (y .c) s h, t)
 hand-here y v w (suc (suc (suc j))) s k e h o = absurd (omega arith)
 
-module _ (B : Book) (ok : Lawful B) where
+module _ (B : Program) (ok : Lawful B) where
   pub operand-low : (n j : ℕ) → n < length (B .nodes) → j < 3 → is-node (node-at B n .kind) j ≡ true → operand (node-at B n) j < n
   unfolding bad-node
   operand-low n j h k e = go j k e

@@ -18,10 +18,9 @@ use Rattle.text.specs.Text.{line}
 use Rattle.text.proofs.Words.{length-table-from, getD-table, getD-table-past, table-ext}
 use Rattle.book.specs.declared.Header.{Header}
 use Rattle.book.specs.declared.Function.{Function}
-use Rattle.book.specs.declared.Entry.{Entry}
-use Rattle.book.specs.Book.{Book, L, total, size, function-at, node-at, agent-at, no-function, no-node, no-agent}
-use Rattle.book.specs.Lines.{lay-out, node-of, agent-of, entry-of, book-of, first-node, first-agent, first-entry}
-use Rattle.book.specs.Image.{image-length, word, row-in, capped, function-of, book-in, Holds, Counts, Room, stored, filled, first-of, laid-row}
+use Rattle.book.specs.Book.{Program, L, total, size, function-at, node-at, agent-at, no-function, no-node, no-agent}
+use Rattle.book.specs.Lines.{lay-out, node-of, agent-of, program-of, first-node, first-agent}
+use Rattle.book.specs.Image.{image-length, word, row-in, capped, function-of, program-in, Holds, Counts, Room, stored, filled, first-of, laid-row}
 use Rattle.book.proofs.Accepted.{book-lengths}
 
 -- a count within its bound
@@ -39,56 +38,56 @@ capped-most n most = go (decLt n most)
     go (yes l) = rw (lt-ltb n most l) (omega arith)
     go (no l) = rw (le-ltb n most (omega arith)) (omega arith)
 
--- ---- what an image's book has
+-- ---- what an image's program has
 
-module _ (m : List ℕ) (es : List Entry) where
-  pub functions-long : length (book-in m es .functions) ≡ capped (word m 2) 32
-  unfolding book-in
+module _ (m : List ℕ) where
+  pub functions-long : length (program-in m .functions) ≡ capped (word m 2) 32
+  unfolding program-in
   functions-long = length-table-from _ 0 (capped (word m 2) 32)
 
-  pub nodes-long : length (book-in m es .nodes) ≡ capped (word m 3) 1024
-  unfolding book-in
+  pub nodes-long : length (program-in m .nodes) ≡ capped (word m 3) 1024
+  unfolding program-in
   nodes-long = length-table-from _ 0 (capped (word m 3) 1024)
 
-  pub agents-long : length (book-in m es .agents) ≡ capped (word m 4) 16
-  unfolding book-in
+  pub agents-long : length (program-in m .agents) ≡ capped (word m 4) 16
+  unfolding program-in
   agents-long = length-table-from _ 0 (capped (word m 4) 16)
 
-  pub elements-most : book-in m es .E ≤ 10000
-  unfolding book-in
+  pub elements-most : program-in m .E ≤ 10000
+  unfolding program-in
   elements-most = capped-most (word m 0) 10000
 
-  pub functions-most : length (book-in m es .functions) ≤ 32
+  pub functions-most : length (program-in m .functions) ≤ 32
   functions-most = rw functions-long (capped-most (word m 2) 32)
 
-  pub nodes-most : length (book-in m es .nodes) ≤ 1024
+  pub nodes-most : length (program-in m .nodes) ≤ 1024
   nodes-most = rw nodes-long (capped-most (word m 3) 1024)
 
-  pub agents-most : length (book-in m es .agents) ≤ 16
+  pub agents-most : length (program-in m .agents) ≤ 16
   agents-most = rw agents-long (capped-most (word m 4) 16)
 
-  pub function-inside : (f : ℕ) → f < capped (word m 2) 32 → function-at (book-in m es) f ≡ function-of (row-in m (2 + f))
-  unfolding book-in
+  pub function-inside : (f : ℕ) → f < capped (word m 2) 32 → function-at (program-in m) f ≡ function-of (row-in m (2 + f))
+  unfolding program-in
   function-inside f h = getD-table (λ f. function-of (row-in m (2 + f))) (capped (word m 2) 32) f no-function h
 
-  pub function-past : (f : ℕ) → capped (word m 2) 32 ≤ f → function-at (book-in m es) f ≡ no-function
-  unfolding book-in
+  pub function-past : (f : ℕ) → capped (word m 2) 32 ≤ f → function-at (program-in m) f ≡ no-function
+  unfolding program-in
   function-past f h = getD-table-past (λ f. function-of (row-in m (2 + f))) (capped (word m 2) 32) f no-function h
 
-  pub node-inside : (n : ℕ) → n < capped (word m 3) 1024 → node-at (book-in m es) n ≡ node-of (row-in m (50 + n))
-  unfolding book-in
+  pub node-inside : (n : ℕ) → n < capped (word m 3) 1024 → node-at (program-in m) n ≡ node-of (row-in m (50 + n))
+  unfolding program-in
   node-inside n h = getD-table (λ n. node-of (row-in m (50 + n))) (capped (word m 3) 1024) n no-node h
 
-  pub node-past : (n : ℕ) → capped (word m 3) 1024 ≤ n → node-at (book-in m es) n ≡ no-node
-  unfolding book-in
+  pub node-past : (n : ℕ) → capped (word m 3) 1024 ≤ n → node-at (program-in m) n ≡ no-node
+  unfolding program-in
   node-past n h = getD-table-past (λ n. node-of (row-in m (50 + n))) (capped (word m 3) 1024) n no-node h
 
-  pub agent-inside : (i : ℕ) → i < capped (word m 4) 16 → agent-at (book-in m es) i ≡ agent-of (row-in m (34 + i))
-  unfolding book-in
+  pub agent-inside : (i : ℕ) → i < capped (word m 4) 16 → agent-at (program-in m) i ≡ agent-of (row-in m (34 + i))
+  unfolding program-in
   agent-inside i h = getD-table (λ i. agent-of (row-in m (34 + i))) (capped (word m 4) 16) i no-agent h
 
-  pub agent-past : (i : ℕ) → capped (word m 4) 16 ≤ i → agent-at (book-in m es) i ≡ no-agent
-  unfolding book-in
+  pub agent-past : (i : ℕ) → capped (word m 4) 16 ≤ i → agent-at (program-in m) i ≡ no-agent
+  unfolding program-in
   agent-past i h = getD-table-past (λ i. agent-of (row-in m (34 + i))) (capped (word m 4) 16) i no-agent h
 
 -- ---- rows stored
@@ -320,10 +319,10 @@ module _ (text : List ℕ) (h : Header) (m : List ℕ) (long : image-length ≤ 
   word4 = ap (λ (l : Line). l .a) row-tail
 
   pub decoded-holds : Holds (decoded text h m) h text
-  unfolding book-in book-of
+  unfolding program-in program-of
   decoded-holds =
       record {
-        book =
+        program =
             rw (
               word0,
               word1,
@@ -342,8 +341,8 @@ module _ (text : List ℕ) (h : Header) (m : List ℕ) (long : image-length ≤ 
         locations = ap (λ (l : Line). l .c) row-tail ∙ total-laid (λ i. line text (2 + i)) (h .elements) (h .functions);
       }
 
-  pub decoded-counts : Counts (decoded text h m) (book-of h text)
-  unfolding book-of
+  pub decoded-counts : Counts (decoded text h m) (program-of h text)
+  unfolding program-of
   decoded-counts =
       let long = book-lengths h text in
       record {

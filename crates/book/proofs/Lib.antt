@@ -6,4 +6,3 @@ pub mod Depth
 pub mod Refusals
 pub mod Claims
 pub mod Image
-pub mod Bare

@@ -12,7 +12,7 @@ use borrow.Author.Tests.{eqb-true, eq-eqb, lt-ltb, le-ltb}
 use Rattle.text.specs.Words.{if_then_else_, has}
 use Rattle.text.proofs.Words.{or-cases}
 use Rattle.book.specs.declared.Function.{Function}
-use Rattle.book.specs.Book.{Book, no-function, boolean, relation, default, size, total, L, offset, arguments, location, function-at, place-in, place}
+use Rattle.book.specs.Book.{Program, no-function, boolean, relation, default, size, total, L, offset, arguments, location, function-at, place-in, place}
 use Rattle.book.specs.Sound.{Laid, Lawful, Argument}
 
 -- location i of function f, the functions being laid out from n on
@@ -79,11 +79,11 @@ argument-of E arity x y z k e = go (eqb arity 0) (eqb arity 1) e
 -- ---- the locations of a book
 
 -- what is known of a function's location
-pub record Spot (B : Book) (f x y : ℕ) : Type 0 where
+pub record Spot (B : Program) (f x y : ℕ) : Type 0 where
   pub where-at : place B (location B f x y) ≡ record { function = function-at B f; index = offset (B .E) (function-at B f .arity) x y }
   pub inside : location B f x y < L B
 
-module _ (B : Book) (ok : Lawful B) where
+module _ (B : Program) (ok : Lawful B) where
   pub spot : (f x y : ℕ) → f < length (B .functions) → x < B .E → y < B .E → Spot B f x y
   spot f x y h a b =
       let r = place-laid (B .E) 0 (B .functions) (ok .laid) f (offset (B .E) (function-at B f .arity) x y) h (offset-fits (B .E) (function-at B f .arity) x y a b) in

@@ -8,7 +8,7 @@ use Rattle.text.specs.Words.{Checked, good, refused, answer-of}
 use Rattle.text.specs.Text.{bad-line}
 use Rattle.text.proofs.Checks.{Ends, on, off, Any, also, bind-ends, then-ends, none-ends, must-ends, Before}
 use Rattle.book.specs.declared.Header.{Header}
-use Rattle.book.specs.Book.{Book, L}
+use Rattle.book.specs.Book.{Program, Book, L}
 use Rattle.book.specs.Lines.{first-entry, line-count}
 use Rattle.book.specs.Check.{check-header, check-present, check-surplus, check-lines, check-book}
 use Rattle.book.proofs.Accepted.{Bounded, header-bounded, book-lengths, lines-book, accepted-lines, accepted}
@@ -30,21 +30,24 @@ lines-ends h text b =
     (then-ends (none-ends OfBook 6 0 0 _ (h .nodes) (λ p k. omega arith)) (then-ends (none-ends OfBook 7 0 0 _ (h .agents) (λ p k. omega arith))
     (then-ends (none-ends OfBook 8 (first-entry h) 0 _ (h .contents) (λ p k. omega arith)) (on tt)))))))
 
--- what an accepted book's nodes and locations number at most
-pub record Fits (B : Book) : Type 0 where
+-- what the nodes and locations of an accepted book's program number at most
+pub record Fits (B : Program) : Type 0 where
   pub nodes : length (B .nodes) ≤ 1024
   pub locations : L B ≤ 65536
 
-accepted-fits : (text : List ℕ) (B : Book) → check-book text ≡ good B → Fits B
-accepted-fits text B e =
-    let r = accepted-lines text B e in
+abbrev pub FitsOf : Book → Type 0
+FitsOf b = Fits (b .program)
+
+accepted-fits : (text : List ℕ) (b : Book) → check-book text ≡ good b → FitsOf b
+accepted-fits text b e =
+    let r = accepted-lines text b e in
     let h = r .0 in
     record {
-      nodes = rw (lines-book text h B (r .2)) (omega (arith, book-lengths h text .1, header-bounded text h (r .1)));
-      locations = accepted text B e .locations;
+      nodes = rw (lines-book text h b (r .2)) (omega (arith, book-lengths h text .1, header-bounded text h (r .1)));
+      locations = accepted text b e .locations;
     }
 
-pub book-ends : (text : List ℕ) → Ends Fits OfBook (check-book text)
+pub book-ends : (text : List ℕ) → Ends FitsOf OfBook (check-book text)
 unfolding check-book check-present check-surplus
 book-ends text =
     also {S = OfBook} (bind-ends {H = Any} (header-ends text) (λ h b.
@@ -53,7 +56,7 @@ book-ends text =
     (accepted-fits text) (λ n p q r. r)
 
 -- as one of the checks before the first move
-pub book-before : (text : List ℕ) → Ends Fits Before (check-book text)
+pub book-before : (text : List ℕ) → Ends FitsOf Before (check-book text)
 book-before text = also (book-ends text) (accepted-fits text) (λ n p q r. omega arith)
 
 -- its answer fits one number
@@ -62,6 +65,6 @@ pub book-answer : (text : List ℕ) → (
     )
 book-answer text = go (check-book text) (book-ends text)
   where
-    go : (c : Checked Book) → Ends Fits OfBook c → (let a = answer-of c in (a .number ≤ 8) × (a .p < 2 ^ 24) × (a .q ≡ 0))
-    go (good B) (on g) = omega arith
+    go : (c : Checked Book) → Ends FitsOf OfBook c → (let a = answer-of c in (a .number ≤ 8) × (a .p < 2 ^ 24) × (a .q ≡ 0))
+    go (good b) (on g) = omega arith
     go (refused n p q) (off r) = omega arith

@@ -14,7 +14,7 @@ use Rattle.text.specs.Words.{if_then_else_, table}
 use Rattle.text.proofs.Words.{so-true, so-false, length-table-from, getD-table, getD-table-past}
 use Rattle.book.specs.declared.Function.{Function}
 use Rattle.book.specs.declared.Entry.{Entry}
-use Rattle.book.specs.Book.{Book, L, no-entry, true-element, boolean, relation, dynamic, defaults, enter, start, location, entry-location, function-at, entry-at, place, relation-at, dynamic-at, default-at}
+use Rattle.book.specs.Book.{Program, Book, L, no-entry, true-element, boolean, relation, dynamic, defaults, enter, start, location, entry-location, function-at, entry-at, place, relation-at, dynamic-at, default-at}
 use Rattle.book.specs.Contents.{in-bounds, in-form, least-location, rolled, untraced, bad-entry}
 use Rattle.book.specs.Sound.{Lawful, at, Argument, OnRoll, Sound}
 use Rattle.book.proofs.Places.{Spot, spot, spot-argument, roll-place, roll-location, past-roll, roll-argument, boolean-low, default-low}
@@ -22,7 +22,7 @@ use Rattle.book.proofs.Places.{Spot, spot, spot-argument, roll-place, r
 -- ---- entry i
 
 -- what check 8 shows of it
-record InForm (B : Book) (i : ℕ) (e : Entry) : Type 0 where
+record InForm (B : Program) (es : List Entry) (i : ℕ) (e : Entry) : Type 0 where
   pub known : e .function < length (B .functions)
   pub first : e .arg1 < B .E
   pub second : e .arg2 < B .E
@@ -30,10 +30,10 @@ record InForm (B : Book) (i : ℕ) (e : Entry) : Type 0 where
   pub true-only : relation (function-at B (e .function)) ≡ true → e .value ≡ true-element
   pub permanent : dynamic (function-at B (e .function)) ≡ false → (e .arg1 < B .P) × (e .arg2 < B .P) × (e .value < B .P)
   pub label : e .function ≡ 0 → B .P ≤ e .arg1
-  pub above : least-location B i ≤ entry-location B e
-  pub clear : e .function ≢ 0 → (rolled B (e .arg1) i ≡ false) × (rolled B (e .arg2) i ≡ false) × (rolled B (e .value) i ≡ false)
+  pub above : least-location B es i ≤ entry-location B e
+  pub clear : e .function ≢ 0 → (rolled es (e .arg1) i ≡ false) × (rolled es (e .arg2) i ≡ false) × (rolled es (e .value) i ≡ false)
 
-pub in-bounds-is : (B : Book) (e : Entry) → in-bounds B e ≡ true → (e .function < length (B .functions)) × (e .arg1 < B .E) × (e .arg2 < B .E) × (e .value < B .E)
+pub in-bounds-is : (B : Program) (e : Entry) → in-bounds B e ≡ true → (e .function < length (B .functions)) × (e .arg1 < B .E) × (e .arg2 < B .E) × (e .value < B .E)
 unfolding in-bounds
 in-bounds-is B e h = (
   ltb-true (e .function) (length (B .functions)) (so-true (ltb (e .function) (length (B .functions))) (in-bounds B e) h (λ q. simp q)),
@@ -59,24 +59,24 @@ module _ (P : ℕ) (e : Entry) (f : Function) (h : in-form P e f ≡ true) where
   unfolding in-form
   label-in-reserve z = leb-true P (e .arg1) (so-true (leb P (e .arg1)) (in-form P e f) h (λ q. simp (eq-eqb (e .function) 0 z, q, and-false)))
 
-untraced-is : (B : Book) (i : ℕ) → untraced B i ≡ true → entry-at B i .function ≢ 0
-    → (rolled B (entry-at B i .arg1) i ≡ false) × (rolled B (entry-at B i .arg2) i ≡ false) × (rolled B (entry-at B i .value) i ≡ false)
+untraced-is : (es : List Entry) (i : ℕ) → untraced es i ≡ true → entry-at es i .function ≢ 0
+    → (rolled es (entry-at es i .arg1) i ≡ false) × (rolled es (entry-at es i .arg2) i ≡ false) × (rolled es (entry-at es i .value) i ≡ false)
 unfolding untraced
-untraced-is B i h n =
-    let e = entry-at B i in
+untraced-is es i h n =
+    let e = entry-at es i in
     let z = ne-eqb (e .function) 0 n in (
-      so-false (rolled B (e .arg1) i) (untraced B i) h (λ q. simp (z, q)),
-      so-false (rolled B (e .arg2) i) (untraced B i) h (λ q. simp (z, q, and-false)),
-      so-false (rolled B (e .value) i) (untraced B i) h (λ q. simp (z, q, and-false)),
+      so-false (rolled es (e .arg1) i) (untraced es i) h (λ q. simp (z, q)),
+      so-false (rolled es (e .arg2) i) (untraced es i) h (λ q. simp (z, q, and-false)),
+      so-false (rolled es (e .value) i) (untraced es i) h (λ q. simp (z, q, and-false)),
     )
 
-passed : (B : Book) (i : ℕ) → bad-entry B i ≡ false → InForm B i (entry-at B i)
+passed : (B : Program) (es : List Entry) (i : ℕ) → bad-entry B es i ≡ false → InForm B es i (entry-at es i)
 unfolding bad-entry
-passed B i h =
-    let e = entry-at B i in
+passed B es i h =
+    let e = entry-at es i in
     let f = function-at B (e .function) in
-    let bounds = in-bounds-is B e (so-true (in-bounds B e) (bad-entry B i) h (λ q. simp q)) in
-    let form = so-true (in-form (B .P) e f) (bad-entry B i) h (λ q. simp (q, and-false)) in
+    let bounds = in-bounds-is B e (so-true (in-bounds B e) (bad-entry B es i) h (λ q. simp q)) in
+    let form = so-true (in-form (B .P) e f) (bad-entry B es i) h (λ q. simp (q, and-false)) in
     record {
       known = bounds .0;
       first = bounds .1;
@@ -85,18 +85,24 @@ passed B i h =
       true-only = true-in-relation (B .P) e f form;
       permanent = permanent-in-static (B .P) e f form;
       label = label-in-reserve (B .P) e f form;
-      above = leb-true (least-location B i) (entry-location B e) (so-true (leb (least-location B i) (entry-location B e)) (bad-entry B i) h (λ q. simp (q, and-false)));
-      clear = untraced-is B i (so-true (untraced B i) (bad-entry B i) h (λ q. simp (q, and-false)));
+      above = leb-true (least-location B es i) (entry-location B e) (so-true (leb (least-location B es i) (entry-location B e)) (bad-entry B es i) h (λ q. simp (q, and-false)));
+      clear = untraced-is es i (so-true (untraced es i) (bad-entry B es i) h (λ q. simp (q, and-false)));
     }
 
-module _ (B : Book) (ok : Lawful B) where
+module _ (b : Book) (ok : Lawful (b .program)) (right : (i : ℕ) → i < length (b .entries) → bad-entry (b .program) (b .entries) i ≡ false) where
+  abbrev B : Program
+  B = b .program
+
+  abbrev es : List Entry
+  es = b .entries
+
   -- ---- entry by entry
 
   -- Contents with the first i entries in: past the last of them all is default, and they say what is on the roll.
   record Entered (i : ℕ) (c : List ℕ) : Type 0 where
     pub sound : Sound B c
-    pub rest : (l : ℕ) → least-location B i ≤ l → l < L B → at c l ≡ default-at B l
-    pub roll : (x : ℕ) → OnRoll B c x → rolled B x i ≡ true
+    pub rest : (l : ℕ) → least-location B es i ≤ l → l < L B → at c l ≡ default-at B l
+    pub roll : (x : ℕ) → OnRoll B c x → rolled es x i ≡ true
 
   boolean-default : (b : Bool) → b ≡ true → boolean (if b then 1 else 0) ≡ true
   boolean-default true e = refl
@@ -132,9 +138,9 @@ module _ (B : Book) (ok : Lawful B) where
       no : (x : ℕ) → OnRoll B c x → ⊥
       no x o = omega (arith, low x, o .1)
 
-  module _ (i : ℕ) (c : List ℕ) (k : Entered i c) (form : InForm B i (entry-at B i)) where
+  module _ (i : ℕ) (c : List ℕ) (k : Entered i c) (form : InForm B es i (entry-at es i)) where
     abbrev e : Entry
-    e = entry-at B i
+    e = entry-at es i
 
     abbrev l : ℕ
     l = entry-location B e
@@ -191,7 +197,7 @@ module _ (B : Book) (ok : Lawful B) where
         (λ f. n (roll-argument B ok y j (omega (arith, q, at-roll f, form .first)) a))
         (λ f. past (form .clear f) (by-argument y j q a))
       where
-        past : (rolled B (e .arg1) i ≡ false) × (rolled B (e .arg2) i ≡ false) × (rolled B v i ≡ false) → (y ≡ e .arg1) ⊎ (y ≡ e .arg2) → ⊥
+        past : (rolled es (e .arg1) i ≡ false) × (rolled es (e .arg2) i ≡ false) × (rolled es v i ≡ false) → (y ≡ e .arg1) ⊎ (y ≡ e .arg2) → ⊥
         past u (inl z) = true≢false (sym (k .roll y p) ∙ rw z (u .0))
         past u (inr z) = true≢false (sym (k .roll y p) ∙ rw z (u .1))
 
@@ -209,7 +215,7 @@ module _ (B : Book) (ok : Lawful B) where
         go (inr p) = by-place (λ w. w ≡ default-at B j) j (λ r. absurd (not-argument y j p r n a)) (λ r. k .sound .arguments y j p h n a)
 
     -- while entries are Reserve's no value is a label
-    roll-low : (j : ℕ) → j < L B → least-location B i ≤ B .E → at c j ≤ 2
+    roll-low : (j : ℕ) → j < L B → least-location B es i ≤ B .E → at c j ≤ 2
     roll-low j h b = dite (decLt j (B .E))
         (λ q. boolean-low (at c j) (k .sound .booleans j h (rw (roll-place B ok j q, ok .reserve))))
         (λ (q : ¬ (j < B .E)). rw (k .rest j (omega arith) h) (omega (arith, default-low (place B j .function))))
@@ -246,29 +252,29 @@ module _ (B : Book) (ok : Lawful B) where
       roll = λ y o. roll y o (on-roll y o);
     }
       where
-        roll : (y : ℕ) → OnRoll B d y → ((y ≡ l) × (e .function ≡ 0)) ⊎ OnRoll B c y → (rolled B y i || eqb (e .function) 0 && eqb (e .arg1) y) ≡ true
+        roll : (y : ℕ) → OnRoll B d y → ((y ≡ l) × (e .function ≡ 0)) ⊎ OnRoll B c y → (rolled es y i || eqb (e .function) 0 && eqb (e .arg1) y) ≡ true
         roll y o (inr p) = rw (k .roll y p)
-        roll y o (inl (z, q)) = rw (eq-eqb (e .function) 0 q, eq-eqb (e .arg1) y (sym (z ∙ reserved (rw z at (o .0)) .1))) (or-true (rolled B y i))
+        roll y o (inl (z, q)) = rw (eq-eqb (e .function) 0 q, eq-eqb (e .arg1) y (sym (z ∙ reserved (rw z at (o .0)) .1))) (or-true (rolled es y i))
 
   -- ---- all of them
 
-  -- es are the entries from i on
-  all-entered : (es : List Entry) (i : ℕ) (c : List ℕ) → i + length es ≡ length (B .entries) → ((j : ℕ) → getD es j no-entry ≡ entry-at B (i + j))
-      → Entered i c → Sound B (enter B es c)
+  -- xs are the entries from i on
+  all-entered : (xs : List Entry) (i : ℕ) (c : List ℕ) → i + length xs ≡ length es → ((j : ℕ) → getD xs j no-entry ≡ entry-at es (i + j))
+      → Entered i c → Sound B (enter B xs c)
   unfolding enter
   all-entered [] i c h g k = k .sound
-  all-entered (e ∷ es) i c h g k =
+  all-entered (e ∷ xs) i c h g k =
       let z : i + 0 ≡ i = omega arith in
-      let q : e ≡ entry-at B i = g 0 ∙ ap (λ (j : ℕ). entry-at B j) z in
-      all-entered es (suc i) (set c (entry-location B e) (e .value)) (omega arith) (λ j. g (suc j) ∙ ap (λ (n : ℕ). entry-at B n) (step j))
-      (subst (λ (x : Entry). Entered (suc i) (set c (entry-location B x) (x .value))) (sym q) (one-entered i c k (passed B i (ok .entries i (omega arith)))))
+      let q : e ≡ entry-at es i = g 0 ∙ ap (λ (j : ℕ). entry-at es j) z in
+      all-entered xs (suc i) (set c (entry-location B e) (e .value)) (omega arith) (λ j. g (suc j) ∙ ap (λ (n : ℕ). entry-at es n) (step j))
+      (subst (λ (x : Entry). Entered (suc i) (set c (entry-location B x) (x .value))) (sym q) (one-entered i c k (passed B es i (right i (omega arith)))))
     where
       step : (j : ℕ) → i + suc j ≡ suc i + j
       step j = omega arith
 
-  pub start-sound : Sound B (start B)
+  pub start-sound : Sound B (start b)
   unfolding start
-  start-sound = all-entered (B .entries) 0 (defaults B) (omega arith) (λ j. ap (λ (n : ℕ). entry-at B n) (step j)) none-entered
+  start-sound = all-entered es 0 (defaults B) (omega arith) (λ j. ap (λ (n : ℕ). entry-at es n) (step j)) none-entered
     where
       step : (j : ℕ) → j ≡ 0 + j
       step j = omega arith

@@ -12,7 +12,7 @@ use borrow.Author.Tests.{eqb-true, eq-eqb, ltb-true, leb-true, lt-ltb, le-ltb}
 use Rattle.text.specs.declared.Found.the-variants.{Nowhere}
 use Rattle.text.specs.Words.{has, least}
 use Rattle.text.proofs.Words.{and-cases, or-cases, or-no, so-true, so-false, least-none}
-use Rattle.book.specs.Book.{Book, L, true-element, boolean, place, relation-at, dynamic-at, default-at, arguments-at}
+use Rattle.book.specs.Book.{Program, L, true-element, boolean, place, relation-at, dynamic-at, default-at, arguments-at}
 use Rattle.book.specs.Contents.{on-roll, some-on-roll, all-permanent, bad-value}
 use Rattle.book.specs.Sound.{Lawful, at, Argument, OnRoll, Sound}
 use Rattle.book.proofs.Places.{roll-place, roll-inside, roll-argument, boolean-low, default-low}
@@ -26,7 +26,7 @@ all-permanent-is P (y ∷ ys) x e h = go (or-cases (eqb y x) (has ys x) h) (all-
     go (inl q) r = omega (arith, eqb-true y x q, ltb-true y P (and-cases (ltb y P) (all-permanent P ys) e .0))
     go (inr q) r = r q
 
-some-on-roll-is : (B : Book) (c xs : List ℕ) (x : ℕ) → some-on-roll B c xs ≡ false → has xs x ≡ true → on-roll B c x ≡ false
+some-on-roll-is : (B : Program) (c xs : List ℕ) (x : ℕ) → some-on-roll B c xs ≡ false → has xs x ≡ true → on-roll B c x ≡ false
 unfolding some-on-roll
 some-on-roll-is B c [] x e h = absurd (false≢true h)
 some-on-roll-is B c (y ∷ ys) x e h = go (or-cases (eqb y x) (has ys x) h) (some-on-roll-is B c ys x (or-no (on-roll B c y) (some-on-roll B c ys) e .1))
@@ -35,7 +35,7 @@ some-on-roll-is B c (y ∷ ys) x e h = go (or-cases (eqb y x) (has ys x) h) (som
     go (inl q) r = rw (← eqb-true y x q) (or-no (on-roll B c y) (some-on-roll B c ys) e .0)
     go (inr q) r = r q
 
-module _ (B : Book) (ok : Lawful B) (c : List ℕ) where
+module _ (B : Program) (ok : Lawful B) (c : List ℕ) where
   rolled : (x : ℕ) → OnRoll B c x → on-roll B c x ≡ true
   rolled x (h, e) = rw (lt-ltb x (B .E) h, eq-eqb (at c x) true-element e)
 

@@ -8,7 +8,7 @@ use lib.Dec.{eqb, ltb, leb}
 use lib.ListN.{length, getD, set, replicate}
 use Rattle.text.specs.Words.{if_then_else_}
 use Rattle.book.specs.declared.Node.{Node}
-use Rattle.book.specs.Book.{Book, node-at}
+use Rattle.book.specs.Book.{Program, node-at}
 use Rattle.book.specs.Kinds.{is-node, is-binder, variable-kind, forall-kind}
 
 abbrev pub most-depth : ℕ
@@ -38,7 +38,7 @@ unfoldable pub hand : Node → ℕ → ℕ → List ℕ → List ℕ
 hand y v w s = put-if (is-node (y .kind) 2) (y .c) w (put-if (is-node (y .kind) 1) (y .b) v (put-if (is-node (y .kind) 0) (y .a) v s))
 
 -- the highest k nodes have handed down: from what a node has, `ab` says what its operands a and b get, and `c` what its c gets
-unfoldable pub handed : Book → (Node → ℕ → ℕ) → (Node → ℕ → ℕ) → ℕ → List ℕ → List ℕ
+unfoldable pub handed : Program → (Node → ℕ → ℕ) → (Node → ℕ → ℕ) → ℕ → List ℕ → List ℕ
 handed B ab c zero s = s
 handed B ab c (suc k) s =
     let t = handed B ab c k s in
@@ -62,13 +62,13 @@ forall-more y v = if eqb (y .kind) forall-kind then v + 1 else v
 unfoldable pub bound-more : Node → ℕ → ℕ
 bound-more y s = if is-binder (y .kind) then bitOr s (bit-of (y .a)) else s
 
-abbrev pub depths : Book → List ℕ
+abbrev pub depths : Program → List ℕ
 depths B = handed B deeper deeper (length (B .nodes)) (replicate (length (B .nodes)) 1)
 
-abbrev pub foralls : Book → List ℕ
+abbrev pub foralls : Program → List ℕ
 foralls B = handed B as-it-is forall-more (length (B .nodes)) (replicate (length (B .nodes)) 0)
 
-abbrev pub bounds : Book → List ℕ
+abbrev pub bounds : Program → List ℕ
 bounds B = handed B as-it-is bound-more (length (B .nodes)) (replicate (length (B .nodes)) 0)
 
 -- ---- at fault: an unbound variable node, a binder of a variable already bound, a node too deep, a third nested forall
@@ -80,8 +80,8 @@ misplaced y depth foralls bound =
     || ltb most-depth depth
     || eqb (y .kind) forall-kind && leb most-foralls foralls
 
-abbrev pub misplaced-by : Book → List ℕ → List ℕ → List ℕ → ℕ → Bool
+abbrev pub misplaced-by : Program → List ℕ → List ℕ → List ℕ → ℕ → Bool
 misplaced-by B ds fs bs n = misplaced (node-at B n) (getD ds n 0) (getD fs n 0) (getD bs n 0)
 
-abbrev pub bad-around : Book → ℕ → Bool
+abbrev pub bad-around : Program → ℕ → Bool
 bad-around B = misplaced-by B (depths B) (foralls B) (bounds B)

@@ -9,7 +9,7 @@ use Rattle.text.specs.Refusals.{ill-formed, book-text, header-bounds, function-
 use Rattle.text.specs.Text.{line-length, bad-line, line}
 use Rattle.book.specs.declared.Header.{Header}
 use Rattle.book.specs.Book.{Book, L}
-use Rattle.book.specs.Lines.{header-of, bad-field, most-locations, first-function, first-agent, first-entry, line-count, book-of, bad-function, bad-node, bad-agent}
+use Rattle.book.specs.Lines.{header-of, bad-field, most-locations, first-function, first-agent, first-entry, line-count, program-of, entries-of, book-of, bad-function, bad-node, bad-agent}
 use Rattle.book.specs.Use.{bad-use}
 use Rattle.book.specs.Around.{bad-around}
 use Rattle.book.specs.Contents.{bad-entry}
@@ -32,15 +32,15 @@ check-surplus h text = must (leb (length text) (line-length * line-count h)) ill
 -- 4, 3 for L, 5 to 8
 unfoldable pub check-lines : Header → List ℕ → Checked Book
 check-lines h text = do
-  let B = book-of h text
+  let B = program-of h text
   none-at function-line 0 0 (least (λ f. bad-function (line text (first-function + f)) f) (h .functions))
   must (leb (L B) most-locations) header-bounds 8 0
   none-at node-line 0 0 (least (bad-node B) (h .nodes))
   none-at node-use 0 0 (least (bad-use B) (h .nodes))
   none-at node-use 0 0 (least (bad-around B) (h .nodes))
   none-at agent-line 0 0 (least (λ i. bad-agent B (line text (first-agent h + i)) i) (h .agents))
-  none-at contents-rule (first-entry h) 0 (least (bad-entry B) (h .contents))
-  good B
+  none-at contents-rule (first-entry h) 0 (least (bad-entry B (entries-of h text)) (h .contents))
+  good (book-of h text)
 
 unfoldable pub check-book : List ℕ → Checked Book
 check-book text = do

@@ -6,15 +6,15 @@ use Prim.Native.Nat.{ℕ}
 use lib.ListN.{length}
 use Rattle.text.specs.declared.Found.the-variants.{Nowhere}
 use Rattle.text.specs.Words.{least, good}
-use Rattle.book.specs.Book.{Book, L, start}
+use Rattle.book.specs.Book.{Program, Book, L, start}
 use Rattle.book.specs.Contents.{bad-value}
 use Rattle.book.specs.Check.{check-book}
 use Rattle.book.specs.Sound.{Lawful, Sound}
 
--- a book that passes the checks has what checks 3 to 8 say, and its start is sound, the roll rule with it
+-- the program of a book that passes the checks has what checks 3 to 7 say, and the book's start is sound, the roll rule with it
 abbrev pub AcceptedBook : Type 0
-AcceptedBook = (text : List ℕ) (B : Book) → check-book text ≡ good B → Lawful B × Sound B (start B)
+AcceptedBook = (text : List ℕ) (b : Book) → check-book text ≡ good b → Lawful (b .program) × Sound (b .program) (start b)
 
 -- a lent table that passes 8 is sound
 abbrev pub AcceptedTable : Type 0
-AcceptedTable = (B : Book) → Lawful B → (c : List ℕ) → length c ≡ L B → least (bad-value B c) (L B) ≡ Nowhere → Sound B c
+AcceptedTable = (B : Program) → Lawful B → (c : List ℕ) → length c ≡ L B → least (bad-value B c) (L B) ≡ Nowhere → Sound B c

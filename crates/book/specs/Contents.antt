@@ -8,12 +8,12 @@ use lib.ListN.{length, getD}
 use Rattle.text.specs.Words.{if_then_else_, some-below}
 use Rattle.book.specs.declared.Function.{Function}
 use Rattle.book.specs.declared.Entry.{Entry}
-use Rattle.book.specs.Book.{Book, true-element, boolean, relation, dynamic, default, function-at, entry-at, entry-location, reserve, place, dynamic-at, relation-at, default-at, arguments-at}
+use Rattle.book.specs.Book.{Program, true-element, boolean, relation, dynamic, default, function-at, entry-at, entry-location, reserve, place, dynamic-at, relation-at, default-at, arguments-at}
 
--- ---- a contents line: entry i of the book
+-- ---- a contents line: entry i of those of the book
 
 -- a function, and elements for its arguments and value
-unfoldable pub in-bounds : Book → Entry → Bool
+unfoldable pub in-bounds : Program → Entry → Bool
 in-bounds B e = ltb (e .function) (length (B .functions)) && ltb (e .arg1) (B .E) && ltb (e .arg2) (B .E) && ltb (e .value) (B .E)
 
 -- unused arguments are 0; the value is true in a relation and not undef elsewhere, so never the default; a static function has no label;
@@ -26,40 +26,40 @@ in-form P e f =
     && (not (eqb (e .function) 0) || leb P (e .arg1))
 
 -- one more than the location of the entry before
-unfoldable pub least-location : Book → ℕ → ℕ
-least-location B zero = 0
-least-location B (suc i) = entry-location B (entry-at B i) + 1
+unfoldable pub least-location : Program → List Entry → ℕ → ℕ
+least-location B es zero = 0
+least-location B es (suc i) = entry-location B (entry-at es i) + 1
 
 -- one of the first i entries puts x on the roll
-unfoldable pub rolled : Book → ℕ → ℕ → Bool
-rolled B x zero = false
-rolled B x (suc i) = rolled B x i || eqb (entry-at B i .function) 0 && eqb (entry-at B i .arg1) x
+unfoldable pub rolled : List Entry → ℕ → ℕ → Bool
+rolled es x zero = false
+rolled es x (suc i) = rolled es x i || eqb (entry-at es i .function) 0 && eqb (entry-at es i .arg1) x
 
 -- it is no trace of a label that an earlier entry put on the roll. An unused argument is 0, which is no label
-unfoldable pub untraced : Book → ℕ → Bool
-untraced B i =
-    let e = entry-at B i in
-    eqb (e .function) 0 || not (rolled B (e .arg1) i) && not (rolled B (e .arg2) i) && not (rolled B (e .value) i)
+unfoldable pub untraced : List Entry → ℕ → Bool
+untraced es i =
+    let e = entry-at es i in
+    eqb (e .function) 0 || not (rolled es (e .arg1) i) && not (rolled es (e .arg2) i) && not (rolled es (e .value) i)
 
 -- entry i is at fault, judged by itself and those before it
-unfoldable pub bad-entry : Book → ℕ → Bool
-bad-entry B i =
-    let e = entry-at B i in
-    not (in-bounds B e && (in-form (B .P) e (function-at B (e .function)) && leb (least-location B i) (entry-location B e) && untraced B i))
+unfoldable pub bad-entry : Program → List Entry → ℕ → Bool
+bad-entry B es i =
+    let e = entry-at es i in
+    not (in-bounds B e && (in-form (B .P) e (function-at B (e .function)) && leb (least-location B es i) (entry-location B e) && untraced es i))
 
 -- ---- a location of lent contents c
 
 -- x is on the roll
-abbrev pub on-roll : Book → List ℕ → ℕ → Bool
+abbrev pub on-roll : Program → List ℕ → ℕ → Bool
 on-roll B c x = ltb x (B .E) && eqb (getD c (reserve x) 0) true-element
 
 -- one of them is on the roll
-unfoldable pub some-on-roll : Book → List ℕ → List ℕ → Bool
+unfoldable pub some-on-roll : Program → List ℕ → List ℕ → Bool
 some-on-roll B c [] = false
 some-on-roll B c (x ∷ xs) = on-roll B c x || some-on-roll B c xs
 
 -- location l is a trace of a label on the roll: it has one as argument and is not at its default, or it holds one
-abbrev pub roll-trace : Book → List ℕ → ℕ → Bool
+abbrev pub roll-trace : Program → List ℕ → ℕ → Bool
 roll-trace B c l =
     let v = getD c l 0 in
     on-roll B c v || not (eqb v (default-at B l)) && some-on-roll B c (arguments-at B l)
@@ -70,7 +70,7 @@ all-permanent P [] = true
 all-permanent P (x ∷ xs) = ltb x P && all-permanent P xs
 
 -- Location l is at fault. The first E locations are Reserve's own: they hold for labels only, and are no traces
-unfoldable pub bad-value : Book → List ℕ → ℕ → Bool
+unfoldable pub bad-value : Program → List ℕ → ℕ → Bool
 bad-value B c l =
     let v = getD c l 0 in
     not

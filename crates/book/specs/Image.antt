@@ -1,5 +1,5 @@
--- The image of a book, which the code holds: rows of four numbers. Rows 0 and 1 are `E P F N` and `A C L 0`; function f is row 2 + f (first, arity,
--- kind), agent i row 34 + i (root, element), node n row 50 + n (kind, a, b, c). A count past its bound counts as the bound: every image holds a book.
+-- The image of a program, which the code holds: rows of four numbers. Rows 0 and 1 are `E P F N` and `A C L 0`; function f is row 2 + f (first, arity,
+-- kind), agent i row 34 + i (root, element), node n row 50 + n (kind, a, b, c). A count past its bound counts as the bound: every image holds a program.
 use mathlib.Core.Path.{_≡_}
 use mathlib.Core.List.{List}
 use Prim.Native.Nat.{ℕ, zero, suc, _+_, _*_, _≤_}
@@ -10,9 +10,8 @@ use Rattle.text.specs.Words.{if_then_else_, table}
 use Rattle.text.specs.Text.{line}
 use Rattle.book.specs.declared.Header.{Header}
 use Rattle.book.specs.declared.Function.{Function}
-use Rattle.book.specs.declared.Entry.{Entry}
-use Rattle.book.specs.Book.{Book, L, size}
-use Rattle.book.specs.Lines.{node-of, agent-of, book-of}
+use Rattle.book.specs.Book.{Program, L, size}
+use Rattle.book.specs.Lines.{node-of, agent-of, program-of}
 
 abbrev pub image-length : ℕ
 image-length = 4296
@@ -29,32 +28,31 @@ capped n most = if ltb n most then n else most
 abbrev pub function-of : Line → Function
 function-of l = record { first = l .a; arity = l .b; kind = l .c }
 
--- the book that an image holds, with these entries
-unfoldable pub book-in : List ℕ → List Entry → Book
-book-in m es =
+-- the program that an image holds
+unfoldable pub program-in : List ℕ → Program
+program-in m =
     record {
       E = capped (word m 0) 10000;
       P = word m 1;
       functions = table (λ f. function-of (row-in m (2 + f))) (capped (word m 2) 32);
       nodes = table (λ n. node-of (row-in m (50 + n))) (capped (word m 3) 1024);
       agents = table (λ i. agent-of (row-in m (34 + i))) (capped (word m 4) 16);
-      entries = es;
     }
 
--- the image is that of the book that a text says
+-- the image is that of the program that a text says
 pub record Holds (m : List ℕ) (h : Header) (text : List ℕ) : Type 0 where
-  pub book : book-in m (book-of h text .entries) ≡ book-of h text
+  pub program : program-in m ≡ program-of h text
   pub contents : word m 5 ≡ h .contents
-  pub locations : word m 6 ≡ L (book-of h text)
+  pub locations : word m 6 ≡ L (program-of h text)
 
--- the counts of an image are the book's as they stand, none of them past its bound
-pub record Counts (m : List ℕ) (B : Book) : Type 0 where
+-- the counts of an image are the program's as they stand, none of them past its bound
+pub record Counts (m : List ℕ) (B : Program) : Type 0 where
   pub elements : word m 0 ≡ B .E
   pub functions : word m 2 ≡ length (B .functions)
   pub nodes : word m 3 ≡ length (B .nodes)
   pub agents : word m 4 ≡ length (B .agents)
 
--- a header whose book has room in an image
+-- a header whose program has room in an image
 pub record Room (h : Header) : Type 0 where
   pub elements : h .elements ≤ 10000
   pub functions : h .functions ≤ 32

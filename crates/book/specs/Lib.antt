@@ -1,5 +1,4 @@
 pub mod Book
-pub mod Bare
 pub mod Kinds
 pub mod Lines
 pub mod Use

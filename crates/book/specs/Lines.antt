@@ -13,7 +13,7 @@ use Rattle.book.specs.declared.Function.{Function}
 use Rattle.book.specs.declared.Node.{Node}
 use Rattle.book.specs.declared.Agent.{Agent}
 use Rattle.book.specs.declared.Entry.{Entry}
-use Rattle.book.specs.Book.{Book, size, relation, dynamic, dynamic-relation, function-at, node-at, agent-at}
+use Rattle.book.specs.Book.{Program, Book, size, relation, dynamic, dynamic-relation, function-at, node-at, agent-at}
 use Rattle.book.specs.Kinds.{is-term, is-rule, names-location, variables, sort, unused, permanent, variable, function0, function1, function2, universe, dynamic-universe, term, rule, target}
 
 -- ---- 3: the header
@@ -72,16 +72,21 @@ agent-of l = record { root = l .a; element = l .b }
 abbrev pub entry-of : Line → Entry
 entry-of l = record { function = l .a; arg1 = l .b; arg2 = l .c; value = l .d }
 
-unfoldable pub book-of : Header → List ℕ → Book
-book-of h text =
+unfoldable pub program-of : Header → List ℕ → Program
+program-of h text =
     record {
       E = h .elements;
       P = h .permanent;
       functions = lay-out (h .elements) 0 (table (λ i. line text (first-function + i)) (h .functions));
       nodes = table (λ i. node-of (line text (first-node h + i))) (h .nodes);
       agents = table (λ i. agent-of (line text (first-agent h + i))) (h .agents);
-      entries = table (λ i. entry-of (line text (first-entry h + i))) (h .contents);
     }
+
+unfoldable pub entries-of : Header → List ℕ → List Entry
+entries-of h text = table (λ i. entry-of (line text (first-entry h + i))) (h .contents)
+
+abbrev pub book-of : Header → List ℕ → Book
+book-of h text = record { program = program-of h text; entries = entries-of h text }
 
 -- ---- 4: function line f is at fault
 
@@ -94,11 +99,11 @@ bad-function l f =
 -- ---- 5: node n is at fault
 
 -- x names a function that nodes may name: any but Reserve
-abbrev pub named : Book → ℕ → Bool
+abbrev pub named : Program → ℕ → Bool
 named B x = ltb 0 x && ltb x (length (B .functions))
 
 -- x fits the sort s as an operand of node n
-unfoldable pub fits : Book → ℕ → ℕ → ℕ → Bool
+unfoldable pub fits : Program → ℕ → ℕ → ℕ → Bool
 fits B n s x =
     let f = function-at B x in
     let y = node-at B x in
@@ -114,14 +119,14 @@ fits B n s x =
     || eqb s rule && ltb x n && is-rule (y .kind)
     || eqb s target && ltb x n && names-location (y .kind) && dynamic (function-at B (y .a))
 
-unfoldable pub bad-node : Book → ℕ → Bool
+unfoldable pub bad-node : Program → ℕ → Bool
 bad-node B n =
     let y = node-at B n in
     not (fits B n (sort (y .kind) 0) (y .a) && fits B n (sort (y .kind) 1) (y .b) && fits B n (sort (y .kind) 2) (y .c))
 
 -- ---- 7: agent i, whose line is l, is at fault: its root is no rule, or its element is no permanent one or not above that of the agent before
 
-unfoldable pub bad-agent : Book → Line → ℕ → Bool
+unfoldable pub bad-agent : Program → Line → ℕ → Bool
 bad-agent B l i =
     not
     (ltb (l .a) (length (B .nodes)) && is-rule (node-at B (l .a) .kind) && ltb (l .b) (B .P)

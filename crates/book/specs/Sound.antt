@@ -1,4 +1,4 @@
--- What a book that passes its checks has, and what all contents of a run have, the roll rule with it (01, "Elements, functions, locations").
+-- What the program of a book that passes its checks has, and what all contents of a run have, the roll rule with it (01, "Elements, functions, locations").
 use mathlib.Core.Path.{_≡_}
 use mathlib.Core.Logic.{_≢_}
 use mathlib.Core.Bool.{true, false}
@@ -7,21 +7,20 @@ use Prim.Native.Nat.{ℕ, _+_, _≤_, _<_}
 use lib.ListN.{length, getD}
 use Rattle.text.specs.Words.{has}
 use Rattle.book.specs.declared.Function.{Function}
-use Rattle.book.specs.Book.{Book, L, size, true-element, boolean, function-at, node-at, agent-at, relation-at, dynamic-at, default-at, arguments-at}
+use Rattle.book.specs.Book.{Program, L, size, true-element, boolean, function-at, node-at, agent-at, relation-at, dynamic-at, default-at, arguments-at}
 use Rattle.book.specs.Kinds.{is-rule}
 use Rattle.book.specs.Lines.{bad-node}
 use Rattle.book.specs.Use.{bad-use}
 use Rattle.book.specs.Around.{bad-around}
-use Rattle.book.specs.Contents.{bad-entry}
 
 -- functions have their locations one after the other, from that number on
 abbrev pub Laid : ℕ → ℕ → List Function → Type 0
 Laid E n [] = Unit {0}
 Laid E n (f ∷ fs) = (f .first ≡ n) × Laid E (n + size E (f .arity)) fs
 
--- ---- what checks 3 to 8 show of a book
+-- ---- what checks 3 to 7 show of a book's program
 
-pub record Lawful (B : Book) : Type 0 where
+pub record Lawful (B : Program) : Type 0 where
   pub low : 4 ≤ B .P
   pub high : B .P ≤ B .E
   pub elements : B .E ≤ 10000
@@ -35,7 +34,6 @@ pub record Lawful (B : Book) : Type 0 where
   pub around : (n : ℕ) → n < length (B .nodes) → bad-around B n ≡ false
   pub roots : (k : ℕ) → k < length (B .agents) → (agent-at B k .root < length (B .nodes)) × (is-rule (node-at B (agent-at B k .root) .kind) ≡ true)
   pub agents : (k : ℕ) → agent-at B k .element < B .P
-  pub entries : (i : ℕ) → i < length (B .entries) → bad-entry B i ≡ false
 
 -- ---- what contents have
 
@@ -44,17 +42,17 @@ abbrev pub at : List ℕ → ℕ → ℕ
 at c l = getD c l 0
 
 -- location l has x as argument
-abbrev pub Argument : Book → ℕ → ℕ → Type 0
+abbrev pub Argument : Program → ℕ → ℕ → Type 0
 Argument B x l = has (arguments-at B l) x ≡ true
 
 -- x is on the roll, 01's word for Reserve
-abbrev pub OnRoll : Book → List ℕ → ℕ → Type 0
+abbrev pub OnRoll : Program → List ℕ → ℕ → Type 0
 OnRoll B c x = (x < B .E) × (at c x ≡ true-element)
 
 -- Every location has a value, a relation only true or false; static functions are non-default only at permanent arguments, with permanent values;
 -- and the roll rule: Reserve holds for labels only, a label in it has the default at every other location with it as argument, and no location
 -- holds it. (Such a location not at its default, or one that holds the label, is what 01 calls a trace.)
-pub record Sound (B : Book) (c : List ℕ) : Type 0 where
+pub record Sound (B : Program) (c : List ℕ) : Type 0 where
   pub long : length c ≡ L B
   pub small : (l : ℕ) → at c l < B .E
   pub booleans : (l : ℕ) → l < L B → relation-at B l ≡ true → boolean (at c l) ≡ true

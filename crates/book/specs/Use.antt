@@ -5,11 +5,11 @@ use lib.Dec.{eqb}
 use lib.ListN.{length}
 use Rattle.text.specs.Words.{one-if, some-below}
 use Rattle.book.specs.declared.Node.{Node}
-use Rattle.book.specs.Book.{Book, node-at, agent-at}
+use Rattle.book.specs.Book.{Program, node-at, agent-at}
 use Rattle.book.specs.Kinds.{is-node}
 
 -- an agent line names n as its root, whether or not the line itself is at fault
-abbrev pub is-root : Book → ℕ → Bool
+abbrev pub is-root : Program → ℕ → Bool
 is-root B n = some-below (λ i. eqb (agent-at B i .root) n) (length (B .agents))
 
 -- in how many operand places of node y stands n
@@ -17,9 +17,9 @@ abbrev pub places : Node → ℕ → ℕ
 places y n = one-if (is-node (y .kind) 0 && eqb (y .a) n) + one-if (is-node (y .kind) 1 && eqb (y .b) n) + one-if (is-node (y .kind) 2 && eqb (y .c) n)
 
 -- and of the first m nodes
-unfoldable pub uses : Book → ℕ → ℕ → ℕ
+unfoldable pub uses : Program → ℕ → ℕ → ℕ
 uses B n zero = 0
 uses B n (suc m) = uses B n m + places (node-at B m) n
 
-unfoldable pub bad-use : Book → ℕ → Bool
+unfoldable pub bad-use : Program → ℕ → Bool
 bad-use B n = not (eqb (one-if (is-root B n) + uses B n (length (B .nodes))) 1)

@@ -16,15 +16,14 @@ use Rattle.text.specs.Text.{line, bad-line}
 use Rattle.text.proofs.Words.{length-table-from, least-here, least-same}
 use Rattle.book.specs.declared.Header.{Header}
 use Rattle.book.specs.declared.Entry.{Entry}
-use Rattle.book.specs.Book.{Book, L}
-use Rattle.book.specs.Lines.{header-of, bad-field, first-entry, book-of, fits, bad-node, bad-agent}
+use Rattle.book.specs.Book.{Program, Book, L}
+use Rattle.book.specs.Lines.{header-of, bad-field, first-entry, program-of, entries-of, bad-node, bad-agent}
 use Rattle.book.specs.Use.{bad-use}
 use Rattle.book.specs.Around.{bad-around}
 use Rattle.book.specs.Contents.{bad-entry}
 use Rattle.book.specs.Check.{check-header, check-present, check-surplus, check-lines, check-book}
-use Rattle.book.specs.Image.{book-in, Holds, Counts, Room}
+use Rattle.book.specs.Image.{word, program-in, Holds, Counts, Room}
 use Rattle.book.proofs.Accepted.{header-bounded, lines-book}
-use Rattle.book.proofs.Bare.{bare-image, bad-use-bare, bad-around-bare}
 use Rattle.contents.specs.Roll.{entries-from}
 use Rattle.book_check.specs.Opened.{Opened}
 use Rattle.book_check.specs.Chain.{refusal, from-contents, from-agents, from-around, from-use, from-nodes, from-locations, from-functions, from-surplus, from-present, from-header}
@@ -74,12 +73,11 @@ module _ (b : Bool) (n p : ℕ) (d : Checked Book) (m : List ℕ) where
   unfolding must _>>_
   opened-unmet e = rw e (λ B q. let z : _≡_ {A = ℕ} 0 1 = cc in absurd (omega arith))
 
--- an image that holds the text's book holds the book accepted
+-- an image that holds the text's program holds that of the book accepted
 pub opened-lines :
-    (m : List ℕ) (h : Header) (text : List ℕ) → Holds m h text → Counts m (book-of h text) → Opened m (check-lines h text)
-opened-lines m h text holds counts B e =
-    let q = sym (lines-book text h B e) in
-    (subst (λ (X : Book). book-in m (X .entries) ≡ X) q (holds .book), holds .locations ∙ ap (λ (X : Book). L X) q, subst (Counts m) q counts)
+    (m : List ℕ) (h : Header) (text : List ℕ) → Holds m h text → Counts m (program-of h text) → Opened m (check-lines h text)
+opened-lines m h text holds counts b e =
+    subst (λ (x : Book). (program-in m ≡ x .program) × (word m 6 ≡ L (x .program)) × Counts m (x .program)) (sym (lines-book text h b e)) (holds .program, holds .locations, counts)
 
 -- the length of an array that is lent
 pub unmapped : (A B : Type 0) (f : A → B) (l : List A) (n : ℕ) → length (map f l) ≡ n → length l ≡ n
@@ -126,56 +124,32 @@ header-room text p q =
       contents = b .contents;
     }
 
--- ---- the faults of an image that holds the text's book are those of the book
-
-use-same : (m : List ℕ) (es : List Entry) (n : ℕ) → bad-use (book-in m []) n ≡ bad-use (book-in m es) n
-use-same m es n = ap (λ (B : Book). bad-use B n) (sym (bare-image m es)) ∙ bad-use-bare (book-in m es) n
-
-around-same : (m : List ℕ) (es : List Entry) (n : ℕ) → bad-around (book-in m []) n ≡ bad-around (book-in m es) n
-around-same m es n = ap (λ (B : Book). bad-around B n) (sym (bare-image m es)) ∙ bad-around-bare (book-in m es) n
+-- ---- the faults of an image that holds the text's program are those of the program
 
 module _ (m : List ℕ) (h : Header) (text : List ℕ) (holds : Holds m h text) where
-  nodes-count : length (book-of h text .nodes) ≡ h .nodes
-  unfolding book-of
+  nodes-count : length (program-of h text .nodes) ≡ h .nodes
+  unfolding program-of
   nodes-count = length-table-from _ 0 (h .nodes)
 
-  nodes-same : (es : List Entry) → length (book-in m [] .nodes) ≡ length (book-in m es .nodes)
-  unfolding book-in
-  nodes-same es = refl
-
-  pub nodes-held : least (bad-node (book-in m [])) (h .nodes) ≡ least (bad-node (book-of h text)) (h .nodes)
-  unfolding bad-node fits book-in
-  nodes-held = ap (λ (B : Book). least (bad-node B) (h .nodes)) (holds .book)
+  pub nodes-held : least (bad-node (program-in m)) (h .nodes) ≡ least (bad-node (program-of h text)) (h .nodes)
+  nodes-held = ap (λ (B : Program). least (bad-node B) (h .nodes)) (holds .program)
 
   pub agents-held :
-      (first : ℕ) → least (λ i. bad-agent (book-in m []) (line text (first + i)) i) (h .agents)
-      ≡ least (λ i. bad-agent (book-of h text) (line text (first + i)) i) (h .agents)
-  unfolding bad-agent book-in
-  agents-held first = ap (λ (B : Book). least (λ i. bad-agent B (line text (first + i)) i) (h .agents)) (holds .book)
+      (first : ℕ) → least (λ i. bad-agent (program-in m) (line text (first + i)) i) (h .agents)
+      ≡ least (λ i. bad-agent (program-of h text) (line text (first + i)) i) (h .agents)
+  agents-held first = ap (λ (B : Program). least (λ i. bad-agent B (line text (first + i)) i) (h .agents)) (holds .program)
 
-  pub use-held : least (bad-use (book-in m [])) (length (book-in m [] .nodes)) ≡ least (bad-use (book-of h text)) (h .nodes)
-  use-held =
-      let es : List Entry = book-of h text .entries in
-      let N : ℕ = length (book-in m [] .nodes) in
-      least-same (bad-use (book-in m [])) (bad-use (book-in m es)) N (λ i l. use-same m es i)
-      ∙ ap (least (bad-use (book-in m es))) (nodes-same es)
-      ∙ ap (λ (B : Book). least (bad-use B) (length (B .nodes))) (holds .book)
-      ∙ ap (least (bad-use (book-of h text))) nodes-count
+  pub use-held : least (bad-use (program-in m)) (length (program-in m .nodes)) ≡ least (bad-use (program-of h text)) (h .nodes)
+  use-held = ap (λ (B : Program). least (bad-use B) (length (B .nodes))) (holds .program) ∙ ap (least (bad-use (program-of h text))) nodes-count
 
-  pub around-held : least (bad-around (book-in m [])) (length (book-in m [] .nodes)) ≡ least (bad-around (book-of h text)) (h .nodes)
-  around-held =
-      let es : List Entry = book-of h text .entries in
-      let N : ℕ = length (book-in m [] .nodes) in
-      least-same (bad-around (book-in m [])) (bad-around (book-in m es)) N (λ i l. around-same m es i)
-      ∙ ap (least (bad-around (book-in m es))) (nodes-same es)
-      ∙ ap (λ (B : Book). least (bad-around B) (length (B .nodes))) (holds .book)
-      ∙ ap (least (bad-around (book-of h text))) nodes-count
+  pub around-held : least (bad-around (program-in m)) (length (program-in m .nodes)) ≡ least (bad-around (program-of h text)) (h .nodes)
+  around-held = ap (λ (B : Program). least (bad-around B) (length (B .nodes))) (holds .program) ∙ ap (least (bad-around (program-of h text))) nodes-count
 
   pub contents-held :
-      least (bad-entry (book-in m (entries-from text (first-entry h) (h .contents)))) (h .contents) ≡ least (bad-entry (book-of h text)) (h .contents)
-  unfolding book-of
-  contents-held = ap (λ (B : Book). least (bad-entry B) (h .contents)) (holds .book)
+      least (bad-entry (program-in m) (entries-from text (first-entry h) (h .contents))) (h .contents) ≡ least (bad-entry (program-of h text) (entries-of h text)) (h .contents)
+  unfolding entries-of
+  contents-held = ap (λ (B : Program). least (bad-entry B (entries-of h text)) (h .contents)) (holds .program)
 
   -- a place found among the contents lines is that of a line of the text
-  pub contents-place : (p : ℕ) → least (bad-entry (book-of h text)) (h .contents) ≡ Here p → p < h .contents
-  contents-place p e = least-here (bad-entry (book-of h text)) (h .contents) p e .0
+  pub contents-place : (p : ℕ) → least (bad-entry (program-of h text) (entries-of h text)) (h .contents) ≡ Here p → p < h .contents
+  contents-place p e = least-here (bad-entry (program-of h text) (entries-of h text)) (h .contents) p e .0

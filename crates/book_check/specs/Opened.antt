@@ -1,11 +1,11 @@
--- What a check of a book that passes leaves in the image: the book accepted, and how many locations it has.
+-- What a check of a book that passes leaves in the image: the program accepted, and how many locations it has.
 use mathlib.Core.Path.{_≡_}
 use mathlib.Core.List.{List}
 use Prim.Native.Nat.{ℕ}
 use Rattle.text.specs.Words.{Checked, good}
 use Rattle.book.specs.Book.{Book, L}
-use Rattle.book.specs.Image.{word, book-in, Counts}
+use Rattle.book.specs.Image.{word, program-in, Counts}
 
 -- of a refused book the image may hold anything
 abbrev pub Opened : List ℕ → Checked Book → Type 0
-Opened m r = (B : Book) → r ≡ good B → (book-in m (B .entries) ≡ B) × (word m 6 ≡ L B) × Counts m B
+Opened m r = (b : Book) → r ≡ good b → (program-in m ≡ b .program) × (word m 6 ≡ L (b .program)) × Counts m (b .program)

@@ -12,9 +12,9 @@ use Rattle.text.specs.declared.Answer.{Answer}
 use Rattle.text.specs.declared.Found.the-variants.{Nowhere, Here}
 use Rattle.text.specs.Words.{if_then_else_, Checked, good, refused, _>>_, none-at, must, answer-of, least}
 use Rattle.text.proofs.Words.{then-good, none-good, test-good, length-table-from}
-use Rattle.book.specs.Book.{Book, L}
+use Rattle.book.specs.Book.{Program, L}
 use Rattle.book.specs.Contents.{bad-value}
-use Rattle.book.specs.Image.{word, capped, book-in}
+use Rattle.book.specs.Image.{word, capped, program-in}
 use Rattle.engine.specs.Single.{check-agent, check-lent-step, check-contents}
 use Rattle.calls.specs.Call.{check-call, first-of}
 use Rattle.calls.proofs.Numbered.{Numbered, on, off, agent-numbered, lent-numbered}
@@ -24,7 +24,7 @@ Refusal n p q = record { number = n; p = p; q = q }
 
 -- ---- one check
 
-module _ (B : Book) (k : ℕ) where
+module _ (B : Program) (k : ℕ) where
   pub agent-there : k < length (B .agents) → Refusal 0 0 0 ≡ answer-of (check-agent B k)
   unfolding check-agent must
   agent-there h = rw (lt-ltb k (length (B .agents)) h)
@@ -33,7 +33,7 @@ module _ (B : Book) (k : ℕ) where
   unfolding check-agent must
   agent-missing h = rw (le-ltb k (length (B .agents)) h)
 
-module _ (B : Book) (c : List ℕ) (n : ℕ) where
+module _ (B : Program) (c : List ℕ) (n : ℕ) where
   pub contents-short : length c < L B → Refusal 2 (L B) 0 ≡ answer-of (check-lent-step B c n)
   unfolding check-lent-step must _>>_
   contents-short h = rw (lt-leb (L B) (length c) h)
@@ -46,7 +46,7 @@ module _ (B : Book) (c : List ℕ) (n : ℕ) where
   unfolding check-lent-step must _>>_
   both-lent h g = rw (le-leb (L B) (length c) h, le-leb 256 n g)
 
-module _ (B : Book) (c : List ℕ) where
+module _ (B : Program) (c : List ℕ) where
   pub value-bad : (l : ℕ) → least (bad-value B c) (L B) ≡ Here l → Refusal 8 l 0 ≡ answer-of (check-contents B c)
   unfolding check-contents none-at
   value-bad l e = rw (e, zero-add l)
@@ -62,7 +62,7 @@ unfolding _>>_
 first-then (good a) y (on h) = refl
 first-then (refused n p q) y (off h) = rw (ne-eqb n 0 (λ e. omega (arith, h .0, e)))
 
-in-turn : (B : Book) (c : List ℕ) (k n : ℕ) →
+in-turn : (B : Program) (c : List ℕ) (k n : ℕ) →
     first-of (answer-of (check-agent B k)) (first-of (answer-of (check-lent-step B c n)) (answer-of (check-contents B (take (L B) c))))
     ≡ answer-of (check-call B c k n)
 unfolding check-call
@@ -70,20 +70,20 @@ in-turn B c k n =
     rw (first-then (check-lent-step B c n) (check-contents B (take (L B) c)) (lent-numbered B c k n))
     (first-then (check-agent B k) (check-lent-step B c n >> check-contents B (take (L B) c)) (agent-numbered B c k n))
 
-pub all-three : (B : Book) (c : List ℕ) (k n : ℕ) (r s nine two eight : Answer) → r ≡ first-of nine s → s ≡ first-of two eight
+pub all-three : (B : Program) (c : List ℕ) (k n : ℕ) (r s nine two eight : Answer) → r ≡ first-of nine s → s ≡ first-of two eight
     → nine ≡ answer-of (check-agent B k) → two ≡ answer-of (check-lent-step B c n) → eight ≡ answer-of (check-contents B (take (L B) c))
     → r ≡ answer-of (check-call B c k n)
 all-three B c k n r s nine two eight er es e9 e2 e8 = rw (er, es, e9, e2, e8) (in-turn B c k n)
 
 -- ---- what they show
 
-pub record Passed (B : Book) (c : List ℕ) (k n : ℕ) : Type 0 where
+pub record Passed (B : Program) (c : List ℕ) (k n : ℕ) : Type 0 where
   pub agent : k < length (B .agents)
   pub long : L B ≤ length c
   pub records : 256 ≤ n
   pub fine : least (bad-value B (take (L B) c)) (L B) ≡ Nowhere
 
-pub call-passed : (B : Book) (c : List ℕ) (k n : ℕ) (u : Unit {0}) → check-call B c k n ≡ good u → Passed B c k n
+pub call-passed : (B : Program) (c : List ℕ) (k n : ℕ) (u : Unit {0}) → check-call B c k n ≡ good u → Passed B c k n
 unfolding check-call check-agent check-lent-step check-contents _>>_
 call-passed B c k n u e =
     let e9 = test-good _ _ _ _ _ u e in

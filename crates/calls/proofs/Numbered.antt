@@ -7,7 +7,7 @@ use lib.ListN.{take}
 use Rattle.text.specs.Words.{Checked, good, refused, answer-of}
 pub use Rattle.text.proofs.Checks.{on, off}
 use Rattle.text.proofs.Checks.{Ends, Any, also, then-ends, none-ends, must-ends}
-use Rattle.book.specs.Book.{Book, L}
+use Rattle.book.specs.Book.{Program, L}
 use Rattle.book.specs.Check.{check-book}
 use Rattle.book.proofs.Refusals.{book-ends}
 use Rattle.engine.specs.Single.{check-agent, check-lent-step, check-contents}
@@ -24,7 +24,7 @@ Numbered c = Ends Any Between c
 pub book-numbered : (text : List ℕ) → Numbered (check-book text)
 book-numbered text = also (book-ends text) (λ B e. tt) (λ n p q r. omega arith)
 
-module _ (B : Book) (c : List ℕ) (k n : ℕ) where
+module _ (B : Program) (c : List ℕ) (k n : ℕ) where
   pub agent-numbered : Numbered (check-agent B k)
   unfolding check-agent
   agent-numbered = must-ends Between _ _ _ _ (omega arith)
@@ -37,7 +37,7 @@ module _ (B : Book) (c : List ℕ) (k n : ℕ) where
   unfolding check-contents
   contents-numbered = none-ends Between _ _ _ _ _ (λ p h. omega arith)
 
-pub call-numbered : (B : Book) (c : List ℕ) (k n : ℕ) → Numbered (check-call B c k n)
+pub call-numbered : (B : Program) (c : List ℕ) (k n : ℕ) → Numbered (check-call B c k n)
 unfolding check-call
 call-numbered B c k n =
     then-ends (agent-numbered B c k n) (then-ends (lent-numbered B c k n) (contents-numbered B (take (L B) c) k n))

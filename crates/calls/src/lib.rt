@@ -6,7 +6,7 @@ ghost use mathlib.Core.List.{[]};
 ghost use lib.ListN.{take};
 ghost use Rattle.text.specs.Words.{answer-of};
 ghost use Rattle.book.specs.Book.{L};
-ghost use Rattle.book.specs.Image.{book-in};
+ghost use Rattle.book.specs.Image.{program-in};
 ghost use Rattle.engine.specs.Single.{check-agent, check-lent-step, check-contents};
 ghost use Rattle.calls.specs.Call.{check-call, first-of};
 
@@ -44,7 +44,7 @@ fn first_of(a: Answer, b: Answer) -> Answer
 
 // 9.
 fn check_agent(image: &[u16; 4296], agent: usize) -> Answer
-    ensures { λ r. ⌜ r ≡ answer-of (check-agent (book-in (now (image .entry)) []) agent) ⌝ }
+    ensures { λ r. ⌜ r ≡ answer-of (check-agent (program-in (now (image .entry))) agent) ⌝ }
 {
     if agent < pages::agents(image) as usize {
         answer(0, 0, 0)
@@ -55,7 +55,7 @@ fn check_agent(image: &[u16; 4296], agent: usize) -> Answer
 
 // 2, of contents and then of instructions.
 fn check_lent(image: &[u16; 4296], contents: &[u16], lent: usize) -> Answer
-    ensures { λ r. ⌜ r ≡ answer-of (check-lent-step (book-in (now (image .entry)) []) (now (contents .entry)) lent) ⌝ }
+    ensures { λ r. ⌜ r ≡ answer-of (check-lent-step (program-in (now (image .entry))) (now (contents .entry)) lent) ⌝ }
 {
     let all = pages::total(image);
     if contents.len() < all as usize {
@@ -69,7 +69,7 @@ fn check_lent(image: &[u16; 4296], contents: &[u16], lent: usize) -> Answer
 
 // 8.
 fn check_contents(image: &[u16; 4296], contents: &[u16]) -> Answer
-    ensures { λ r. ⌜ r ≡ answer-of (check-contents (book-in (now (image .entry)) []) (take (L (book-in (now (image .entry)) [])) (now (contents .entry)))) ⌝ }
+    ensures { λ r. ⌜ r ≡ answer-of (check-contents (program-in (now (image .entry))) (take (L (program-in (now (image .entry)))) (now (contents .entry)))) ⌝ }
 {
     let found = table::bad_value(image, contents);
     match found {
@@ -80,7 +80,7 @@ fn check_contents(image: &[u16; 4296], contents: &[u16]) -> Answer
 
 // 9, 2 and 8.
 pub fn check_call(image: &[u16; 4296], contents: &[u16], agent: usize, lent: usize) -> Answer
-    ensures { λ r. ⌜ r ≡ answer-of (check-call (book-in (now (image .entry)) []) (now (contents .entry)) agent lent) ⌝ }
+    ensures { λ r. ⌜ r ≡ answer-of (check-call (program-in (now (image .entry))) (now (contents .entry)) agent lent) ⌝ }
 {
     let nine = check_agent(image, agent);
     let two = check_lent(image, contents, lent);

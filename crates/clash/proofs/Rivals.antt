@@ -14,7 +14,7 @@ use lib.ListN.{length, getD, take, set, replicate, length-set, length-replicate,
 use lib.Seq.{take-suc, getD-set-same, getD-set-other}
 use Rattle.text.specs.Words.{if_then_else_, has, some-below}
 use Rattle.text.proofs.Words.{and-cases, some-below-true, some-below-from}
-use Rattle.book.specs.Book.{Book}
+use Rattle.book.specs.Book.{Program}
 use Rattle.engine.specs.declared.Instruction.{Instruction}
 use Rattle.engine.specs.declared.Instruction.the-variants.{Update}
 use Rattle.engine.specs.Move.{values, label-of, released, other}
@@ -267,7 +267,7 @@ any-some p list zero h = refl
 any-some p list (suc n) h =
     rw (take-suc list n 0) (any-snoc p (take n list) (getD list n 0) ∙ ap (λ (b : Bool). b || p (decode-of (getD list n 0))) (any-some p list n (omega arith)))
 
-module _ (B : Book) (c list : List ℕ) (n : ℕ) (fits : n ≤ length list) (updates : (k : ℕ) → k < n → getD list k 0 < releases) where
+module _ (B : Program) (c list : List ℕ) (n : ℕ) (fits : n ≤ length list) (updates : (k : ℕ) → k < n → getD list k 0 < releases) where
   abbrev all : List Instruction
   all = items list n
 

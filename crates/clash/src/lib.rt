@@ -4,7 +4,7 @@ ghost use mathlib.Core.Path.{_≡_};
 ghost use mathlib.Core.List.{[]};
 ghost use Prim.Native.Nat.{_<_, _≤_};
 ghost use lib.ListN.{length};
-ghost use Rattle.book.specs.Image.{book-in};
+ghost use Rattle.book.specs.Image.{program-in};
 ghost use Rattle.records.specs.Code.{items};
 ghost use Rattle.against.specs.Steps.{best};
 ghost use Rattle.clash.specs.Clash.{clash-by};
@@ -64,7 +64,7 @@ pub fn first_clash(
     len: usize,
     most: u32,
 ) -> u32
-    ensures { λ r. ⌜ r ≡ best (book-in (now (image .entry)) []) (now (contents .entry)) (items (now (list .entry)) len) (items (now (list .entry)) len) most ⌝ }
+    ensures { λ r. ⌜ r ≡ best (program-in (now (image .entry))) (now (contents .entry)) (items (now (list .entry)) len) (items (now (list .entry)) len) most ⌝ }
 {
     let n = numbers::smaller(len, list.len());
     if MOST < n {

@@ -10,7 +10,7 @@ use lib.ListN.{length, getD, take, drop, length-take, length-drop}
 use lib.Seq.{getD-take, getD-drop}
 use Rattle.text.specs.Words.{if_then_else_}
 use Rattle.book.specs.declared.Function.{Function}
-use Rattle.book.specs.Book.{Book, size, function-at, place}
+use Rattle.book.specs.Book.{Program, size, function-at, place}
 use Rattle.pages.specs.Part.{between}
 use Rattle.pages.proofs.Parts.{between-before, between-inside, between-after}
 use Rattle.pages.proofs.Places.{From, from-start, from-at, from-next, from-past}
@@ -67,7 +67,7 @@ module _ (E : ℕ) (f : Function) (x bit first end : ℕ) (c ms : List ℕ) (ord
       (λ k h l v. rw (between-after first end k (omega arith)))
       q
 
-module _ (B : Book) (x bit : ℕ) (c₀ ms₀ : List ℕ) where
+module _ (B : Program) (x bit : ℕ) (c₀ ms₀ : List ℕ) where
   abbrev wipe : ℕ → ℕ → ℕ
   wipe l v = wiped B x l v
 

@@ -6,7 +6,7 @@ use lib.Dec.{ltb}
 use lib.ListN.{length, getD}
 use Rattle.text.specs.Words.{if_then_else_}
 use Rattle.book.specs.declared.Function.{Function}
-use Rattle.book.specs.Book.{Book, place}
+use Rattle.book.specs.Book.{Program, place}
 use Rattle.pages.specs.Part.{between}
 use Rattle.engine.specs.declared.Instruction.{Instruction}
 use Rattle.engine.specs.declared.Instruction.the-variants.{Update, Release}
@@ -23,32 +23,32 @@ run-marked bit E f x first end c ms =
     each (λ l m. mark bit (between first end l && (ltb l (length c) && trace-in E f (l - first) (getD c l 0) x)) m) 0 ms
 
 -- every function
-abbrev pub trace : Book → ℕ → ℕ → ℕ → Bool
+abbrev pub trace : Program → ℕ → ℕ → ℕ → Bool
 trace B l v x = trace-in (B .E) (place B l .function) (place B l .index) v x
 
-abbrev pub wiped : Book → ℕ → ℕ → ℕ → ℕ
+abbrev pub wiped : Program → ℕ → ℕ → ℕ → ℕ
 wiped B x l v = wiped-in (B .E) (place B l .function) x (place B l .index) v
 
-abbrev pub cleared : Book → ℕ → List ℕ → List ℕ
+abbrev pub cleared : Program → ℕ → List ℕ → List ℕ
 cleared B x c = each (wiped B x) 0 c
 
-abbrev pub clear-marked : ℕ → Book → ℕ → List ℕ → List ℕ → List ℕ
+abbrev pub clear-marked : ℕ → Program → ℕ → List ℕ → List ℕ → List ℕ
 clear-marked bit B x c ms = each (λ l m. mark bit (ltb l (length c) && trace B l (getD c l 0) x) m) 0 ms
 
 -- one instruction
-abbrev pub clear-of : Book → Instruction → List ℕ → List ℕ
+abbrev pub clear-of : Program → Instruction → List ℕ → List ℕ
 clear-of B (Update l v) c = c
 clear-of B (Release x) c = cleared B x c
 
-abbrev pub clear-marks-of : ℕ → Book → Instruction → List ℕ → List ℕ → List ℕ
+abbrev pub clear-marks-of : ℕ → Program → Instruction → List ℕ → List ℕ → List ℕ
 clear-marks-of bit B (Update l v) c ms = ms
 clear-marks-of bit B (Release x) c ms = clear-marked bit B x c ms
 
 -- all of them
-unfoldable pub clears : Book → List Instruction → List ℕ → List ℕ
+unfoldable pub clears : Program → List Instruction → List ℕ → List ℕ
 clears B [] c = c
 clears B (i ∷ is) c = clears B is (clear-of B i c)
 
-unfoldable pub clear-marks : ℕ → Book → List Instruction → List ℕ → List ℕ → List ℕ
+unfoldable pub clear-marks : ℕ → Program → List Instruction → List ℕ → List ℕ → List ℕ
 clear-marks bit B [] c ms = ms
 clear-marks bit B (i ∷ is) c ms = clear-marks bit B is (clear-of B i c) (clear-marks-of bit B i c ms)

@@ -4,7 +4,7 @@ use engine::Instruction;
 ghost use mathlib.Core.Path.{_≡_};
 ghost use mathlib.Core.List.{[]};
 ghost use Prim.Native.Nat.{_≤_};
-ghost use Rattle.book.specs.Image.{book-in};
+ghost use Rattle.book.specs.Image.{program-in};
 ghost use Rattle.records.specs.Code.{items};
 ghost use Rattle.clearing.specs.Steps.{run-cleared, run-marked, cleared, clear-marked, clear-of, clear-marks-of, clears, clear-marks};
 
@@ -34,8 +34,8 @@ fn clear_run(
 
 // The traces of x in all functions.
 fn clear(image: &[u16; 4296], contents: &mut [u16], writers: &mut [u64], x: u16, bit: u64)
-    ensures { λ _. ⌜ now (contents .exit) ≡ cleared (book-in (now (image .entry)) []) x (now (contents .entry)) ⌝ }
-    ensures { λ _. ⌜ now (writers .exit) ≡ clear-marked bit (book-in (now (image .entry)) []) x (now (contents .entry)) (now (writers .entry)) ⌝ }
+    ensures { λ _. ⌜ now (contents .exit) ≡ cleared (program-in (now (image .entry))) x (now (contents .entry)) ⌝ }
+    ensures { λ _. ⌜ now (writers .exit) ≡ clear-marked bit (program-in (now (image .entry))) x (now (contents .entry)) (now (writers .entry)) ⌝ }
 {
     let e = pages::elements(image);
     let n = pages::functions(image);
@@ -57,8 +57,8 @@ fn clear_for(
     what: Instruction,
     bit: u64,
 )
-    ensures { λ _. ⌜ now (contents .exit) ≡ clear-of (book-in (now (image .entry)) []) what (now (contents .entry)) ⌝ }
-    ensures { λ _. ⌜ now (writers .exit) ≡ clear-marks-of bit (book-in (now (image .entry)) []) what (now (contents .entry)) (now (writers .entry)) ⌝ }
+    ensures { λ _. ⌜ now (contents .exit) ≡ clear-of (program-in (now (image .entry))) what (now (contents .entry)) ⌝ }
+    ensures { λ _. ⌜ now (writers .exit) ≡ clear-marks-of bit (program-in (now (image .entry))) what (now (contents .entry)) (now (writers .entry)) ⌝ }
 {
     match what {
         Instruction::Update {
@@ -80,8 +80,8 @@ pub fn clear_all(
     len: usize,
     bit: u64,
 )
-    ensures { λ _. ⌜ now (contents .exit) ≡ clears (book-in (now (image .entry)) []) (items (now (list .entry)) len) (now (contents .entry)) ⌝ }
-    ensures { λ _. ⌜ now (writers .exit) ≡ clear-marks bit (book-in (now (image .entry)) []) (items (now (list .entry)) len) (now (contents .entry)) (now (writers .entry)) ⌝ }
+    ensures { λ _. ⌜ now (contents .exit) ≡ clears (program-in (now (image .entry))) (items (now (list .entry)) len) (now (contents .entry)) ⌝ }
+    ensures { λ _. ⌜ now (writers .exit) ≡ clear-marks bit (program-in (now (image .entry))) (items (now (list .entry)) len) (now (contents .entry)) (now (writers .entry)) ⌝ }
 {
     let n = numbers::smaller(len, list.len());
     let mut j: usize = 0;

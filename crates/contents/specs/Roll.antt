@@ -8,7 +8,7 @@ use lib.ListN.{length, getD, set}
 use Rattle.text.specs.Words.{if_then_else_, table}
 use Rattle.text.specs.Text.{line}
 use Rattle.book.specs.declared.Entry.{Entry}
-use Rattle.book.specs.Book.{Book, entry-at}
+use Rattle.book.specs.Book.{entry-at}
 use Rattle.book.specs.Lines.{entry-of}
 
 -- the entries of n lines from line `first` on
@@ -19,9 +19,9 @@ entries-from text first n = table (λ i. entry-of (line text (first + i))) n
 abbrev pub marked : Entry → List ℕ → List ℕ
 marked e s = if eqb (e .function) 0 then set s (e .arg1) 1 else s
 
-unfoldable pub roll-of : Book → ℕ → List ℕ → List ℕ
-roll-of B zero s = s
-roll-of B (suc i) s = marked (entry-at B i) (roll-of B i s)
+unfoldable pub roll-of : List Entry → ℕ → List ℕ → List ℕ
+roll-of es zero s = s
+roll-of es (suc i) s = marked (entry-at es i) (roll-of es i s)
 
 abbrev pub untraced-by : List ℕ → Entry → Bool
 untraced-by s e = eqb (e .function) 0 || eqb (getD s (e .arg1) 0) 0 && eqb (getD s (e .arg2) 0) 0 && eqb (getD s (e .value) 0) 0

@@ -9,7 +9,7 @@ ghost use Rattle.text.specs.Words.{least};
 ghost use Rattle.text.specs.Text.{line};
 ghost use Rattle.book.specs.Lines.{entry-of};
 ghost use Rattle.book.specs.Contents.{in-bounds, in-form, bad-entry};
-ghost use Rattle.book.specs.Image.{book-in};
+ghost use Rattle.book.specs.Image.{program-in};
 ghost use Rattle.contents.specs.Roll.{entries-from, marked, untraced-by, Clear};
 
 // Entry i of those whose lines start at line `first`.
@@ -27,7 +27,7 @@ pub fn read_entry(text: &[u8], first: u32, i: u32) -> Entry
 
 // A function, and elements for its arguments and value.
 fn in_bounds(image: &[u32], x: Entry) -> bool
-    ensures { λ r. ⌜ r ≡ in-bounds (book-in (now (image .entry)) []) x ⌝ }
+    ensures { λ r. ⌜ r ≡ in-bounds (program-in (now (image .entry))) x ⌝ }
 {
     let f = image::functions(image);
     let e = image::elements(image);
@@ -67,8 +67,8 @@ fn no_trace(roll: &[u8], x: Entry) -> bool
 
 // 8: the least of n entries that is at fault; their lines start at line `first`. The roll is clear to begin with.
 fn bad_entries<'a>(text: &'a [u8], image: &'a [u32], first: u32, n: u32, roll: &mut [u8]) -> Found
-    requires { ⌜ Clear (book-in (now image) [] .E) (now roll) ⌝ }
-    ensures { λ r. ⌜ r ≡ least (bad-entry (book-in (now (image .entry)) (entries-from (now (text .entry)) first n))) n ⌝ }
+    requires { ⌜ Clear (program-in (now image) .E) (now roll) ⌝ }
+    ensures { λ r. ⌜ r ≡ least (bad-entry (program-in (now (image .entry))) (entries-from (now (text .entry)) first n)) n ⌝ }
 {
     let p = image::permanent(image);
     let mut i: u32 = 0;
@@ -92,7 +92,7 @@ fn bad_entries<'a>(text: &'a [u8], image: &'a [u32], first: u32, n: u32, roll: &
 
 // 8: the same. Most books have few elements, and a small roll is soon cleared.
 pub fn bad_contents<'a>(text: &'a [u8], image: &'a [u32], first: u32, n: u32) -> Found
-    ensures { λ r. ⌜ r ≡ least (bad-entry (book-in (now (image .entry)) (entries-from (now (text .entry)) first n))) n ⌝ }
+    ensures { λ r. ⌜ r ≡ least (bad-entry (program-in (now (image .entry))) (entries-from (now (text .entry)) first n)) n ⌝ }
 {
     if image::elements(image) <= 256 {
         let mut roll = [0u8; 256];

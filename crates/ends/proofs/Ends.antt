@@ -9,7 +9,7 @@ use lib.ListN.{length, getD, drop, replicate}
 use lib.Seq.{drop-length}
 use Rattle.text.specs.declared.Answer.{Answer}
 use Rattle.text.specs.Words.{_>>_, must, answer-of}
-use Rattle.book.specs.Book.{Book, L, start}
+use Rattle.book.specs.Book.{Program, Book, L, start}
 use Rattle.order.specs.Pairs.{rows, TwoFound, no-two, two, least-two}
 use Rattle.order.specs.Log.{Log}
 use Rattle.order.specs.Run.{Run, touching, order-checked}
@@ -25,7 +25,7 @@ triple n p q = record { number = n; p = p; q = q }
 
 -- ---- 2
 
-module _ (B : Book) (n : Lengths) (all : ℕ) (e : L B ≡ all) where
+module _ (B : Program) (n : Lengths) (all : ℕ) (e : L B ≡ all) where
   pub lent-0 : n .contents < all → triple 2 all 0 ≡ answer-of (check-lent B n)
   unfolding check-lent _>>_ must
   lent-0 h = rw (e, lt-leb all (n .contents) h)
@@ -52,12 +52,12 @@ module _ (B : Book) (n : Lengths) (all : ℕ) (e : L B ≡ all) where
 pub cleared : (s t : List ℕ) (i : ℕ) → i ≡ length s → t ≡ replicate i 0 ++ drop i s → t ≡ replicate (length s) 0
 cleared s t i e q = q ∙ rw (e, drop-length s) (append-nil (replicate (length s) 0))
 
-pub only-start : (B : Book) (c d : List ℕ) → length c ≡ L B → d ≡ start B ++ drop (L B) c → d ≡ start B
-only-start B c d e q = q ∙ rw (← e, drop-length c) (append-nil (start B))
+pub only-start : (b : Book) (c d : List ℕ) → length c ≡ L (b .program) → d ≡ start b ++ drop (L (b .program)) c → d ≡ start b
+only-start b c d e q = q ∙ rw (← e, drop-length c) (append-nil (start b))
 
 -- ---- 17
 
-module _ (B : Book) (g : Log) (s : Run) (c R W order : List ℕ) (m : ℕ) (moves : m ≡ length (g .moves)) (ordered : RowsOf g order) (marks : Holds B s c R W) where
+module _ (B : Program) (g : Log) (s : Run) (c R W order : List ℕ) (m : ℕ) (moves : m ≡ length (g .moves)) (ordered : RowsOf g order) (marks : Holds B s c R W) where
   found : least-two (unordered-marked order R W (clipped R W (length R))) m ≡ touching B g (s .fired)
   found =
       let r : length R ≡ L B = ap length (marks .readers) ∙ length-readers (L B) (s .fired) in

@@ -5,9 +5,9 @@ ghost use mathlib.Core.List.{List};
 ghost use Prim.Native.Nat.{ℕ, _≤_};
 ghost use lib.ListN.{length, replicate};
 ghost use Rattle.text.specs.Words.{good, answer-of};
-ghost use Rattle.book.specs.Book.{Book, L, start};
+ghost use Rattle.book.specs.Book.{Program, Book, L, start};
 ghost use Rattle.book.specs.Check.{check-book};
-ghost use Rattle.book.specs.Image.{book-in};
+ghost use Rattle.book.specs.Image.{program-in};
 ghost use Rattle.order.specs.Log.{Log};
 ghost use Rattle.order.specs.Run.{Run, touching, order-checked};
 ghost use Rattle.order.specs.Call.{check-lent};
@@ -34,7 +34,7 @@ pub fn triple(number: u32, p: u32, q: u32) -> Answer
 
 // 2, lowest table first.
 pub fn check_lent(all: u32, contents: usize, readers: usize, writers: usize, lent: usize) -> Answer
-    ensures { λ r. ⌜ ((B : Book) → L B ≡ all → r ≡ answer-of (check-lent B (record { contents = contents; readers = readers; writers = writers; instructions = lent }))) ⌝ }
+    ensures { λ r. ⌜ ((B : Program) → L B ≡ all → r ≡ answer-of (check-lent B (record { contents = contents; readers = readers; writers = writers; instructions = lent }))) ⌝ }
     ensures { λ r. ⌜ (r .number ≡ 0 → (all ≤ contents) × (all ≤ readers) × (all ≤ writers) × (256 ≤ lent)) ⌝ }
 {
     if contents < all as usize {
@@ -71,7 +71,7 @@ pub fn begin(
     readers: &mut [u64],
     writers: &mut [u64],
 )
-    ensures { λ _. ⌜ ((B : Book) → check-book (now (book .entry)) ≡ good B → book-in (now (image .entry)) (B .entries) ≡ B → length (now (contents .entry)) ≡ L B → now (contents .exit) ≡ start B) ⌝ }
+    ensures { λ _. ⌜ ((b : Book) → check-book (now (book .entry)) ≡ good b → program-in (now (image .entry)) ≡ b .program → length (now (contents .entry)) ≡ L (b .program) → now (contents .exit) ≡ start b) ⌝ }
     ensures { λ _. ⌜ (now (readers .exit) ≡ replicate (length (now (readers .entry))) 0) × (now (writers .exit) ≡ replicate (length (now (writers .entry))) 0) ⌝ }
 {
     start::write_start(book, image, contents);
@@ -81,7 +81,7 @@ pub fn begin(
 
 // 17.
 pub fn check_order(readers: &[u64], writers: &[u64], rows: &[u64; 64], moves: u32) -> Answer
-    ensures { λ r. ⌜ ((B : Book) (g : Log) (s : Run) (c : List ℕ) → moves ≡ length (g .moves) → RowsOf g (now (rows .entry)) → Holds B s c (now (readers .entry)) (now (writers .entry)) → r ≡ order-checked B s (touching B g (s .fired)) .answer) ⌝ }
+    ensures { λ r. ⌜ ((B : Program) (g : Log) (s : Run) (c : List ℕ) → moves ≡ length (g .moves) → RowsOf g (now (rows .entry)) → Holds B s c (now (readers .entry)) (now (writers .entry)) → r ≡ order-checked B s (touching B g (s .fired)) .answer) ⌝ }
 {
     let pair = touch::touching(readers, writers, rows, moves, readers.len());
     if !pair.found {

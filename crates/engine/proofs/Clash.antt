@@ -9,7 +9,7 @@ use lib.Dec.{eqb}
 use borrow.Author.Tests.{eqb-true, eqb-false, eq-eqb}
 use Rattle.text.specs.Words.{has}
 use Rattle.text.proofs.Words.{and-cases, or-cases}
-use Rattle.book.specs.Book.{Book, L, arguments-at, concerns}
+use Rattle.book.specs.Book.{Program, L, arguments-at, concerns}
 use Rattle.book.specs.Sound.{Lawful, at, Argument, Sound}
 use Rattle.book.proofs.Places.{roll-place, roll-inside, roll-argument, boolean-low}
 use Rattle.engine.specs.declared.Instruction.{Instruction}
@@ -21,7 +21,7 @@ use Rattle.engine.proofs.Walks.{Made, frees-fine}
 
 -- ---- two releases give a location the same
 
-module _ (B : Book) (ok : Lawful B) (c : List ℕ) (s : Sound B c) where
+module _ (B : Program) (ok : Lawful B) (c : List ℕ) (s : Sound B c) where
   -- the Reserve entry of x is cleared by no other label
   not-own : (x y l : ℕ) → x < B .E → B .P ≤ y → x ≡ l → y ≢ l → concerns B l (at c l) y ≡ true → ⊥
   not-own x y l hx hy e n k = go (or-cases (has (arguments-at B l) y) (eqb (at c l) y) k)
@@ -72,7 +72,7 @@ set-is xs l (i ∷ is) e = go i (or-cases (sets-label xs l i) (set-to-label xs l
     go (Release x) (inl q) r = absurd (false≢true q)
     go (Release x) (inr q) r = r q
 
-pub clash-own : (B : Book) → Lawful B → (c : List ℕ) → Sound B c → (w : Walk) → Made B c w → (l : ℕ) → l < L B
+pub clash-own : (B : Program) → Lawful B → (c : List ℕ) → Sound B c → (w : Walk) → Made B c w → (l : ℕ) → l < L B
     → clashes (w .made) (updates B c (w .made)) l ≡ true → (v : ℕ) × Sets l v (w .made)
 unfolding clashes
 clash-own B ok c s w m l h e = go _ (or-cases (two-values (values-at (updates B c (w .made)) l)) _ e)

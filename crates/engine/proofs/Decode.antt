@@ -10,7 +10,7 @@ use lib.ListN.{length, getD, List·getD-eq-default}
 use borrow.Author.Tests.{eqb-true, ltb-true, leb-true, lt-leb, le-leb, not-false}
 use Rattle.text.proofs.Words.{and-cases}
 use Rattle.book.specs.declared.Node.{Node}
-use Rattle.book.specs.Book.{relation, dynamic, Book, no-node, node-at, function-at}
+use Rattle.book.specs.Book.{relation, dynamic, Program, no-node, node-at, function-at}
 use Rattle.book.specs.Kinds.{sort, names-location}
 use Rattle.book.specs.Lines.{fits, bad-node, named}
 use Rattle.book.specs.Sound.{Lawful}
@@ -19,7 +19,7 @@ use Rattle.engine.specs.Rule.{Rule, skip, assign, pair, test, bind, for-
 
 -- ---- terms and rules as check 5 leaves them
 
-abbrev pub Proper : Book → Term → Type 0
+abbrev pub Proper : Program → Term → Type 0
 Proper B (element x) = x < B .P
 Proper B (variable v) = Unit {0}
 Proper B self = Unit {0}
@@ -30,10 +30,10 @@ Proper B (negated a) = Proper B a
 Proper B (joined o a b) = Proper B a × Proper B b
 
 -- a function after Reserve of this arity
-abbrev pub Named : Book → ℕ → ℕ → Type 0
+abbrev pub Named : Program → ℕ → ℕ → Type 0
 Named B f r = (0 < f) × (f < length (B .functions)) × (function-at B f .arity ≡ r)
 
-abbrev pub ProperTarget : Book → Term → Type 0
+abbrev pub ProperTarget : Program → Term → Type 0
 ProperTarget B (element x) = ⊥
 ProperTarget B (variable v) = ⊥
 ProperTarget B self = ⊥
@@ -43,7 +43,7 @@ ProperTarget B (at2 f a b) = Named B f 2 × (dynamic (function-at B f) ≡ true)
 ProperTarget B (negated a) = ⊥
 ProperTarget B (joined o a b) = ⊥
 
-abbrev pub ProperRule : Book → Rule → Type 0
+abbrev pub ProperRule : Program → Rule → Type 0
 ProperRule B skip = Unit {0}
 ProperRule B (assign n t u) = ProperTarget B t × Proper B u
 ProperRule B (pair r s) = ProperRule B r × ProperRule B s
@@ -63,7 +63,7 @@ ors-true : (n : ℕ) (p : Bool) → ors n p ≡ true → p ≡ true
 ors-true zero p e = e
 ors-true (suc n) p e = ors-true n p (sym (or-false (ors n p)) ∙ e)
 
-module _ (B : Book) (ok : Lawful B) where
+module _ (B : Program) (ok : Lawful B) where
   abbrev ns : ℕ → Node
   ns n = node-at B n
 

@@ -11,7 +11,7 @@ use lib.Dec.{eqb}
 use lib.ListN.{length, List·getD-eq-default}
 use borrow.Author.Tests.{eqb-true, eq-eqb}
 use Rattle.text.specs.Words.{has, if_then_else_}
-use Rattle.book.specs.Book.{Book, L, dynamic-at}
+use Rattle.book.specs.Book.{Program, L, dynamic-at}
 use Rattle.book.specs.Sound.{at}
 use Rattle.engine.specs.Look.{seen}
 use Rattle.engine.specs.Rule.{Walk, going, met, agent-walk}
@@ -20,7 +20,7 @@ use Rattle.engine.specs.Move.{Input, walked, looked, reads, dynamic-amon
 use Rattle.engine.proofs.Look.{Agree, local, seen-local}
 
 -- past the last location both give 0
-static-agree : {B : Book} {c d : List ℕ} → SameStatic B c d → (l : ℕ) → dynamic-at B l ≡ false → at c l ≡ at d l
+static-agree : {B : Program} {c d : List ℕ} → SameStatic B c d → (l : ℕ) → dynamic-at B l ≡ false → at c l ≡ at d l
 static-agree {B} {c} {d} s l e = dite (decLt l (L B)) (λ h. s .static l h e)
     (λ (h : ¬ (l < L B)). List·getD-eq-default c 0 {n = l} (omega (arith, s .long)) ∙ sym (List·getD-eq-default d 0 {n = l} (omega (arith, s .as-long))))
 
@@ -29,7 +29,7 @@ has-append [] q i = refl
 has-append (j ∷ p) q i = rw (has-append p q i) (sym (or-assoc (eqb j i) (has p i) (has q i)))
 
 -- a list's dynamic locations
-pub has-dynamic : (B : Book) (ls : List ℕ) (l : ℕ) → has ls l ≡ true → dynamic-at B l ≡ true → has (dynamic-among B ls) l ≡ true
+pub has-dynamic : (B : Program) (ls : List ℕ) (l : ℕ) → has ls l ≡ true → dynamic-at B l ≡ true → has (dynamic-among B ls) l ≡ true
 unfolding dynamic-among
 has-dynamic B [] l h e = h
 has-dynamic B (k ∷ ls) l h e = go (eqb k l) refl h (has-dynamic B ls l)
@@ -44,7 +44,7 @@ has-dynamic B (k ∷ ls) l h e = go (eqb k l) refl h (has-dynamic B ls l)
     go false q h r = keep (dynamic-at B k) (r h e)
 
 -- none of 11 to 14 met: the same instructions, and the same places looked at
-pub same-instructions : (B : Book) (c d : List ℕ) (i : Input) → SameStatic B c d → (w : Walk) → walked B c i ≡ going w
+pub same-instructions : (B : Program) (c d : List ℕ) (i : Input) → SameStatic B c d → (w : Walk) → walked B c i ≡ going w
     → ((l : ℕ) → has (reads B c i) l ≡ true → at c l ≡ at d l) → (walked B d i ≡ going w) × (looked B d i ≡ looked B c i)
 unfolding reads
 same-instructions B c d i s w e h =
@@ -63,7 +63,7 @@ same-instructions B c d i s w e h =
 
 -- One met: the same one, if Reserve, which is function 0, is the same throughout. The walk looks at Reserve for 12 and 13 too, so of what it reads
 -- the contents need only agree past Reserve.
-pub same-refusal : (B : Book) (c d : List ℕ) (i : Input) → SameStatic B c d → (n q : ℕ) → walked B c i ≡ met n q
+pub same-refusal : (B : Program) (c d : List ℕ) (i : Input) → SameStatic B c d → (n q : ℕ) → walked B c i ≡ met n q
     → ((l : ℕ) → B .E ≤ l → has (reads B c i) l ≡ true → at c l ≡ at d l) → ((x : ℕ) → x < B .E → at c x ≡ at d x) → walked B d i ≡ met n q
 unfolding reads
 same-refusal B c d i s n q e h r = sym (local c d (agent-walk B (i .agent)) (λ l m. by l m (dynamic-at B l) refl)) ∙ e

@@ -8,14 +8,14 @@ use native.Mathlib.Decide.{decLt}
 use lib.ListN.{length, getD}
 use borrow.Author.Tests.{lt-leb, le-leb}
 use Rattle.book.specs.declared.Node.{Node}
-use Rattle.book.specs.Book.{Book, node-at, agent-at}
+use Rattle.book.specs.Book.{Program, node-at, agent-at}
 use Rattle.book.specs.Kinds.{sort, is-node}
 use Rattle.book.specs.Sound.{Lawful}
 use Rattle.book.proofs.Depth.{depth-at, operand, root-depth, operand-depth, depth-most}
 use Rattle.engine.specs.Term.{at1, negated, tree, term-at, Shape, an-element, a-variable, the-agent, of-none, of-one, of-two, a-not, no-term, a-join, shape, shapes}
 use Rattle.engine.specs.Rule.{Rule, for-all, import, free, rule-tree, rule-at, RuleShape, a-skip, an-assign, a-pair, a-test, a-bind, a-for-all, an-import, a-free, no-rule, rule-shape, rule-shapes}
 
-module _ (B : Book) (ok : Lawful B) where
+module _ (B : Program) (ok : Lawful B) where
   abbrev ns : ℕ → Node
   ns n = node-at B n
 

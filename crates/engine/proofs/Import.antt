@@ -8,7 +8,7 @@ use lib.Dec.{eqb}
 use lib.ListN.{set}
 use Rattle.text.specs.Words.{if_then_else_, table-from}
 use Rattle.text.specs.declared.Found.the-variants.{Here}
-use Rattle.book.specs.Book.{Book, true-element, agent-at, node-at}
+use Rattle.book.specs.Book.{Program, true-element, agent-at, node-at}
 use Rattle.book.specs.Sound.{at}
 use Rattle.engine.specs.Look.{done, gives, seen, _>>=_}
 use Rattle.engine.specs.Rule.{Rule, import, Walk, lowest, import-of, walk, agent-walk, rule-at, no-variables}
@@ -37,7 +37,7 @@ lowest-reads c x (suc n) y e = go (eqb (at c x) true-element) e (lowest-reads c 
         (omega arith, omega (arith, t .1), rw k (ap (λ (s : List ℕ). x ∷ s) (t .2)))
 
 -- so an import that finds y looks at Reserve from `next` to y, and then goes on with `next` past y
-pub import-reads : (B : Book) (c : List ℕ) (me n x u : ℕ) (r : Rule) (vs : List ℕ) (w : Walk) (y : ℕ) → gives c (lowest (w .next) (B .E - w .next)) ≡ Here y
+pub import-reads : (B : Program) (c : List ℕ) (me n x u : ℕ) (r : Rule) (vs : List ℕ) (w : Walk) (y : ℕ) → gives c (lowest (w .next) (B .E - w .next)) ≡ Here y
     → seen c (walk B me (import n x u r) vs w)
     ≡ table-from (λ l. l) (w .next) (suc y - w .next) ++ seen c (import-of B n u w (λ z. walk B me r (set vs x z)) (Here y))
 unfolding walk
@@ -46,7 +46,7 @@ import-reads B c me n x u r vs w y e =
     ∙ rw (e, lowest-reads c (w .next) (B .E - w .next) y e .2)
 
 -- a move starts with no label passed over: its first import looks from P on
-pub first-label : (B : Book) (k : ℕ)
+pub first-label : (B : Program) (k : ℕ)
     → agent-walk B k ≡ walk B (agent-at B k .element) (rule-at (node-at B) (agent-at B k .root)) no-variables (record { made = []; next = B .P })
 unfolding agent-walk
 first-label B k = refl

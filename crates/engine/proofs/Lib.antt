@@ -11,5 +11,4 @@ pub mod Numbers
 pub mod Refusals
 pub mod Fuel
 pub mod Steps
-pub mod Entries
 pub mod Claims

@@ -15,7 +15,7 @@ use Rattle.text.specs.Words.{if_then_else_, has, table-from, table, some-below,
 use Rattle.text.specs.declared.Found.{Found}
 use Rattle.text.specs.declared.Found.the-variants.{Nowhere, Here}
 use Rattle.text.proofs.Words.{or-no, least-none, table-ext}
-use Rattle.book.specs.Book.{Book, L, true-element, false-element, boolean, node-at, agent-at, place, relation-at, dynamic-at, default-at, arguments-at}
+use Rattle.book.specs.Book.{Program, L, true-element, false-element, boolean, node-at, agent-at, place, relation-at, dynamic-at, default-at, arguments-at}
 use Rattle.book.specs.Sound.{Lawful, at, Argument, OnRoll, Sound}
 use Rattle.book.proofs.Places.{roll-place, roll-inside, roll-argument, default-low}
 use Rattle.engine.specs.declared.Instruction.{Instruction}
@@ -37,7 +37,7 @@ fire-length (ws ∷ us) (v ∷ c) = ap suc (fire-length us c)
 
 -- ---- what a move that fires has
 
-pub record Firing (B : Book) (c : List ℕ) (i : Input) (f : Fired) : Type 0 where
+pub record Firing (B : Program) (c : List ℕ) (i : Input) (f : Fired) : Type 0 where
   pub walk : Walk
   pub went : walked B c i ≡ going walk
   pub gave : fired-of B c (looked B c i) (walk .made) ≡ f
@@ -49,7 +49,7 @@ settled (Here l) b g f e = let z : _≡_ {A = ℕ} 0 1 = cc in absurd (omega ari
 settled Nowhere true g f e = let z : _≡_ {A = ℕ} 0 1 = cc in absurd (omega arith)
 settled Nowhere false g f e = (refl, refl, (cc))
 
-pub firing : (B : Book) (c : List ℕ) (i : Input) (f : Fired) → move B c i ≡ fires f → Firing B c i f
+pub firing : (B : Program) (c : List ℕ) (i : Input) (f : Fired) → move B c i ≡ fires f → Firing B c i f
 unfolding move settle judged
 firing B c i f e = go (walked B c i) refl e
   where
@@ -66,7 +66,7 @@ firing B c i f e = go (walked B c i) refl e
           changes = subst (λ (k : Fired). idle c (k .updates) ≡ false) (s .2) (s .1);
         }
 
-module _ (B : Book) (c : List ℕ) (i : Input) (f : Fired) (moves : move B c i ≡ fires f) where
+module _ (B : Program) (c : List ℕ) (i : Input) (f : Fired) (moves : move B c i ≡ fires f) where
   pub fired-length : length (f .updates) ≡ L B
   fired-length =
       let s = firing B c i f moves in
@@ -100,7 +100,7 @@ no-value v = go 8 v
     go (suc n) zero = refl
     go (suc n) (suc v) = go n v
 
-module _ (B : Book) (B-ok : Lawful B) (c : List ℕ) (c-ok : Sound B c) (i : Input) where
+module _ (B : Program) (B-ok : Lawful B) (c : List ℕ) (c-ok : Sound B c) (i : Input) where
   pub walked-made : (w : Walk) → walked B c i ≡ going w → Made B c w
   unfolding agent-walk
   walked-made w e =
@@ -301,13 +301,13 @@ module _ (B : Book) (B-ok : Lawful B) (c : List ℕ) (c-ok : Sound B c) (i : Inp
 -- ---- the same move on contents that agree
 
 -- with no release the updates are the instructions' own
-kept : (B : Book) (c d : List ℕ) (l : ℕ) (is : List Instruction) → released is ≡ [] → values B c l is ≡ values B d l is
+kept : (B : Program) (c d : List ℕ) (l : ℕ) (is : List Instruction) → released is ≡ [] → values B c l is ≡ values B d l is
 unfolding values released given
 kept B c d l [] f = refl
 kept B c d l (Update k v ∷ is) f = ap (λ (ws : List ℕ). (if eqb k l then v ∷ [] else []) ++ ws) (kept B c d l is f)
 kept B c d l (Release x ∷ is) f = let z : _≡_ {A = ℕ} 0 1 = cc in absurd (omega arith)
 
-kept-updates : (B : Book) (c d : List ℕ) (is : List Instruction) → released is ≡ [] → updates B c is ≡ updates B d is
+kept-updates : (B : Program) (c d : List ℕ) (is : List Instruction) → released is ≡ [] → updates B c is ≡ updates B d is
 unfolding updates
 kept-updates B c d is f = table-ext (λ l. values B c l is) (λ l. values B d l is) (L B) (λ l h. kept B c d l is f)
 
@@ -330,7 +330,7 @@ unfolding table-from
 has-table i zero l h k = absurd (omega arith)
 has-table i (suc n) l h k = dite (ℕ-discrete i l) (λ e. rw (eq-eqb i l e)) (λ e. rw (has-table (suc i) n l (omega arith) (omega arith)) (or-true (eqb i l)))
 
-module _ (B : Book) (c d : List ℕ) (i : Input) (t : SameStatic B c d) (f : Fired) (moves : move B c i ≡ fires f)
+module _ (B : Program) (c d : List ℕ) (i : Input) (t : SameStatic B c d) (f : Fired) (moves : move B c i ≡ fires f)
     (agree : (l : ℕ) → has (f .reads) l ≡ true → at c l ≡ at d l) where
   w : Walk
   w = firing B c i f moves .walk
@@ -377,7 +377,7 @@ module _ (B : Book) (c d : List ℕ) (i : Input) (t : SameStatic B c d) (f : Fir
       go [] e = apiece e
       go (y ∷ ys) e = subst (λ (z : List ℕ). move B z i ≡ fires f) (at-once y ys e) moves
 
-pub fired-same : (B : Book) → Lawful B → (c d : List ℕ) → Sound B c → Sound B d → (i : Input) (f : Fired) → move B c i ≡ fires f
+pub fired-same : (B : Program) → Lawful B → (c d : List ℕ) → Sound B c → Sound B d → (i : Input) (f : Fired) → move B c i ≡ fires f
     → ((l : ℕ) → has (f .reads) l ≡ true → at c l ≡ at d l) → ((l : ℕ) → writes (f .updates) l ≡ true → at c l ≡ at d l)
     → ((l : ℕ) → dynamic-at B l ≡ false → at c l ≡ at d l) → move B d i ≡ fires f
 fired-same B ok c d s t i f e reads writes static =

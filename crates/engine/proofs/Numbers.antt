@@ -13,7 +13,7 @@ use Rattle.text.specs.Refusals.{non-boolean, not-releasable, list-full}
 use Rattle.text.specs.declared.Found.{Found}
 use Rattle.text.specs.declared.Found.the-variants.{Nowhere, Here}
 use Rattle.text.proofs.Words.{length-table-from, least-here}
-use Rattle.book.specs.Book.{Book, L, true-element, false-element, reserve, location, no-node, node-at, agent-at}
+use Rattle.book.specs.Book.{Program, L, true-element, false-element, reserve, location, no-node, node-at, agent-at}
 use Rattle.book.specs.Around.{most-depth}
 use Rattle.engine.specs.declared.Instruction.{Instruction}
 use Rattle.engine.specs.declared.Instruction.the-variants.{Update, Release}
@@ -37,7 +37,7 @@ Below N (import n x u r) = (n < N) × Below N r
 Below N (free n t) = n < N
 
 -- those of a tree are nodes of the book: past its nodes there is no rule
-tree-below : (B : Book) (d n : ℕ) → Below (length (B .nodes)) (rule-tree (node-at B) d (rule-shape (node-at B n)) n (node-at B n))
+tree-below : (B : Program) (d n : ℕ) → Below (length (B .nodes)) (rule-tree (node-at B) d (rule-shape (node-at B n)) n (node-at B n))
 unfolding rule-tree
 tree-below B zero n = tt
 tree-below B (suc zero) n = tt
@@ -79,7 +79,7 @@ refuse-says : (N : ℕ) (b : Bool) (r n : ℕ) (w : Walk) → (11 ≤ r) × (r �
 refuse-says N true r n w h = h
 refuse-says N false r n w h = tt
 
-module _ (N : ℕ) (B : Book) (c : List ℕ) (me : ℕ) where
+module _ (N : ℕ) (B : Program) (c : List ℕ) (me : ℕ) where
   after-says : (o : Walked) (f : Walk → Look Walked) → Says N o → ((w : Walk) → Says N (gives c (f w))) → Says N (gives c (after o f))
   unfolding gives
   after-says (going w) f h k = k w
@@ -138,7 +138,7 @@ abbrev Inside : ℕ → Moved → Type 0
 Inside N (fires f) = Unit {0}
 Inside N (stopped n q) = (11 ≤ n) × (n ≤ 16) × (q ≤ N)
 
-move-inside : (B : Book) (c : List ℕ) (i : Input) → Inside (length (B .nodes) + L B) (move B c i)
+move-inside : (B : Program) (c : List ℕ) (i : Input) → Inside (length (B .nodes) + L B) (move B c i)
 unfolding move settle judged agent-walk updates
 move-inside B c i =
     let g = agent-at B (i .agent) in
@@ -157,5 +157,5 @@ move-inside B c i =
         let long : length (f .updates) ≡ L B = length-table-from _ 0 (L B) in
         settled (least bad (length (f .updates))) (idle c (f .updates)) f (λ l e. omega (arith, long, least-here bad (length (f .updates)) l e .0))
 
-pub move-number : (B : Book) (c : List ℕ) (i : Input) (n q : ℕ) → move B c i ≡ stopped n q → (11 ≤ n) × (n ≤ 16) × (q ≤ length (B .nodes) + L B)
+pub move-number : (B : Program) (c : List ℕ) (i : Input) (n q : ℕ) → move B c i ≡ stopped n q → (11 ≤ n) × (n ≤ 16) × (q ≤ length (B .nodes) + L B)
 move-number B c i n q e = subst (Inside (length (B .nodes) + L B)) e (move-inside B c i)

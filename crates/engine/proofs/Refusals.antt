@@ -6,7 +6,7 @@ use native.Mathlib.Omega.{arith}
 use lib.ListN.{take}
 use Rattle.text.specs.Words.{Checked, good, refused}
 use Rattle.text.proofs.Checks.{Ends, on, off, bind-ends, then-ends, none-ends, must-ends, Before, Small}
-use Rattle.book.specs.Book.{Book, L}
+use Rattle.book.specs.Book.{Program, L}
 use Rattle.book.proofs.Refusals.{Fits, book-before}
 use Rattle.engine.specs.declared.Instruction.{Instruction}
 use Rattle.engine.specs.Move.{Input, Moved, fires, stopped, walked, made-by, move}
@@ -17,7 +17,7 @@ step-ends : (text c : List ℕ) (k n : ℕ) → Ends Fits Before (check-step tex
 unfolding check-step check-agent check-lent-step check-contents
 step-ends text c k n =
     bind-ends (book-before text)
-    (λ B fits. then-ends (must-ends Before _ 9 0 0 (omega arith))
+    (λ b fits. let B = b .program in then-ends (must-ends Before _ 9 0 0 (omega arith))
     (then-ends (then-ends (must-ends Before _ 2 (L B) 0 (omega arith)) (must-ends Before _ 2 256 3 (omega arith)))
     (then-ends (none-ends Before 8 0 0 _ (L B) (λ p h. omega arith)) (on fits))))
 
@@ -29,7 +29,7 @@ step-small text c k n = go (check-step text c k n) (step-ends text c k n)
     moved d is (fires f) h = record { number = omega arith; p = omega arith; q = omega arith }
     moved d is (stopped m q) h = let r = h m q refl in record { number = omega (arith, r .0); p = omega arith; q = r .1 }
 
-    go : (x : Checked Book) → Ends Fits Before x → Small (step-answer c k x .answer)
+    go : (x : Checked Program) → Ends Fits Before x → Small (step-answer c k x .answer)
     go (refused m p q) (off h) = record { number = omega arith; p = h .2; q = h .3 }
     go (good B) (on fits) =
         let d = take (L B) c in

@@ -6,14 +6,14 @@ use Prim.Native.Nat.{ℕ, zero, suc}
 use lib.Dec.{eqb}
 use lib.ListN.{set}
 use Rattle.text.specs.Words.{if_then_else_, table-from, table}
-use Rattle.book.specs.Book.{Book, true-element, location}
+use Rattle.book.specs.Book.{Program, true-element, location}
 use Rattle.book.specs.Sound.{at}
 use Rattle.engine.specs.Look.{done, read, gives, seen, _>>=_}
 use Rattle.engine.specs.Term.{Term, at0, at1, at2, eval, target}
 use Rattle.engine.specs.Rule.{Rule, test, for-all, Walk, members, each, walk}
 use Rattle.engine.proofs.Look.{gives-bind, seen-bind}
 
-module _ (B : Book) (c : List ℕ) (me : ℕ) (vs : List ℕ) where
+module _ (B : Program) (c : List ℕ) (me : ℕ) (vs : List ℕ) where
   abbrev value : Term → ℕ
   value t = gives c (eval B me vs t)
 

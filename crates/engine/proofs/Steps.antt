@@ -9,7 +9,7 @@ use lib.Dec.{leb}
 use lib.ListN.{getD, length, List·getD-eq-default}
 use borrow.Author.Tests.{le-leb, lt-leb}
 use Rattle.book.specs.declared.Node.{Node}
-use Rattle.book.specs.Book.{undef, Book}
+use Rattle.book.specs.Book.{undef, Program}
 use Rattle.engine.specs.Look.{Look, done}
 use Rattle.engine.specs.Term.{Op, equal, both, either, plus, minus, less, Term, element, variable, self, at0, at1, at2, negated, joined, Shape, no-term, shapes, shape, tree, term-at, target, function-of}
 use Rattle.engine.specs.Rule.{Rule, skip, assign, pair, test, bind, for-all, import, free, RuleShape, a-skip, no-rule, rule-shapes, rule-shape, rule-tree}
@@ -141,7 +141,7 @@ module _ (ns : ℕ → Node) (d n : ℕ) (x : Node) (some : 2 ≤ d) (loaded : x
 
 -- ---- what a term of no kind 4 to 6 names
 
-module _ (B : Book) (me : ℕ) (vs : List ℕ) (ns : ℕ → Node) where
+module _ (B : Program) (me : ℕ) (vs : List ℕ) (ns : ℕ → Node) where
   no-aim : (k d : ℕ) (x : Node) → ((k ≡ 4) → ⊥) → ((k ≡ 5) → ⊥) → ((k ≡ 6) → ⊥)
       → (target B me vs (tree ns d (getD shapes k no-term) x) ≡ done 0) × (function-of (tree ns d (getD shapes k no-term) x) ≡ 0)
   unfolding tree target function-of

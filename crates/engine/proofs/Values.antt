@@ -10,7 +10,7 @@ use lib.ListN.{length}
 use borrow.Author.Tests.{eqb-true, eqb-false, eq-eqb, ne-eqb, not-false}
 use Rattle.text.specs.Words.{if_then_else_, has}
 use Rattle.text.proofs.Words.{and-cases, or-cases, or-no, length-table-from, getD-table, getD-table-past}
-use Rattle.book.specs.Book.{Book, L, true-element, dynamic-at, default-at, concerns}
+use Rattle.book.specs.Book.{Program, L, true-element, dynamic-at, default-at, concerns}
 use Rattle.book.specs.Sound.{at}
 use Rattle.engine.specs.declared.Instruction.{Instruction}
 use Rattle.engine.specs.declared.Instruction.the-variants.{Update, Release}
@@ -45,7 +45,7 @@ set-to-none xs (Release x ∷ is) l v e s = set-to-none xs is l v e s
 
 -- ---- where a value comes from
 
-module _ (B : Book) (c : List ℕ) where
+module _ (B : Program) (c : List ℕ) where
   -- a release of x gives l the value v: Reserve at x becomes true, and any other dynamic location that concerns x gets its default
   abbrev pub Cleared : ℕ → ℕ → ℕ → Type 0
   Cleared x l v = ((x ≡ l) × (v ≡ true-element)) ⊎ ((x ≢ l) × (dynamic-at B l ≡ true) × (concerns B l (at c l) x ≡ true) × (v ≡ default-at B l))

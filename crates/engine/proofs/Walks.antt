@@ -15,7 +15,7 @@ use Rattle.text.specs.Refusals.{non-boolean, not-releasable, list-full}
 use Rattle.text.specs.declared.Found.{Found}
 use Rattle.text.specs.declared.Found.the-variants.{Nowhere, Here}
 use Rattle.text.proofs.Words.{and-cases, or-no}
-use Rattle.book.specs.Book.{undef, true-element, false-element, boolean, truth, relation, dynamic, Book, L, location, reserve, function-at, place, relation-at, dynamic-at}
+use Rattle.book.specs.Book.{undef, true-element, false-element, boolean, truth, relation, dynamic, Program, L, location, reserve, function-at, place, relation-at, dynamic-at}
 use Rattle.book.specs.Sound.{Lawful, at, Argument, OnRoll, Sound}
 use Rattle.book.proofs.Places.{spot, spot-argument, spot-first, roll-place, roll-inside, roll-argument, past-roll, default-low}
 use Rattle.engine.specs.declared.Instruction.{Instruction}
@@ -38,7 +38,7 @@ set-cases (z ∷ vs) (suc x) y (suc v) = set-cases vs x y v
 
 -- ---- what a walk has made
 
-module _ (B : Book) (c : List ℕ) where
+module _ (B : Program) (c : List ℕ) where
   -- an element that a rule may speak of once the labels of the roll before `next` are taken: no other label of the roll
   abbrev pub Clean : ℕ → ℕ → Type 0
   Clean next v = (v < B .E) × (OnRoll B c v → v < next)

@@ -7,7 +7,7 @@ use Prim.Native.Nat.{ℕ, suc, _+_, _-_, _≤_, _<_}
 use lib.ListN.{length}
 use Rattle.text.specs.declared.Found.the-variants.{Here}
 use Rattle.text.specs.Words.{has, table-from}
-use Rattle.book.specs.Book.{Book, L, dynamic-at, node-at, agent-at}
+use Rattle.book.specs.Book.{Program, L, dynamic-at, node-at, agent-at}
 use Rattle.book.specs.Around.{most-depth}
 use Rattle.book.specs.Sound.{Lawful, at, Sound}
 use Rattle.engine.specs.Look.{gives, seen}
@@ -17,21 +17,21 @@ use Rattle.engine.specs.Move.{Input, Fired, fires, move, walked, reads, 
 -- ---- equal reads
 
 -- two contents of a book with equal static functions
-pub record SameStatic (B : Book) (c d : List ℕ) : Type 0 where
+pub record SameStatic (B : Program) (c d : List ℕ) : Type 0 where
   pub long : length c ≡ L B
   pub as-long : length d ≡ L B
   pub static : (l : ℕ) → l < L B → dynamic-at B l ≡ false → at c l ≡ at d l
 
 -- Two contents with equal static functions that agree on what a move reads in one of them give it the same instructions if none of 11 to 14 is met
 -- there, and otherwise the same refusal if they agree on Reserve throughout; what the move reads elsewhere is past Reserve's E locations.
-pub record EqualReads (B : Book) (c d : List ℕ) (i : Input) : Type 0 where
+pub record EqualReads (B : Program) (c d : List ℕ) (i : Input) : Type 0 where
   pub instructions : (w : Walk) → walked B c i ≡ going w → ((l : ℕ) → has (reads B c i) l ≡ true → at c l ≡ at d l) → walked B d i ≡ going w
   pub refusal : (n q : ℕ) → walked B c i ≡ met n q → ((l : ℕ) → B .E ≤ l → has (reads B c i) l ≡ true → at c l ≡ at d l)
       → ((x : ℕ) → x < B .E → at c x ≡ at d x) → walked B d i ≡ met n q
 
 -- ---- what a move that fires leaves
 
-pub record Leaves (B : Book) (c : List ℕ) (f : Fired) : Type 0 where
+pub record Leaves (B : Program) (c : List ℕ) (f : Fired) : Type 0 where
   -- the old contents with its updates and no others, and no location is given two values
   pub long : length (fire (f .updates) c) ≡ L B
   pub frame : (l : ℕ) → at (fire (f .updates) c) l ≡ new-value (at c l) (values-at (f .updates) l)
@@ -44,10 +44,10 @@ pub record Leaves (B : Book) (c : List ℕ) (f : Fired) : Type 0 where
 -- ---- the claims
 
 abbrev pub MovesReadEqual : Type 0
-MovesReadEqual = (B : Book) (c d : List ℕ) (i : Input) → SameStatic B c d → EqualReads B c d i
+MovesReadEqual = (B : Program) (c d : List ℕ) (i : Input) → SameStatic B c d → EqualReads B c d i
 
 abbrev pub MovesLeave : Type 0
-MovesLeave = (B : Book) → Lawful B → (c : List ℕ) → Sound B c → (i : Input) (f : Fired) → move B c i ≡ fires f → Leaves B c f
+MovesLeave = (B : Program) → Lawful B → (c : List ℕ) → Sound B c → (i : Input) (f : Fired) → move B c i ≡ fires f → Leaves B c f
 
 -- an import that looks from label x on and takes y has looked at Reserve from x to y, and nowhere else
 abbrev pub ImportsRead : Type 0
@@ -55,6 +55,6 @@ ImportsRead = (c : List ℕ) (x n y : ℕ) → gives c (lowest x n) ≡ Here y �
 
 -- looking further down than 32 nodes changes no agent's rule: 32 is never what ends a walk or an evaluation
 abbrev pub TreesWhole : Type 0
-TreesWhole = (B : Book) → Lawful B → (k d : ℕ) → k < length (B .agents) → (
+TreesWhole = (B : Program) → Lawful B → (k d : ℕ) → k < length (B .agents) → (
     let n = agent-at B k .root in rule-tree (node-at B) (most-depth + d) (rule-shape (node-at B n)) n (node-at B n) ≡ rule-at (node-at B) n
     )

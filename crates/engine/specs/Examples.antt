@@ -22,7 +22,7 @@ abbrev pub shown : Stepped → List ℕ
 shown s = triple (s .answer) ++ s .contents
 
 abbrev pub read-by : List ℕ → Checked Book → List ℕ
-read-by c (good B) = reads B c (record { agent = 0 })
+read-by c (good b) = reads (b .program) c (record { agent = 0 })
 read-by c (refused n p q) = []
 
 abbrev pub asked : Question → List ℕ

@@ -9,7 +9,7 @@ use Rattle.text.specs.Words.{if_then_else_, has, table, some-below, least}
 use Rattle.text.specs.Refusals.{clash, idle-move}
 use Rattle.text.specs.declared.Found.{Found}
 use Rattle.text.specs.declared.Found.the-variants.{Nowhere, Here}
-use Rattle.book.specs.Book.{true-element, Book, L, dynamic-at, default-at, concerns, reserve}
+use Rattle.book.specs.Book.{true-element, Program, L, dynamic-at, default-at, concerns, reserve}
 use Rattle.engine.specs.declared.Instruction.{Instruction}
 use Rattle.engine.specs.declared.Instruction.the-variants.{Update, Release}
 use Rattle.engine.specs.Look.{gives, seen}
@@ -19,7 +19,7 @@ use Rattle.engine.specs.Rule.{Walked, going, met, agent-walk}
 
 -- What one gives location l. A release stands for: Reserve at its label becomes true, and every other dynamic location with the label as argument,
 -- or holding it before the move, gets its default.
-unfoldable pub given : Book → List ℕ → ℕ → Instruction → List ℕ
+unfoldable pub given : Program → List ℕ → ℕ → Instruction → List ℕ
 given B c l (Update k v) = if eqb k l then v ∷ [] else []
 given B c l (Release x) =
     if eqb (reserve x) l then true-element ∷ []
@@ -27,12 +27,12 @@ given B c l (Release x) =
     else []
 
 -- what all of them give it, in order
-unfoldable pub values : Book → List ℕ → ℕ → List Instruction → List ℕ
+unfoldable pub values : Program → List ℕ → ℕ → List Instruction → List ℕ
 values B c l [] = []
 values B c l (i ∷ is) = given B c l i ++ values B c l is
 
 -- the updates: for each location the values that it is given, none where it is not updated
-unfoldable pub updates : Book → List ℕ → List Instruction → List (List ℕ)
+unfoldable pub updates : Program → List ℕ → List Instruction → List (List ℕ)
 updates B c is = table (λ l. values B c l is) (L B)
 
 abbrev pub values-at : List (List ℕ) → ℕ → List ℕ
@@ -96,20 +96,20 @@ is-some (w ∷ ws) = true
 abbrev pub writes : List (List ℕ) → ℕ → Bool
 writes us l = is-some (values-at us l)
 
-unfoldable pub dynamic-among : Book → List ℕ → List ℕ
+unfoldable pub dynamic-among : Program → List ℕ → List ℕ
 dynamic-among B [] = []
 dynamic-among B (l ∷ ls) = let r = dynamic-among B ls in if dynamic-at B l then l ∷ r else r
 
 -- every dynamic location
-unfoldable pub all-dynamic : Book → List ℕ
+unfoldable pub all-dynamic : Program → List ℕ
 all-dynamic B = dynamic-among B (table (λ l. l) (L B))
 
 -- what a move reads beside what its walk looks at: with a release, every dynamic location
-abbrev pub if-releasing : Book → List ℕ → List ℕ
+abbrev pub if-releasing : Program → List ℕ → List ℕ
 if-releasing B [] = []
 if-releasing B (x ∷ xs) = all-dynamic B
 
-abbrev pub extra-reads : Book → List Instruction → List (List ℕ) → List ℕ
+abbrev pub extra-reads : Program → List Instruction → List (List ℕ) → List ℕ
 extra-reads B is us = if-releasing B (released is)
 
 -- ---- the move
@@ -138,7 +138,7 @@ unless-idle false m = m
 unless-idle true m = stopped idle-move 0
 
 -- the walk of a move in the contents c, and the dynamic locations that it looks at there: all terms are read in the contents before the move
-abbrev pub walked : Book → List ℕ → Input → Walked
+abbrev pub walked : Program → List ℕ → Input → Walked
 walked B c i = gives c (agent-walk B (i .agent))
 
 -- the instructions of a walk that came to its end; none of one that was refused on the way
@@ -146,11 +146,11 @@ abbrev pub made-by : Walked → List Instruction
 made-by (met n q) = []
 made-by (going w) = w .made
 
-abbrev pub looked : Book → List ℕ → Input → List ℕ
+abbrev pub looked : Program → List ℕ → Input → List ℕ
 looked B c i = dynamic-among B (seen c (agent-walk B (i .agent)))
 
 -- a walk that came to its end, having looked at ls
-abbrev pub fired-of : Book → List ℕ → List ℕ → List Instruction → Fired
+abbrev pub fired-of : Program → List ℕ → List ℕ → List Instruction → Fired
 fired-of B c ls is =
     let us = updates B c is in
     record { instructions = is; updates = us; reads = ls ++ extra-reads B is us }
@@ -161,17 +161,17 @@ judged c f =
     unless-clash (least (clashes (f .instructions) (f .updates)) (length (f .updates))) (unless-idle (idle c (f .updates)) (fires f))
 
 -- 11 to 14 as met, then the rest
-unfoldable pub settle : Book → List ℕ → List ℕ → Walked → Moved
+unfoldable pub settle : Program → List ℕ → List ℕ → Walked → Moved
 settle B c ls (met n q) = stopped n q
 settle B c ls (going w) = judged c (fired-of B c ls (w .made))
 
-unfoldable pub move : Book → List ℕ → Input → Moved
+unfoldable pub move : Program → List ℕ → Input → Moved
 move B c i = settle B c (looked B c i) (walked B c i)
 
 -- what a move reads, whether it fires or not
-abbrev pub reads-after : Book → List ℕ → List ℕ → Walked → List ℕ
+abbrev pub reads-after : Program → List ℕ → List ℕ → Walked → List ℕ
 reads-after B c ls (met n q) = ls
 reads-after B c ls (going w) = fired-of B c ls (w .made) .reads
 
-unfoldable pub reads : Book → List ℕ → Input → List ℕ
+unfoldable pub reads : Program → List ℕ → Input → List ℕ
 reads B c i = reads-after B c (looked B c i) (walked B c i)

@@ -10,7 +10,7 @@ use Rattle.text.specs.Refusals.{non-boolean, not-releasable, no-label-left, lis
 use Rattle.text.specs.declared.Found.{Found}
 use Rattle.text.specs.declared.Found.the-variants.{Nowhere, Here}
 use Rattle.book.specs.declared.Node.{Node}
-use Rattle.book.specs.Book.{true-element, false-element, boolean, relation, Book, location, reserve, function-at, node-at, agent-at}
+use Rattle.book.specs.Book.{true-element, false-element, boolean, relation, Program, location, reserve, function-at, node-at, agent-at}
 use Rattle.book.specs.Around.{most-depth}
 use Rattle.engine.specs.declared.Instruction.{Instruction}
 use Rattle.engine.specs.declared.Instruction.the-variants.{Update, Release}
@@ -111,7 +111,7 @@ refuse-if true r n w = met r n
 -- ---- what rules look for
 
 -- the members of the universe u among the n elements from x: all n are looked at
-unfoldable pub members : Book → ℕ → ℕ → ℕ → Look (List ℕ)
+unfoldable pub members : Program → ℕ → ℕ → ℕ → Look (List ℕ)
 unfolding _>>=_
 members B u x zero = done []
 members B u x (suc n) = do
@@ -137,22 +137,22 @@ lowest x (suc n) = do
   if eqb v true-element then done (Here x) else r
 
 -- an import at node n into the universe u, of the label found, or 13; body is the rest of it
-abbrev pub import-of : Book → ℕ → ℕ → Walk → (ℕ → Walk → Look Walked) → Found → Look Walked
+abbrev pub import-of : Program → ℕ → ℕ → Walk → (ℕ → Walk → Look Walked) → Found → Look Walked
 import-of B n u w body Nowhere = done (met no-label-left n)
 import-of B n u w body (Here x) =
     after (give n (Update (reserve x) false-element) (take-label x w) then give n (Update (location B u x 0) true-element)) (body x)
 
 -- 11: the location's function is a relation, and v is not Boolean
-abbrev pub not-boolean : Book → Term → ℕ → Bool
+abbrev pub not-boolean : Program → Term → ℕ → Bool
 not-boolean B t v = relation (function-at B (function-of t)) && not (boolean v)
 
 -- 12: x is no label, or in Reserve, whose value there is r
-abbrev pub not-free : Book → ℕ → ℕ → Bool
+abbrev pub not-free : Program → ℕ → ℕ → Bool
 not-free B x r = ltb x (B .P) || eqb r true-element
 
 -- ---- the walk of a rule by the agent whose element is me; vs are the variables' values
 
-unfoldable pub walk : Book → ℕ → Rule → List ℕ → Walk → Look Walked
+unfoldable pub walk : Program → ℕ → Rule → List ℕ → Walk → Look Walked
 unfolding _>>=_
 walk B me skip vs w = done (going w)
 walk B me (assign n t u) vs w = do
@@ -185,7 +185,7 @@ abbrev pub no-variables : List ℕ
 no-variables = 0 ∷ 0 ∷ 0 ∷ 0 ∷ 0 ∷ 0 ∷ 0 ∷ 0 ∷ []
 
 -- the walk of agent k's rule
-unfoldable pub agent-walk : Book → ℕ → Look Walked
+unfoldable pub agent-walk : Program → ℕ → Look Walked
 agent-walk B k =
     let g = agent-at B k in
     walk B (g .element) (rule-at (node-at B) (g .root)) no-variables (record { made = []; next = B .P })

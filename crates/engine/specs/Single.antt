@@ -6,7 +6,7 @@ use lib.ListN.{length, take, drop}
 use Rattle.text.specs.declared.Answer.{Answer}
 use Rattle.text.specs.Words.{least, Checked, good, refused, _>>=_, _>>_, none-at, must}
 use Rattle.text.specs.Refusals.{lent-short, contents-table, instructions-table, contents-rule, log-line}
-use Rattle.book.specs.Book.{Book, L}
+use Rattle.book.specs.Book.{Program, L}
 use Rattle.book.specs.Contents.{bad-value}
 use Rattle.book.specs.Check.{check-book}
 use Rattle.engine.specs.declared.Instruction.{Instruction}
@@ -18,22 +18,23 @@ abbrev pub over : List ℕ → List ℕ → List ℕ
 over new old = new ++ drop (length new) old
 
 -- 9 with place 0 if there is no such agent
-unfoldable pub check-agent : Book → ℕ → Checked (Unit {0})
+unfoldable pub check-agent : Program → ℕ → Checked (Unit {0})
 check-agent B k = must (ltb k (length (B .agents))) log-line 0 0
 
 -- 2: contents c and n instruction records are lent
-unfoldable pub check-lent-step : Book → List ℕ → ℕ → Checked (Unit {0})
+unfoldable pub check-lent-step : Program → List ℕ → ℕ → Checked (Unit {0})
 check-lent-step B c n = do
   must (leb (L B) (length c)) lent-short (L B) contents-table
   must (leb most-instructions n) lent-short most-instructions instructions-table
 
 -- 8 of a lent table: the least location at fault
-unfoldable pub check-contents : Book → List ℕ → Checked (Unit {0})
+unfoldable pub check-contents : Program → List ℕ → Checked (Unit {0})
 check-contents B c = none-at contents-rule 0 0 (least (bad-value B c) (L B))
 
-unfoldable pub check-step : List ℕ → List ℕ → ℕ → ℕ → Checked Book
+unfoldable pub check-step : List ℕ → List ℕ → ℕ → ℕ → Checked Program
 check-step book c k n = do
-  B ← check-book book
+  b ← check-book book
+  let B = b .program
   check-agent B k
   check-lent-step B c n
   check-contents B (take (L B) c)
@@ -51,14 +52,14 @@ abbrev pub stepped : List ℕ → List ℕ → List Instruction → Moved → St
 stepped c d is (fires f) = record { answer = record { number = 0; p = 0; q = 0 }; contents = over (fire (f .updates) d) c; instructions = is }
 stepped c d is (stopped n q) = record { answer = record { number = n; p = 0; q = q }; contents = c; instructions = is }
 
-abbrev pub step-move : Book → List ℕ → ℕ → Stepped
+abbrev pub step-move : Program → List ℕ → ℕ → Stepped
 step-move B c k =
     let d = take (L B) c in
     let i : Input = record { agent = k } in
     stepped c d (made-by (walked B d i)) (move B d i)
 
 -- a refused call leaves the table as it was
-abbrev pub step-answer : List ℕ → ℕ → Checked Book → Stepped
+abbrev pub step-answer : List ℕ → ℕ → Checked Program → Stepped
 step-answer c k (refused n p q) = record { answer = record { number = n; p = p; q = q }; contents = c; instructions = [] }
 step-answer c k (good B) = step-move B c k
 

@@ -13,7 +13,7 @@ use lib.Seq.{getD-set-same, getD-set-other, ext-getD}
 use Rattle.text.specs.Words.{if_then_else_, least}
 use Rattle.text.specs.declared.Found.the-variants.{Nowhere}
 use Rattle.text.proofs.Words.{or-no, least-none}
-use Rattle.book.specs.Book.{Book, L, true-element, default-at}
+use Rattle.book.specs.Book.{Program, L, true-element, default-at}
 use Rattle.engine.specs.declared.Instruction.{Instruction}
 use Rattle.engine.specs.declared.Instruction.the-variants.{Update, Release}
 use Rattle.engine.specs.Move.{given, values, updates, values-at, released, other, two-values, set-to-label, clashes, new-value, fire, is-some, writes}
@@ -51,7 +51,7 @@ mark-mark bit false t m = refl
 
 -- ---- one location, l; v is what it holds
 
-module _ (B : Book) (l : ℕ) where
+module _ (B : Program) (l : ℕ) where
   abbrev rest : ℕ
   rest = default-at B l
 
@@ -249,11 +249,11 @@ module _ (B : Book) (l : ℕ) where
 
 -- ---- the whole tables
 
-length-clear-of : (B : Book) (i : Instruction) (c : List ℕ) → length (clear-of B i c) ≡ length c
+length-clear-of : (B : Program) (i : Instruction) (c : List ℕ) → length (clear-of B i c) ≡ length c
 length-clear-of B (Update k w) c = refl
 length-clear-of B (Release x) c = length-each (wiped B x) 0 c
 
-length-clears : (B : Book) (is : List Instruction) (c : List ℕ) → length (clears B is c) ≡ length c
+length-clears : (B : Program) (is : List Instruction) (c : List ℕ) → length (clears B is c) ≡ length c
 unfolding clears
 length-clears B [] c = refl
 length-clears B (i ∷ is) c = length-clears B is (clear-of B i c) ∙ length-clear-of B i c
@@ -263,11 +263,11 @@ unfolding puts
 length-puts [] c = refl
 length-puts (i ∷ is) c = length-puts is (set c (own i) (gets i)) ∙ length-set c (own i) (gets i)
 
-length-clear-marks-of : (bit : ℕ) (B : Book) (i : Instruction) (c ms : List ℕ) → length (clear-marks-of bit B i c ms) ≡ length ms
+length-clear-marks-of : (bit : ℕ) (B : Program) (i : Instruction) (c ms : List ℕ) → length (clear-marks-of bit B i c ms) ≡ length ms
 length-clear-marks-of bit B (Update k w) c ms = refl
 length-clear-marks-of bit B (Release x) c ms = length-each (λ (l m : ℕ). mark bit (ltb l (length c) && trace B l (getD c l 0) x) m) 0 ms
 
-length-clear-marks : (bit : ℕ) (B : Book) (is : List Instruction) (c ms : List ℕ) → length (clear-marks bit B is c ms) ≡ length ms
+length-clear-marks : (bit : ℕ) (B : Program) (is : List Instruction) (c ms : List ℕ) → length (clear-marks bit B is c ms) ≡ length ms
 unfolding clear-marks
 length-clear-marks bit B [] c ms = refl
 length-clear-marks bit B (i ∷ is) c ms =
@@ -278,11 +278,11 @@ unfolding put-marks
 length-put-marks bit n [] ms = refl
 length-put-marks bit n (i ∷ is) ms = length-put-marks bit n is (set ms (own i) (mark bit (ltb (own i) n) (getD ms (own i) 0))) ∙ simp length-set
 
-clear-of-at : (B : Book) (i : Instruction) (c : List ℕ) (l : ℕ) → l < length c → getD (clear-of B i c) l 0 ≡ wipe-of B l i (getD c l 0)
+clear-of-at : (B : Program) (i : Instruction) (c : List ℕ) (l : ℕ) → l < length c → getD (clear-of B i c) l 0 ≡ wipe-of B l i (getD c l 0)
 clear-of-at B (Update k w) c l h = refl
 clear-of-at B (Release x) c l h = getD-each (wiped B x) c l h
 
-clears-at : (B : Book) (is : List Instruction) (c : List ℕ) (l : ℕ) → l < length c → getD (clears B is c) l 0 ≡ wipe-by B l is (getD c l 0)
+clears-at : (B : Program) (is : List Instruction) (c : List ℕ) (l : ℕ) → l < length c → getD (clears B is c) l 0 ≡ wipe-by B l is (getD c l 0)
 unfolding clears wipe-by
 clears-at B [] c l h = refl
 clears-at B (i ∷ is) c l h =
@@ -296,7 +296,7 @@ set-at c k v l h = step (eqb k l) refl
     step true e = let f : l ≡ k = sym (eqb-true k l e) in rw f (getD-set-same c k v 0 (omega arith))
     step false e = getD-set-other c k l v 0 (λ g. eqb-false k l e (sym g))
 
-puts-at : (B : Book) (is : List Instruction) (c : List ℕ) (l : ℕ) → l < length c → getD (puts is c) l 0 ≡ put-by B l is (getD c l 0)
+puts-at : (B : Program) (is : List Instruction) (c : List ℕ) (l : ℕ) → l < length c → getD (puts is c) l 0 ≡ put-by B l is (getD c l 0)
 unfolding puts put-by
 puts-at B [] c l h = refl
 puts-at B (i ∷ is) c l h =
@@ -304,13 +304,13 @@ puts-at B (i ∷ is) c l h =
     ∙ ap (put-by B l is) (set-at c (own i) (gets i) l h)
 
 clear-marks-of-at :
-    (bit : ℕ) (B : Book) (i : Instruction) (c ms : List ℕ) (l : ℕ) → l < length ms →
+    (bit : ℕ) (B : Program) (i : Instruction) (c ms : List ℕ) (l : ℕ) → l < length ms →
     getD (clear-marks-of bit B i c ms) l 0 ≡ mark bit (ltb l (length c) && trace-of B l (getD c l 0) i) (getD ms l 0)
 clear-marks-of-at bit B (Update k w) c ms l h = rw (and-none (ltb l (length c)))
 clear-marks-of-at bit B (Release x) c ms l h = getD-each (λ (l m : ℕ). mark bit (ltb l (length c) && trace B l (getD c l 0) x) m) ms l h
 
 clear-marks-at :
-    (bit : ℕ) (B : Book) (is : List Instruction) (c ms : List ℕ) (l : ℕ) → l < length ms → l < length c →
+    (bit : ℕ) (B : Program) (is : List Instruction) (c ms : List ℕ) (l : ℕ) → l < length ms → l < length c →
     getD (clear-marks bit B is c ms) l 0 ≡ note-by B l bit is (getD c l 0) (getD ms l 0)
 unfolding clear-marks note-by
 clear-marks-at bit B [] c ms l h k = refl
@@ -320,7 +320,7 @@ clear-marks-at bit B (i ∷ is) c ms l h k =
     ∙ ap₂ (note-by B l bit is) (clear-of-at B i c l k) (clear-marks-of-at bit B i c ms l h ∙ rw (lt-ltb l (length c) k))
 
 clear-marks-out :
-    (bit : ℕ) (B : Book) (is : List Instruction) (c ms : List ℕ) (l : ℕ) → l < length ms → length c ≤ l →
+    (bit : ℕ) (B : Program) (is : List Instruction) (c ms : List ℕ) (l : ℕ) → l < length ms → length c ≤ l →
     getD (clear-marks bit B is c ms) l 0 ≡ getD ms l 0
 unfolding clear-marks
 clear-marks-out bit B [] c ms l h k = refl
@@ -350,7 +350,7 @@ put-marks-at bit n (i ∷ is) ms l h =
 
 -- ---- both together
 
-module _ (B : Book) (is : List Instruction) (c : List ℕ) (long : length c ≡ L B) where
+module _ (B : Program) (is : List Instruction) (c : List ℕ) (long : length c ≡ L B) where
   unclashed : least (clashes is (updates B c is)) (length (updates B c is)) ≡ Nowhere → (l : ℕ) → l < length c → two-values (values B c l is) ≡ false
   unfolding clashes
   unclashed h l k =

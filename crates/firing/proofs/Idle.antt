@@ -9,7 +9,7 @@ use lib.Dec.{eqb, ltb}
 use lib.ListN.{length, getD}
 use Rattle.text.specs.Words.{if_then_else_, some-below}
 use Rattle.text.proofs.Words.{or-no, some-below-true, some-below-from}
-use Rattle.book.specs.Book.{Book, L}
+use Rattle.book.specs.Book.{Program, L}
 use Rattle.engine.specs.declared.Instruction.{Instruction}
 use Rattle.engine.specs.declared.Instruction.the-variants.{Update, Release}
 use Rattle.engine.specs.Move.{given, values, updates, values-at, released, other, idle}
@@ -20,7 +20,7 @@ use Rattle.firing.specs.Steps.{change}
 use Rattle.traces.proofs.Laws.{other-append}
 use Rattle.traces.proofs.Laws.{no, own-given}
 
-module _ (B : Book) (c : List ℕ) where
+module _ (B : Program) (c : List ℕ) where
   abbrev Quiet : List Instruction → Type 0
   Quiet is = (l : ℕ) → l < L B → other (getD c l 0) (values B c l is) ≡ false
 

@@ -10,7 +10,7 @@ use lib.Dec.{ltb, leb}
 use lib.ListN.{length, getD, set, take, drop}
 use lib.Seq.{getD-take, getD-drop, set-out, set-getD}
 use Rattle.text.specs.Words.{if_then_else_}
-use Rattle.book.specs.Book.{Book, L}
+use Rattle.book.specs.Book.{Program, L}
 use Rattle.pages.specs.declared.Part.{Part}
 use Rattle.pages.specs.Part.{put-in, part-of}
 use Rattle.pages.proofs.Parts.{between-inside, between-after, part-starts, part-alike, part-numbered, part-past, put-back}
@@ -19,7 +19,7 @@ use Rattle.firing.specs.Steps.{part-after}
 
 -- ---- the part that is held
 
-module _ (B : Book) where
+module _ (B : Program) where
   -- it is the part of each of its locations
   abbrev pub Whole : Part → Type 0
   Whole p = (k : ℕ) → p .first ≤ k → k < p .end → part-of B k ≡ p

@@ -9,7 +9,7 @@ use lib.Dec.{eqb}
 use borrow.Author.Tests.{eqb-true}
 use Rattle.text.specs.Words.{has}
 use Rattle.text.proofs.Words.{or-cases}
-use Rattle.book.specs.Book.{Book}
+use Rattle.book.specs.Book.{Program}
 use Rattle.book.specs.Sound.{Lawful, Sound}
 use Rattle.book.proofs.Places.{roll-inside}
 use Rattle.engine.specs.declared.Instruction.{Instruction}
@@ -31,7 +31,7 @@ has-frees (Release y ∷ is) x h = go (or-cases (eqb y x) (has (released is) x) 
     go (inl e) r = inl (eqb-true y x e)
     go (inr e) r = inr (r e)
 
-pub walk-ready : (B : Book) → Lawful B → (c : List ℕ) → Sound B c → (i : Input) (w : Walk) → walked B c i ≡ going w → Ready B c (w .made)
+pub walk-ready : (B : Program) → Lawful B → (c : List ℕ) → Sound B c → (i : Input) (w : Walk) → walked B c i ≡ going w → Ready B c (w .made)
 walk-ready B ok c sound i w e =
     record {
       long = sound .long;

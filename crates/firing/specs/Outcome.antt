@@ -7,8 +7,8 @@ use Prim.Native.Nat.{ℕ, _<_}
 use lib.ListN.{length, getD}
 use Rattle.text.specs.Words.{has}
 use Rattle.text.specs.Refusals.{clash, idle-move}
-use Rattle.book.specs.Book.{Book, L, true-element, reserve}
-use Rattle.book.specs.Image.{book-in}
+use Rattle.book.specs.Book.{Program, L, true-element, reserve}
+use Rattle.book.specs.Image.{program-in}
 use Rattle.engine.specs.declared.Instruction.{Instruction}
 use Rattle.engine.specs.Move.{Moved, fires, stopped, released, fire, writes, fired-of, judged}
 use Rattle.engine.specs.Move as move
@@ -21,7 +21,7 @@ use Rattle.firing.specs.declared.Outcome.the-variants.{Fired, Clash, Idl
 
 -- its walk looked at ls
 abbrev pub move-by : List ℕ → List ℕ → List ℕ → ℕ → List ℕ → move.Fired
-move-by image c list n ls = fired-of (book-in image []) c ls (items list n)
+move-by image c list n ls = fired-of (program-in image) c ls (items list n)
 
 -- ---- outcomes
 
@@ -48,10 +48,10 @@ marks-after bit ms (stopped n q) = ms
 -- ---- what the walk of a move has seen to
 
 -- each label that is released has its location in the table and is not on the roll: 12 refuses the others
-abbrev pub OffRoll : Book → List ℕ → List Instruction → Type 0
+abbrev pub OffRoll : Program → List ℕ → List Instruction → Type 0
 OffRoll B c is = (x : ℕ) → has (released is) x ≡ true → (x < L B) × (getD c (reserve x) 0 ≢ true-element)
 
-pub record Ready (B : Book) (c : List ℕ) (is : List Instruction) : Type 0 where
+pub record Ready (B : Program) (c : List ℕ) (is : List Instruction) : Type 0 where
   pub long : length c ≡ L B
   pub off-roll : OffRoll B c is
 

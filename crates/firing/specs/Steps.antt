@@ -5,7 +5,7 @@ use Prim.Native.Nat.{ℕ}
 use lib.Dec.{eqb, ltb}
 use lib.ListN.{getD, set}
 use Rattle.text.specs.Words.{if_then_else_}
-use Rattle.book.specs.Book.{Book}
+use Rattle.book.specs.Book.{Program}
 use Rattle.pages.specs.declared.Part.{Part}
 use Rattle.pages.specs.Part.{between, part-of}
 use Rattle.engine.specs.declared.Instruction.{Instruction}
@@ -21,7 +21,7 @@ change n c i = ltb (own i) n && not (eqb (getD c (own i) 0) (gets i))
 -- ---- each instruction's own value put
 
 -- the part that l is in, the one that is held being tried first
-abbrev pub part-after : Book → Part → ℕ → Part
+abbrev pub part-after : Program → Part → ℕ → Part
 part-after B held l = if between (held .first) (held .end) l then held else part-of B l
 
 unfoldable pub puts : List Instruction → List ℕ → List ℕ

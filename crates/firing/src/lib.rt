@@ -9,7 +9,7 @@ ghost use lib.Dec.{ltb};
 ghost use lib.ListN.{length, getD, set};
 ghost use Rattle.text.specs.declared.Found.the-variants.{Nowhere};
 ghost use Rattle.book.specs.Book.{L};
-ghost use Rattle.book.specs.Image.{book-in};
+ghost use Rattle.book.specs.Image.{program-in};
 ghost use Rattle.pages.specs.Part.{put-in};
 ghost use Rattle.engine.specs.Move.{idle, fire};
 ghost use Rattle.records.specs.Code.{items};
@@ -54,7 +54,7 @@ fn has_change(n: u32, contents: &[u16], list: &[u64], len: usize) -> bool
 
 // No location would change. A release always changes Reserve at its label, so only the instructions' own locations matter.
 pub fn is_idle(image: &[u16; 4296], contents: &[u16], list: &[u64], len: usize) -> bool
-    ensures { λ r. ⌜ (OffRoll (book-in (now (image .entry)) []) (now (contents .entry)) (items (now (list .entry)) len) → r ≡ idle (now (contents .entry)) (updates-by (now (image .entry)) (now (contents .entry)) (now (list .entry)) len)) ⌝ }
+    ensures { λ r. ⌜ (OffRoll (program-in (now (image .entry))) (now (contents .entry)) (items (now (list .entry)) len) → r ≡ idle (now (contents .entry)) (updates-by (now (image .entry)) (now (contents .entry)) (now (list .entry)) len)) ⌝ }
 {
     !has_change(pages::total(image), contents, list, len)
 }
@@ -103,7 +103,7 @@ fn put_in(
 
 // The part that location `at` is in; the one held, if that has it.
 fn part_at(image: &[u16; 4296], held: Part, at: usize) -> Part
-    ensures { λ r. ⌜ r ≡ part-after (book-in (now (image .entry)) []) held at ⌝ }
+    ensures { λ r. ⌜ r ≡ part-after (program-in (now (image .entry))) held at ⌝ }
 {
     if (held.first <= at) & (at < held.end) {
         held
@@ -121,8 +121,8 @@ fn put_all(
     len: usize,
     bit: u64,
 )
-    ensures { λ _. ⌜ (length (now (contents .entry)) ≡ L (book-in (now (image .entry)) []) → now (contents .exit) ≡ puts (items (now (list .entry)) len) (now (contents .entry))) ⌝ }
-    ensures { λ _. ⌜ (length (now (contents .entry)) ≡ L (book-in (now (image .entry)) []) → now (writers .exit) ≡ put-marks bit (length (now (contents .entry))) (items (now (list .entry)) len) (now (writers .entry))) ⌝ }
+    ensures { λ _. ⌜ (length (now (contents .entry)) ≡ L (program-in (now (image .entry))) → now (contents .exit) ≡ puts (items (now (list .entry)) len) (now (contents .entry))) ⌝ }
+    ensures { λ _. ⌜ (length (now (contents .entry)) ≡ L (program-in (now (image .entry))) → now (writers .exit) ≡ put-marks bit (length (now (contents .entry))) (items (now (list .entry)) len) (now (writers .entry))) ⌝ }
 {
     let n = numbers::smaller(len, list.len());
     let mut part = Part { first: 0, end: 0 };
@@ -153,8 +153,8 @@ pub fn fire(
     len: usize,
     bit: u64,
 )
-    ensures { λ _. ⌜ (length (now (contents .entry)) ≡ L (book-in (now (image .entry)) []) → clash-by (now (image .entry)) (now (contents .entry)) (now (list .entry)) len ≡ Nowhere → now (contents .exit) ≡ fire (updates-by (now (image .entry)) (now (contents .entry)) (now (list .entry)) len) (now (contents .entry))) ⌝ }
-    ensures { λ _. ⌜ (length (now (contents .entry)) ≡ L (book-in (now (image .entry)) []) → now (writers .exit) ≡ marked bit (updates-by (now (image .entry)) (now (contents .entry)) (now (list .entry)) len) (now (writers .entry))) ⌝ }
+    ensures { λ _. ⌜ (length (now (contents .entry)) ≡ L (program-in (now (image .entry))) → clash-by (now (image .entry)) (now (contents .entry)) (now (list .entry)) len ≡ Nowhere → now (contents .exit) ≡ fire (updates-by (now (image .entry)) (now (contents .entry)) (now (list .entry)) len) (now (contents .entry))) ⌝ }
+    ensures { λ _. ⌜ (length (now (contents .entry)) ≡ L (program-in (now (image .entry))) → now (writers .exit) ≡ marked bit (updates-by (now (image .entry)) (now (contents .entry)) (now (list .entry)) len) (now (writers .entry))) ⌝ }
 {
     clearing::clear_all(image, contents, writers, list, len, bit);
     put_all(image, contents, writers, list, len, bit);
@@ -171,7 +171,7 @@ pub fn settle(
     len: usize,
     bit: u64,
 ) -> Outcome
-    ensures { λ r. ⌜ (Ready (book-in (now (image .entry)) []) (now (contents .entry)) (items (now (list .entry)) len) → (ls : List ℕ) → Settled (move-by (now (image .entry)) (now (contents .entry)) (now (list .entry)) len ls) bit (now (contents .entry)) (now (writers .entry)) r (now (contents .exit)) (now (writers .exit))) ⌝ }
+    ensures { λ r. ⌜ (Ready (program-in (now (image .entry))) (now (contents .entry)) (items (now (list .entry)) len) → (ls : List ℕ) → Settled (move-by (now (image .entry)) (now (contents .entry)) (now (list .entry)) len ls) bit (now (contents .entry)) (now (writers .entry)) r (now (contents .exit)) (now (writers .exit))) ⌝ }
 {
     let all = pages::total(image);
     let at = clash::first_clash(image, contents, list, len, all);

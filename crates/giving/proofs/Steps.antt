@@ -9,7 +9,7 @@ use lib.ListN.{length, set, length-map, length-take}
 use lib.Seq.{take-suc-set}
 use borrow.Author.Tests.{eq-eqb, ne-eqb, lt-ltb, le-ltb}
 use Rattle.text.specs.Refusals.{non-boolean, not-releasable, list-full}
-use Rattle.book.specs.Book.{boolean, relation, Book, function-at}
+use Rattle.book.specs.Book.{boolean, relation, Program, function-at}
 use Rattle.engine.specs.declared.Instruction.{Instruction}
 use Rattle.engine.specs.declared.Instruction.the-variants.{Update, Release}
 use Rattle.engine.specs.Rule.{Walked, going, met, _then_, give, not-free}
@@ -39,7 +39,7 @@ module _ (s : Pace) (l : List ℕ) (i : Instruction) (n : ℕ) where
       rw (le-ltb (length (items l (s .len))) 256 k)
 
 -- 11 and 12, or one instruction more
-module _ (B : Book) (f l v n : ℕ) where
+module _ (B : Program) (f l v n : ℕ) where
   pub setting-ok : (relation (function-at B f) && not (boolean v)) ≡ false → (o : Walked) → (o then setting B f l v n) ≡ (o then give n (Update l v))
   setting-ok e (going w) = rw e
   setting-ok e (met r q) = refl
@@ -48,7 +48,7 @@ module _ (B : Book) (f l v n : ℕ) where
   setting-bad e (going w) = rw e
   setting-bad e (met r q) = refl
 
-module _ (B : Book) (x r n : ℕ) where
+module _ (B : Program) (x r n : ℕ) where
   pub freeing-ok : not-free B x r ≡ false → (o : Walked) → (o then freeing B x r n) ≡ (o then give n (Release x))
   freeing-ok e (going w) = rw e
   freeing-ok e (met a q) = refl

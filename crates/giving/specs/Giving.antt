@@ -6,7 +6,7 @@ use lib.Dec.{eqb, ltb}
 use lib.ListN.{length}
 use Rattle.text.specs.Words.{if_then_else_}
 use Rattle.text.specs.Refusals.{non-boolean, not-releasable, no-label-left}
-use Rattle.book.specs.Book.{true-element, false-element, boolean, relation, Book, function-at, location, reserve}
+use Rattle.book.specs.Book.{true-element, false-element, boolean, relation, Program, function-at, location, reserve}
 use Rattle.engine.specs.declared.Instruction.the-variants.{Update, Release}
 use Rattle.engine.specs.Rule.{Walk, Walked, going, met, _then_, most-instructions, give, take-label, refuse-if, not-free}
 use Rattle.records.specs.Code.{items}
@@ -31,17 +31,17 @@ abbrev pub refused-by : ℕ → ℕ → Walk → Walked
 refused-by number n w = met number n
 
 -- 21 at node n: a location of function f is set to v
-abbrev pub setting : Book → ℕ → ℕ → ℕ → ℕ → Walk → Walked
+abbrev pub setting : Program → ℕ → ℕ → ℕ → ℕ → Walk → Walked
 setting B f l v n w = refuse-if (relation (function-at B f) && not (boolean v)) non-boolean n w then give n (Update l v)
 
 -- 27 at node n: x is released, Reserve there being r
-abbrev pub freeing : Book → ℕ → ℕ → ℕ → Walk → Walked
+abbrev pub freeing : Program → ℕ → ℕ → ℕ → Walk → Walked
 freeing B x r n w = refuse-if (not-free B x r) not-releasable n w then give n (Release x)
 
 -- 26 at node n: label x is taken into the universe u
-abbrev pub taking : Book → ℕ → ℕ → ℕ → Walk → Walked
+abbrev pub taking : Program → ℕ → ℕ → ℕ → Walk → Walked
 taking B u x n w = give n (Update (reserve x) false-element) (take-label x w) then give n (Update (location B u x 0) true-element)
 
 -- the same where the search for a label came to x, past the elements if there is none
-abbrev pub enrolling : Book → ℕ → ℕ → ℕ → Walk → Walked
+abbrev pub enrolling : Program → ℕ → ℕ → ℕ → Walk → Walked
 enrolling B u x n w = if ltb x (B .E) then taking B u x n w else met no-label-left n

@@ -6,7 +6,7 @@ use native.Mathlib.Omega.{arith}
 use lib.ListN.{length, take, drop, take-append-drop}
 use lib.Seq.{length-take-le}
 use Rattle.text.specs.declared.Answer.{Answer}
-use Rattle.book.specs.Book.{Book, L}
+use Rattle.book.specs.Book.{Program, L}
 use Rattle.engine.specs.declared.Instruction.{Instruction}
 use Rattle.engine.specs.Move.{Input, Moved, fires, stopped, walked, made-by, move}
 use Rattle.engine.specs.Single.{Stepped, stepped, step-move}
@@ -16,7 +16,7 @@ use Rattle.moves.specs.Effect.{Tables, tables, left, number-of, q-of, Fit, Effe
 use Rattle.halves.specs.Stages.{Ready}
 
 -- with no marks, and the first bit
-pub fit : (B : Book) (c : List ℕ) (k : ℕ) → Ready B c k → Fit B k 1 (tables c [] [])
+pub fit : (B : Program) (c : List ℕ) (k : ℕ) → Ready B c k → Fit B k 1 (tables c [] [])
 fit B c k r = record {
   lawful = r .lawful;
   sound = r .sound;
@@ -29,7 +29,7 @@ abbrev pub answer-by : Verdict → Answer
 answer-by v = record { number = v .number; p = 0; q = v .q }
 
 -- on the first j records of the table c, all that the book has
-pub moved-step : (B : Book) (c : List ℕ) (k j : ℕ) → j ≡ L B → j ≤ length c → (v : Verdict) (d rs ws : List ℕ)
+pub moved-step : (B : Program) (c : List ℕ) (k j : ℕ) → j ≡ L B → j ≤ length c → (v : Verdict) (d rs ws : List ℕ)
     → Effect B k 1 (tables (take j c) [] []) v (tables d rs ws)
     → (answer-by v ≡ step-move B c k .answer) × (d ++ drop j c ≡ step-move B c k .contents)
 moved-step B c k j e h v d rs ws f =

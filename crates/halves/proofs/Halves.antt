@@ -7,8 +7,8 @@ use native.Mathlib.Decide.{ℕ-discrete}
 use native.Mathlib.Omega.{arith}
 use lib.ListN.{length, take, drop}
 use Rattle.text.specs.declared.Answer.{Answer}
-use Rattle.book.specs.Book.{Book, L}
-use Rattle.book.specs.Image.{book-in}
+use Rattle.book.specs.Book.{Program, L}
+use Rattle.book.specs.Image.{program-in}
 use Rattle.engine.specs.Move.{Moved, fires, stopped, walked, made-by, move}
 use Rattle.engine.specs.Single.{Stepped, stepped, step-move, step-call}
 use Rattle.records.specs.Code.{items}
@@ -30,7 +30,7 @@ nil-of : (xs : List ℕ) → length xs ≡ 0 → xs ≡ []
 nil-of [] e = refl
 nil-of (x ∷ xs) e = absurd (omega (arith, e))
 
-pub on : (B : Book) (c : List ℕ) (k n : ℕ) (l : List ℕ) (s : State) (rs : List ℕ) → n ≡ L B → L B ≤ length c → Ready B (take (L B) c) k → length rs ≡ 0 → length l ≡ 256
+pub on : (B : Program) (c : List ℕ) (k n : ℕ) (l : List ℕ) (s : State) (rs : List ℕ) → n ≡ L B → L B ≤ length c → Ready B (take (L B) c) k → length rs ≡ 0 → length l ≡ 256
     → Gathered B (take n c) 1 k (outcome s l) [] rs → On B c k l s
 on B c k n l s rs e h r z f g = record {
   long = h;
@@ -50,13 +50,13 @@ module _ (text c : List ℕ) (k n : ℕ) (m l : List ℕ) (p : Paused) where
     walks = λ y. absurd (h (ap (λ (b : Answer). b .number) (sym e) ∙ y));
   }
 
-  pub walked-half : p .answer .number ≡ 0 → p .count ≡ given-of (p .walk) → 256 ≤ n → On (book-in m []) c k l (p .walk) → step-move (book-in m []) c k ≡ step-call text c k n
+  pub walked-half : p .answer .number ≡ 0 → p .count ≡ given-of (p .walk) → 256 ≤ n → On (program-in m) c k l (p .walk) → step-move (program-in m) c k ≡ step-call text c k n
       → Halfway text c k n m l p
   walked-half z e r o w = record { stops = λ h. absurd (h z); walks = λ _. (e, record { lent = r; on = o; whole = w }) }
 
 -- ---- the list between them
 
-step-instructions : (B : Book) (c : List ℕ) (k : ℕ) → step-move B c k .instructions ≡ made-by (walked B (take (L B) c) (record { agent = k }))
+step-instructions : (B : Program) (c : List ℕ) (k : ℕ) → step-move B c k .instructions ≡ made-by (walked B (take (L B) c) (record { agent = k }))
 step-instructions B c k = go (move B (take (L B) c) (record { agent = k }))
   where
     go : (o : Moved) → stepped c (take (L B) c) (made-by (walked B (take (L B) c) (record { agent = k }))) o .instructions ≡ made-by (walked B (take (L B) c) (record { agent = k }))
@@ -64,8 +64,8 @@ step-instructions B c k = go (move B (take (L B) c) (record { agent = k }))
     go (stopped a q) = refl
 
 module _ (text c : List ℕ) (k n : ℕ) (m l : List ℕ) (p : Paused) (h : Halfway text c k n m l p) where
-  abbrev A : Book
-  A = book-in m []
+  abbrev A : Program
+  A = program-in m
 
   -- the instructions of the call
   pub half-made : items l (p .count) ≡ step-call text c k n .instructions

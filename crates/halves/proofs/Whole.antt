@@ -1,54 +1,45 @@
 -- The whole call from its stages: a refusal of the book, a refusal of 9, 2 or 8, and the move.
 use mathlib.Core.Path.{_≡_, refl, sym, ap, subst, _∙_}
 use mathlib.Core.Logic.{_≢_}
-use mathlib.Core.List.{List, []}
+use mathlib.Core.List.{List}
 use Prim.Native.Nat.{ℕ}
 use lib.ListN.{take}
 use lib.Seq.{length-take-le}
 use Rattle.text.specs.declared.Answer.{Answer}
 use Rattle.text.specs.Words.{Checked, good, refused, _>>=_, _>>_, answer-of}
-use Rattle.book.specs.declared.Entry.{Entry}
-use Rattle.book.specs.Book.{Book, L}
+use Rattle.book.specs.Book.{Program, Book, L}
 use Rattle.book.specs.Check.{check-book}
-use Rattle.book.specs.Image.{book-in}
+use Rattle.book.specs.Image.{program-in}
 use Rattle.book.specs.Sound.{Lawful}
 use Rattle.book.proofs.Accepted.{accepted}
 use Rattle.book.proofs.Claims.{accepted-table}
-use Rattle.engine.specs.Move.{Input}
 use Rattle.engine.specs.Single.{check-agent, check-lent-step, check-contents, check-step, step-move, step-answer, step-call}
 use Rattle.calls.specs.Call.{check-call}
 use Rattle.halves.specs.Stages.{Ready, Tells}
 use Rattle.calls.proofs.Numbered.{book-numbered, call-numbered, accepts}
 use Rattle.calls.proofs.Checks.{Passed, call-passed}
-use Rattle.calls.proofs.Same.{lawful-same, walked-same, move-same, L-same, call-same}
 
 -- a refusal before the move: no instruction, and the contents as they were
 module _ (c l : List ℕ) (k : ℕ) where
-  book-stops : (x : Checked Book) (f : Book → Checked Book) → answer-of x .number ≢ 0 → Tells (answer-of x) 0 l c (step-answer c k (x >>= f))
+  book-stops : (x : Checked Book) (f : Book → Checked Program) → answer-of x .number ≢ 0 → Tells (answer-of x) 0 l c (step-answer c k (x >>= f))
   unfolding _>>=_
-  book-stops (good B) f h = absurd (h refl)
+  book-stops (good b) f h = absurd (h refl)
   book-stops (refused n p q) f h = record { answer = refl; instructions = refl; contents = refl }
 
-  call-stops : (x : Checked (Unit {0})) (B : Book) → answer-of x .number ≢ 0 → Tells (answer-of x) 0 l c (step-answer c k (x >> good B))
+  call-stops : (x : Checked (Unit {0})) (B : Program) → answer-of x .number ≢ 0 → Tells (answer-of x) 0 l c (step-answer c k (x >> good B))
   unfolding _>>_
   call-stops (good u) B h = absurd (h refl)
   call-stops (refused n p q) B h = record { answer = refl; instructions = refl; contents = refl }
 
-  call-goes : (x : Checked (Unit {0})) (u : Unit {0}) (B : Book) → x ≡ good u → step-answer c k (x >> good B) ≡ step-move B c k
+  call-goes : (x : Checked (Unit {0})) (u : Unit {0}) (B : Program) → x ≡ good u → step-answer c k (x >> good B) ≡ step-move B c k
   unfolding _>>_
   call-goes x u B e = rw e
 
-  step-same : (m : List ℕ) (es : List Entry) → step-move (book-in m []) c k ≡ step-move (book-in m es) c k
-  step-same m es =
-      let d = take (L (book-in m es)) c in
-      let i : Input = record { agent = k } in
-      rw (L-same m es, walked-same m es d i, move-same m es d i)
-
 -- what a call has passed before its move, whose image is m, and that the move is all that is left of it
 pub record Cleared (text c : List ℕ) (k n : ℕ) (m : List ℕ) : Type 0 where
-  pub passed : Passed (book-in m []) c k n
-  pub ready : Ready (book-in m []) (take (L (book-in m [])) c) k
-  pub moved : step-move (book-in m []) c k ≡ step-call text c k n
+  pub passed : Passed (program-in m) c k n
+  pub ready : Ready (program-in m) (take (L (program-in m)) c) k
+  pub moved : step-move (program-in m) c k ≡ step-call text c k n
 
 joined : {A : Type 0} (x y z : Checked (Unit {0})) (w : Checked A) → (x >> (y >> (z >> w))) ≡ ((x >> (y >> z)) >> w)
 unfolding _>>_
@@ -65,55 +56,55 @@ module _ (text c l : List ℕ) (k n : ℕ) where
 
   -- ---- the book is accepted, and m is its image
 
-  step-good : (B : Book) → check-book text ≡ good B → step-call text c k n ≡ step-answer c k (check-call B c k n >> good B)
+  step-good : (b : Book) → check-book text ≡ good b → step-call text c k n ≡ step-answer c k (check-call (b .program) c k n >> good (b .program))
   unfolding step-call check-step check-call _>>=_
-  step-good B e =
+  step-good b e =
+      let B = b .program in
       rw e
       (ap (step-answer c k) (joined (check-agent B k) (check-lent-step B c n) (check-contents B (take (L B) c)) (good B)))
 
-  module _ (m : List ℕ) (holds : (B : Book) → check-book text ≡ good B → book-in m (B .entries) ≡ B)
+  module _ (m : List ℕ) (holds : (b : Book) → check-book text ≡ good b → program-in m ≡ b .program)
       (a : Answer) (told : a ≡ answer-of (check-book text)) (zero-a : a .number ≡ 0)
-      (b : Answer) (call : b ≡ answer-of (check-call (book-in m []) c k n)) where
-    accepted-as : (B : Book) × (check-book text ≡ good B)
+      (b : Answer) (call : b ≡ answer-of (check-call (program-in m) c k n)) where
+    accepted-as : (b : Book) × (check-book text ≡ good b)
     accepted-as = accepts (check-book text) (book-numbered text) (sym (ap (λ (r : Answer). r .number) told) ∙ zero-a)
 
-    abbrev B : Book
-    B = accepted-as .0
+    abbrev B : Program
+    B = accepted-as .0 .program
 
-    held : book-in m (B .entries) ≡ B
-    held = holds B (accepted-as .1)
+    held : program-in m ≡ B
+    held = holds (accepted-as .0) (accepted-as .1)
 
-    call-held : check-call (book-in m []) c k n ≡ check-call B c k n
-    call-held = call-same m (B .entries) c k n ∙ ap (λ (A : Book). check-call A c k n) held
+    call-held : check-call (program-in m) c k n ≡ check-call B c k n
+    call-held = ap (λ (A : Program). check-call A c k n) held
 
     pub refused-call : b .number ≢ 0 → Tells b 0 l c (step-call text c k n)
     refused-call h =
         let e : b ≡ answer-of (check-call B c k n) = call ∙ ap (λ (x : Checked (Unit {0})). answer-of x) call-held in
-        rw (e, step-good B (accepted-as .1)) (call-stops c l k (check-call B c k n) B (λ z. h (ap (λ (r : Answer). r .number) e ∙ z)))
+        rw (e, step-good (accepted-as .0) (accepted-as .1)) (call-stops c l k (check-call B c k n) B (λ z. h (ap (λ (r : Answer). r .number) e ∙ z)))
 
     module _ (zero-b : b .number ≡ 0) where
-      goes : (u : Unit {0}) × (check-call (book-in m []) c k n ≡ good u)
-      goes = accepts (check-call (book-in m []) c k n) (call-numbered (book-in m []) c k n) (sym (ap (λ (r : Answer). r .number) call) ∙ zero-b)
+      goes : (u : Unit {0}) × (check-call (program-in m) c k n ≡ good u)
+      goes = accepts (check-call (program-in m) c k n) (call-numbered (program-in m) c k n) (sym (ap (λ (r : Answer). r .number) call) ∙ zero-b)
 
-      shown : Passed (book-in m []) c k n
-      shown = call-passed (book-in m []) c k n (goes .0) (goes .1)
+      shown : Passed (program-in m) c k n
+      shown = call-passed (program-in m) c k n (goes .0) (goes .1)
 
-      lawful : Lawful (book-in m [])
-      lawful = lawful-same m (B .entries) (subst Lawful (sym held) (accepted text B (accepted-as .1)))
+      lawful : Lawful (program-in m)
+      lawful = subst Lawful (sym held) (accepted text (accepted-as .0) (accepted-as .1))
 
-      ready : Ready (book-in m []) (take (L (book-in m [])) c) k
+      ready : Ready (program-in m) (take (L (program-in m)) c) k
       ready = record {
         lawful = lawful;
-        sound = accepted-table (book-in m []) lawful (take (L (book-in m [])) c) (length-take-le (L (book-in m [])) c (shown .long)) (shown .fine);
+        sound = accepted-table (program-in m) lawful (take (L (program-in m)) c) (length-take-le (L (program-in m)) c (shown .long)) (shown .fine);
         agent = shown .agent;
       }
 
-      moved : step-move (book-in m []) c k ≡ step-call text c k n
+      moved : step-move (program-in m) c k ≡ step-call text c k n
       moved =
-          step-same c l k m (B .entries)
-          ∙ ap (λ (A : Book). step-move A c k) held
+          ap (λ (A : Program). step-move A c k) held
           ∙ sym (call-goes c l k (check-call B c k n) (goes .0) B (sym call-held ∙ goes .1))
-          ∙ sym (step-good B (accepted-as .1))
+          ∙ sym (step-good (accepted-as .0) (accepted-as .1))
 
       pub cleared : Cleared text c k n m
       cleared = record { passed = shown; ready = ready; moved = moved }

@@ -4,8 +4,8 @@ use mathlib.Core.Logic.{_≢_}
 use mathlib.Core.List.{List, []}
 use Prim.Native.Nat.{ℕ, _≤_}
 use lib.ListN.{length, take}
-use Rattle.book.specs.Book.{Book, L}
-use Rattle.book.specs.Image.{book-in}
+use Rattle.book.specs.Book.{Program, L}
+use Rattle.book.specs.Image.{program-in}
 use Rattle.engine.specs.Rule.{most-instructions}
 use Rattle.engine.specs.Single.{step-move, step-call}
 use Rattle.walk.specs.declared.State.{State}
@@ -15,7 +15,7 @@ use Rattle.halves.specs.declared.Paused.{Paused}
 use Rattle.halves.specs.Stages.{Tells}
 
 -- agent k's walk in the first records of the table c came to the state s with the list l, which has room for every instruction
-pub record On (B : Book) (c : List ℕ) (k : ℕ) (l : List ℕ) (s : State) : Type 0 where
+pub record On (B : Program) (c : List ℕ) (k : ℕ) (l : List ℕ) (s : State) : Type 0 where
   pub long : L B ≤ length c
   pub room : length l ≡ most-instructions
   pub after : After B k 1 (tables (take (L B) c) [] []) s l (tables (take (L B) c) [] [])
@@ -23,8 +23,8 @@ pub record On (B : Book) (c : List ℕ) (k : ℕ) (l : List ℕ) (s : State) : T
 -- the call that was not refused before its move, whose image is m
 pub record Walks (text c : List ℕ) (k n : ℕ) (m l : List ℕ) (s : State) : Type 0 where
   pub lent : most-instructions ≤ n
-  pub on : On (book-in m []) c k l s
-  pub whole : step-move (book-in m []) c k ≡ step-call text c k n
+  pub on : On (program-in m) c k l s
+  pub whole : step-move (program-in m) c k ≡ step-call text c k n
 
 -- a call up to the list
 pub record Halfway (text c : List ℕ) (k n : ℕ) (m l : List ℕ) (p : Paused) : Type 0 where

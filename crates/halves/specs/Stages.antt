@@ -4,13 +4,13 @@ use mathlib.Core.List.{List}
 use Prim.Native.Nat.{ℕ, _<_}
 use lib.ListN.{length}
 use Rattle.text.specs.declared.Answer.{Answer}
-use Rattle.book.specs.Book.{Book}
+use Rattle.book.specs.Book.{Program}
 use Rattle.book.specs.Sound.{Lawful, Sound}
 use Rattle.engine.specs.Single.{Stepped}
 use Rattle.records.specs.Code.{items}
 
 -- what the move is made on: an accepted book, sound contents and one of its agents
-pub record Ready (B : Book) (c : List ℕ) (k : ℕ) : Type 0 where
+pub record Ready (B : Program) (c : List ℕ) (k : ℕ) : Type 0 where
   pub lawful : Lawful B
   pub sound : Sound B c
   pub agent : k < length (B .agents)

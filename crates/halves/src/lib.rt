@@ -7,7 +7,7 @@ ghost use mathlib.Core.List.{List, []};
 ghost use Prim.Native.Nat.{ℕ, _≤_};
 ghost use lib.ListN.{length, take};
 ghost use Rattle.book.specs.Book.{L};
-ghost use Rattle.book.specs.Image.{book-in};
+ghost use Rattle.book.specs.Image.{program-in};
 ghost use Rattle.engine.specs.Single.{step-call};
 ghost use Rattle.moves.specs.Count.{given-of};
 ghost use Rattle.halves.specs.Halves.{On, Halfway};
@@ -39,9 +39,9 @@ fn held_back(a: Answer) -> Paused
 
 // The walk of the move, on the first L records of a lent table.
 fn walk_first(image: &[u16; 4296], contents: &[u16], agent: u32, work: &mut [u64; 256]) -> Paused
-    requires { ⌜ (L (book-in (now image) []) ≤ length (now contents)) × (Ready (book-in (now image) []) (take (L (book-in (now image) [])) (now contents)) agent) ⌝ }
+    requires { ⌜ (L (program-in (now image)) ≤ length (now contents)) × (Ready (program-in (now image)) (take (L (program-in (now image))) (now contents)) agent) ⌝ }
     ensures { λ r. ⌜ (r .answer .number ≡ 0) × (r .count ≡ given-of (r .walk)) ⌝ }
-    ensures { λ r. ⌜ On (book-in (now (image .entry)) []) (now (contents .entry)) agent (now (work .exit)) (r .walk) ⌝ }
+    ensures { λ r. ⌜ On (program-in (now (image .entry))) (now (contents .entry)) agent (now (work .exit)) (r .walk) ⌝ }
 {
     let all = pages::total(image) as usize;
     let mut readers = [0u64; 1];

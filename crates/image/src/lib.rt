@@ -10,8 +10,8 @@ ghost use lib.ListN.{length, getD, set};
 ghost use mathlib.Core.List.{[]};
 ghost use Rattle.text.specs.Text.{line};
 ghost use Rattle.book.specs.Book.{size, location, function-at, node-at, agent-at};
-ghost use Rattle.book.specs.Lines.{book-of};
-ghost use Rattle.book.specs.Image.{image-length, row-in, capped, book-in, Holds, Counts, Room, stored, filled, first-of, laid-row};
+ghost use Rattle.book.specs.Lines.{program-of};
+ghost use Rattle.book.specs.Image.{image-length, row-in, capped, program-in, Holds, Counts, Room, stored, filled, first-of, laid-row};
 
 // The image: rows of four numbers, the first of each kind of row, and how many numbers there are.
 pub const FUNCTION_ROWS: u32 = 2;
@@ -83,42 +83,42 @@ fn cap(n: u32, most: u32) -> u32
 
 // E.
 pub fn elements(image: &[u32]) -> u32
-    ensures { λ r. ⌜ r ≡ book-in (now (image .entry)) [] .E ⌝ }
+    ensures { λ r. ⌜ r ≡ program-in (now (image .entry)) .E ⌝ }
 {
     cap(fetch(image, 0), book::MOST_ELEMENTS)
 }
 
 // P.
 pub fn permanent(image: &[u32]) -> u32
-    ensures { λ r. ⌜ r ≡ book-in (now (image .entry)) [] .P ⌝ }
+    ensures { λ r. ⌜ r ≡ program-in (now (image .entry)) .P ⌝ }
 {
     fetch(image, 1)
 }
 
 // F.
 pub fn functions(image: &[u32]) -> u32
-    ensures { λ r. ⌜ r ≡ length (book-in (now (image .entry)) [] .functions) ⌝ }
+    ensures { λ r. ⌜ r ≡ length (program-in (now (image .entry)) .functions) ⌝ }
 {
     cap(fetch(image, 2), book::MOST_FUNCTIONS)
 }
 
 // N.
 pub fn nodes(image: &[u32]) -> u32
-    ensures { λ r. ⌜ r ≡ length (book-in (now (image .entry)) [] .nodes) ⌝ }
+    ensures { λ r. ⌜ r ≡ length (program-in (now (image .entry)) .nodes) ⌝ }
 {
     cap(fetch(image, 3), book::MOST_NODES)
 }
 
 // A.
 pub fn agents(image: &[u32]) -> u32
-    ensures { λ r. ⌜ r ≡ length (book-in (now (image .entry)) [] .agents) ⌝ }
+    ensures { λ r. ⌜ r ≡ length (program-in (now (image .entry)) .agents) ⌝ }
 {
     cap(fetch(image, 4), book::MOST_AGENTS)
 }
 
 // Function f of the image's book; all 0 past the last.
 pub fn function_at(image: &[u32], f: u32) -> Function
-    ensures { λ r. ⌜ r ≡ function-at (book-in (now (image .entry)) []) f ⌝ }
+    ensures { λ r. ⌜ r ≡ function-at (program-in (now (image .entry))) f ⌝ }
 {
     let n = cap(fetch(image, 2), book::MOST_FUNCTIONS);
     if f < n {
@@ -139,7 +139,7 @@ pub fn function_at(image: &[u32], f: u32) -> Function
 
 // Node n of the image's book; all 0 past the last.
 pub fn node_at(image: &[u32], n: u32) -> Node
-    ensures { λ r. ⌜ r ≡ node-at (book-in (now (image .entry)) []) n ⌝ }
+    ensures { λ r. ⌜ r ≡ node-at (program-in (now (image .entry))) n ⌝ }
 {
     let count = cap(fetch(image, 3), book::MOST_NODES);
     if n < count {
@@ -162,7 +162,7 @@ pub fn node_at(image: &[u32], n: u32) -> Node
 
 // Agent i of the image's book; all 0 past the last.
 pub fn agent_at(image: &[u32], i: u32) -> Agent
-    ensures { λ r. ⌜ r ≡ agent-at (book-in (now (image .entry)) []) i ⌝ }
+    ensures { λ r. ⌜ r ≡ agent-at (program-in (now (image .entry))) i ⌝ }
 {
     let n = cap(fetch(image, 4), book::MOST_AGENTS);
     if i < n {
@@ -194,7 +194,7 @@ pub fn size(e: u32, arity: u32) -> u64
 
 // The number of the location of function f at the arguments x and y.
 pub fn location(image: &[u32], f: u32, x: u32, y: u32) -> u64
-    ensures { λ r. ⌜ (r ≡ location (book-in (now (image .entry)) []) f x y) × (r < 1000000000000000) ⌝ }
+    ensures { λ r. ⌜ (r ≡ location (program-in (now (image .entry))) f x y) × (r < 1000000000000000) ⌝ }
 {
     let e = elements(image);
     let g = function_at(image, f);
@@ -249,7 +249,7 @@ fn decode_functions(text: &[u8], e: u32, n: u32, image: &mut [u32]) -> u32
 
 // The image of the book that a text with this header says.
 pub fn decode(text: &[u8], h: Header, image: &mut [u32])
-    ensures { λ _. ⌜ (image-length ≤ length (now (image .entry)) → Room h → Holds (now (image .exit)) h (now (text .entry)) × Counts (now (image .exit)) (book-of h (now (text .entry)))) ⌝ }
+    ensures { λ _. ⌜ (image-length ≤ length (now (image .entry)) → Room h → Holds (now (image .exit)) h (now (text .entry)) × Counts (now (image .exit)) (program-of h (now (text .entry)))) ⌝ }
 {
     let e = cap(h.elements, book::MOST_ELEMENTS);
     let f = cap(h.functions, book::MOST_FUNCTIONS);

@@ -9,11 +9,9 @@ use lib.ListN.{length, take, drop, replicate}
 use lib.Seq.{length-take-le, length-front, take-append-seam, drop-append-seam}
 use Rattle.text.specs.declared.Answer.{Answer}
 use Rattle.text.specs.Words.{good, answer-of}
-use Rattle.book.specs.Book.{Book, L, start}
-use Rattle.book.specs.Bare.{bare}
+use Rattle.book.specs.Book.{Program, Book, L, start}
 use Rattle.book.specs.Check.{check-book}
-use Rattle.book.specs.Image.{book-in}
-use Rattle.book.proofs.Bare.{bare-image}
+use Rattle.book.specs.Image.{program-in}
 use Rattle.engine.specs.declared.Instruction.{Instruction}
 use Rattle.records.specs.Code.{items}
 use Rattle.engine.specs.Single.{over}
@@ -39,19 +37,19 @@ use Rattle.laps.proofs.Laps.{walking-lists}
 
 -- ---- the start
 
-pub lap-starts : (b l m : List ℕ) (n : ℕ) (order : List ℕ) (B : Book) (g : Log) → Passed b l m n order B g → n ≤ 64 → (d rs ws rs₀ ws₀ : List ℕ) → d ≡ start B → length rs₀ ≡ L B → length ws₀ ≡ L B
+pub lap-starts : (b l m : List ℕ) (n : ℕ) (order : List ℕ) (B : Book) (g : Log) → Passed b l m n order B g → n ≤ 64 → (d rs ws rs₀ ws₀ : List ℕ) → d ≡ start B → length rs₀ ≡ L (B .program) → length ws₀ ≡ L (B .program)
     → rs ≡ replicate (length rs₀) 0 → ws ≡ replicate (length ws₀) 0 → Before b l m B g n order 0 d rs ws
 lap-starts b l m n order B g ok few d rs ws rs₀ ws₀ e hr hw er ew = record {
   passed = ok;
   few = few;
   most = omega arith;
-  going = subst (λ (c : List ℕ). Going (book-in m []) (log-in l) (start B) 0 c rs ws) (sym e)
-      (going-start (book-in m []) (log-in l) (start B) rs ws (start-in b l m n order B g ok) (none-in b l m n order B g ok rs rs₀ hr er) (none-in b l m n order B g ok ws ws₀ hw ew));
+  going = subst (λ (c : List ℕ). Going (program-in m) (log-in l) (start B) 0 c rs ws) (sym e)
+      (going-start (program-in m) (log-in l) (start B) rs ws (start-in b l m n order B g ok) (none-in b l m n order B g ok rs rs₀ hr er) (none-in b l m n order B g ok ws ws₀ hw ew));
 }
 
-pub from-none : (b l m : List ℕ) (B : Book) (g : Log) (n : ℕ) (t : Turn) (x d rs ws : List ℕ) → Stage b l m B g (lists-from (book-in m []) (log-in l) (start B) (n - 0) 0) t x d rs ws
-    → Stage b l m B g (lists-from (book-in m []) (log-in l) (start B) n 0) t x d rs ws
-from-none b l m B g n t x d rs ws s = subst (λ (j : ℕ). Stage b l m B g (lists-from (book-in m []) (log-in l) (start B) j 0) t x d rs ws) {x = n - 0} {y = n} (omega arith) s
+pub from-none : (b l m : List ℕ) (B : Book) (g : Log) (n : ℕ) (t : Turn) (x d rs ws : List ℕ) → Stage b l m B g (lists-from (program-in m) (log-in l) (start B) (n - 0) 0) t x d rs ws
+    → Stage b l m B g (lists-from (program-in m) (log-in l) (start B) n 0) t x d rs ws
+from-none b l m B g n t x d rs ws s = subst (λ (j : ℕ). Stage b l m B g (lists-from (program-in m) (log-in l) (start B) j 0) t x d rs ws) {x = n - 0} {y = n} (omega arith) s
 
 -- ---- tables of which the first k records were lent on
 
@@ -68,7 +66,7 @@ long-of : (c d : List ℕ) (k : ℕ) → k ≤ length c → length d ≡ k → k
 long-of c d k h e = omega (arith, h, length-front c d k (e ∙ sym (length-take-le k c h)))
 
 module _
-    (b l : List ℕ) (lent : Tables) (n : ℕ) (m : List ℕ) (B : Book) (g : Log) (k : ℕ) (ek : k ≡ L (book-in m [])) (same : L (book-in m []) ≡ L B) (records : 256 ≤ n) (call : left-in lent (run-log B g) ≡ log-call b l lent n)
+    (b l : List ℕ) (lent : Tables) (n : ℕ) (m : List ℕ) (B : Book) (g : Log) (k : ℕ) (ek : k ≡ L (program-in m)) (same : L (program-in m) ≡ L (B .program)) (records : 256 ≤ n) (call : left-in lent (run-log B g) ≡ log-call b l lent n)
     (C R W : List ℕ) (hc : k ≤ length C) (hr : k ≤ length R) (hw : k ≤ length W) (pc : drop k C ≡ drop k (lent .contents)) (pr : drop k R ≡ drop k (lent .readers)) (pw : drop k W ≡ drop k (lent .writers))
   where
     lap-at : (rest : List (List Instruction)) (t : Turn) (x d rs ws : List ℕ) → length d ≡ k → length rs ≡ k → length ws ≡ k → Stage b l m B g rest t x d rs ws
@@ -111,8 +109,8 @@ module _ (book log : List ℕ) (t : Tables) (n : ℕ) (x image : List ℕ) (open
   lap-book z r more says = stopped-lap opened r more says (book-stops book log t n opened o z)
 
   module _
-      (z : opened .number ≡ 0) (holds : (B : Book) → check-book book ≡ good B → book-in image (B .entries) ≡ B)
-      (agents : ℕ) (all-agents : agents ≡ length (book-in image [] .agents)) (c : LogCheck) (checked : LogChecked agents log c)
+      (z : opened .number ≡ 0) (holds : (B : Book) → check-book book ≡ good B → program-in image ≡ B .program)
+      (agents : ℕ) (all-agents : agents ≡ length (program-in image .agents)) (c : LogCheck) (checked : LogChecked agents log c)
     where
       book-is : (B : Book) × (check-book book ≡ good B)
       book-is = book-good book log t n opened o z
@@ -120,50 +118,50 @@ module _ (book log : List ℕ) (t : Tables) (n : ℕ) (x image : List ℕ) (open
       abbrev B : Book
       B = book-is .0
 
-      is-bare : book-in image [] ≡ bare B
-      is-bare = sym (bare-image image (B .entries)) ∙ ap bare (holds B (book-is .1))
+      is-held : program-in image ≡ B .program
+      is-held = holds B (book-is .1)
 
-      agents-same : length (B .agents) ≡ agents
-      agents-same = sym (all-agents ∙ ap (λ (y : Book). length (y .agents)) is-bare)
+      agents-same : length (B .program .agents) ≡ agents
+      agents-same = sym (all-agents ∙ ap (λ (y : Program). length (y .agents)) is-held)
 
       pub lap-log : c .answer .number ≢ 0 → (r : Turn) → r .more ≡ false → r .answer ≡ c .answer → Lap book log t n image (call-lists book log t n) r x (t .contents) (t .readers) (t .writers)
       lap-log y r more says =
-          stopped-lap (c .answer) r more says (log-stops book log t n (c .answer) B (book-is .1) (checked .answer B agents-same) y)
+          stopped-lap (c .answer) r more says (log-stops book log t n (c .answer) B (book-is .1) (checked .answer (B .program) agents-same) y)
 
       module _ (y : c .answer .number ≡ 0) where
-        log-is : (g : Log) × (check-log B log ≡ good g)
-        log-is = log-good book log t n (c .answer) B (book-is .1) (checked .answer B agents-same) y
+        log-is : (g : Log) × (check-log (B .program) log ≡ good g)
+        log-is = log-good book log t n (c .answer) B (book-is .1) (checked .answer (B .program) agents-same) y
 
         abbrev g : Log
         g = log-is .0
 
         held : Held g c
-        held = checked .held B g agents-same (log-is .1)
+        held = checked .held (B .program) g agents-same (log-is .1)
 
-        module _ (all : ℕ) (total : all ≡ L (book-in image [])) (short : Answer) (lent : (B : Book) → L B ≡ all → short ≡ answer-of (check-lent B (lengths t n))) where
-          all-same : L B ≡ all
-          all-same = sym (total ∙ ap L is-bare)
+        module _ (all : ℕ) (total : all ≡ L (program-in image)) (short : Answer) (lent : (C : Program) → L C ≡ all → short ≡ answer-of (check-lent C (lengths t n))) where
+          all-same : L (B .program) ≡ all
+          all-same = sym (total ∙ ap L is-held)
 
           pub lap-lent : short .number ≢ 0 → (r : Turn) → r .more ≡ false → r .answer ≡ short → Lap book log t n image (call-lists book log t n) r x (t .contents) (t .readers) (t .writers)
           lap-lent v r more says =
-              stopped-lap short r more says (lent-stops book log t n short B (book-is .1) g (log-is .1) (lent B all-same) v)
+              stopped-lap short r more says (lent-stops book log t n short B (book-is .1) g (log-is .1) (lent (B .program) all-same) v)
 
           -- all passed
           pub lap-first : short .number ≡ 0 → (all ≤ length (t .contents)) × (all ≤ length (t .readers)) × (all ≤ length (t .writers)) × (256 ≤ n)
               → (r : Turn) (x′ d rs ws : List ℕ) → length d ≡ length (take all (t .contents)) → length rs ≡ length (take all (t .readers)) → length ws ≡ length (take all (t .writers))
-              → ((B : Book) (g : Log) → c .moves ≤ 64 → Passed book log image (c .moves) (c .rows) B g → Long B (take all (t .contents)) (take all (t .readers)) (take all (t .writers))
-              → Stage book log image B g (lists-from (book-in image []) (log-in log) (start B) (c .moves) 0) r x′ d rs ws)
+              → ((B : Book) (g : Log) → c .moves ≤ 64 → Passed book log image (c .moves) (c .rows) B g → Long (B .program) (take all (t .contents)) (take all (t .readers)) (take all (t .writers))
+              → Stage book log image B g (lists-from (program-in image) (log-in log) (start B) (c .moves) 0) r x′ d rs ws)
               → Lap book log t n image (call-lists book log t n) r x′ (d ++ drop all (t .contents)) (rs ++ drop all (t .readers)) (ws ++ drop all (t .writers))
           lap-first v room r x′ d rs ws ld lr lw does =
-              let e = lent B all-same in
+              let e = lent (B .program) all-same in
               let lc : length (take all (t .contents)) ≡ all = length-take-le all (t .contents) (room .0) in
               let mr : length (take all (t .readers)) ≡ all = length-take-le all (t .readers) (room .1) in
               let mw : length (take all (t .writers)) ≡ all = length-take-le all (t .writers) (room .2) in
               let ok : Passed book log image (c .moves) (c .rows) B g = record { book = book-is .1; image = holds B (book-is .1); log = log-is .1; moves = held .moves; rows = held .rows } in
-              let s = does B g (omega (arith, held .moves, passed B log g (log-is .1) .few)) ok (record { contents = lc ∙ sym all-same; readers = mr ∙ sym all-same; writers = mw ∙ sym all-same }) in
+              let s = does B g (omega (arith, held .moves, passed (B .program) log g (log-is .1) .few)) ok (record { contents = lc ∙ sym all-same; readers = mr ∙ sym all-same; writers = mw ∙ sym all-same }) in
               let passes = lent-passes book log t n short B (book-is .1) g (log-is .1) e v in
-              let lists : lists-from (book-in image []) (log-in log) (start B) (c .moves) 0 ≡ call-lists book log t n = lists-in book log image (c .moves) (c .rows) B g ok ∙ passes .1 in
-              lap-at book log t n image B g all total (ap L is-bare) (room .3) (passes .0) (t .contents) (t .readers) (t .writers) (room .0) (room .1) (room .2) refl refl refl
+              let lists : lists-from (program-in image) (log-in log) (start B) (c .moves) 0 ≡ call-lists book log t n = lists-in book log image (c .moves) (c .rows) B g ok ∙ passes .1 in
+              lap-at book log t n image B g all total (ap L is-held) (room .3) (passes .0) (t .contents) (t .readers) (t .writers) (room .0) (room .1) (room .2) refl refl refl
               (call-lists book log t n) r x′ d rs ws (ld ∙ lc) (lr ∙ mr) (lw ∙ mw) (subst (λ (q : List (List Instruction)). Stage book log image B g q r x′ d rs ws) lists s)
 
 -- ---- a turn
@@ -192,33 +190,33 @@ module _ (b l : List ℕ) (lent : Tables) (n : ℕ) (m : List ℕ) (is : List In
   kept : Kept b l lent n m (is ∷ rest) t x c rs ws
   kept = h .on (is-on b l lent n m is rest t x c rs ws h)
 
-  walking : Walking b l m (kept .B) (kept .g) t x (take (L (book-in m [])) c) (take (L (book-in m [])) rs) (take (L (book-in m [])) ws)
+  walking : Walking b l m (kept .B) (kept .g) t x (take (L (program-in m)) c) (take (L (program-in m)) rs) (take (L (program-in m)) ws)
   walking = kept .stage .walking (is-on b l lent n m is rest t x c rs ws h)
 
-  all-lists : is ∷ rest ≡ items x (t .count) ∷ lists-from (book-in m []) (log-in l) (start (kept .B)) (t .moves - suc (t .at)) (suc (t .at))
+  all-lists : is ∷ rest ≡ items x (t .count) ∷ lists-from (program-in m) (log-in l) (start (kept .B)) (t .moves - suc (t .at)) (suc (t .at))
   all-lists =
       kept .stage .lists (is-on b l lent n m is rest t x c rs ws h)
-      ∙ walking-lists b l m (kept .B) (kept .g) t x (take (L (book-in m [])) c) (take (L (book-in m [])) rs) (take (L (book-in m [])) ws) walking
+      ∙ walking-lists b l m (kept .B) (kept .g) t x (take (L (program-in m)) c) (take (L (program-in m)) rs) (take (L (program-in m)) ws) walking
 
-  pub lap-next : (all k : ℕ) → all ≡ L (book-in m []) → k ≡ min all (min (length c) (min (length rs) (length ws)))
+  pub lap-next : (all k : ℕ) → all ≡ L (program-in m) → k ≡ min all (min (length c) (min (length rs) (length ws)))
       → (r : Turn) (x′ d rs′ ws′ : List ℕ) → length d ≡ length (take k c) → length rs′ ≡ length (take k rs) → length ws′ ≡ length (take k ws)
       → ((q : List ℕ) (B : Book) (g : Log) → Walking q l m B g t x (take k c) (take k rs) (take k ws)
-      → Stage q l m B g (lists-from (book-in m []) (log-in l) (start B) (t .moves - suc (t .at)) (suc (t .at))) r x′ d rs′ ws′)
+      → Stage q l m B g (lists-from (program-in m) (log-in l) (start B) (t .moves - suc (t .at)) (suc (t .at))) r x′ d rs′ ws′)
       → Lap b l lent n m rest r x′ (d ++ drop k c) (rs′ ++ drop k rs) (ws′ ++ drop k ws)
   lap-next all k ea ek r x′ d rs′ ws′ ld lr lw does =
       let K = kept in
-      let j : k ≡ L (book-in m []) = omega (arith, ea, ek, K .contents .0, K .readers .0, K .writers .0) in
+      let j : k ≡ L (program-in m) = omega (arith, ea, ek, K .contents .0, K .readers .0, K .writers .0) in
       let w : Walking b l m (K .B) (K .g) t x (take k c) (take k rs) (take k ws) =
       subst (λ (q : ℕ). Walking b l m (K .B) (K .g) t x (take q c) (take q rs) (take q ws)) (sym j) walking in
       let hc : k ≤ length c = omega (arith, j, K .contents .0) in
       let hr : k ≤ length rs = omega (arith, j, K .readers .0) in
       let hw : k ≤ length ws = omega (arith, j, K .writers .0) in
       let s = does b (K .B) (K .g) w in
-      let q : lists-from (book-in m []) (log-in l) (start (K .B)) (t .moves - suc (t .at)) (suc (t .at)) ≡ rest = sym (ap tail-of all-lists) in
+      let q : lists-from (program-in m) (log-in l) (start (K .B)) (t .moves - suc (t .at)) (suc (t .at)) ≡ rest = sym (ap tail-of all-lists) in
       lap-at b l lent n m (K .B) (K .g) k j (K .same) (K .records) (K .call) c rs ws hc hr hw (past k c (lent .contents) j (K .contents .1)) (past k rs (lent .readers) j (K .readers .1)) (past k ws (lent .writers) j (K .writers .1))
       rest r x′ d rs′ ws′ (ld ∙ length-take-le k c hc) (lr ∙ length-take-le k rs hr) (lw ∙ length-take-le k ws hw) (subst (λ (y : List (List Instruction)). Stage b l m (K .B) (K .g) y r x′ d rs′ ws′) q s)
     where
-      past : (i : ℕ) (y z : List ℕ) → i ≡ L (book-in m []) → drop (L (book-in m [])) y ≡ drop (L (book-in m [])) z → drop i y ≡ drop i z
+      past : (i : ℕ) (y z : List ℕ) → i ≡ L (program-in m) → drop (L (program-in m)) y ≡ drop (L (program-in m)) z → drop i y ≡ drop i z
       past i y z e q = subst (λ (v : ℕ). drop v y ≡ drop v z) (sym e) q
 
   -- what is passed on now
@@ -251,7 +249,7 @@ module _ (b l : List ℕ) (lent : Tables) (n : ℕ) (m : List ℕ) (is : List In
               after = record {
                 fit = w .after .fit;
                 contents = w .after .contents;
-                readers = subst (λ (o : Walked). Gathered (book-in m []) (w .old .contents) (2 ^ t .at) (line l (1 + t .at) .a) o (w .old .readers) (take (L (book-in m [])) rs)) (sym i) (w .after .readers);
+                readers = subst (λ (o : Walked). Gathered (program-in m) (w .old .contents) (2 ^ t .at) (line l (1 + t .at) .a) o (w .old .readers) (take (L (program-in m)) rs)) (sym i) (w .after .readers);
                 writers = w .after .writers;
               };
               room = e;
@@ -276,7 +274,7 @@ is-over b l lent n m t x c rs ws h = go (t .more) refl
     go false y = y
     go true y =
         let K = h .on y in
-        let q = K .stage .lists y ∙ walking-lists b l m (K .B) (K .g) t x (take (L (book-in m [])) c) (take (L (book-in m [])) rs) (take (L (book-in m [])) ws) (K .stage .walking y) in
+        let q = K .stage .lists y ∙ walking-lists b l m (K .B) (K .g) t x (take (L (program-in m)) c) (take (L (program-in m)) rs) (take (L (program-in m)) ws) (K .stage .walking y) in
         absurd (is-cons _ _ (sym q))
 
 -- and while there is more a move is on

@@ -14,7 +14,7 @@ use Rattle.text.specs.Text.{line}
 use Rattle.text.specs.Words.{Checked, good, refused, _>>=_, _>>_, least, none-at, answer-of}
 use Rattle.text.specs.Refusals.{log-line}
 use Rattle.text.proofs.Words.{and-cases, least-none, getD-table, length-table-from, bind-good, then-good, found-good, good-same}
-use Rattle.book.specs.Book.{Book, start}
+use Rattle.book.specs.Book.{Program, Book, start}
 use Rattle.book.specs.Check.{check-book}
 use Rattle.order.specs.Log.{Log, no-input, move-at, bad-move, bad-pair, input-of, log-of, check-agents, check-log-header, check-log-text, check-log-lines, check-log}
 use Rattle.order.specs.Run.{run-log}
@@ -32,7 +32,7 @@ agent-low A l e =
     let t1 = and-cases (ltb (l .a) A && eqb (l .b) 0) (eqb (l .c) 0) t2 .0 in
     ltb-true (l .a) A (and-cases (ltb (l .a) A) (eqb (l .b) 0) t1 .0)
 
-lines-low : (B : Book) (h : Line) (text : List ℕ) (u : Unit {0}) → check-log-lines B h text ≡ good u
+lines-low : (B : Program) (h : Line) (text : List ℕ) (u : Unit {0}) → check-log-lines B h text ≡ good u
     → (i : ℕ) → i < h .a → move-at (log-of h text) i .agent < length (B .agents)
 unfolding check-log-lines log-of
 lines-low B h text u e i k =
@@ -42,7 +42,7 @@ lines-low B h text u e i k =
     rw (getD-table (λ i. input-of (line text (1 + i))) (h .a) i no-input k)
     (agent-low A (line text (1 + i)) (least-none (λ i. bad-move A (line text (1 + i))) (h .a) (f .0) i k))
 
-pub agents-low : (B : Book) (text : List ℕ) (g : Log) → check-log B text ≡ good g → (i : ℕ) → i < length (g .moves) → move-at g i .agent < length (B .agents)
+pub agents-low : (B : Program) (text : List ℕ) (g : Log) → check-log B text ≡ good g → (i : ℕ) → i < length (g .moves) → move-at g i .agent < length (B .agents)
 unfolding check-log log-of
 agents-low B text g e =
     let r = bind-good (check-log-header text) _ g e in
@@ -59,13 +59,13 @@ agents-low B text g e =
 module _ (book log : List ℕ) (t : Tables) (n : ℕ) where
   -- the checks go on from here
   abbrev rest : Book → Log → Checked (Book × Log)
-  rest B g = check-lent B (lengths t n) >> good (B, g)
+  rest B g = check-lent (B .program) (lengths t n) >> good (B, g)
 
-  after-book : (B : Book) → check-book book ≡ good B → check-all book log (lengths t n) ≡ (check-log B log >>= rest B)
+  after-book : (B : Book) → check-book book ≡ good B → check-all book log (lengths t n) ≡ (check-log (B .program) log >>= rest B)
   unfolding check-all _>>=_
   after-book B e = rw e
 
-  after-log : (B : Book) (g : Log) → check-book book ≡ good B → check-log B log ≡ good g → check-all book log (lengths t n) ≡ rest B g
+  after-log : (B : Book) (g : Log) → check-book book ≡ good B → check-log (B .program) log ≡ good g → check-all book log (lengths t n) ≡ rest B g
   unfolding _>>=_
   after-log B g e f = after-book B e ∙ rw f
 
@@ -91,7 +91,7 @@ module _ (book log : List ℕ) (t : Tables) (n : ℕ) where
     unfolding log-call call-lists check-all _>>=_
     book-stops e z = go (check-book book) e
       where
-        go : (o : Checked Book) → a ≡ answer-of o → Stops (o >>= (λ B. check-log B log >>= rest B))
+        go : (o : Checked Book) → a ≡ answer-of o → Stops (o >>= (λ B. check-log (B .program) log >>= rest B))
         go (good B) e = absurd (z (ap (λ (x : Answer). x .number) e))
         go (refused m p q) e = stops m p q e
 
@@ -105,39 +105,39 @@ module _ (book log : List ℕ) (t : Tables) (n : ℕ) where
             let k : m ≡ 0 = sym (ap (λ (x : Answer). x .number) e) ∙ z in absurd (not-zero p q (rw (w, k)))
 
     module _ (B : Book) (is : check-book book ≡ good B) where
-      pub log-stops : a ≡ answer-of (check-log B log) → a .number ≢ 0 → Stopped
+      pub log-stops : a ≡ answer-of (check-log (B .program) log) → a .number ≢ 0 → Stopped
       unfolding log-call call-lists _>>=_
-      log-stops e z = rw (after-book B is) (go (check-log B log) e)
+      log-stops e z = rw (after-book B is) (go (check-log (B .program) log) e)
         where
           go : (o : Checked Log) → a ≡ answer-of o → Stops (o >>= rest B)
           go (good g) e = absurd (z (ap (λ (x : Answer). x .number) e))
           go (refused m p q) e = stops m p q e
 
-      pub log-good : a ≡ answer-of (check-log B log) → a .number ≡ 0 → (g : Log) × (check-log B log ≡ good g)
+      pub log-good : a ≡ answer-of (check-log (B .program) log) → a .number ≡ 0 → (g : Log) × (check-log (B .program) log ≡ good g)
       unfolding _>>=_
-      log-good e z = go (check-log B log) refl e
+      log-good e z = go (check-log (B .program) log) refl e
         where
-          go : (o : Checked Log) → check-log B log ≡ o → a ≡ answer-of o → (g : Log) × (check-log B log ≡ good g)
+          go : (o : Checked Log) → check-log (B .program) log ≡ o → a ≡ answer-of o → (g : Log) × (check-log (B .program) log ≡ good g)
           go (good g) w e = (g, w)
           go (refused m p q) w e =
               let k : m ≡ 0 = sym (ap (λ (x : Answer). x .number) e) ∙ z in absurd (not-zero p q (after-book B is ∙ rw (w, k)))
 
-      module _ (g : Log) (says : check-log B log ≡ good g) where
-        pub lent-stops : a ≡ answer-of (check-lent B (lengths t n)) → a .number ≢ 0 → Stopped
+      module _ (g : Log) (says : check-log (B .program) log ≡ good g) where
+        pub lent-stops : a ≡ answer-of (check-lent (B .program) (lengths t n)) → a .number ≢ 0 → Stopped
         unfolding log-call call-lists _>>_
-        lent-stops e z = rw (after-log B g is says) (go (check-lent B (lengths t n)) e)
+        lent-stops e z = rw (after-log B g is says) (go (check-lent (B .program) (lengths t n)) e)
           where
             go : (o : Checked (Unit {0})) → a ≡ answer-of o → Stops (o >> good (B, g))
             go (good u) e = absurd (z (ap (λ (x : Answer). x .number) e))
             go (refused m p q) e = stops m p q e
 
-        pub lent-passes : a ≡ answer-of (check-lent B (lengths t n)) → a .number ≡ 0
-            → (left-in t (run-log B g) ≡ log-call book log t n) × (lists-from B g (start B) (length (g .moves)) 0 ≡ call-lists book log t n)
+        pub lent-passes : a ≡ answer-of (check-lent (B .program) (lengths t n)) → a .number ≡ 0
+            → (left-in t (run-log B g) ≡ log-call book log t n) × (lists-from (B .program) g (start B) (length (g .moves)) 0 ≡ call-lists book log t n)
         unfolding log-call call-lists _>>_
-        lent-passes e z = rw (after-log B g is says) (go (check-lent B (lengths t n)) refl e)
+        lent-passes e z = rw (after-log B g is says) (go (check-lent (B .program) (lengths t n)) refl e)
           where
-            go : (o : Checked (Unit {0})) → check-lent B (lengths t n) ≡ o → a ≡ answer-of o
-                → (left-in t (run-log B g) ≡ log-answer t (o >> good (B, g))) × (lists-from B g (start B) (length (g .moves)) 0 ≡ lists-of (o >> good (B, g)))
+            go : (o : Checked (Unit {0})) → check-lent (B .program) (lengths t n) ≡ o → a ≡ answer-of o
+                → (left-in t (run-log B g) ≡ log-answer t (o >> good (B, g))) × (lists-from (B .program) g (start B) (length (g .moves)) 0 ≡ lists-of (o >> good (B, g)))
             go (good u) w e = (refl, refl)
             go (refused m p q) w e =
                 let k : m ≡ 0 = sym (ap (λ (x : Answer). x .number) e) ∙ z in absurd (not-zero p q (after-log B g is says ∙ rw (w, k)))

@@ -10,8 +10,8 @@ use lib.ListN.{length}
 use Rattle.text.specs.declared.Answer.{Answer}
 use Rattle.text.specs.Text.{line}
 use Rattle.text.proofs.Words.{length-table-from}
-use Rattle.book.specs.Book.{Book, start}
-use Rattle.book.specs.Image.{book-in}
+use Rattle.book.specs.Book.{Program, Book, start}
+use Rattle.book.specs.Image.{program-in}
 use Rattle.book.specs.Sound.{Lawful}
 use Rattle.engine.specs.declared.Instruction.{Instruction}
 use Rattle.engine.specs.Move.{walked, made-by}
@@ -36,7 +36,7 @@ use Rattle.laps.proofs.Ends.{lawful-in, moves-in, agents-in, ends-halte
 
 -- ---- the lists
 
-module _ (B : Book) (g : Log) (c : List ℕ) where
+module _ (B : Program) (g : Log) (c : List ℕ) where
   pub lists-on : (n i : ℕ) (s : Run) → run B g c i ≡ ran s → lists-from B g c (suc n) i ≡ made-by (walked B (s .contents) (move-at g i)) ∷ lists-from B g c n (suc i)
   unfolding lists-from
   lists-on n i s e = rw e
@@ -52,15 +52,15 @@ module _ (B : Book) (g : Log) (c : List ℕ) where
   lists-end (suc n) i e = absurd (omega (arith, e))
 
 module _ (b l m : List ℕ) (B : Book) (g : Log) where
-  abbrev A : Book
-  A = book-in m []
+  abbrev A : Program
+  A = program-in m
 
   abbrev h : Log
   h = log-in l
 
   module _ (n : ℕ) (order : List ℕ) (i : ℕ) (d rs ws : List ℕ) (to : Before b l m B g n order i d rs ws) where
     -- all moves have fired
-    pub lap-ends : n ≤ i → (a : Answer) → ((s : Run) (c : List ℕ) → Holds B s c rs ws → a ≡ order-checked B s (touching B g (s .fired)) .answer)
+    pub lap-ends : n ≤ i → (a : Answer) → ((s : Run) (c : List ℕ) → Holds (B .program) s c rs ws → a ≡ order-checked (B .program) s (touching (B .program) g (s .fired)) .answer)
         → (t : Turn) → t .more ≡ false → t .answer ≡ a → (x : List ℕ) → Stage b l m B g (lists-from A h (start B) (n - i) i) t x d rs ws
     lap-ends k a f t z e x =
         let q : i ≡ n = omega (arith, k, to .most) in

@@ -6,7 +6,7 @@ use Prim.Native.Nat.{ℕ, zero, suc, _+_, _^_, _<_}
 use native.Mathlib.Numerals.{add-one}
 use native.Mathlib.Omega.{arith}
 use lib.ListN.{length, getD, replicate}
-use Rattle.book.specs.Book.{Book, L}
+use Rattle.book.specs.Book.{Program, L}
 use Rattle.book.specs.Sound.{Lawful, Sound}
 use Rattle.engine.specs.Move.{Moved, fires, stopped, move, fire}
 use Rattle.engine.proofs.Claims.{moves-leave}
@@ -20,7 +20,7 @@ use Rattle.ends.specs.Ends.{Holds}
 use Rattle.laps.specs.Turns.{Going}
 use Rattle.ends.proofs.Marks.{readers-more, writers-more, readers-below, readers-none, writers-none}
 
-module _ (B : Book) (g : Log) (c : List ℕ) where
+module _ (B : Program) (g : Log) (c : List ℕ) where
   pub going-start : (rs ws : List ℕ) → Sound B c → rs ≡ replicate (L B) 0 → ws ≡ replicate (L B) 0 → Going B g c 0 c rs ws
   unfolding run
   going-start rs ws sound r w = record {

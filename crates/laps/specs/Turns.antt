@@ -7,9 +7,9 @@ use lib.ListN.{length}
 use Rattle.text.specs.declared.Answer.{Answer}
 use Rattle.text.specs.Words.{good}
 use Rattle.text.specs.Text.{line}
-use Rattle.book.specs.Book.{Book, L}
+use Rattle.book.specs.Book.{Program, Book, L}
 use Rattle.book.specs.Check.{check-book}
-use Rattle.book.specs.Image.{book-in}
+use Rattle.book.specs.Image.{program-in}
 use Rattle.book.specs.Sound.{Sound}
 use Rattle.order.specs.Log.{Log, log-of, check-log}
 use Rattle.order.specs.Run.{Run, ran, run, LogAnswer}
@@ -29,7 +29,7 @@ answered r c rs ws = record { answer = r; contents = c; readers = rs; writers = 
 -- ---- the moves in turn
 
 -- from the contents c the first i moves have fired, and left the contents d and these marks
-pub record Going (B : Book) (g : Log) (c : List ℕ) (i : ℕ) (d rs ws : List ℕ) : Type 0 where
+pub record Going (B : Program) (g : Log) (c : List ℕ) (i : ℕ) (d rs ws : List ℕ) : Type 0 where
   pub state : Run
   pub goes : run B g c i ≡ ran state
   pub sound : Sound B d
@@ -37,16 +37,16 @@ pub record Going (B : Book) (g : Log) (c : List ℕ) (i : ℕ) (d rs ws : List �
 
 -- ---- before them
 
--- The texts b and l passed their checks: they say the book B, which the image m holds, and the log g, of n moves and of that order
+-- The texts b and l passed their checks: they say the book B, whose program the image m holds, and the log g, of n moves and of that order
 pub record Passed (b l m : List ℕ) (n : ℕ) (order : List ℕ) (B : Book) (g : Log) : Type 0 where
   pub book : check-book b ≡ good B
-  pub image : book-in m (B .entries) ≡ B
-  pub log : check-log B l ≡ good g
+  pub image : program-in m ≡ B .program
+  pub log : check-log (B .program) l ≡ good g
   pub moves : n ≡ length (g .moves)
   pub rows : RowsOf g order
 
 -- tables of just the records that the book needs
-pub record Long (B : Book) (c rs ws : List ℕ) : Type 0 where
+pub record Long (B : Program) (c rs ws : List ℕ) : Type 0 where
   pub contents : length c ≡ L B
   pub readers : length rs ≡ L B
   pub writers : length ws ≡ L B

@@ -6,7 +6,7 @@ ghost use mathlib.Core.Bool.{false};
 ghost use mathlib.Core.List.{List, [], _∷_};
 ghost use Prim.Native.Nat.{ℕ, suc, _+_, _-_, _^_, _<_, _≤_};
 ghost use Rattle.book.specs.Book.{Book, start};
-ghost use Rattle.book.specs.Image.{book-in};
+ghost use Rattle.book.specs.Image.{program-in};
 ghost use Rattle.engine.specs.declared.Instruction.{Instruction};
 ghost use Rattle.order.specs.Log.{Log};
 ghost use Rattle.order.specs.Call.{Tables};
@@ -68,7 +68,7 @@ fn walk_on(
     moves: u32,
     i: u32,
 ) -> Turn
-    ensures { λ r. ⌜ ((b : List ℕ) (B : Book) (g : Log) → Before b (now (log .entry)) (now (image .entry)) B g moves rows i (now (contents .entry)) (now (readers .entry)) (now (writers .entry)) → Stage b (now (log .entry)) (now (image .entry)) B g (lists-from (book-in (now (image .entry)) []) (log-in (now (log .entry))) (start B) (moves - i) i) r (now (work .exit)) (now (contents .entry)) (now (readers .exit)) (now (writers .entry))) ⌝ }
+    ensures { λ r. ⌜ ((b : List ℕ) (B : Book) (g : Log) → Before b (now (log .entry)) (now (image .entry)) B g moves rows i (now (contents .entry)) (now (readers .entry)) (now (writers .entry)) → Stage b (now (log .entry)) (now (image .entry)) B g (lists-from (program-in (now (image .entry))) (log-in (now (log .entry))) (start B) (moves - i) i) r (now (work .exit)) (now (contents .entry)) (now (readers .exit)) (now (writers .entry))) ⌝ }
     ensures { λ r. ⌜ (r .more ≡ false → now (work .exit) ≡ now (work .entry)) ⌝ }
     ensures { λ r. ⌜ moves-left r ≤ moves - i ⌝ }
 {
@@ -102,7 +102,7 @@ fn turn_on(
     work: &mut [u64; 256],
     t: Turn,
 ) -> Turn
-    ensures { λ r. ⌜ ((b : List ℕ) (B : Book) (g : Log) → Walking b (now (log .entry)) (now (image .entry)) B g t (now (work .entry)) (now (contents .entry)) (now (readers .entry)) (now (writers .entry)) → Stage b (now (log .entry)) (now (image .entry)) B g (lists-from (book-in (now (image .entry)) []) (log-in (now (log .entry))) (start B) (t .moves - suc (t .at)) (suc (t .at))) r (now (work .exit)) (now (contents .exit)) (now (readers .exit)) (now (writers .exit))) ⌝ }
+    ensures { λ r. ⌜ ((b : List ℕ) (B : Book) (g : Log) → Walking b (now (log .entry)) (now (image .entry)) B g t (now (work .entry)) (now (contents .entry)) (now (readers .entry)) (now (writers .entry)) → Stage b (now (log .entry)) (now (image .entry)) B g (lists-from (program-in (now (image .entry))) (log-in (now (log .entry))) (start B) (t .moves - suc (t .at)) (suc (t .at))) r (now (work .exit)) (now (contents .exit)) (now (readers .exit)) (now (writers .exit))) ⌝ }
     ensures { λ r. ⌜ (r .more ≡ false → now (work .exit) ≡ now (work .entry)) ⌝ }
     ensures { λ r. ⌜ (t .at < 64 → t .at < t .moves → moves-left r < moves-left t) ⌝ }
 {
@@ -150,7 +150,7 @@ fn start_on(
     rows: [u64; 64],
     moves: u32,
 ) -> Turn
-    ensures { λ r. ⌜ ((B : Book) (g : Log) → moves ≤ 64 → Passed (now (book .entry)) (now (log .entry)) (now (image .entry)) moves rows B g → Long B (now (contents .entry)) (now (readers .entry)) (now (writers .entry)) → Stage (now (book .entry)) (now (log .entry)) (now (image .entry)) B g (lists-from (book-in (now (image .entry)) []) (log-in (now (log .entry))) (start B) moves 0) r (now (work .exit)) (now (contents .exit)) (now (readers .exit)) (now (writers .exit))) ⌝ }
+    ensures { λ r. ⌜ ((B : Book) (g : Log) → moves ≤ 64 → Passed (now (book .entry)) (now (log .entry)) (now (image .entry)) moves rows B g → Long (B .program) (now (contents .entry)) (now (readers .entry)) (now (writers .entry)) → Stage (now (book .entry)) (now (log .entry)) (now (image .entry)) B g (lists-from (program-in (now (image .entry))) (log-in (now (log .entry))) (start B) moves 0) r (now (work .exit)) (now (contents .exit)) (now (readers .exit)) (now (writers .exit))) ⌝ }
 {
     ends::begin(book, image, contents, readers, writers);
     walk_on(log, contents, readers, writers, image, work, rows, moves, 0)

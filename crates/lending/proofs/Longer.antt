@@ -8,7 +8,7 @@ use native.Mathlib.Omega.{min-cases}
 use lib.Dec.{leb}
 use borrow.Author.Tests.{le-leb}
 use Rattle.text.specs.Words.{Checked, good, must, _>>_, _>>=_}
-use Rattle.book.specs.Book.{Book, L}
+use Rattle.book.specs.Book.{Program, L}
 use Rattle.book.specs.Check.{check-book}
 use Rattle.engine.specs.Rule.{most-instructions}
 use Rattle.engine.specs.Single.{check-agent, check-lent-step, check-contents, check-step, step-answer, step-call}
@@ -20,19 +20,19 @@ enough : (n : ℕ) → leb most-instructions (min n 256) ≡ leb most-instructio
 enough n = min-cases n 256 (leb most-instructions (min n 256) ≡ leb most-instructions n) (λ h e. rw e refl) (λ h e. rw e rw (le-leb 256 n h) refl)
 
 module _ (book log : List ℕ) (t : Tables) (n : ℕ) where
-  lent-longer : (B : Book) → check-lent B (lengths t (min n 256)) ≡ check-lent B (lengths t n)
+  lent-longer : (B : Program) → check-lent B (lengths t (min n 256)) ≡ check-lent B (lengths t n)
   unfolding check-lent
   lent-longer B = rw (enough n)
 
   pub call-longer : log-call book log t (min n 256) ≡ log-call book log t n
   unfolding log-call check-all
-  call-longer = ap (λ (f : Book → Checked (Unit {0})). log-answer t (check-book book >>= (λ B. check-log B log >>= (λ g. f B >> good (B, g))))) (fun-ext lent-longer)
+  call-longer = ap (λ (f : Program → Checked (Unit {0})). log-answer t (check-book book >>= (λ b. check-log (b .program) log >>= (λ g. f (b .program) >> good (b, g))))) (fun-ext lent-longer)
 
 module _ (book c : List ℕ) (k n : ℕ) where
-  lent-step-longer : (B : Book) → check-lent-step B c (min n 256) ≡ check-lent-step B c n
+  lent-step-longer : (B : Program) → check-lent-step B c (min n 256) ≡ check-lent-step B c n
   unfolding check-lent-step
   lent-step-longer B = rw (enough n)
 
   pub step-longer : step-call book c k (min n 256) ≡ step-call book c k n
   unfolding step-call check-step
-  step-longer = ap (λ (f : Book → Checked (Unit {0})). step-answer c k (check-book book >>= (λ B. check-agent B k >> (f B >> (check-contents B (take (L B) c) >> good B))))) (fun-ext lent-step-longer)
+  step-longer = ap (λ (f : Program → Checked (Unit {0})). step-answer c k (check-book book >>= (λ b. check-agent (b .program) k >> (f (b .program) >> (check-contents (b .program) (take (L (b .program)) c) >> good (b .program)))))) (fun-ext lent-step-longer)

@@ -11,7 +11,7 @@ use Rattle.text.specs.Words.{table, least, Checked, good, refused, _>>=_, _>>_,
 use Rattle.text.specs.Refusals.{ill-formed, log-text, log-line, agent-unordered}
 use Rattle.text.specs.Text.{bad-line, line}
 use Rattle.text.proofs.Words.{length-table-from, bind-good, then-good, found-good, test-good, good-same}
-use Rattle.book.specs.Book.{Book}
+use Rattle.book.specs.Book.{Program}
 use Rattle.order.specs.Pairs.{rows, least-two, none-two}
 use Rattle.order.specs.Log.{Log, move-at, log-header-ok, input-of, pair-of, log-of, loose, check-agents, check-log-header, check-log-text, check-log-lines, check-log}
 use Rattle.order.proofs.Search.{two-same}
@@ -41,7 +41,7 @@ module _ {B C D : Type 0} where
   refused-same (good h) t l e n = then-same (t h) (l h) (e h) n
   refused-same (refused m p q) t l e n = refl
 
-refused-by : (B : Book) (text : List ℕ) → answer-of (check-whole (length (B .agents)) text) .number ≢ 0
+refused-by : (B : Program) (text : List ℕ) → answer-of (check-whole (length (B .agents)) text) .number ≢ 0
     → answer-of (check-log B text) ≡ answer-of (check-whole (length (B .agents)) text)
 unfolding check-log check-whole check-log-lines check-lines
 refused-by B text n =
@@ -56,7 +56,7 @@ module _ (A : ℕ) (text : List ℕ) where
     held = λ B g k p. absurd (n (ap (λ (x : Answer). x .number) (sym (told B k) ∙ ap answer-of p)));
   }
     where
-      told : (B : Book) → length (B .agents) ≡ A → answer-of (check-log B text) ≡ a
+      told : (B : Program) → length (B .agents) ≡ A → answer-of (check-log B text) ≡ a
       told B k =
           subst (λ (x : ℕ). answer-of (check-whole x text) .number ≢ 0 → answer-of (check-log B text) ≡ answer-of (check-whole x text)) k
           (refused-by B text) (rw f at n) ∙ sym f
@@ -66,16 +66,16 @@ module _ (A : ℕ) (text : List ℕ) where
     abbrev head : answer-of (check-log-header text) .number ≡ 0
     head = header-too A text whole
 
-    past-header : (B : Book) → check-log B text ≡ (check-log-text h text >> (check-log-lines B h text >> (check-agents (log-of h text) >> good (log-of h text))))
+    past-header : (B : Program) → check-log B text ≡ (check-log-text h text >> (check-log-lines B h text >> (check-agents (log-of h text) >> good (log-of h text))))
     unfolding check-log _>>=_
     past-header B = let e : check-log-header text ≡ good h = header-zero text head .1 ∙ ap good (sym is) in rw e
 
-    past-text : (B : Book) → length (B .agents) ≡ A
+    past-text : (B : Program) → length (B .agents) ≡ A
         → check-log B text ≡ (check-lines A h text >> (check-agents (log-of h text) >> good (log-of h text)))
     unfolding _>>_ check-log-lines check-lines
     past-text B k = past-header B ∙ rw (text-zero h text (text-too A text h is head whole), k)
 
-    past-lines : (B : Book) → length (B .agents) ≡ A → check-log B text ≡ (check-agents (log-of h text) >> good (log-of h text))
+    past-lines : (B : Program) → length (B .agents) ≡ A → check-log B text ≡ (check-agents (log-of h text) >> good (log-of h text))
     unfolding _>>_
     past-lines B k = past-text B k ∙ rw (lines-zero A h text (lines-too A text h is head whole) .1)
 
@@ -125,7 +125,7 @@ module _ (A : ℕ) (text : List ℕ) where
 
 -- ---- the log that passes is that of the text
 
-pub passed-log : (B : Book) (text : List ℕ) (g : Log) → check-log B text ≡ good g → g ≡ log-of (line text 0) text
+pub passed-log : (B : Program) (text : List ℕ) (g : Log) → check-log B text ≡ good g → g ≡ log-of (line text 0) text
 unfolding check-log check-log-header
 passed-log B text g e =
     let r = bind-good (check-log-header text) _ g e in

@@ -7,7 +7,7 @@ use lib.Dec.{eqb}
 use lib.ListN.{length, getD}
 use Rattle.text.specs.Words.{good, answer-of}
 use Rattle.text.specs.Text.{line}
-use Rattle.book.specs.Book.{Book}
+use Rattle.book.specs.Book.{Program}
 use Rattle.order.specs.Pairs.{Pair, rows, ordered-by}
 use Rattle.order.specs.Log.{Log, pair-of, check-log}
 use Rattle.log.specs.declared.LogCheck.{LogCheck}
@@ -29,5 +29,5 @@ pub record Held (g : Log) (r : LogCheck) : Type 0 where
 
 -- the check's answer, whatever the book, so long as it has that many agents
 pub record LogChecked (agents : ℕ) (text : List ℕ) (r : LogCheck) : Type 0 where
-  pub answer : (B : Book) → length (B .agents) ≡ agents → r .answer ≡ answer-of (check-log B text)
-  pub held : (B : Book) (g : Log) → length (B .agents) ≡ agents → check-log B text ≡ good g → Held g r
+  pub answer : (B : Program) → length (B .agents) ≡ agents → r .answer ≡ answer-of (check-log B text)
+  pub held : (B : Program) (g : Log) → length (B .agents) ≡ agents → check-log B text ≡ good g → Held g r

@@ -10,7 +10,7 @@ use lib.ListN.{getD}
 use borrow.Author.Tests.{eq-eqb, ne-eqb}
 use Rattle.text.specs.Words.{if_then_else_}
 use Rattle.text.specs.declared.Found.the-variants.{Nowhere, Here}
-use Rattle.book.specs.Book.{Book}
+use Rattle.book.specs.Book.{Program}
 use Rattle.engine.specs.Look.{done, gives, seen, _>>=_}
 use Rattle.engine.specs.Move.{dynamic-among}
 use Rattle.engine.specs.Rule.{lowest}
@@ -51,7 +51,7 @@ unfolding lowest gives seen
 lowest-end c e x h = let z : e - x ≡ 0 = omega arith in (rw z, rw z)
 
 -- what it looks at is all Reserve's
-all-roll : (B : Book) → Placed B → (c : List ℕ) (k x : ℕ) → ((j : ℕ) → j < k → x + j < B .E) → dynamic-among B (seen c (lowest x k)) ≡ seen c (lowest x k)
+all-roll : (B : Program) → Placed B → (c : List ℕ) (k x : ℕ) → ((j : ℕ) → j < k → x + j < B .E) → dynamic-among B (seen c (lowest x k)) ≡ seen c (lowest x k)
 unfolding lowest seen dynamic-among _>>=_
 all-roll B p c zero x h = refl
 all-roll B p c (suc k) x h = rw (p .roll x (omega (arith, h 0 (omega arith)))) (ap (λ (s : List ℕ). x ∷ s) (go (eqb (getD c x 0) 2) (all-roll B p c k (suc x) (λ j i. omega (arith, h (suc j) (omega arith))))))
@@ -61,7 +61,7 @@ all-roll B p c (suc k) x h = rw (p .roll x (omega (arith, h 0 (omega arith)))) (
     go true e = refl
     go false e = e
 
-pub runs-lowest : (B : Book) (c : List ℕ) (bit from e x : ℕ) (m n : List ℕ) → e ≡ B .E → found-below e x ≡ gives c (lowest from (e - from))
+pub runs-lowest : (B : Program) (c : List ℕ) (bit from e x : ℕ) (m n : List ℕ) → e ≡ B .E → found-below e x ≡ gives c (lowest from (e - from))
     → n ≡ marked bit (seen c (lowest from (e - from))) m → Runs B c bit (lowest from (B .E - from)) (found-below (B .E) x) m n
 runs-lowest B c bit from e x m n q h k =
     record {

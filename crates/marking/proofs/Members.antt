@@ -9,7 +9,7 @@ use lib.Dec.{eqb}
 use lib.ListN.{getD}
 use borrow.Author.Tests.{eq-eqb, ne-eqb, lt-ltb, le-ltb}
 use Rattle.text.specs.Words.{if_then_else_, table-from, table}
-use Rattle.book.specs.Book.{Book, location, dynamic-at}
+use Rattle.book.specs.Book.{Program, location, dynamic-at}
 use Rattle.engine.specs.Look.{done, gives, seen, _>>=_}
 use Rattle.engine.specs.Move.{dynamic-among}
 use Rattle.engine.specs.Rule.{members}
@@ -20,14 +20,14 @@ use Rattle.marking.specs.Marking.{members-from, first-and-rest}
 
 -- ---- its marks
 
-seen-members : (B : Book) (c : List ℕ) (u x k : ℕ) → seen c (members B u x k) ≡ table-from (λ y. location B u y 0) x k
+seen-members : (B : Program) (c : List ℕ) (u x k : ℕ) → seen c (members B u x k) ≡ table-from (λ y. location B u y 0) x k
 unfolding members seen table-from _>>=_
 seen-members B c u x zero = refl
 seen-members B c u x (suc k) =
     ap (λ (s : List ℕ). location B u x 0 ∷ s)
     (seen-bind c (members B u (suc x) k) (λ ys. done (if eqb (getD c (location B u x 0) 0) 2 then x ∷ ys else ys)) ∙ append-nil (seen c (members B u (suc x) k)) ∙ seen-members B c u (suc x) k)
 
-dynamic-run : (B : Book) → Placed B → (u x k : ℕ) → x + k ≤ B .E
+dynamic-run : (B : Program) → Placed B → (u x k : ℕ) → x + k ≤ B .E
     → dynamic-among B (table-from (λ y. location B u y 0) x k) ≡ (if dynamic-at B (location B u 0 0) then table-from (λ y. location B u y 0) x k else [])
 unfolding dynamic-among table-from
 dynamic-run B p u x zero h = go (dynamic-at B (location B u 0 0))
@@ -44,7 +44,7 @@ dynamic-run B p u x (suc k) h = rw (one-kind B p u x (omega arith)) (go (dynamic
     go false e = e
 
 -- what is marked for it
-pub universe-marks : (B : Book) → Placed B → (c : List ℕ) (u bit : ℕ) (m : List ℕ) (b : Bool) → dynamic-at B (location B u 0 0) ≡ b
+pub universe-marks : (B : Program) → Placed B → (c : List ℕ) (u bit : ℕ) (m : List ℕ) (b : Bool) → dynamic-at B (location B u 0 0) ≡ b
     → marked bit (dynamic-among B (seen c (members B u 0 (B .E)))) m ≡ (if b then marked bit (table (λ y. location B u y 0) (B .E)) m else m)
 unfolding marked
 universe-marks B p c u bit m b e =
@@ -72,7 +72,7 @@ run-unary a x (suc k) = let e : a + suc x ≡ suc (a + x) = omega arith in ap (�
 
 -- ---- its members
 
-module _ (B : Book) (c : List ℕ) (u y : ℕ) where
+module _ (B : Program) (c : List ℕ) (u y : ℕ) where
   one-more : (k : ℕ) → gives c (members B u y (suc k)) ≡ (if eqb (getD c (location B u y 0) 0) 2 then y ∷ gives c (members B u (suc y) k) else gives c (members B u (suc y) k))
   unfolding members gives _>>=_
   one-more k = gives-bind c (members B u (suc y) k) (λ ys. done (if eqb (getD c (location B u y 0) 0) 2 then y ∷ ys else ys))

@@ -6,7 +6,7 @@ ghost use Prim.Native.Nat.{ℕ, _+_, _-_, _≤_};
 ghost use lib.Bits.{bitOr, bitAnd};
 ghost use lib.Dec.{leb};
 ghost use Rattle.text.specs.Words.{if_then_else_, table, table-from};
-ghost use Rattle.book.specs.Book.{Book, function-at, offset, reserve, dynamic-at};
+ghost use Rattle.book.specs.Book.{Program, function-at, offset, reserve, dynamic-at};
 ghost use Rattle.engine.specs.Look.{read, seen};
 ghost use Rattle.engine.specs.Move.{dynamic-among};
 ghost use Rattle.engine.specs.Rule.{members, lowest};
@@ -154,7 +154,7 @@ pub fn universe(image: &[u16; 4296], readers: &mut [u64], bit: u64, u: u16)
 // The least member of a universe from `from` on, or e; run is the universe's.
 pub fn next_member(contents: &[u16], run: Run, e: u16, from: u16) -> u16
     ensures { λ r. ⌜ from ≤ r ⌝ }
-    ensures { λ r. ⌜ ((B : Book) (u : ℕ) → function-run run ≡ function-at B u → e ≡ B .E → members-from B (now (contents .entry)) u from ≡ first-and-rest B (now (contents .entry)) u r) ⌝ }
+    ensures { λ r. ⌜ ((B : Program) (u : ℕ) → function-run run ≡ function-at B u → e ≡ B .E → members-from B (now (contents .entry)) u from ≡ first-and-rest B (now (contents .entry)) u r) ⌝ }
 {
     let mut y = from;
     while y < e {

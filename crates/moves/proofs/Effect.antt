@@ -4,7 +4,7 @@ use mathlib.Core.List.{List, _++_}
 use Prim.Native.Nat.{ℕ}
 use Rattle.text.specs.Words.{has}
 use Rattle.text.specs.Refusals.{clash, idle-move}
-use Rattle.book.specs.Book.{Book}
+use Rattle.book.specs.Book.{Program}
 use Rattle.engine.specs.declared.Instruction.{Instruction}
 use Rattle.engine.specs.Rule.{Walk, Walked, going, met}
 use Rattle.engine.specs.Move.{Moved, fires, stopped, released, if-releasing, Input, walked, looked, fired-of, judged, settle, move}
@@ -26,7 +26,7 @@ use Rattle.moves.specs.Effect.{Tables, tables, joined, left, number-of, 
 use Rattle.moves.specs.Close.{told, verdict-of, closed, Finished}
 use Rattle.moves.proofs.Marks.{placed, marked-joined}
 
-module _ (B : Book) (k bit : ℕ) (c rs ws : List ℕ) (fit : Fit B k bit (tables c rs ws)) where
+module _ (B : Program) (k bit : ℕ) (c rs ws : List ℕ) (fit : Fit B k bit (tables c rs ws)) where
   abbrev i : Input
   i = record { agent = k }
 
@@ -94,7 +94,7 @@ module _ (B : Book) (k bit : ℕ) (c rs ws : List ℕ) (fit : Fit B k bit (table
                 effect (verdict-of Idle) (tables c″ (closed B bit (w .made) Idle rs′) ws″) (stopped idle-move 0) (judged-move ∙ q) refl refl (rw (g .0, g .1, back))
 
 -- as the code has it: the tables c, rs and ws that the walk, begun on t, left with its state s and the list l
-module _ (B : Book) (k bit : ℕ) (t : Tables) (s : State) (l c rs ws : List ℕ) (after : After B k bit t s l (tables c rs ws)) where
+module _ (B : Program) (k bit : ℕ) (t : Tables) (s : State) (l c rs ws : List ℕ) (after : After B k bit t s l (tables c rs ws)) where
   abbrev old : Tables
   old = tables c (t .readers) ws
 

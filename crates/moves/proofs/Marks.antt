@@ -10,7 +10,7 @@ use lib.Dec.{eqb}
 use lib.ListN.{length, getD, length-set}
 use lib.Seq.{getD-set-same, getD-set-other}
 use Rattle.text.specs.Words.{has}
-use Rattle.book.specs.Book.{Book}
+use Rattle.book.specs.Book.{Program}
 use Rattle.book.specs.Sound.{Lawful}
 use Rattle.book.proofs.Places.{spot, roll-place}
 use Rattle.term.specs.Marks.{mark-one, marked, Placed}
@@ -19,7 +19,7 @@ use Rattle.sweep.proofs.Sweep.{each-is}
 use Rattle.firing.proofs.Fires.{mark-mark}
 use Rattle.moves.specs.Effect.{joined}
 
-pub placed : (B : Book) → Lawful B → Placed B
+pub placed : (B : Program) → Lawful B → Placed B
 placed B ok =
     record {
       own = λ f x y h a b. rw (spot B ok f x y h a b .where-at);

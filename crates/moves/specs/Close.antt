@@ -3,7 +3,7 @@ use mathlib.Core.Path.{_≡_}
 use mathlib.Core.List.{List}
 use Prim.Native.Nat.{ℕ}
 use Rattle.text.specs.Refusals.{clash, idle-move}
-use Rattle.book.specs.Book.{Book}
+use Rattle.book.specs.Book.{Program}
 use Rattle.engine.specs.declared.Instruction.{Instruction}
 use Rattle.engine.specs.Move.{released, if-releasing}
 use Rattle.engine.specs.Move as move
@@ -23,13 +23,13 @@ verdict-of (Clash l) = told clash l
 verdict-of Idle = told idle-move 0
 
 -- the marks m that the walk left: with every dynamic location if the instructions release and the move fires; taken back if it is refused
-abbrev pub closed : Book → ℕ → List Instruction → Outcome → List ℕ → List ℕ
+abbrev pub closed : Program → ℕ → List Instruction → Outcome → List ℕ → List ℕ
 closed B bit is Fired m = marked bit (if-releasing B (released is)) m
 closed B bit is (Clash l) m = cleared bit m
 closed B bit is Idle m = cleared bit m
 
 -- the move f, whose instructions are is, and whose walk left the marks rs, is settled: its verdict r, and what it leaves of the tables
-pub record Finished (B : Book) (is : List Instruction) (f : move.Fired) (bit : ℕ) (c rs ws : List ℕ) (r : Verdict) (c′ rs′ ws′ : List ℕ) : Type 0 where
+pub record Finished (B : Program) (is : List Instruction) (f : move.Fired) (bit : ℕ) (c rs ws : List ℕ) (r : Verdict) (c′ rs′ ws′ : List ℕ) : Type 0 where
   pub outcome : Outcome
   pub settled : Settled f bit c ws outcome c′ ws′
   pub verdict : r ≡ verdict-of outcome

@@ -5,7 +5,7 @@ use mathlib.Core.List.{List}
 use Prim.Native.Nat.{ℕ, _^_, _<_}
 use lib.ListN.{length, getD}
 use Rattle.text.specs.Words.{has}
-use Rattle.book.specs.Book.{Book}
+use Rattle.book.specs.Book.{Program}
 use Rattle.book.specs.Sound.{Lawful, Sound}
 use Rattle.engine.specs.Move.{Moved, fires, stopped, move, fire, writes}
 use Rattle.sweep.specs.Marks.{each, mark}
@@ -44,7 +44,7 @@ q-of (fires f) = 0
 q-of (stopped n q) = q
 
 -- What a call is made on: an accepted book, sound contents, one of its agents, and a bit above all marks so far: the moves before have lower ones
-pub record Fit (B : Book) (k bit : ℕ) (t : Tables) : Type 0 where
+pub record Fit (B : Program) (k bit : ℕ) (t : Tables) : Type 0 where
   pub lawful : Lawful B
   pub sound : Sound B (t .contents)
   pub agent : k < length (B .agents)
@@ -52,7 +52,7 @@ pub record Fit (B : Book) (k bit : ℕ) (t : Tables) : Type 0 where
   pub unmarked : (l : ℕ) → getD (t .readers) l 0 < bit
 
 -- what agent k's move, marked as `bit`, gives and leaves of the tables t: its verdict r, and the tables u
-pub record Effect (B : Book) (k bit : ℕ) (t : Tables) (r : Verdict) (u : Tables) : Type 0 where
+pub record Effect (B : Program) (k bit : ℕ) (t : Tables) (r : Verdict) (u : Tables) : Type 0 where
   pub number : r .number ≡ number-of (move B (t .contents) (record { agent = k }))
   pub q : r .q ≡ q-of (move B (t .contents) (record { agent = k }))
   pub tables : u ≡ left bit t (move B (t .contents) (record { agent = k }))
@@ -61,7 +61,7 @@ abbrev pub tables : List ℕ → List ℕ → List ℕ → Tables
 tables c rs ws = record { contents = c; readers = rs; writers = ws }
 
 -- the walk of agent k's move, made on the tables t, came to the state s with the list l, and left the tables u
-pub record After (B : Book) (k bit : ℕ) (t : Tables) (s : State) (l : List ℕ) (u : Tables) : Type 0 where
+pub record After (B : Program) (k bit : ℕ) (t : Tables) (s : State) (l : List ℕ) (u : Tables) : Type 0 where
   pub fit : Fit B k bit t
   pub contents : u .contents ≡ t .contents
   pub readers : Gathered B (t .contents) bit k (outcome s l) (t .readers) (u .readers)

@@ -7,11 +7,11 @@ use native.Mathlib.Omega.{arith}
 use borrow.Author.Tests.{ne-eqb}
 use lib.Dec.{eqb}
 use lib.ListN.{length}
-use Rattle.book.specs.Book.{Book, function-at, node-at}
+use Rattle.book.specs.Book.{Program, function-at, node-at}
 use Rattle.book.specs.Lines.{fits}
 use Rattle.nodes.specs.Fits.{fits-plain, fits-function, fits-node, fits-target}
 
-module _ (B : Book) (n s x : ℕ) where
+module _ (B : Program) (n s x : ℕ) where
   pub unused : s ≡ 1 → fits B n s x ≡ eqb x 0
   unfolding fits
   unused e = rw e (simp or-false)

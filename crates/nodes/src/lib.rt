@@ -10,7 +10,7 @@ ghost use Rattle.text.specs.Words.{least};
 ghost use Rattle.text.specs.Text.{line};
 ghost use Rattle.book.specs.Kinds.{sort-table, is-term, is-rule};
 ghost use Rattle.book.specs.Lines.{fits, bad-node, bad-agent};
-ghost use Rattle.book.specs.Image.{book-in};
+ghost use Rattle.book.specs.Image.{program-in};
 ghost use Rattle.nodes.specs.Fits.{sorts-of, fits-plain, fits-function, fits-node, fits-target};
 
 // The three operand sorts of each node kind from 0 to 27: 0 no such kind, 1 unused, 2 permanent element, 3 variable,
@@ -179,7 +179,7 @@ fn fits_target(s: u8, x: u32, n: u32, kind: u32, g: Function) -> bool
 // x fits s, any sort but 1, 9 and 10, as an operand of node n. Only what the sort asks about is loaded.
 fn fits_other(image: &[u32], n: u32, s: u8, x: u32) -> bool
     requires { ⌜ (s ≢ 1) × (9 ≤ s → 11 ≤ s) ⌝ }
-    ensures { λ r. ⌜ r ≡ fits (book-in (now (image .entry)) []) n s x ⌝ }
+    ensures { λ r. ⌜ r ≡ fits (program-in (now (image .entry))) n s x ⌝ }
 {
     if s < 4 {
         fits_plain(s, x, image::permanent(image))
@@ -193,7 +193,7 @@ fn fits_other(image: &[u32], n: u32, s: u8, x: u32) -> bool
 
 // x fits the sort s as an operand of node n. Most operands are unused or nodes.
 fn fits(image: &[u32], n: u32, s: u8, x: u32) -> bool
-    ensures { λ r. ⌜ r ≡ fits (book-in (now (image .entry)) []) n s x ⌝ }
+    ensures { λ r. ⌜ r ≡ fits (program-in (now (image .entry))) n s x ⌝ }
 {
     if s == 1 {
         x == 0
@@ -210,7 +210,7 @@ fn fits(image: &[u32], n: u32, s: u8, x: u32) -> bool
 // 5: node n is at fault.
 fn bad_node(image: &[u32], table: &[u8; 84], n: u32) -> bool
     requires { ⌜ now table ≡ sort-table ⌝ }
-    ensures { λ r. ⌜ r ≡ bad-node (book-in (now (image .entry)) []) n ⌝ }
+    ensures { λ r. ⌜ r ≡ bad-node (program-in (now (image .entry))) n ⌝ }
 {
     let y = image::node_at(image, n);
     let s = sorts_of(table, y.kind);
@@ -222,7 +222,7 @@ fn bad_node(image: &[u32], table: &[u8; 84], n: u32) -> bool
 
 // 5: the least of the first n nodes that is at fault.
 pub fn bad_nodes(image: &[u32], n: u32) -> Found
-    ensures { λ r. ⌜ r ≡ least (bad-node (book-in (now (image .entry)) [])) n ⌝ }
+    ensures { λ r. ⌜ r ≡ least (bad-node (program-in (now (image .entry)))) n ⌝ }
 {
     let table = SORTS;
     let mut i: u32 = 0;
@@ -244,7 +244,7 @@ fn before(i: u32) -> u32
 
 // 7: agent i, whose line is l, is at fault.
 fn bad_agent(image: &[u32], l: Line, i: u32) -> bool
-    ensures { λ r. ⌜ r ≡ bad-agent (book-in (now (image .entry)) []) l i ⌝ }
+    ensures { λ r. ⌜ r ≡ bad-agent (program-in (now (image .entry))) l i ⌝ }
 {
     let n = image::nodes(image);
     let p = image::permanent(image);
@@ -260,7 +260,7 @@ fn bad_agent(image: &[u32], l: Line, i: u32) -> bool
 
 // 7: the least of the first n agents that is at fault; their lines start at line `first`.
 pub fn bad_agents<'a>(text: &'a [u8], image: &'a [u32], first: u32, n: u32) -> Found
-    ensures { λ r. ⌜ r ≡ least (λ i. bad-agent (book-in (now (image .entry)) []) (line (now (text .entry)) (first + i)) i) n ⌝ }
+    ensures { λ r. ⌜ r ≡ least (λ i. bad-agent (program-in (now (image .entry))) (line (now (text .entry)) (first + i)) i) n ⌝ }
 {
     let mut i: u32 = 0;
     while i < n {

@@ -13,10 +13,10 @@ use Rattle.text.proofs.Words.{so-true, table-ext}
 use Rattle.book.specs.declared.Function.{Function}
 use Rattle.book.specs.declared.Node.{Node}
 use Rattle.book.specs.declared.Agent.{Agent}
-use Rattle.book.specs.Book.{Book, L, function-at, node-at, agent-at, location}
+use Rattle.book.specs.Book.{Program, L, function-at, node-at, agent-at, location}
 use Rattle.book.specs.Kinds.{sort, sort-table}
 use Rattle.book.specs.Lines.{node-of, agent-of, fits, bad-node}
-use Rattle.book.specs.Image.{word, row-in, capped, function-of, book-in, Counts}
+use Rattle.book.specs.Image.{word, row-in, capped, function-of, program-in, Counts}
 use Rattle.book.specs.Sound.{Lawful}
 use Rattle.book.proofs.Image.{functions-long, nodes-long, agents-long, functions-most, nodes-most, agents-most, function-inside, node-inside, agent-inside}
 use Rattle.book.proofs.Places.{spot}
@@ -45,7 +45,7 @@ narrow-step m o i h e j k = go (eqb j i) refl
 -- ---- nodes
 
 -- an operand that fits is small
-fits-small : (B : Book) (n s x : ℕ) → B .P ≤ 10000 → length (B .functions) ≤ 32 → n ≤ 1024 → fits B n s x ≡ true → x < 65536
+fits-small : (B : Program) (n s x : ℕ) → B .P ≤ 10000 → length (B .functions) ≤ 32 → n ≤ 1024 → fits B n s x ≡ true → x < 65536
 unfolding fits
 fits-small B n s x p f k e =
     ltb-true x 65536
@@ -62,7 +62,7 @@ fits-small B n s x p f k e =
     )))
 
 -- a node of no kind fits nothing
-kind-small : (B : Book) (n kind x : ℕ) → fits B n (sort kind 0) x ≡ true → kind < 28
+kind-small : (B : Program) (n kind x : ℕ) → fits B n (sort kind 0) x ≡ true → kind < 28
 unfolding fits sort
 kind-small B n kind x e =
     ltb-true kind 28
@@ -78,7 +78,7 @@ record SmallNode (y : Node) : Type 0 where
   pub b : y .b < 65536
   pub c : y .c < 65536
 
-small-node : (B : Book) (n : ℕ) → B .P ≤ 10000 → length (B .functions) ≤ 32 → n ≤ 1024 → bad-node B n ≡ false → SmallNode (node-at B n)
+small-node : (B : Program) (n : ℕ) → B .P ≤ 10000 → length (B .functions) ≤ 32 → n ≤ 1024 → bad-node B n ≡ false → SmallNode (node-at B n)
 unfolding bad-node
 small-node B n p f k e =
     let y = node-at B n in
@@ -94,23 +94,23 @@ small-node B n p f k e =
 
 -- ---- the image of a lawful book
 
-module _ (m o : List ℕ) (B : Book) (ok : Lawful B) (kinds : (f : ℕ) → function-at B f .kind ≤ 3) (counts : Counts m B)
-    (held : book-in m (B .entries) ≡ B) (narrow : Narrowed (used m) m o) where
+module _ (m o : List ℕ) (B : Program) (ok : Lawful B) (kinds : (f : ℕ) → function-at B f .kind ≤ 3) (counts : Counts m B)
+    (held : program-in m ≡ B) (narrow : Narrowed (used m) m o) where
   word-small : (i : ℕ) → i < used m → word m i < 65536 → word o i ≡ word m i
   word-small i k h = narrow i k ∙ narrowed-same (word m i) h
 
   few-functions : length (B .functions) ≤ 32
-  few-functions = omega (arith, ap (λ (X : Book). length (X .functions)) held, functions-most m (B .entries))
+  few-functions = omega (arith, ap (λ (X : Program). length (X .functions)) held, functions-most m)
 
   few-nodes : length (B .nodes) ≤ 1024
-  few-nodes = omega (arith, ap (λ (X : Book). length (X .nodes)) held, nodes-most m (B .entries))
+  few-nodes = omega (arith, ap (λ (X : Program). length (X .nodes)) held, nodes-most m)
 
   few-agents : length (B .agents) ≤ 16
-  few-agents = omega (arith, ap (λ (X : Book). length (X .agents)) held, agents-most m (B .entries))
+  few-agents = omega (arith, ap (λ (X : Program). length (X .agents)) held, agents-most m)
 
   permanent-is : word m 1 ≡ B .P
-  unfolding book-in
-  permanent-is = ap (λ (X : Book). X .P) held
+  unfolding program-in
+  permanent-is = ap (λ (X : Program). X .P) held
 
   few-permanent : B .P ≤ 10000
   few-permanent = omega (arith, ok .high, ok .elements)
@@ -118,9 +118,9 @@ module _ (m o : List ℕ) (B : Book) (ok : Lawful B) (kinds : (f : ℕ) → func
   function-same : (f : ℕ) → f < capped (word m 2) 32 → function-of (row-in o (2 + f)) ≡ function-of (row-in m (2 + f))
   function-same f h =
       let q : function-of (row-in m (2 + f)) ≡ function-at B f =
-      sym (function-inside m (B .entries) f h) ∙ ap (λ (X : Book). function-at X f) held in
+      sym (function-inside m f h) ∙ ap (λ (X : Program). function-at X f) held in
       let k : f < length (B .functions) =
-      omega (arith, ap (λ (X : Book). length (X .functions)) held, functions-long m (B .entries)) in
+      omega (arith, ap (λ (X : Program). length (X .functions)) held, functions-long m) in
       let s = spot B ok f 0 0 k (omega (arith, ok .low, ok .high)) (omega (arith, ok .low, ok .high)) .inside in
       rw (
         word-small ((2 + f) * 4) (omega (arith, k, few-functions)) (omega (arith, ap (λ (x : Function). x .first) q, s, ok .locations)),
@@ -131,9 +131,9 @@ module _ (m o : List ℕ) (B : Book) (ok : Lawful B) (kinds : (f : ℕ) → func
   node-same : (n : ℕ) → n < capped (word m 3) 1024 → node-of (row-in o (50 + n)) ≡ node-of (row-in m (50 + n))
   node-same n h =
       let q : node-of (row-in m (50 + n)) ≡ node-at B n =
-      sym (node-inside m (B .entries) n h) ∙ ap (λ (X : Book). node-at X n) held in
+      sym (node-inside m n h) ∙ ap (λ (X : Program). node-at X n) held in
       let k : n < length (B .nodes) =
-      omega (arith, ap (λ (X : Book). length (X .nodes)) held, nodes-long m (B .entries)) in
+      omega (arith, ap (λ (X : Program). length (X .nodes)) held, nodes-long m) in
       let s = small-node B n few-permanent few-functions (omega (arith, few-nodes)) (ok .nodes n k) in
       rw (
         word-small ((50 + n) * 4) (omega (arith, h)) (omega (arith, ap (λ (x : Node). x .kind) q, s .kind)),
@@ -145,16 +145,16 @@ module _ (m o : List ℕ) (B : Book) (ok : Lawful B) (kinds : (f : ℕ) → func
   agent-same : (i : ℕ) → i < capped (word m 4) 16 → agent-of (row-in o (34 + i)) ≡ agent-of (row-in m (34 + i))
   agent-same i h =
       let q : agent-of (row-in m (34 + i)) ≡ agent-at B i =
-      sym (agent-inside m (B .entries) i h) ∙ ap (λ (X : Book). agent-at X i) held in
+      sym (agent-inside m i h) ∙ ap (λ (X : Program). agent-at X i) held in
       let k : i < length (B .agents) =
-      omega (arith, ap (λ (X : Book). length (X .agents)) held, agents-long m (B .entries)) in
+      omega (arith, ap (λ (X : Program). length (X .agents)) held, agents-long m) in
       rw (
         word-small ((34 + i) * 4) (omega (arith, k, few-agents)) (omega (arith, ap (λ (x : Agent). x .root) q, ok .roots i k .0, few-nodes)),
         word-small ((34 + i) * 4 + 1) (omega (arith, k, few-agents)) (omega (arith, ap (λ (x : Agent). x .element) q, ok .agents i, few-permanent)),
       )
 
-  pub narrow-holds : book-in o (B .entries) ≡ B
-  unfolding book-in
+  pub narrow-holds : program-in o ≡ B
+  unfolding program-in
   narrow-holds =
       rw (
         word-small 0 (omega arith) (omega (arith, counts .elements, ok .elements)),

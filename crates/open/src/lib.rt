@@ -5,7 +5,7 @@ ghost use Prim.Native.Nat.{_≤_};
 ghost use lib.ListN.{length};
 ghost use Rattle.text.specs.Words.{good, answer-of};
 ghost use Rattle.book.specs.Book.{Book};
-ghost use Rattle.book.specs.Image.{book-in};
+ghost use Rattle.book.specs.Image.{program-in};
 ghost use Rattle.book.specs.Check.{check-book};
 ghost use Rattle.open.specs.Narrow.{narrowed, used, Narrowed};
 
@@ -51,7 +51,7 @@ fn narrow(image: &[u32; 4296], out: &mut [u16; 4296])
 // The whole check of a book, which leaves the engine's image of an accepted one. Of a refused book the image may hold anything.
 pub fn open(book: &[u8], image: &mut [u16; 4296]) -> Answer
     ensures { λ r. ⌜ r ≡ answer-of (check-book (now (book .entry))) ⌝ }
-    ensures { λ r. ⌜ ((B : Book) → check-book (now (book .entry)) ≡ good B → book-in (now (image .exit)) (B .entries) ≡ B) ⌝ }
+    ensures { λ r. ⌜ ((b : Book) → check-book (now (book .entry)) ≡ good b → program-in (now (image .exit)) ≡ b .program) ⌝ }
 {
     let mut words = [0u32; 4296];
     let answer = book_check::check_into(book, &mut words);

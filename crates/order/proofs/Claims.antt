@@ -7,7 +7,7 @@ use mathlib.Core.Option.{some}
 use Prim.Native.Nat.{ℕ, _<_}
 use native.Mathlib.Omega.{arith}
 use lib.ListN.{length}
-use Rattle.book.specs.Book.{Book, L}
+use Rattle.book.specs.Book.{Program, L}
 use Rattle.engine.specs.Move.{Fired}
 use Rattle.order.specs.Log.{Log}
 use Rattle.order.specs.Run.{Run, Ran, ran, halted, run, reads-at, writes-at, fired-at}
@@ -31,7 +31,7 @@ rows-are-order ps up m j i h = rows-set ps up m j i h
 
 -- ---- marks
 
-module _ (B : Book) (g : Log) (c : List ℕ) (n : ℕ) (s : Run) (k : Left B g c n s) where
+module _ (B : Program) (g : Log) (c : List ℕ) (n : ℕ) (s : Run) (k : Left B g c n s) where
   same-act : (i : ℕ) (f : Fired) → i < n → moves-of B g .does i (listed (moves-of B g) c i) ≡ some f → fired-at (s .fired) i ≡ f
   same-act i f h e = one (fired-at (s .fired) i) f (sym (k .fired i h) ∙ e)
     where

@@ -13,7 +13,7 @@ use Rattle.text.specs.Words.{table-from, least, good, none-at}
 use Rattle.text.specs.Refusals.{ill-formed, log-text, log-line}
 use Rattle.text.specs.Text.{bad-line, line}
 use Rattle.text.proofs.Words.{and-cases, length-table-from, least-none, bind-good, then-good, none-good, found-good, test-good, good-same}
-use Rattle.book.specs.Book.{Book}
+use Rattle.book.specs.Book.{Program}
 use Rattle.order.specs.Pairs.{Pair}
 use Rattle.order.specs.Log.{Log, most-moves, most-pairs, log-header-ok, bad-move, ascends, bad-pair, input-of, pair-of, log-of, check-agents, check-log-header, check-log-text, check-log-lines, check-log}
 use Rattle.order.specs.Demand.{PairOf, count}
@@ -56,7 +56,7 @@ header-few text h e =
     let t0 = and-cases (leb (l .a) most-moves) (leb (l .b) most-pairs) t1 in
     subst (λ (x : Line). (x .a ≤ most-moves) × (x .b ≤ most-pairs)) (good-same l h (e9 .1)) (leb-true (l .a) most-moves (t0 .0), leb-true (l .b) most-pairs (t0 .1))
 
-lines-up : (B : Book) (h : Line) (text : List ℕ) (u : Unit {0}) → check-log-lines B h text ≡ good u
+lines-up : (B : Program) (h : Line) (text : List ℕ) (u : Unit {0}) → check-log-lines B h text ≡ good u
     → (a b : ℕ) → PairOf (log-of h text .pairs) a b → (a < b) × (b < h .a)
 unfolding check-log-lines log-of
 lines-up B h text u e a b p =
@@ -71,7 +71,7 @@ lines-up B h text u e a b p =
     let y : line text (1 + h .a + r .0) .b ≡ b = rw z at (r .3) in
     (omega (arith, t .0, x, y), omega (arith, t .1, y))
 
-pub passed : (B : Book) (text : List ℕ) (g : Log) → check-log B text ≡ good g → Passed g
+pub passed : (B : Program) (text : List ℕ) (g : Log) → check-log B text ≡ good g → Passed g
 unfolding check-log log-of
 passed B text g e =
     let r = bind-good (check-log-header text) _ g e in

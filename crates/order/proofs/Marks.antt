@@ -12,7 +12,7 @@ use lib.ListN.{length, getD, length-append, List·getD-append}
 use lib.Seq.{getD-at}
 use borrow.Author.Tests.{eqb-true, eq-eqb}
 use Rattle.text.specs.Words.{if_then_else_}
-use Rattle.book.specs.Book.{Book, L}
+use Rattle.book.specs.Book.{Program, L}
 use Rattle.engine.specs.Move.{Fired, Moved, fires, stopped, move, fire}
 use Rattle.engine.proofs.Numbers.{move-number}
 use Rattle.order.specs.Sets.{bit, with-move}
@@ -82,7 +82,7 @@ writers-bit n fs l i h = rw (getD-table (λ l. moves-that (writes-at l) 0 fs) n 
 
 -- ---- the run
 
-module _ (B : Book) (g : Log) (c : List ℕ) where
+module _ (B : Program) (g : Log) (c : List ℕ) where
   abbrev S : Moves
   S = moves-of B g
 

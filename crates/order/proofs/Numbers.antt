@@ -11,11 +11,11 @@ use Rattle.text.specs.Text.{bad-line, line}
 use Rattle.text.proofs.Words.{length-table-from}
 pub use Rattle.text.proofs.Checks.{on, off}
 use Rattle.text.proofs.Checks.{Ends, Any, also, bind-ends, then-ends, none-ends, must-ends, Before, Small}
-use Rattle.book.specs.Book.{Book, L, start}
+use Rattle.book.specs.Book.{Program, Book, L, start}
 use Rattle.book.proofs.Refusals.{Fits, book-before}
 use Rattle.order.specs.Pairs.{TwoFound, no-two, two, least-two, none-two}
 use Rattle.order.specs.Log.{Log, log-lines, input-of, log-of, check-agents, check-log-header, check-log-text, check-log-lines, check-log}
-use Rattle.order.specs.Run.{Run, Ran, ran, halted, run, touching, order-checked, finish, run-from, run-log}
+use Rattle.order.specs.Run.{Run, Ran, ran, halted, run, touching, order-checked, finish, run-from}
 use Rattle.order.specs.Call.{Tables, Lengths, lengths, check-lent, check-all, log-answer, log-call}
 use Rattle.order.specs.Demand.{count}
 use Rattle.order.proofs.Pairs.{two-least}
@@ -43,7 +43,7 @@ unfolding check-log-text
 log-text-ends h text b =
     then-ends (none-ends Before 1 0 1 (bad-line text) (log-lines h) (λ p k. omega arith)) (must-ends Before _ 1 (log-lines h) 1 (omega arith))
 
-log-lines-ends : (B : Book) (h : Line) (text : List ℕ) → LogBounded h → Ends Any Before (check-log-lines B h text)
+log-lines-ends : (B : Program) (h : Line) (text : List ℕ) → LogBounded h → Ends Any Before (check-log-lines B h text)
 unfolding check-log-lines
 log-lines-ends B h text b =
     then-ends (none-ends Before 9 1 0 _ (h .a) (λ p k. omega arith)) (none-ends Before 9 (1 + h .a) 0 _ (h .b) (λ p k. omega arith))
@@ -59,7 +59,7 @@ agents-ends g few = go _ (count g) few
         one no-two e = on tt
         one (two i j) e = let r : Before 10 i j = omega (arith, found-pair f m i j e) in off r
 
-log-ends : (B : Book) (text : List ℕ) → Ends (λ g. count g ≤ 64) Before (check-log B text)
+log-ends : (B : Program) (text : List ℕ) → Ends (λ g. count g ≤ 64) Before (check-log B text)
 unfolding check-log log-of
 log-ends B text =
     also {S = Before} (bind-ends {H = Any} (log-header-ends text) (λ h b.
@@ -69,7 +69,7 @@ log-ends B text =
 
 -- ---- the lent tables, and all checks
 
-lent-ends : (B : Book) (n : Lengths) → Fits B → Ends Any Before (check-lent B n)
+lent-ends : (B : Program) (n : Lengths) → Fits B → Ends Any Before (check-lent B n)
 unfolding check-lent
 lent-ends B n fits =
     then-ends (must-ends Before _ 2 (L B) 0 (omega arith)) (then-ends (must-ends Before _ 2 (L B) 1 (omega arith))
@@ -77,32 +77,32 @@ lent-ends B n fits =
 
 -- what passes them is a book and a log in their bounds
 abbrev pub Early : Checked (Book × Log) → Type 0
-Early = Ends (λ x. Fits (x .0) × (count (x .1) ≤ 64)) Before
+Early = Ends (λ x. Fits (x .0 .program) × (count (x .1) ≤ 64)) Before
 
 pub all-early : (book log : List ℕ) (n : Lengths) → Early (check-all book log n)
 unfolding check-all
-all-early book log n = bind-ends (book-before book) (λ B fits. bind-ends (log-ends B log) (λ g few. then-ends (lent-ends B n fits) (on (fits, few))))
+all-early book log n = bind-ends (book-before book) (λ b fits. bind-ends (log-ends (b .program) log) (λ g few. then-ends (lent-ends (b .program) n fits) (on (fits, few))))
 
 -- ---- the call
 
-run-small : (B : Book) (g : Log) → Fits B → count g ≤ 64 → Small (run-log B g .answer)
-unfolding run-log run-from finish
-run-small B g fits few = go (run B g (start B) (count g)) refl
+run-small : (B : Program) (g : Log) (c : List ℕ) → Fits B → count g ≤ 64 → Small (run-from B g c .answer)
+unfolding run-from finish
+run-small B g c fits few = go (run B g c (count g)) refl
   where
     two-way : (s : Run) (o : TwoFound) → ((i j : ℕ) → o ≡ two i j → (i < count g) × (j < count g)) → Small (order-checked B s o .answer)
     two-way s no-two h = record { number = omega arith; p = omega arith; q = omega arith }
     two-way s (two i j) h = let r = h i j refl in record { number = omega arith; p = omega (arith, r .0); q = omega (arith, r .1) }
 
-    go : (o : Ran) → run B g (start B) (count g) ≡ o → Small (finish B g o .answer)
+    go : (o : Ran) → run B g c (count g) ≡ o → Small (finish B g o .answer)
     go (ran s) e = two-way s (touching B g (s .fired)) (found-pair _ (count g))
     go (halted a p q s) e =
-        let m = halted-number B g (start B) (count g) a p q s e in
-        record { number = omega (arith, m .1); p = omega (arith, run-halted B g (start B) (count g) a p q s e .0); q = omega (arith, m .2) }
+        let m = halted-number B g c (count g) a p q s e in
+        record { number = omega (arith, m .1); p = omega (arith, run-halted B g c (count g) a p q s e .0); q = omega (arith, m .2) }
 
 pub log-small : (book log : List ℕ) (t : Tables) (n : ℕ) → Small (log-call book log t n .answer)
 unfolding log-call
 log-small book log t n = go (check-all book log (lengths t n)) (all-early book log (lengths t n))
   where
     go : (o : Checked (Book × Log)) → Early o → Small (log-answer t o .answer)
-    go (good x) (on h) = run-small (x .0) (x .1) (h .0) (h .1)
+    go (good x) (on h) = run-small (x .0 .program) (x .1) (start (x .0)) (h .0) (h .1)
     go (refused a p q) (off h) = record { number = omega arith; p = h .2; q = h .3 }

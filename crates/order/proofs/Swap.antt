@@ -8,7 +8,7 @@ use Prim.Native.Nat.{ℕ}
 use native.Mathlib.Omega.{arith}
 use lib.Seq.{ext-getD}
 use Rattle.text.specs.Words.{has}
-use Rattle.book.specs.Book.{Book, dynamic-at}
+use Rattle.book.specs.Book.{Program, dynamic-at}
 use Rattle.book.specs.Sound.{Lawful, Sound, at}
 use Rattle.engine.specs.Move.{Fired, Moved, fires, stopped, move, fire, values-at, new-value, writes, is-some}
 use Rattle.engine.proofs.Moves.{fired-frame, fired-static, fired-keep, fired-same}
@@ -41,7 +41,7 @@ new-none (w ∷ vs) v e = absurd (true≢false e)
 
 -- ---- the laws
 
-module _ (B : Book) (lawful : Lawful B) (g : Log) where
+module _ (B : Program) (lawful : Lawful B) (g : Log) where
   abbrev S : Moves
   S = moves-of B g
 

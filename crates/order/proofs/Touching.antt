@@ -8,7 +8,7 @@ use native.Mathlib.Omega.{arith}
 use native.Mathlib.Decide.{decLt}
 use lib.ListN.{length, List·getD-eq-default}
 use Rattle.text.proofs.Words.{some-below-true, some-below-from}
-use Rattle.book.specs.Book.{Book}
+use Rattle.book.specs.Book.{Program}
 use Rattle.engine.specs.Move.{Fired, is-some, writes}
 use Rattle.order.specs.Log.{Log}
 use Rattle.order.specs.Run.{reads-at, writes-at, touch-at, touch}
@@ -47,7 +47,7 @@ inside us l e = dite (decLt l (length us)) (λ h. h)
     (λ (h : ¬ (l < length us)). absurd (true≢false (sym e ∙ ap is-some (List·getD-eq-default us [] {n = l} (omega arith)))))
 
 -- where the updates of both are of n locations
-pub touch-iff : (B : Book) (g : Log) (n : ℕ) (e f : Fired) → length (e .updates) ≡ n → length (f .updates) ≡ n → (touch n e f ≡ true) ↔ Touch (moves-of B g) e f
+pub touch-iff : (B : Program) (g : Log) (n : ℕ) (e f : Fired) → length (e .updates) ≡ n → length (f .updates) ≡ n → (touch n e f ≡ true) ↔ Touch (moves-of B g) e f
 touch-iff B g n e f le lf = (λ q. let t = some-below-true (touch-at e f) n q in (t .0, to (t .0) (touch-at-to (t .0) e f (t .2))), λ (l, t). from l t)
   where
     uses : (l : ℕ) (a : Fired) → (reads-at l a ≡ true) ⊎ (writes-at l a ≡ true) → Uses (moves-of B g) a l

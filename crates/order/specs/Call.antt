@@ -5,7 +5,7 @@ use lib.Dec.{leb}
 use lib.ListN.{length}
 use Rattle.text.specs.Words.{Checked, good, refused, _>>=_, _>>_, must}
 use Rattle.text.specs.Refusals.{lent-short, contents-table, readers-table, writers-table, instructions-table}
-use Rattle.book.specs.Book.{Book, L}
+use Rattle.book.specs.Book.{Program, Book, L}
 use Rattle.book.specs.Check.{check-book}
 use Rattle.engine.specs.Rule.{most-instructions}
 use Rattle.engine.specs.Single.{over}
@@ -20,7 +20,7 @@ pub record Lengths : Type 0 where
   pub instructions : ℕ
 
 -- 2, lowest table first
-unfoldable pub check-lent : Book → Lengths → Checked (Unit {0})
+unfoldable pub check-lent : Program → Lengths → Checked (Unit {0})
 check-lent B n = do
   must (leb (L B) (n .contents)) lent-short (L B) contents-table
   must (leb (L B) (n .readers)) lent-short (L B) readers-table
@@ -30,10 +30,10 @@ check-lent B n = do
 -- all checks before the first move
 unfoldable pub check-all : List ℕ → List ℕ → Lengths → Checked (Book × Log)
 check-all book log n = do
-  B ← check-book book
-  g ← check-log B log
-  check-lent B n
-  good (B, g)
+  b ← check-book book
+  g ← check-log (b .program) log
+  check-lent (b .program) n
+  good (b, g)
 
 -- the tables lent: contents, readers, writers
 pub record Tables : Type 0 where

@@ -6,7 +6,7 @@ use mathlib.Core.List.{List}
 use mathlib.Core.Option.{some}
 use Prim.Native.Nat.{ℕ, _≤_, _<_}
 use lib.ListN.{getD}
-use Rattle.book.specs.Book.{Book, L}
+use Rattle.book.specs.Book.{Program, L}
 use Rattle.book.specs.Sound.{Lawful}
 use Rattle.engine.specs.Move.{Fired, stopped, move}
 use Rattle.order.specs.Sets.{bit}
@@ -32,7 +32,7 @@ OrdersAgree = (S : Moves) → Laws S → (start : S .Con) (m : ℕ) (pair : ℕ 
 
 -- the moves of a log over a lawful book have that law: frame, keep and swap
 abbrev pub MovesSwap : Type 0
-MovesSwap = (B : Book) → Lawful B → (g : Log) → Laws (moves-of B g)
+MovesSwap = (B : Program) → Lawful B → (g : Log) → Laws (moves-of B g)
 
 -- ---- rows are exactly the order that follows from the pairs by chaining
 
@@ -42,7 +42,7 @@ RowsAreOrder = (ps : List Pair) → ((a b : ℕ) → PairOf ps a b → a < b) �
 
 -- ---- marks are exactly the reads and writes of the moves that fired, in the contents that each got
 
-module _ (B : Book) (g : Log) (c : List ℕ) where
+module _ (B : Program) (g : Log) (c : List ℕ) where
   -- move i is one of the first n, and in the listed order it does something of which this holds
   abbrev pub Did : ℕ → ℕ → (Fired → Type 0) → Type 0
   Did n i Q = (i < n) × ((f : Fired) × (moves-of B g .does i (listed (moves-of B g) c i) ≡ some f) × Q f)
@@ -59,4 +59,4 @@ module _ (B : Book) (g : Log) (c : List ℕ) where
   Left n (halted a p q s) = (p < n) × Marked p s × (move B (listed (moves-of B g) c p) (move-at g p) ≡ stopped a q) × (11 ≤ a) × (a ≤ 16)
 
 abbrev pub RunsLeave : Type 0
-RunsLeave = (B : Book) (g : Log) (c : List ℕ) (n : ℕ) → Left B g c n (run B g c n)
+RunsLeave = (B : Program) (g : Log) (c : List ℕ) (n : ℕ) → Left B g c n (run B g c n)

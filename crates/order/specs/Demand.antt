@@ -6,7 +6,7 @@ use mathlib.Core.Option.{Option, none, some}
 use Prim.Native.Nat.{ℕ, _<_}
 use lib.ListN.{length}
 use Rattle.text.specs.Words.{has, good}
-use Rattle.book.specs.Book.{Book, start}
+use Rattle.book.specs.Book.{Program, Book, start}
 use Rattle.book.specs.Sound.{at, Sound}
 use Rattle.engine.specs.Move.{Fired, Moved, fires, stopped, move, fire, values-at}
 use Rattle.engine.specs.Single.{over}
@@ -32,7 +32,7 @@ abbrev pub value-of : List ℕ → Option ℕ
 value-of [] = none
 value-of (v ∷ vs) = some v
 
-abbrev pub moves-of : Book → Log → Moves
+abbrev pub moves-of : Program → Log → Moves
 moves-of B g = record {
   Con = List ℕ;
   Act = Fired;
@@ -51,19 +51,21 @@ count g = length (g .moves)
 abbrev pub Ordered : Log → ℕ → ℕ → Type 0
 Ordered g i j = Before (PairOf (g .pairs)) i j
 
--- move i fires in the listed order and does this
-abbrev pub Does : Book → Log → ℕ → Fired → Type 0
-Does B g i f = moves-of B g .does i (listed (moves-of B g) (start B) i) ≡ some f
+-- ---- in the listed order, from the contents c
 
--- the first n moves all fire in the listed order
-abbrev pub AllFire : Book → Log → ℕ → Type 0
-AllFire B g n = (i : ℕ) → i < n → (f : Fired) × Does B g i f
+-- move i fires and does this
+abbrev pub Does : Program → Log → List ℕ → ℕ → Fired → Type 0
+Does B g c i f = moves-of B g .does i (listed (moves-of B g) c i) ≡ some f
+
+-- the first n moves all fire
+abbrev pub AllFire : Program → Log → List ℕ → ℕ → Type 0
+AllFire B g c n = (i : ℕ) → i < n → (f : Fired) × Does B g c i f
 
 -- moves i and j, the first before the second in the listing, are unordered and touch
-abbrev pub UnorderedTouch : Book → Log → ℕ → ℕ → Type 0
-UnorderedTouch B g i j =
+abbrev pub UnorderedTouch : Program → Log → List ℕ → ℕ → ℕ → Type 0
+UnorderedTouch B g c i j =
     (i < j) × (j < count g) × ¬ Ordered g i j × ¬ Ordered g j i
-    × ((e : Fired) × (f : Fired) × Does B g i e × Does B g j f × Touch (moves-of B g) e f)
+    × ((e : Fired) × (f : Fired) × Does B g c i e × Does B g c j f × Touch (moves-of B g) e f)
 
 -- ---- the claim: for a book's text, a log's text, the tables t and n instruction records
 
@@ -73,18 +75,18 @@ module _ (book log : List ℕ) (t : Tables) (n : ℕ) where
 
   -- none of 1 to 10 is named, and all moves fire in the listed order
   abbrev pub Passes : Book → Log → Type 0
-  Passes B g = (check-all book log (lengths t n) ≡ good (B, g)) × AllFire B g (count g)
+  Passes b g = (check-all book log (lengths t n) ≡ good (b, g)) × AllFire (b .program) g (start b) (count g)
 
   pub record Demand3 : Type 0 where
     -- accepted exactly when the order of refusals names none
-    pub accepted : (answered .answer .number ≡ 0) ↔ ((B : Book) × (g : Log) × Passes B g × ((i j : ℕ) → ¬ UnorderedTouch B g i j))
+    pub accepted : (answered .answer .number ≡ 0) ↔ ((b : Book) × (g : Log) × Passes b g × ((i j : ℕ) → ¬ UnorderedTouch (b .program) g (start b) i j))
     -- 17 exactly when nothing earlier is named, all moves fire as listed, and some two unordered ones touch
-    pub seventeen : (answered .answer .number ≡ 17) ↔ ((B : Book) × (g : Log) × Passes B g × ((i : ℕ) × (j : ℕ) × UnorderedTouch B g i j))
+    pub seventeen : (answered .answer .number ≡ 17) ↔ ((b : Book) × (g : Log) × Passes b g × ((i : ℕ) × (j : ℕ) × UnorderedTouch (b .program) g (start b) i j))
     -- its place is the least such pair
     pub refused : (i j : ℕ)
-        → ((answered .answer .number ≡ 17) × (answered .answer .p ≡ i) × (answered .answer .q ≡ j)) ↔ ((B : Book) × (g : Log) × Passes B g × LeastPair (UnorderedTouch B g) i j)
+        → ((answered .answer .number ≡ 17) × (answered .answer .p ≡ i) × (answered .answer .q ≡ j)) ↔ ((b : Book) × (g : Log) × Passes b g × LeastPair (UnorderedTouch (b .program) g (start b)) i j)
     -- In every order that keeps the pairs of an accepted log no move is refused, each does what it does in the listed order, the end is the answer's
     -- contents, and the contents are sound, the roll rule with it, at the start and after each move.
-    pub orders : answered .answer .number ≡ 0 → (B : Book) (g : Log) → check-all book log (lengths t n) ≡ good (B, g)
+    pub orders : answered .answer .number ≡ 0 → (b : Book) (g : Log) → check-all book log (lengths t n) ≡ good (b, g)
         → (is : List ℕ) → Keeps (from 0 (count g)) (PairOf (g .pairs)) is
-        → Agrees (moves-of B g) (start B) (count g) is × (answered .contents ≡ over (run (moves-of B g) (start B) is) (t .contents))
+        → Agrees (moves-of (b .program) g) (start b) (count g) is × (answered .contents ≡ over (run (moves-of (b .program) g) (start b) is) (t .contents))

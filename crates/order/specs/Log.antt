@@ -8,7 +8,7 @@ use Rattle.text.specs.declared.Line.{Line}
 use Rattle.text.specs.Words.{table, least, Checked, good, _>>=_, _>>_, none-at, must}
 use Rattle.text.specs.Refusals.{ill-formed, log-text, log-line, agent-unordered}
 use Rattle.text.specs.Text.{line-length, bad-line, line}
-use Rattle.book.specs.Book.{Book}
+use Rattle.book.specs.Book.{Program}
 use Rattle.engine.specs.Move.{Input}
 use Rattle.order.specs.Pairs.{Pair, rows, ordered-by, least-two, none-two}
 
@@ -90,12 +90,12 @@ check-log-text h text = do
   must (leb (length text) (line-length * log-lines h)) ill-formed (log-lines h) log-text
 
 -- 9
-unfoldable pub check-log-lines : Book → Line → List ℕ → Checked (Unit {0})
+unfoldable pub check-log-lines : Program → Line → List ℕ → Checked (Unit {0})
 check-log-lines B h text = do
   none-at log-line 1 0 (least (λ i. bad-move (length (B .agents)) (line text (1 + i))) (h .a))
   none-at log-line (1 + h .a) 0 (least (λ i. bad-pair (h .a) (line text (h .a + i)) (line text (1 + h .a + i)) i) (h .b))
 
-unfoldable pub check-log : Book → List ℕ → Checked Log
+unfoldable pub check-log : Program → List ℕ → Checked Log
 check-log B text = do
   h ← check-log-header text
   check-log-text h text

@@ -6,7 +6,7 @@ use lib.ListN.{length, getD}
 use Rattle.text.specs.Words.{if_then_else_, has, table, some-below}
 use Rattle.text.specs.Refusals.{unordered-touch}
 use Rattle.text.specs.declared.Answer.{Answer}
-use Rattle.book.specs.Book.{Book, L, start}
+use Rattle.book.specs.Book.{Program, Book, L, start}
 use Rattle.engine.specs.Move.{Input, Fired, Moved, fires, stopped, move, fire, writes}
 use Rattle.order.specs.Sets.{with-move}
 use Rattle.order.specs.Pairs.{rows, ordered-by, TwoFound, no-two, two, least-two}
@@ -28,12 +28,12 @@ abbrev pub moved : ℕ → Run → Moved → Ran
 moved i s (fires f) = ran (record { contents = fire (f .updates) (s .contents); fired = s .fired ++ (f ∷ []) })
 moved i s (stopped n q) = halted n i q s
 
-abbrev pub next : Book → ℕ → Input → Ran → Ran
+abbrev pub next : Program → ℕ → Input → Ran → Ran
 next B i m (ran s) = moved i s (move B (s .contents) m)
 next B i m (halted n p q s) = halted n p q s
 
 -- the first n moves, from the contents c
-unfoldable pub run : Book → Log → List ℕ → ℕ → Ran
+unfoldable pub run : Program → Log → List ℕ → ℕ → Ran
 run B g c zero = ran (record { contents = c; fired = [] })
 run B g c (suc n) = next B n (move-at g n) (run B g c n)
 
@@ -77,7 +77,7 @@ fired-at fs i = getD fs i no-fired
 abbrev pub unordered-touching : List ℕ → ℕ → List Fired → ℕ → ℕ → Bool
 unordered-touching rs n fs i j = not (ordered-by rs i j) && touch n (fired-at fs i) (fired-at fs j)
 
-abbrev pub touching : Book → Log → List Fired → TwoFound
+abbrev pub touching : Program → Log → List Fired → TwoFound
 touching B g fs =
     let m = length (g .moves) in
     least-two (unordered-touching (rows (g .pairs) m) (L B) fs) m
@@ -90,7 +90,7 @@ pub record LogAnswer : Type 0 where
   pub readers : List ℕ
   pub writers : List ℕ
 
-abbrev pub left-by : Book → Run → ℕ → ℕ → ℕ → LogAnswer
+abbrev pub left-by : Program → Run → ℕ → ℕ → ℕ → LogAnswer
 left-by B s n p q =
     record {
       answer = record { number = n; p = p; q = q };
@@ -99,17 +99,17 @@ left-by B s n p q =
       writers = writers (L B) (s .fired);
     }
 
-abbrev pub order-checked : Book → Run → TwoFound → LogAnswer
+abbrev pub order-checked : Program → Run → TwoFound → LogAnswer
 order-checked B s no-two = left-by B s 0 0 0
 order-checked B s (two i j) = left-by B s unordered-touch i j
 
-unfoldable pub finish : Book → Log → Ran → LogAnswer
+unfoldable pub finish : Program → Log → Ran → LogAnswer
 finish B g (halted n p q s) = left-by B s n p q
 finish B g (ran s) = order-checked B s (touching B g (s .fired))
 
 -- from the contents c
-unfoldable pub run-from : Book → Log → List ℕ → LogAnswer
+unfoldable pub run-from : Program → Log → List ℕ → LogAnswer
 run-from B g c = finish B g (run B g c (length (g .moves)))
 
-unfoldable pub run-log : Book → Log → LogAnswer
-run-log B g = run-from B g (start B)
+abbrev pub run-log : Book → Log → LogAnswer
+run-log b g = run-from (b .program) g (start b)

@@ -10,7 +10,7 @@ use lib.ListN.{length, set, take, drop, length-take, length-drop, take-append-dr
 use lib.Seq.{set-out, take-set-le, take-set-lt, drop-set-lt, drop-set-add}
 use Rattle.text.specs.Words.{if_then_else_}
 use Rattle.book.specs.declared.Function.{Function}
-use Rattle.book.specs.Book.{Book, L, size, total, offset, location, function-at, Place, place-in, place}
+use Rattle.book.specs.Book.{Program, L, size, total, offset, location, function-at, Place, place-in, place}
 use Rattle.book.specs.Sound.{Lawful}
 use Rattle.book.proofs.Places.{spot}
 use Rattle.pages.specs.declared.Part.{Part}
@@ -93,7 +93,7 @@ module _ (E : ℕ) where
       let e : n + (size E (f .arity) + total E fs) ≡ next n f + total E fs = omega arith in
       rw (le-ltb l (next n f) (omega arith), e) (past (next n f) fs l (omega arith))
 
-module _ (B : Book) where
+module _ (B : Program) where
   pub part-starts : (l : ℕ) → (part-of B l .first ≤ l) × (part-of B l .first ≤ part-of B l .end)
   part-starts l = let s = starts (B .E) 0 (B .functions) l (omega arith) in (s .reached, s .ordered)
 
@@ -119,7 +119,7 @@ module _ (B : Book) where
 
 -- ---- the search for l's part: it is not among the functions before g, whose locations are those below first
 
-module _ (B : Book) (l : ℕ) where
+module _ (B : Program) (l : ℕ) where
   abbrev pub Sought : ℕ → ℕ → Type 0
   Sought g first = part-of B l ≡ part-from (B .E) first (drop g (B .functions)) l
 

@@ -7,10 +7,10 @@ use native.Mathlib.Omega.{arith}
 use borrow.Author.Tests.{lt-ltb, le-ltb}
 use lib.ListN.{length, drop, drop-of-length-le}
 use lib.Seq.{drop-cons}
-use Rattle.book.specs.Book.{Book, L, size, total, no-function, function-at, place-in, place}
+use Rattle.book.specs.Book.{Program, L, size, total, no-function, function-at, place-in, place}
 use Rattle.book.proofs.Image.{size-most}
 
-module _ (B : Book) where
+module _ (B : Program) where
   pub functions-from : (g : ℕ) → g < length (B .functions) → drop g (B .functions) ≡ function-at B g ∷ drop (g + 1) (B .functions)
   functions-from g more = drop-cons (B .functions) g no-function more ∙ rw add-one
 

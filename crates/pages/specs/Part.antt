@@ -6,7 +6,7 @@ use lib.Dec.{ltb, leb}
 use lib.ListN.{set}
 use Rattle.text.specs.Words.{if_then_else_}
 use Rattle.book.specs.declared.Function.{Function}
-use Rattle.book.specs.Book.{Book, size}
+use Rattle.book.specs.Book.{Program, size}
 use Rattle.pages.specs.declared.Part.{Part}
 
 abbrev pub between : ℕ → ℕ → ℕ → Bool
@@ -24,5 +24,5 @@ part-from E first (f ∷ fs) l =
     let r = part-from E end fs l in
     if ltb l end then record { first = first; end = end } else r
 
-abbrev pub part-of : Book → ℕ → Part
+abbrev pub part-of : Program → ℕ → Part
 part-of B l = part-from (B .E) 0 (B .functions) l

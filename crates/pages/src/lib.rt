@@ -6,7 +6,7 @@ ghost use mathlib.Core.List.{[]};
 ghost use Prim.Native.Nat.{_≤_};
 ghost use lib.ListN.{length};
 ghost use Rattle.book.specs.Book.{L, size, relation, dynamic, default, function-at};
-ghost use Rattle.book.specs.Image.{word, capped, book-in};
+ghost use Rattle.book.specs.Image.{word, capped, program-in};
 ghost use Rattle.pages.specs.Part.{part-of};
 
 // The bounds of the counts in an image.
@@ -37,35 +37,35 @@ pub fn capped(n: u16, most: u16) -> u16
 
 // E.
 pub fn elements(image: &[u16; 4296]) -> u16
-    ensures { λ r. ⌜ (r ≡ book-in (now (image .entry)) [] .E) × (r ≤ 10000) ⌝ }
+    ensures { λ r. ⌜ (r ≡ program-in (now (image .entry)) .E) × (r ≤ 10000) ⌝ }
 {
     capped(word(image, 0), MOST_ELEMENTS)
 }
 
 // P.
 pub fn permanent(image: &[u16; 4296]) -> u16
-    ensures { λ r. ⌜ r ≡ book-in (now (image .entry)) [] .P ⌝ }
+    ensures { λ r. ⌜ r ≡ program-in (now (image .entry)) .P ⌝ }
 {
     word(image, 1)
 }
 
 // How many functions there are.
 pub fn functions(image: &[u16; 4296]) -> u16
-    ensures { λ r. ⌜ (r ≡ length (book-in (now (image .entry)) [] .functions)) × (r ≤ 32) ⌝ }
+    ensures { λ r. ⌜ (r ≡ length (program-in (now (image .entry)) .functions)) × (r ≤ 32) ⌝ }
 {
     capped(word(image, 2), MOST_FUNCTIONS)
 }
 
 // How many agents there are.
 pub fn agents(image: &[u16; 4296]) -> u16
-    ensures { λ r. ⌜ (r ≡ length (book-in (now (image .entry)) [] .agents)) × (r ≤ 16) ⌝ }
+    ensures { λ r. ⌜ (r ≡ length (program-in (now (image .entry)) .agents)) × (r ≤ 16) ⌝ }
 {
     capped(word(image, 4), MOST_AGENTS)
 }
 
 // Function f; past the last one all 0.
 pub fn function_at(image: &[u16; 4296], f: u16) -> Function
-    ensures { λ r. ⌜ r ≡ function-at (book-in (now (image .entry)) []) f ⌝ }
+    ensures { λ r. ⌜ r ≡ function-at (program-in (now (image .entry))) f ⌝ }
 {
     if f < functions(image) {
         let at = (2 + f as usize) * 4;
@@ -98,7 +98,7 @@ pub fn size(e: u16, arity: u32) -> u32
 
 // L.
 pub fn total(image: &[u16; 4296]) -> u32
-    ensures { λ r. ⌜ r ≡ L (book-in (now (image .entry)) []) ⌝ }
+    ensures { λ r. ⌜ r ≡ L (program-in (now (image .entry))) ⌝ }
 {
     let e = elements(image);
     let n = functions(image);
@@ -114,7 +114,7 @@ pub fn total(image: &[u16; 4296]) -> u32
 
 // The part that location l is in: the locations of its function. Past L it is empty.
 pub fn part_of(image: &[u16; 4296], l: usize) -> Part
-    ensures { λ r. ⌜ r ≡ part-of (book-in (now (image .entry)) []) l ⌝ }
+    ensures { λ r. ⌜ r ≡ part-of (program-in (now (image .entry))) l ⌝ }
 {
     let e = elements(image);
     let n = functions(image);

@@ -14,8 +14,8 @@ use Rattle.text.specs.declared.Answer.{Answer}
 use Rattle.text.specs.Words.{if_then_else_}
 use Rattle.text.specs.Text.{written}
 use Rattle.book.specs.declared.Function.{Function}
-use Rattle.book.specs.Book.{Book, L, total, size, default, function-at, no-function}
-use Rattle.book.specs.Image.{book-in}
+use Rattle.book.specs.Book.{Program, L, total, size, default, function-at, no-function}
+use Rattle.book.specs.Image.{program-in}
 use Rattle.book.proofs.Image.{elements-most, size-most}
 use Rattle.order.specs.Run.{LogAnswer}
 use Rattle.report.specs.Report.{contents-line, part-lines, lines-from, contents-lines, all-written, first-line, print-answer}
@@ -117,13 +117,13 @@ put-single n ls l m e = (rw e (omega arith), rw e (put-shown n l m))
 -- ---- the loops
 
 -- an image's function has at most 100,000,000 locations
-pub size-few : (m : List ℕ) (e arity n : ℕ) → e ≡ book-in m [] .E → n ≡ size e arity → n ≤ 100000000
-size-few m e arity n p q = rw (q, p) (size-most (book-in m [] .E) arity (elements-most m []))
+pub size-few : (m : List ℕ) (e arity n : ℕ) → e ≡ program-in m .E → n ≡ size e arity → n ≤ 100000000
+size-few m e arity n p q = rw (q, p) (size-most (program-in m .E) arity (elements-most m))
 
 pub size-same : (e E : ℕ) (f g : Function) (n : ℕ) → n ≡ size e (f .arity) → e ≡ E → f ≡ g → n ≡ size E (g .arity)
 size-same e E f g n p q r = rw (← q, ← r) p
 
-module _ (B : Book) (c : List ℕ) where
+module _ (B : Program) (c : List ℕ) where
   part-step :
       (k n i : ℕ) → i < n →
       part-lines B c k i (n - i) ≡ shown (B .E) (function-at B k) k i (getD c (function-at B k .first + i) 0) ++ part-lines B c k (i + 1) (n - (i + 1))
@@ -189,11 +189,11 @@ module _ (B : Book) (c : List ℕ) where
 -- ---- the whole text
 
 -- marks are not printed
-pub print-same : (B : Book) (r : LogAnswer) → print-answer B r ≡ printed B (r .answer) (r .contents)
+pub print-same : (B : Program) (r : LogAnswer) → print-answer B r ≡ printed B (r .answer) (r .contents)
 unfolding print-answer
 print-same B r = refl
 
-module _ (B : Book) (a : Answer) (c : List ℕ) where
+module _ (B : Program) (a : Answer) (c : List ℕ) where
   text-accepted : a .number ≡ 0 → printed B a c ≡ written (first-line a (length (contents-lines B c))) ++ all-written (contents-lines B c)
   unfolding print-answer
   text-accepted e = rw (eq-eqb (a .number) 0 e)

@@ -14,7 +14,7 @@ use Rattle.text.proofs.Words.{least-same, table-ext}
 use Rattle.text.proofs.Fields.{part-of-front}
 use Rattle.book.specs.declared.Header.{Header}
 use Rattle.book.specs.Book.{Book}
-use Rattle.book.specs.Lines.{first-node, first-agent, first-entry, line-count, book-of, node-of, agent-of, entry-of, lay-out, bad-function, bad-agent}
+use Rattle.book.specs.Lines.{first-node, first-agent, first-entry, line-count, program-of, entries-of, node-of, agent-of, entry-of, lay-out, bad-function, bad-agent}
 use Rattle.book.specs.Check.{check-header, check-present, check-surplus, check-lines, check-book}
 use Rattle.order.specs.Log.{Log, check-log}
 use Rattle.order.specs.Call.{Lengths, check-lent, check-all}
@@ -59,25 +59,30 @@ module _ (text : List ℕ) (h : Header) where
   unfolding check-surplus must book-part
   no-surplus = rw (le-leb (length (take (25 * line-count h) text)) (25 * line-count h) (rw (length-take (25 * line-count h) text) (min-le-left (25 * line-count h) (length text))))
 
-  book-same : book-of h book-part ≡ book-of h text
-  unfolding book-of
-  book-same =
+  program-same : program-of h book-part ≡ program-of h text
+  unfolding program-of
+  program-same =
       rw (
         table-ext (λ i. line book-part (2 + i)) (λ i. line text (2 + i)) (h .functions) (λ i l. at (2 + i) (omega arith)),
         table-ext (λ i. node-of (line book-part (first-node h + i))) (λ i. node-of (line text (first-node h + i))) (h .nodes)
             (λ i l. ap node-of (at (first-node h + i) (omega arith))),
         table-ext (λ i. agent-of (line book-part (first-agent h + i))) (λ i. agent-of (line text (first-agent h + i))) (h .agents)
             (λ i l. ap agent-of (at (first-agent h + i) (omega arith))),
-        table-ext (λ i. entry-of (line book-part (first-entry h + i))) (λ i. entry-of (line text (first-entry h + i))) (h .contents)
-            (λ i l. ap entry-of (at (first-entry h + i) (omega arith))),
       )
+
+  entries-same : entries-of h book-part ≡ entries-of h text
+  unfolding entries-of
+  entries-same =
+      table-ext (λ i. entry-of (line book-part (first-entry h + i))) (λ i. entry-of (line text (first-entry h + i))) (h .contents)
+      (λ i l. ap entry-of (at (first-entry h + i) (omega arith)))
 
   lines-same : check-lines h book-part ≡ check-lines h text
   unfolding check-lines
   lines-same =
-      let B = book-of h text in
+      let B = program-of h text in
       rw (
-        book-same,
+        program-same,
+        entries-same,
         least-same (λ f. bad-function (line book-part (2 + f)) f) (λ f. bad-function (line text (2 + f)) f) (h .functions)
             (λ f l. rw (at (2 + f) (omega arith))),
         least-same (λ i. bad-agent B (line book-part (first-agent h + i)) i) (λ i. bad-agent B (line text (first-agent h + i)) i) (h .agents)
@@ -106,7 +111,7 @@ pub input-split :
     check-input text ≡ check-all (take (25 * line-count h) text) (drop (25 * line-count h) text) own-tables
 unfolding check-input check-all must _>>=_ _>>_ book-part
 input-split text h e l =
-    let k : Book → Checked (Book × Log) = λ B. check-log B (drop (25 * line-count h) text) >>= (λ g. check-lent B own-tables >> good (B, g)) in
+    let k : Book → Checked (Book × Log) = λ b. check-log (b .program) (drop (25 * line-count h) text) >>= (λ g. check-lent (b .program) own-tables >> good (b, g)) in
     rw (le-leb (length text) most-input l, e, book-checked text h e) (sym (then-bind (check-present h text) (check-lines h text) k))
 
 -- an input of a book whose header is refused; as a book with no log it is refused alike

@@ -8,7 +8,7 @@ use Rattle.text.specs.declared.Answer.{Answer}
 use Rattle.text.specs.Words.{if_then_else_, Checked, good, refused, _>>=_, _>>_, must}
 use Rattle.text.specs.Refusals.{lent-short, input-table}
 use Rattle.text.specs.Text.{line-length, written}
-use Rattle.book.specs.Book.{Book, size, default, arguments, function-at}
+use Rattle.book.specs.Book.{Program, Book, size, default, arguments, function-at}
 use Rattle.book.specs.Lines.{line-count}
 use Rattle.book.specs.Check.{check-header, check-present, check-lines}
 use Rattle.order.specs.Log.{Log, check-log}
@@ -28,21 +28,21 @@ check-input text = do
   must (leb (length text) most-input) lent-short most-input input-table
   h ← check-header text
   check-present h text
-  B ← check-lines h text
-  g ← check-log B (drop (line-length * line-count h) text)
-  check-lent B own-tables
-  good (B, g)
+  b ← check-lines h text
+  g ← check-log (b .program) (drop (line-length * line-count h) text)
+  check-lent (b .program) own-tables
+  good (b, g)
 
 -- ---- contents as the lines of a book
 
 -- location i of function k, holding v
-abbrev pub contents-line : Book → ℕ → ℕ → ℕ → Line
+abbrev pub contents-line : Program → ℕ → ℕ → ℕ → Line
 contents-line B k i v =
     let xs = arguments (B .E) (function-at B k .arity) i in
     record { a = k; b = getD xs 0 0; c = getD xs 1 0; d = v }
 
 -- the non-default ones of the n locations of function k from its location i on
-unfoldable pub part-lines : Book → List ℕ → ℕ → ℕ → ℕ → List Line
+unfoldable pub part-lines : Program → List ℕ → ℕ → ℕ → ℕ → List Line
 part-lines B c k i zero = []
 part-lines B c k i (suc n) =
     let f = function-at B k in
@@ -51,11 +51,11 @@ part-lines B c k i (suc n) =
     if eqb v (default f) then r else contents-line B k i v ∷ r
 
 -- and of the n functions from k on
-unfoldable pub lines-from : Book → List ℕ → ℕ → ℕ → List Line
+unfoldable pub lines-from : Program → List ℕ → ℕ → ℕ → List Line
 lines-from B c k zero = []
 lines-from B c k (suc n) = part-lines B c k 0 (size (B .E) (function-at B k .arity)) ++ lines-from B c (suc k) n
 
-abbrev pub contents-lines : Book → List ℕ → List Line
+abbrev pub contents-lines : Program → List ℕ → List Line
 contents-lines B c = lines-from B c 0 (length (B .functions))
 
 -- ---- the printed bytes
@@ -68,14 +68,14 @@ all-written (l ∷ ls) = written l ++ all-written ls
 abbrev pub first-line : Answer → ℕ → Line
 first-line a count = record { a = a .number; b = a .p; c = a .q; d = count }
 
-unfoldable pub print-answer : Book → LogAnswer → List ℕ
+unfoldable pub print-answer : Program → LogAnswer → List ℕ
 print-answer B r =
     let ls = if eqb (r .answer .number) 0 then contents-lines B (r .contents) else [] in
     written (first-line (r .answer) (length ls)) ++ all-written ls
 
 abbrev pub print-checked : Checked (Book × Log) → List ℕ
 print-checked (refused n p q) = written (first-line (record { number = n; p = p; q = q }) 0)
-print-checked (good x) = print-answer (x .0) (run-log (x .0) (x .1))
+print-checked (good x) = print-answer (x .0 .program) (run-log (x .0) (x .1))
 
 unfoldable pub rental : List ℕ → List ℕ
 rental text = print-checked (check-input text)

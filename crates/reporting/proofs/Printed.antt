@@ -17,12 +17,12 @@ use Rattle.text.specs.Text.{line, written}
 use Rattle.text.proofs.Words.{bind-good, then-good, found-good, test-good, good-same}
 use Rattle.book.specs.declared.Header.{Header}
 use Rattle.book.specs.declared.Entry.{Entry}
-use Rattle.book.specs.Book.{Book, L, size, default, function-at, start}
+use Rattle.book.specs.Book.{Program, Book, L, size, default, function-at, start}
 use Rattle.book.specs.Lines.{header-of, book-of}
 use Rattle.book.specs.Check.{check-header, check-book}
-use Rattle.book.specs.Image.{word, book-in, Holds, Room}
+use Rattle.book.specs.Image.{word, program-in, Holds, Room}
 use Rattle.book.proofs.Accepted.{header-bounded, accepted-lines, lines-book, accepted}
-use Rattle.book.proofs.Start.{start-sound}
+use Rattle.book.proofs.Claims.{accepted-book}
 use Rattle.engine.specs.Move.{Moved, fires, stopped, move}
 use Rattle.engine.specs.Single.{over}
 use Rattle.engine.proofs.Moves.{fire-length}
@@ -47,7 +47,7 @@ ran-of : Ran → Run
 ran-of (ran s) = s
 ran-of (halted n p q s) = s
 
-run-length : (B : Book) (g : Log) (c : List ℕ) (n : ℕ) → length (ran-of (run B g c n) .contents) ≡ length c
+run-length : (B : Program) (g : Log) (c : List ℕ) (n : ℕ) → length (ran-of (run B g c n) .contents) ≡ length c
 unfolding run ran-of
 run-length B g c zero = refl
 run-length B g c (suc n) = go (run B g c n) (run-length B g c n)
@@ -60,22 +60,22 @@ run-length B g c (suc n) = go (run B g c n) (run-length B g c n)
     go (ran s) e = moves s (move B (s .contents) (move-at g n)) n e
     go (halted a p q s) e = e
 
-log-length : (B : Book) (g : Log) → length (run-log B g .contents) ≡ length (start B)
-unfolding run-log run-from finish ran-of
-log-length B g = go (run B g (start B) (length (g .moves))) (run-length B g (start B) (length (g .moves)))
+log-length : (B : Program) (g : Log) (c : List ℕ) → length (run-from B g c .contents) ≡ length c
+unfolding run-from finish ran-of
+log-length B g c = go (run B g c (length (g .moves))) (run-length B g c (length (g .moves)))
   where
     two-way : (s : Run) (o : TwoFound) → order-checked B s o .contents ≡ s .contents
     two-way s no-two = refl
     two-way s (two i j) = refl
 
-    go : (o : Ran) → length (ran-of o .contents) ≡ length (start B) → length (finish B g o .contents) ≡ length (start B)
+    go : (o : Ran) → length (ran-of o .contents) ≡ length c → length (finish B g o .contents) ≡ length c
     go (ran s) e = ap length (two-way s (touching B g (s .fired))) ∙ e
     go (halted a p q s) e = e
 
-contents-left : (book : List ℕ) (B : Book) (g : Log) → check-book book ≡ good B → (c : List ℕ) → take (L B) (over (run-log B g .contents) c) ≡ run-log B g .contents
-contents-left book B g e c =
-    let d = run-log B g .contents in
-    let l : length d ≡ L B = log-length B g ∙ start-sound B (accepted book B e) .long in
+contents-left : (book : List ℕ) (b : Book) (g : Log) → check-book book ≡ good b → (c : List ℕ) → take (L (b .program)) (over (run-log b g .contents) c) ≡ run-log b g .contents
+contents-left book b g e c =
+    let d = run-log b g .contents in
+    let l : length d ≡ L (b .program) = log-length (b .program) g (start b) ∙ accepted-book book b e .1 .long in
     rw (← l) (take-append-seam d (drop (length d) c))
 
 -- ---- a refusal's line
@@ -84,29 +84,9 @@ module _ (a : Answer) (m after : List ℕ) where
   pub refusal-shown : after ≡ put-bytes 0 (written (first-line a 0)) m → most-output ≤ length m → Shown (written (first-line a 0)) m 25 after
   refusal-shown e h = (refl, e ∙ put-front (written (first-line a 0)) m (omega arith))
 
-refused-text : (B : Book) (a : Answer) (c : List ℕ) → a .number ≢ 0 → printed B a c ≡ written (first-line a 0)
+refused-text : (B : Program) (a : Answer) (c : List ℕ) → a .number ≢ 0 → printed B a c ≡ written (first-line a 0)
 unfolding print-answer all-written
 refused-text B a c e = rw (ne-eqb (a .number) 0 e) (append-nil (written (first-line a 0)))
-
--- ---- an accepted book's entries are not printed
-
-part-same : (m : List ℕ) (es : List Entry) (c : List ℕ) (k i n : ℕ) → part-lines (book-in m []) c k i n ≡ part-lines (book-in m es) c k i n
-unfolding part-lines book-in
-part-same m es c k i zero = refl
-part-same m es c k i (suc n) = rw (part-same m es c k (suc i) n)
-
-lines-same : (m : List ℕ) (es : List Entry) (c : List ℕ) (k n : ℕ) → lines-from (book-in m []) c k n ≡ lines-from (book-in m es) c k n
-unfolding lines-from book-in
-lines-same m es c k zero = refl
-lines-same m es c k (suc n) = rw (lines-same m es c (suc k) n, part-same m es c k 0 (size (book-in m es .E) (function-at (book-in m es) k .arity)))
-
-text-same : (m : List ℕ) (es : List Entry) (a : Answer) (c : List ℕ) → printed (book-in m []) a c ≡ printed (book-in m es) a c
-unfolding print-answer book-in
-text-same m es a c = rw (lines-same m es c 0 (length (book-in m es .functions)))
-
-locations-same : (m : List ℕ) (es : List Entry) → L (book-in m []) ≡ L (book-in m es)
-unfolding book-in
-locations-same m es = refl
 
 -- ---- the image of an accepted book
 
@@ -122,24 +102,26 @@ header-room text h e =
     let b = header-bounded text h e in
     record { elements = b .elements .1; functions = b .functions .1; nodes = b .nodes .1; agents = b .agents .1; contents = b .contents }
 
-module _ (text : List ℕ) (B : Book) (e : check-book text ≡ good B) (h : Header) (is : h ≡ header-of (line text 0) (line text 1)) (m : List ℕ) (holds : Room h → Holds m h text) where
-  held : (book-in m (B .entries) ≡ B) × (word m 6 ≡ L B)
+module _ (text : List ℕ) (b : Book) (e : check-book text ≡ good b) (h : Header) (is : h ≡ header-of (line text 0) (line text 1)) (m : List ℕ) (holds : Room h → Holds m h text) where
+  abbrev B : Program
+  B = b .program
+
+  held : (program-in m ≡ B) × (word m 6 ≡ L B)
   held =
-      let r = accepted-lines text B e in
+      let r = accepted-lines text b e in
       let q : h ≡ r .0 = is ∙ header-is text (r .0) (r .1) in
-      let b : B ≡ book-of h text = lines-book text (r .0) B (r .2) ∙ ap (λ (x : Header). book-of x text) (sym q) in
+      let s : b ≡ book-of h text = lines-book text (r .0) b (r .2) ∙ ap (λ (x : Header). book-of x text) (sym q) in
       let k = holds (rw q (header-room text (r .0) (r .1))) in
-      (rw b (k .book), rw b (k .locations))
+      (rw s (k .program), rw s (k .locations))
 
   -- n records of the contents are lent
   pub accepted-shown :
       (c : List ℕ) (a : Answer) (n : ℕ) (o : List ℕ) (r : ℕ) (after : List ℕ) → n ≡ min (word m 6) (length c) → L B ≤ 2048 → L B ≤ length c → most-output ≤ length o →
-      Prints (book-in m []) a (take n c) o r after → Shown (printed B a (take (L B) c)) o r after
+      Prints (program-in m) a (take n c) o r after → Shown (printed B a (take (L B) c)) o r after
   accepted-shown c a n o r after en few long room p =
       let l : n ≡ L B = en ∙ rw (held .1) (min-eq-left long) in
-      let x : printed (book-in m []) a (take n c) ≡ printed B a (take (L B) c) =
-      text-same m (B .entries) a (take n c) ∙ rw (held .0, l) in
-      let y : L (book-in m []) ≤ 2048 = rw (locations-same m (B .entries), held .0) few in
+      let x : printed (program-in m) a (take n c) ≡ printed B a (take (L B) c) = rw (held .0, l) in
+      let y : L (program-in m) ≤ 2048 = rw (held .0) few in
       (p .long ∙ ap length x, subst (λ (t : List ℕ). after ≡ t ++ drop (length t) o) x (p .whole y room))
 
 -- ---- a book and a log
@@ -152,18 +134,18 @@ module _ (book log : List ℕ) where
   pub record Accepted (a : Answer) (c : List ℕ) : Type 0 where
     pub says : Book
     pub is : check-book book ≡ good says
-    pub few : L says ≤ 2048
-    pub text : printed says a (take (L says) c) ≡ print-checked checks
+    pub few : L (says .program) ≤ 2048
+    pub text : printed (says .program) a (take (L (says .program)) c) ≡ print-checked checks
 
-  all-good : (B : Book) (g : Log) → checks ≡ good (B, g) → (check-book book ≡ good B) × (L B ≤ 2048)
+  all-good : (b : Book) (g : Log) → checks ≡ good (b, g) → (check-book book ≡ good b) × (L (b .program) ≤ 2048)
   unfolding check-all check-lent
-  all-good B g e =
-      let r = bind-good (check-book book) _ (B, g) e in
-      let s = bind-good (check-log (r .0) log) _ (B, g) (r .2) in
-      let t = then-good (check-lent (r .0) own-tables) (good (r .0, s .0)) (B, g) (s .2) in
-      let u = test-good (leb (L (r .0)) 2048) _ _ _ _ (t .0) (t .1) in
-      let same : r .0 ≡ B = ap (λ (x : Book × Log). x .0) (good-same (r .0, s .0) (B, g) (t .2)) in
-      (r .1 ∙ ap (λ (x : Book). good x) same, rw (← same) (leb-true (L (r .0)) 2048 (u .0)))
+  all-good b g e =
+      let r = bind-good (check-book book) _ (b, g) e in
+      let s = bind-good (check-log (r .0 .program) log) _ (b, g) (r .2) in
+      let t = then-good (check-lent (r .0 .program) own-tables) (good (r .0, s .0)) (b, g) (s .2) in
+      let u = test-good (leb (L (r .0 .program)) 2048) _ _ _ _ (t .0) (t .1) in
+      let same : r .0 ≡ b = ap (λ (x : Book × Log). x .0) (good-same (r .0, s .0) (b, g) (t .2)) in
+      (r .1 ∙ ap (λ (x : Book). good x) same, rw (← same) (leb-true (L (r .0 .program)) 2048 (u .0)))
 
   module _
       (t : Tables) (n : ℕ) (own : lengths t n ≡ own-tables) (a : Answer) (c rs ws : List ℕ)
@@ -178,9 +160,9 @@ module _ (book log : List ℕ) where
         where
           go : (o : Checked (Book × Log)) → record { answer = a; contents = c; readers = rs; writers = ws } ≡ log-answer t o → written (first-line a 0) ≡ print-checked o
           go (refused x p q) k = ap (λ (y : LogAnswer). written (first-line (y .answer) 0)) k
-          go (good (B, g)) k =
-              let same : a ≡ run-log B g .answer = ap (λ (y : LogAnswer). y .answer) k in
-              sym (print-same B (run-log B g) ∙ rw (← same) (refused-text B a (run-log B g .contents) z))
+          go (good (b, g)) k =
+              let same : a ≡ run-log b g .answer = ap (λ (y : LogAnswer). y .answer) k in
+              sym (print-same (b .program) (run-log b g) ∙ rw (← same) (refused-text (b .program) a (run-log b g .contents) z))
 
       pub parts-accepted : a .number ≡ 0 → Accepted a c
       parts-accepted z = go checks refl called
@@ -191,15 +173,15 @@ module _ (book log : List ℕ) where
             where
               never : Early (refused x p q) → x ≡ 0 → ⊥
               never (off h) e = omega (arith, h .0, e)
-          go (good (B, g)) w k =
-              let r = all-good B g w in
-              let same : a ≡ run-log B g .answer = ap (λ (y : LogAnswer). y .answer) k in
-              let left : c ≡ over (run-log B g .contents) (t .contents) = ap (λ (y : LogAnswer). y .contents) k in
+          go (good (b, g)) w k =
+              let r = all-good b g w in
+              let same : a ≡ run-log b g .answer = ap (λ (y : LogAnswer). y .answer) k in
+              let left : c ≡ over (run-log b g .contents) (t .contents) = ap (λ (y : LogAnswer). y .contents) k in
               record {
-                says = B;
+                says = b;
                 is = r .0;
                 few = r .1;
-                text = rw (w, left, contents-left book B g (r .0) (t .contents), same) (sym (print-same B (run-log B g)));
+                text = rw (w, left, contents-left book b g (r .0) (t .contents), same) (sym (print-same (b .program) (run-log b g)));
               }
 
 -- ---- an input

@@ -55,7 +55,7 @@ fn print_refusal(answer: Answer, output: &mut [u8]) -> usize
 // An answer with the contents of an accepted book, which stand in front of the table.
 fn print_accepted(book: &[u8], contents: &[u16], answer: Answer, output: &mut [u8]) -> usize
     requires { ⌜ most-output ≤ length (now output) ⌝ }
-    ensures { λ r. ⌜ ((B : Book) → check-book (now (book .entry)) ≡ good B → L B ≤ 2048 → L B ≤ length (now (contents .entry)) → Shown (printed B answer (take (L B) (now (contents .entry)))) (now (output .entry)) r (now (output .exit))) ⌝ }
+    ensures { λ r. ⌜ ((b : Book) → check-book (now (book .entry)) ≡ good b → L (b .program) ≤ 2048 → L (b .program) ≤ length (now (contents .entry)) → Shown (printed (b .program) answer (take (L (b .program)) (now (contents .entry)))) (now (output .entry)) r (now (output .exit))) ⌝ }
 {
     let h = header(book);
     let mut image = [0u32; 4296];

@@ -11,7 +11,7 @@ use lib.Seq.{length-take-le, take-suc-set, take-all, getD-take, getD-drop, getD-
 use borrow.Author.Tests.{ltb-true, ltb-false, leb-true, leb-false, le-leb, lt-leb}
 use Rattle.text.specs.Words.{if_then_else_, table}
 use Rattle.text.proofs.Words.{length-table-from, getD-table}
-use Rattle.book.specs.Book.{Book, L, size, default, default-at, function-at, Place, defaults}
+use Rattle.book.specs.Book.{Program, L, size, default, default-at, function-at, Place, defaults}
 use Rattle.pages.proofs.Places.{From, from-start, from-at, from-next, from-fits, from-end}
 use Rattle.start.specs.Written.{run-filled}
 
@@ -85,7 +85,7 @@ run-none first end v c h = rw (lt-leb end (length c) h)
 
 -- ---- function after function
 
-module _ (B : Book) (c₀ : List ℕ) where
+module _ (B : Program) (c₀ : List ℕ) where
   -- the functions before g are done; their locations are those below first
   pub record Painted (first g : ℕ) (c : List ℕ) : Type 0 where
     pub same : length c ≡ length c₀

@@ -7,7 +7,7 @@ use Rattle.text.specs.declared.Line.{Line}
 use Rattle.text.specs.Words.{if_then_else_, table}
 use Rattle.text.specs.Text.{line}
 use Rattle.book.specs.declared.Function.{Function}
-use Rattle.book.specs.Book.{Book, size, location, function-at}
+use Rattle.book.specs.Book.{Program, size, location, function-at}
 use Rattle.pages.specs.Part.{put-in}
 use Rattle.open.specs.Narrow.{narrowed}
 
@@ -21,11 +21,11 @@ abbrev pub function-put : ℕ → Function → ℕ → ℕ → List ℕ → List
 function-put E g l v c = put-in (g .first) (g .first + size E (g .arity)) l v c
 
 -- a contents line put at its location: in an accepted book each of its numbers fits in sixteen bits
-abbrev pub line-put : Book → Line → List ℕ → List ℕ
+abbrev pub line-put : Program → Line → List ℕ → List ℕ
 line-put B l c =
     function-put (B .E) (function-at B (narrowed (l .a))) (location B (narrowed (l .a)) (narrowed (l .b)) (narrowed (l .c))) (narrowed (l .d)) c
 
-unfoldable pub lines-put : Book → List Line → List ℕ → List ℕ
+unfoldable pub lines-put : Program → List Line → List ℕ → List ℕ
 lines-put B [] c = c
 lines-put B (l ∷ ls) c = lines-put B ls (line-put B l c)
 

@@ -8,10 +8,10 @@ use lib.Dec.{eqb, ltb, leb}
 use lib.ListN.{getD}
 use Rattle.text.specs.Words.{if_then_else_}
 use Rattle.book.specs.declared.Function.{Function}
-use Rattle.book.specs.Book.{Book, true-element, boolean, relation, dynamic, default, arguments, place}
+use Rattle.book.specs.Book.{Program, true-element, boolean, relation, dynamic, default, arguments, place}
 use Rattle.book.specs.Contents.{some-on-roll, all-permanent, bad-value}
 
-module _ (B : Book) (c : List ℕ) (f : Function) (l i v : ℕ) (rel bool fine : Bool)
+module _ (B : Program) (c : List ℕ) (f : Function) (l i v : ℕ) (rel bool fine : Bool)
     (here : place B l ≡ record { function = f; index = i }) (v-is : v ≡ getD c l 0) (rel-is : rel ≡ relation f) (bool-is : bool ≡ boolean v)
     (fine-is : fine ≡ (dynamic f || eqb v (default f) || all-permanent (B .P) (arguments (B .E) (f .arity) i) && ltb v (B .P))) where
   abbrev lawful : Bool
@@ -32,7 +32,7 @@ module _ (B : Book) (c : List ℕ) (f : Function) (l i v : ℕ) (rel bool fine :
 
 -- one at its default, an element that is not on the roll, is not at fault
 pub at-rest :
-    (B : Book) (c : List ℕ) (l : ℕ) (f : Function) → place B l .function ≡ f → getD c l 0 ≡ default f → default f < B .E →
+    (B : Program) (c : List ℕ) (l : ℕ) (f : Function) → place B l .function ≡ f → getD c l 0 ≡ default f → default f < B .E →
     (getD c (default f) 0 ≡ true-element → ⊥) → bad-value B c l ≡ false
 unfolding bad-value
 at-rest B c l f here held low off = rw (here, held) (go (relation f) (dynamic f) (ltb l (B .E)) low off)

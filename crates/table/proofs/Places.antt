@@ -7,7 +7,7 @@ use lib.ListN.{length}
 use Rattle.text.specs.Words.{if_then_else_, least-from, least}
 use Rattle.text.specs.declared.Found.the-variants.{Nowhere, Here}
 use Rattle.book.specs.declared.Function.{Function}
-use Rattle.book.specs.Book.{Book, function-at}
+use Rattle.book.specs.Book.{Program, function-at}
 use Rattle.pages.proofs.Places.{From, from-here}
 use Rattle.table.specs.Part.{Part}
 
@@ -69,7 +69,7 @@ module _ (bad : ℕ → Bool) where
 
 -- a book with these E and P has function g's part where its locations start
 pub part-of :
-    (B : Book) (g first E P : ℕ) (f : Function) → From B g first → g < length (B .functions) → E ≡ B .E → P ≡ B .P → f ≡ function-at B g →
+    (B : Program) (g first E P : ℕ) (f : Function) → From B g first → g < length (B .functions) → E ≡ B .E → P ≡ B .P → f ≡ function-at B g →
     Part B E P f first
 part-of B g first E P f at more e p q =
     record { elements = sym e; permanent = sym p; places = λ i h. rw q (from-here B g first at more i (rw (e, q) at h)) }

@@ -8,7 +8,7 @@ use Rattle.text.specs.Words.{least-from, least}
 use Rattle.text.specs.declared.Found.the-variants.{Nowhere, Here}
 use Rattle.text.proofs.Words.{least-start, least-pass, least-stop, least-end}
 use Rattle.book.specs.declared.Function.{Function}
-use Rattle.book.specs.Book.{Book, Place, size, place}
+use Rattle.book.specs.Book.{Program, Place, size, place}
 use Rattle.book.specs.Contents.{bad-value}
 use Rattle.table.specs.Part.{Blameless, Past, Part}
 
@@ -23,7 +23,7 @@ least-skip bad n i (suc k) h none p =
     (least-pass bad n (i + k) (omega arith) (none (i + k) (omega arith) (omega arith))
     (least-skip bad n i k (omega arith) (λ j a b. none j a (omega arith)) p))
 
-module _ (B : Book) (c : List ℕ) (E P : ℕ) (f : Function) (first : ℕ) (part : Part B E P f first) where
+module _ (B : Program) (c : List ℕ) (E P : ℕ) (f : Function) (first : ℕ) (part : Part B E P f first) where
   abbrev n : ℕ
   n = size E (f .arity)
 

@@ -7,7 +7,7 @@ use lib.Dec.{eqb}
 use lib.ListN.{getD}
 use Rattle.text.specs.Words.{if_then_else_}
 use Rattle.book.specs.declared.Function.{Function}
-use Rattle.book.specs.Book.{Book, size, place}
+use Rattle.book.specs.Book.{Program, size, place}
 use Rattle.book.specs.Contents.{bad-value}
 
 -- the arguments of location i of a function of that arity; row and column are i / E and i % E
@@ -16,7 +16,7 @@ arguments-by arity i row col = if eqb arity 0 then [] else if eqb arity 1 then i
 
 -- a location of f that holds v is not at fault in the contents c
 abbrev pub Blameless : List ℕ → ℕ → Function → ℕ → Type 0
-Blameless c E f v = (B : Book) (l : ℕ) → B .E ≡ E → place B l .function ≡ f → getD c l 0 ≡ v → bad-value B c l ≡ false
+Blameless c E f v = (B : Program) (l : ℕ) → B .E ≡ E → place B l .function ≡ f → getD c l 0 ≡ v → bad-value B c l ≡ false
 
 -- the locations from l to r hold v, and r is not past the end
 pub record Past (c : List ℕ) (v l end r : ℕ) : Type 0 where
@@ -25,7 +25,7 @@ pub record Past (c : List ℕ) (v l end r : ℕ) : Type 0 where
   pub held : (k : ℕ) → l ≤ k → k < r → getD c k 0 ≡ v
 
 -- in the book B, with these E and P, the locations from `first` on are those of f
-pub record Part (B : Book) (E P : ℕ) (f : Function) (first : ℕ) : Type 0 where
+pub record Part (B : Program) (E P : ℕ) (f : Function) (first : ℕ) : Type 0 where
   pub elements : B .E ≡ E
   pub permanent : B .P ≡ P
   pub places : (i : ℕ) → i < size E (f .arity) → place B (first + i) ≡ record { function = f; index = i }

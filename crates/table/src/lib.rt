@@ -8,8 +8,8 @@ ghost use Prim.Native.Nat.{_+_, _/_, _%_, _<_, _≤_};
 ghost use lib.Dec.{eqb, ltb};
 ghost use lib.ListN.{getD, take};
 ghost use Rattle.text.specs.Words.{least};
-ghost use Rattle.book.specs.Book.{Book, L, true-element, size, boolean, dynamic, default, place};
-ghost use Rattle.book.specs.Image.{book-in};
+ghost use Rattle.book.specs.Book.{Program, L, true-element, size, boolean, dynamic, default, place};
+ghost use Rattle.book.specs.Image.{program-in};
 ghost use Rattle.book.specs.Contents.{some-on-roll, all-permanent, bad-value};
 ghost use Rattle.table.specs.Part.{arguments-by, Blameless, Past, Part};
 
@@ -53,7 +53,7 @@ fn is_static_fine(p: u16, f: Function, v: u16, i: u32, row: u32, col: u32) -> bo
 
 // One of the arguments is on the roll.
 fn some_on_roll(contents: &[u16], e: u16, arity: u32, i: u32, row: u32, col: u32) -> bool
-    ensures { λ r. ⌜ ((B : Book) → B .E ≡ e → r ≡ some-on-roll B (now (contents .entry)) (arguments-by arity i row col)) ⌝ }
+    ensures { λ r. ⌜ ((B : Program) → B .E ≡ e → r ≡ some-on-roll B (now (contents .entry)) (arguments-by arity i row col)) ⌝ }
 {
     if arity == 0 {
         return false;
@@ -85,7 +85,7 @@ fn col_of(e: u16, arity: u32, i: u32) -> u32
 
 // Location l, which is number i of f, is at fault.
 fn is_bad(contents: &[u16], e: u16, p: u16, f: Function, l: u32, i: u32) -> bool
-    ensures { λ r. ⌜ ((B : Book) → B .E ≡ e → B .P ≡ p → place B l ≡ record { function = f; index = i } → r ≡ bad-value B (now (contents .entry)) l) ⌝ }
+    ensures { λ r. ⌜ ((B : Program) → B .E ≡ e → B .P ≡ p → place B l ≡ record { function = f; index = i } → r ≡ bad-value B (now (contents .entry)) l) ⌝ }
 {
     let row = row_of(e, f.arity, i);
     let col = col_of(e, f.arity, i);
@@ -131,7 +131,7 @@ fn past(contents: &[u16], v: u32, l: u32, end: u32) -> u32
 // The least location at fault of f's part, counted from its first. Nearly all are blameless, and only the others are judged.
 fn bad_part(contents: &[u16], e: u16, p: u16, f: Function, first: u32) -> Found
     requires { ⌜ (e ≤ 10000) × (first ≤ 3200000000) ⌝ }
-    ensures { λ r. ⌜ ((B : Book) → Part B e p f first → r ≡ least (λ i. bad-value B (now (contents .entry)) (first + i)) (size e (f .arity))) ⌝ }
+    ensures { λ r. ⌜ ((B : Program) → Part B e p f first → r ≡ least (λ i. bad-value B (now (contents .entry)) (first + i)) (size e (f .arity))) ⌝ }
 {
     let end = first + pages::size(e, f.arity);
     let v = blameless(contents, e, f);
@@ -147,7 +147,7 @@ fn bad_part(contents: &[u16], e: u16, p: u16, f: Function, first: u32) -> Found
 
 // The least location at fault, function after function.
 fn bad_in(image: &[u16; 4296], contents: &[u16]) -> Found
-    ensures { λ r. ⌜ r ≡ least (bad-value (book-in (now (image .entry)) []) (now (contents .entry))) (L (book-in (now (image .entry)) [])) ⌝ }
+    ensures { λ r. ⌜ r ≡ least (bad-value (program-in (now (image .entry))) (now (contents .entry))) (L (program-in (now (image .entry)))) ⌝ }
 {
     let e = pages::elements(image);
     let p = pages::permanent(image);
@@ -168,7 +168,7 @@ fn bad_in(image: &[u16; 4296], contents: &[u16]) -> Found
 
 // 8 of a lent table, whose first L records are judged.
 pub fn bad_value(image: &[u16; 4296], contents: &[u16]) -> Found
-    ensures { λ r. ⌜ r ≡ least (bad-value (book-in (now (image .entry)) []) (take (L (book-in (now (image .entry)) [])) (now (contents .entry)))) (L (book-in (now (image .entry)) [])) ⌝ }
+    ensures { λ r. ⌜ r ≡ least (bad-value (program-in (now (image .entry))) (take (L (program-in (now (image .entry)))) (now (contents .entry)))) (L (program-in (now (image .entry)))) ⌝ }
 {
     let n = pages::total(image) as usize;
     if n <= contents.len() {

@@ -17,9 +17,9 @@ use Rattle.book.specs.declared.Function.{Function}
 use Rattle.book.specs.declared.Node.{Node}
 use Rattle.book.specs.declared.Entry.{Entry}
 use Rattle.book.specs.declared.Agent.{Agent}
-use Rattle.book.specs.Book.{undef, Book, Place, dynamic, no-function, no-node, no-agent, function-at, node-at, agent-at, size, place-in, place, location, dynamic-at}
+use Rattle.book.specs.Book.{undef, Program, Place, dynamic, no-function, no-node, no-agent, function-at, node-at, agent-at, size, place-in, place, location, dynamic-at}
 use Rattle.book.specs.Lines.{node-of, agent-of}
-use Rattle.book.specs.Image.{word, row-in, capped, function-of, book-in}
+use Rattle.book.specs.Image.{word, row-in, capped, function-of, program-in}
 use Rattle.book.specs.Sound.{Lawful}
 use Rattle.book.proofs.Places.{spot, roll-place}
 use Rattle.term.specs.Held.{held, variables-of}
@@ -27,22 +27,22 @@ use Rattle.term.specs.Marks.{Placed}
 
 module _ (m : List ℕ) where
   pub held-elements : capped (word m 0) 10000 ≡ held m .E
-  unfolding book-in
+  unfolding program-in
   held-elements = refl
 
   pub held-permanent : word m 1 ≡ held m .P
-  unfolding book-in
+  unfolding program-in
   held-permanent = refl
 
   pub held-count : capped (word m 2) 32 ≡ length (held m .functions)
-  unfolding book-in
+  unfolding program-in
   held-count = let e = length-table-from (λ f. function-of (row-in m (2 + f))) 0 (capped (word m 2) 32) in rw e
 
   -- ---- rows
 
   pub node-in : (n : ℕ) → n < capped (word m 3) 1024
       → record { kind = word m (n * 4 + 200); a = word m (n * 4 + 200 + 1); b = word m (n * 4 + 200 + 2); c = word m (n * 4 + 200 + 3) } ≡ node-at (held m) n
-  unfolding book-in
+  unfolding program-in
   node-in n h =
       let e : n * 4 + 200 ≡ (50 + n) * 4 = omega arith in
       let g : node-at (held m) n ≡ node-of (row-in m (50 + n)) = getD-table (λ i. node-of (row-in m (50 + i))) (capped (word m 3) 1024) n no-node h in
@@ -51,13 +51,13 @@ module _ (m : List ℕ) where
       cc
 
   pub node-past : (n : ℕ) → capped (word m 3) 1024 ≤ n → no-node ≡ node-at (held m) n
-  unfolding book-in
+  unfolding program-in
   node-past n h =
       let g : node-at (held m) n ≡ no-node = getD-table-past (λ i. node-of (row-in m (50 + i))) (capped (word m 3) 1024) n no-node h in cc
 
   pub function-in : (f : ℕ) → f < capped (word m 2) 32
       → record { first = word m (f * 4 + 8); arity = word m (f * 4 + 8 + 1); kind = word m (f * 4 + 8 + 2) } ≡ function-at (held m) f
-  unfolding book-in
+  unfolding program-in
   function-in f h =
       let e : f * 4 + 8 ≡ (2 + f) * 4 = omega arith in
       let g : function-at (held m) f ≡ function-of (row-in m (2 + f)) = getD-table (λ i. function-of (row-in m (2 + i))) (capped (word m 2) 32) f no-function h in
@@ -66,13 +66,13 @@ module _ (m : List ℕ) where
       cc
 
   pub function-past : (f : ℕ) → capped (word m 2) 32 ≤ f → no-function ≡ function-at (held m) f
-  unfolding book-in
+  unfolding program-in
   function-past f h =
       let g : function-at (held m) f ≡ no-function = getD-table-past (λ i. function-of (row-in m (2 + i))) (capped (word m 2) 32) f no-function h in cc
 
   pub agent-in : (i : ℕ) → i < capped (word m 4) 16
       → record { root = word m (i * 4 + 136); element = word m (i * 4 + 136 + 1) } ≡ agent-at (held m) i
-  unfolding book-in
+  unfolding program-in
   agent-in i h =
       let e : i * 4 + 136 ≡ (34 + i) * 4 = omega arith in
       let g : agent-at (held m) i ≡ agent-of (row-in m (34 + i)) = getD-table (λ k. agent-of (row-in m (34 + k))) (capped (word m 4) 16) i no-agent h in
@@ -81,18 +81,18 @@ module _ (m : List ℕ) where
       cc
 
   pub agent-past : (i : ℕ) → capped (word m 4) 16 ≤ i → no-agent ≡ agent-at (held m) i
-  unfolding book-in
+  unfolding program-in
   agent-past i h =
       let g : agent-at (held m) i ≡ no-agent = getD-table-past (λ k. agent-of (row-in m (34 + k))) (capped (word m 4) 16) i no-agent h in cc
 
   -- ---- a lawful book has its locations placed
 
-  pub placed : (es : List Entry) → Lawful (book-in m es) → Placed (held m)
-  unfolding book-in
+  pub placed : (es : List Entry) → Lawful (program-in m) → Placed (held m)
+  unfolding program-in
   placed es ok =
       record {
-        own = λ f x y h a b. ap (λ (p : Place). dynamic (p .function)) (spot (book-in m es) ok f x y h a b .where-at);
-        roll = λ x h. ap (λ (p : Place). dynamic (p .function)) (roll-place (book-in m es) ok x h) ∙ ap dynamic (ok .reserve);
+        own = λ f x y h a b. ap (λ (p : Place). dynamic (p .function)) (spot (program-in m) ok f x y h a b .where-at);
+        roll = λ x h. ap (λ (p : Place). dynamic (p .function)) (roll-place (program-in m) ok x h) ∙ ap dynamic (ok .reserve);
       }
 
 -- ---- the scan of the functions for a location's
@@ -113,7 +113,7 @@ module _ (E : ℕ) (fs : List Function) (f l : ℕ) where
 
 -- ---- a function's locations at the elements are all dynamic or all static
 
-pub one-kind : (B : Book) → Placed B → (u y : ℕ) → y < B .E → dynamic-at B (location B u y 0) ≡ dynamic-at B (location B u 0 0)
+pub one-kind : (B : Program) → Placed B → (u y : ℕ) → y < B .E → dynamic-at B (location B u y 0) ≡ dynamic-at B (location B u 0 0)
 one-kind B ok u y h = dite (decLt u (length (B .functions))) inside past
   where
     inside : u < length (B .functions) → dynamic-at B (location B u y 0) ≡ dynamic-at B (location B u 0 0)

@@ -5,13 +5,13 @@ use mathlib.Core.List.{List, [], _∷_, _++_}
 use Prim.Native.Nat.{ℕ}
 use lib.ListN.{getD}
 use Rattle.text.specs.Words.{if_then_else_}
-use Rattle.book.specs.Book.{Book, dynamic-at}
+use Rattle.book.specs.Book.{Program, dynamic-at}
 use Rattle.engine.specs.Look.{Look, done, read, gives, seen, _>>=_}
 use Rattle.engine.specs.Move.{dynamic-among}
 use Rattle.engine.proofs.Look.{gives-bind, seen-bind}
 use Rattle.term.specs.Marks.{mark-one, marked, noted, Placed, Runs}
 
-pub dynamic-append : (B : Book) (ls ks : List ℕ) → dynamic-among B (ls ++ ks) ≡ dynamic-among B ls ++ dynamic-among B ks
+pub dynamic-append : (B : Program) (ls ks : List ℕ) → dynamic-among B (ls ++ ks) ≡ dynamic-among B ls ++ dynamic-among B ks
 unfolding dynamic-among
 dynamic-append B [] ks = refl
 dynamic-append B (l ∷ ls) ks = go (dynamic-at B l) (dynamic-append B ls ks)
@@ -27,7 +27,7 @@ marked-append bit [] ys m = refl
 marked-append bit (x ∷ xs) ys m = marked-append bit xs ys (mark-one bit x m)
 
 -- one location more
-pub marked-noted : (B : Book) (bit l : ℕ) (ls m : List ℕ) → marked bit (dynamic-among B (l ∷ ls)) m ≡ marked bit (dynamic-among B ls) (noted B bit l m)
+pub marked-noted : (B : Program) (bit l : ℕ) (ls m : List ℕ) → marked bit (dynamic-among B (l ∷ ls)) m ≡ marked bit (dynamic-among B ls) (noted B bit l m)
 unfolding marked dynamic-among
 marked-noted B bit l ls m = go (dynamic-at B l)
   where
@@ -35,7 +35,7 @@ marked-noted B bit l ls m = go (dynamic-at B l)
     go true = refl
     go false = refl
 
-module _ (B : Book) (c : List ℕ) (bit : ℕ) where
+module _ (B : Program) (c : List ℕ) (bit : ℕ) where
   pub runs-done : {A : Type 0} (a : A) (m : List ℕ) → Runs B c bit (done a) a m m
   unfolding gives seen dynamic-among marked
   runs-done a m = record { value = refl; marks = λ p. refl }

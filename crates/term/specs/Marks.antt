@@ -6,7 +6,7 @@ use Prim.Native.Nat.{ℕ, _<_}
 use lib.Bits.{bitOr}
 use lib.ListN.{length, getD, set}
 use Rattle.text.specs.Words.{if_then_else_}
-use Rattle.book.specs.Book.{Book, dynamic, dynamic-at, function-at, location}
+use Rattle.book.specs.Book.{Program, dynamic, dynamic-at, function-at, location}
 use Rattle.engine.specs.Look.{Look, gives, seen}
 use Rattle.engine.specs.Move.{dynamic-among}
 
@@ -20,15 +20,15 @@ marked bit [] m = m
 marked bit (l ∷ ls) m = marked bit ls (mark-one bit l m)
 
 -- at l if it is dynamic
-abbrev pub noted : Book → ℕ → ℕ → List ℕ → List ℕ
+abbrev pub noted : Program → ℕ → ℕ → List ℕ → List ℕ
 noted B bit l m = if dynamic-at B l then mark-one bit l m else m
 
 -- Each function's locations lie where its row says, and the first E are Reserve's. Every lawful book has this: see `placed`.
-pub record Placed (B : Book) : Type 0 where
+pub record Placed (B : Program) : Type 0 where
   pub own : (f x y : ℕ) → f < length (B .functions) → x < B .E → y < B .E → dynamic-at B (location B f x y) ≡ dynamic (function-at B f)
   pub roll : (x : ℕ) → x < B .E → dynamic-at B x ≡ true
 
 -- On the contents c the look w gives a, and the marks m become n: each dynamic location that it sees has the bit.
-pub record Runs {A : Type 0} (B : Book) (c : List ℕ) (bit : ℕ) (w : Look A) (a : A) (m n : List ℕ) : Type 0 where
+pub record Runs {A : Type 0} (B : Program) (c : List ℕ) (bit : ℕ) (w : Look A) (a : A) (m n : List ℕ) : Type 0 where
   pub value : a ≡ gives c w
   pub marks : Placed B → n ≡ marked bit (dynamic-among B (seen c w)) m

@@ -9,7 +9,7 @@ use borrow.Author.Tests.{leb-true, leb-false, eq-eqb}
 use lib.Dec.{eqb, leb}
 use lib.ListN.{length, getD, take, drop, length-take, drop-of-length-le}
 use lib.Seq.{drop-cons, getD-take, take-all}
-use Rattle.book.specs.Book.{Book}
+use Rattle.book.specs.Book.{Program}
 use Rattle.engine.specs.declared.Instruction.{Instruction}
 use Rattle.engine.specs.declared.Instruction.the-variants.{Update, Release}
 use Rattle.engine.specs.Move.{given, other}
@@ -35,7 +35,7 @@ other-append w (x ∷ xs) ys =
     ap (λ (b : Bool). not (eqb x w) || b) (other-append w xs ys) ∙ sym (or-assoc (not (eqb x w)) (other w xs) (other w ys))
 
 -- an instruction about the location gives it its own value
-pub own-given : (B : Book) (c : List ℕ) (l : ℕ) (i : Instruction) → own i ≡ l → given B c l i ≡ gets i ∷ []
+pub own-given : (B : Program) (c : List ℕ) (l : ℕ) (i : Instruction) → own i ≡ l → given B c l i ≡ gets i ∷ []
 unfolding given
 own-given B c l (Update k v) e = rw (eq-eqb k l e)
 own-given B c l (Release x) e = rw (eq-eqb x l e)

@@ -11,7 +11,7 @@ use lib.Seq.{drop-cons}
 use borrow.Author.Tests.{lt-ltb, le-ltb}
 use Rattle.text.specs.Words.{if_then_else_, table-from}
 use Rattle.book.specs.declared.Function.{Function}
-use Rattle.book.specs.Book.{Book, L, total, size, dynamic, no-function, place-in, dynamic-at}
+use Rattle.book.specs.Book.{Program, L, total, size, dynamic, no-function, place-in, dynamic-at}
 use Rattle.engine.specs.Move.{dynamic-among, all-dynamic}
 use Rattle.term.specs.Marks.{marked}
 use Rattle.term.proofs.Marking.{marked-append}
@@ -26,7 +26,7 @@ among : (ℕ → Bool) → List ℕ → List ℕ
 among t [] = []
 among t (l ∷ ls) = if t l then l ∷ among t ls else among t ls
 
-dynamic-is : (B : Book) (ls : List ℕ) → dynamic-among B ls ≡ among (dynamic-at B) ls
+dynamic-is : (B : Program) (ls : List ℕ) → dynamic-among B ls ≡ among (dynamic-at B) ls
 unfolding dynamic-among among
 dynamic-is B [] = refl
 dynamic-is B (l ∷ ls) = rw (dynamic-is B ls)
@@ -78,7 +78,7 @@ all-from-is E (f ∷ fs) a =
     among-same t u (a + s) (total E fs) (λ l h i. place-later E f fs a l h) ∙ all-from-is E fs (a + s) in
     ap (among t) (run-append a s (total E fs)) ∙ among-append t (run a s) (run (a + s) (total E fs)) ∙ rw (p, q)
 
-pub all-dynamic-is : (B : Book) → all-from (B .E) (B .functions) 0 ≡ all-dynamic B
+pub all-dynamic-is : (B : Program) → all-from (B .E) (B .functions) 0 ≡ all-dynamic B
 unfolding all-dynamic
 all-dynamic-is B =
     sym (dynamic-is B (run 0 (L B)) ∙ among-same (dynamic-at B) (λ l. dynamic (place-in (B .E) (B .functions) (l - 0) .function)) 0 (L B) (λ l h i. let e : l - 0 ≡ l = omega arith in rw e) ∙ all-from-is (B .E) (B .functions) 0)

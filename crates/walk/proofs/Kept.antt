@@ -12,7 +12,7 @@ use lib.Seq.{map-set-same, set-getD}
 use borrow.Author.Tests.{eqb-true}
 use Rattle.text.specs.Words.{if_then_else_}
 use Rattle.book.specs.declared.Agent.{Agent}
-use Rattle.book.specs.Book.{Book, node-at, agent-at}
+use Rattle.book.specs.Book.{Program, node-at, agent-at}
 use Rattle.engine.specs.Move.{looked}
 use Rattle.engine.specs.Rule.{Walk, Walked, going, met, walk, no-variables, agent-walk}
 use Rattle.term.specs.Marks.{mark-one, marked, Runs}
@@ -55,7 +55,7 @@ taken-back bit k ls m e h = go (eqb bit 0) refl
 
 -- ---- the walk of an agent's rule
 
-module _ (B : Book) (c : List ℕ) (bit : ℕ) (z : Walked) (m n : List ℕ) where
+module _ (B : Program) (c : List ℕ) (bit : ℕ) (z : Walked) (m n : List ℕ) where
   started : (p q : ℕ) (g h : Agent) → g ≡ h → p ≡ q
       → Runs B c bit (walk B (g .element) (rule-from (node-at B) 32 (g .root)) no-variables (record { made = []; next = p })) z m n
       → Runs B c bit (walk B (h .element) (rule-from (node-at B) 32 (h .root)) no-variables (record { made = []; next = q })) z m n
@@ -67,7 +67,7 @@ module _ (B : Book) (c : List ℕ) (bit : ℕ) (z : Walked) (m n : List ℕ) whe
   unfolding agent-walk
   runs-agent agent p g e f r = started p (B .P) g (agent-at B agent) e f r
 
-module _ (B : Book) (c : List ℕ) (bit agent : ℕ) (o : Walked) (m n : List ℕ) (h : Runs B c bit (agent-walk B agent) o m n) where
+module _ (B : Program) (c : List ℕ) (bit agent : ℕ) (o : Walked) (m n : List ℕ) (h : Runs B c bit (agent-walk B agent) o m n) where
   pub gathered : (w : Walk) → o ≡ going w → Gathered B c bit agent o m n
   gathered w e =
       record {

@@ -14,7 +14,7 @@ use Rattle.text.specs.Words.{if_then_else_}
 use Rattle.text.specs.Refusals.{no-label-left}
 use Rattle.text.specs.declared.Found.the-variants.{Nowhere, Here}
 use Rattle.book.specs.declared.Node.{Node}
-use Rattle.book.specs.Book.{Book}
+use Rattle.book.specs.Book.{Program}
 use Rattle.engine.specs.Look.{Look, done}
 use Rattle.engine.specs.Term.{term-at, eval}
 use Rattle.engine.specs.Rule.{Rule, skip, pair, test, Walk, Walked, going, met, after, import-of, walk}
@@ -55,7 +55,7 @@ module _ (s : List ℕ) (a x : ℕ) where
   pub bind-agent : a < 8 → agent-of (set s a x) ≡ agent-of s
   bind-agent h = getD-set-other s a 8 x 0 (omega arith)
 
-module _ (B : Book) (c : List ℕ) (bit : ℕ) where
+module _ (B : Program) (c : List ℕ) (bit : ℕ) where
   -- a scope that has these variables and this agent
   pub runs-scope : (t vs : List ℕ) (me : ℕ) (r : Rule) (o z : Walked) (m n : List ℕ) → variables-of t ≡ vs → agent-of t ≡ me
       → Runs B c bit (after o (walk B (agent-of t) r (variables-of t))) z m n → Runs B c bit (after o (walk B me r vs)) z m n
@@ -116,7 +116,7 @@ module _ (B : Book) (c : List ℕ) (bit : ℕ) where
         branch false e t = rw e at t
 
 -- an import, by the label that its search came to
-pub import-as : (B : Book) (n u x : ℕ) (w : Walk) (body : ℕ → Walk → Look Walked)
+pub import-as : (B : Program) (n u x : ℕ) (w : Walk) (body : ℕ → Walk → Look Walked)
     → import-of B n u w body (found-below (B .E) x) ≡ after (enrolling B u x n w) (body x)
 import-as B n u x w body = go (ltb x (B .E))
   where

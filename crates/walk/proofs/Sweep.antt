@@ -5,7 +5,7 @@ use Prim.Native.Nat.{ℕ, _+_, _-_, _≤_, _<_}
 use native.Mathlib.Omega.{arith}
 use lib.ListN.{set}
 use borrow.Author.Tests.{lt-ltb, le-ltb}
-use Rattle.book.specs.Book.{Book}
+use Rattle.book.specs.Book.{Program}
 use Rattle.engine.specs.Look.{Look, done, gives, seen, _>>=_}
 use Rattle.engine.specs.Rule.{Rule, for-all, Walk, Walked, going, met, after, members, each, walk}
 use Rattle.engine.specs.Move.{dynamic-among}
@@ -16,7 +16,7 @@ use Rattle.giving.specs.Giving.{walk-from, reached}
 use Rattle.marking.specs.Marking.{members-from, first-and-rest}
 use Rattle.walk.proofs.Steps.{runs-from}
 
-module _ (B : Book) (c : List ℕ) (bit u : ℕ) (f : ℕ → Walk → Look Walked) where
+module _ (B : Program) (c : List ℕ) (bit u : ℕ) (f : ℕ → Walk → Look Walked) where
   -- those left, said otherwise
   pub sweep-as : (xs ys : List ℕ) (o z : Walked) (m n : List ℕ) → xs ≡ ys → Runs B c bit (after o (each f ys)) z m n → Runs B c bit (after o (each f xs)) z m n
   sweep-as xs ys o z m n e h = rw e h
@@ -43,7 +43,7 @@ module _ (B : Book) (c : List ℕ) (bit u : ℕ) (f : ℕ → Walk → Look Walk
   sweep-end y o m h = rw (le-ltb y (B .E) h) (none o m)
 
 -- a forall whose universe is marked, from its members on
-module _ (B : Book) (c : List ℕ) (bit me : ℕ) (vs : List ℕ) (a u : ℕ) (r : Rule) where
+module _ (B : Program) (c : List ℕ) (bit me : ℕ) (vs : List ℕ) (a u : ℕ) (r : Rule) where
   abbrev body : ℕ → Walk → Look Walked
   body y = walk B me r (set vs a y)
 

@@ -7,7 +7,7 @@ use lib.Dec.{eqb}
 use lib.ListN.{getD}
 use Rattle.text.specs.Words.{if_then_else_}
 use Rattle.book.specs.declared.Agent.{Agent}
-use Rattle.book.specs.Book.{Book}
+use Rattle.book.specs.Book.{Program}
 use Rattle.engine.specs.Look.{gives}
 use Rattle.engine.specs.Rule.{Walk, Walked, going, met, agent-walk}
 use Rattle.engine.specs.Move.{looked}
@@ -30,7 +30,7 @@ abbrev pub Below : ℕ → List ℕ → Type 0
 Below bit m = (i : ℕ) → getD m i 0 < bit
 
 -- The walk of an agent's rule came to the outcome o, and the marks m became n.
-pub record Gathered (B : Book) (c : List ℕ) (bit agent : ℕ) (o : Walked) (m n : List ℕ) : Type 0 where
+pub record Gathered (B : Program) (c : List ℕ) (bit agent : ℕ) (o : Walked) (m n : List ℕ) : Type 0 where
   pub outcome : o ≡ gives c (agent-walk B agent)
   pub fired : Placed B → (w : Walk) → o ≡ going w → n ≡ marked bit (looked B c (record { agent = agent })) m
   pub refused : Placed B → (r q : ℕ) → o ≡ met r q → (k : ℕ) → bit ≡ 2 ^ k → Below bit m → n ≡ m

@@ -3,7 +3,7 @@ use mathlib.Core.Path.{_≡_, _∙_}
 use mathlib.Core.List.{[]}
 use Rattle.text.proofs.Words.{least-same}
 use Rattle.book.specs.Around.{bad-around}
-use Rattle.book.specs.Image.{book-in}
+use Rattle.book.specs.Image.{program-in}
 use Rattle.book.proofs.Image.{nodes-most}
 use Rattle.around.proofs.Tables.{misplaced-same}
 use borrow.Author.Needs.{needs}
@@ -37,7 +37,7 @@ misplaced-in-requires c κs = search needs
 
 -- src/lib.rt:198:1
 returns : tie.Need-returns
-returns c = let m = c .before .before .before .before .before .before .before .args .image .now in c .misplaced-in .ensures ∙ rw (c .before .before .before .hand-down .ensures, c .before .before .before .before .before .nodes .ensures) (least-same _ (bad-around (book-in m [])) (length (book-in m [] .nodes)) (λ j l. misplaced-same (book-in m []) (nodes-most m []) j l))
+returns c = let m = c .before .before .before .before .before .before .before .args .image .now in c .misplaced-in .ensures ∙ rw (c .before .before .before .hand-down .ensures, c .before .before .before .before .before .nodes .ensures) (least-same _ (bad-around (program-in m)) (length (program-in m .nodes)) (λ j l. misplaced-same (program-in m) (nodes-most m) j l))
 
 pub bad-around-spec : {M : Type 1} → statement M
 bad-around-spec =

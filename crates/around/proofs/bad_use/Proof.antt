@@ -1,6 +1,6 @@
 use Rattle.around.proofs.Tables.{used-once}
 use Rattle.book.proofs.Image.{nodes-most}
-use Rattle.book.specs.Image.{book-in}
+use Rattle.book.specs.Image.{program-in}
 use Rattle.book.specs.Use.{bad-use}
 use Rattle.text.proofs.Words.{least-same}
 use Prim.Native.Nat.{ℕ, _≤_}
@@ -53,7 +53,7 @@ not-once-requires c κs = search needs
 
 -- src/lib.rt:86:1
 returns : tie.Need-returns
-returns c = let m = c .before .before .before .before .before .before .before .before .before .before .before .args .image .now in c .not-once .ensures ∙ rw (c .before .before .before .tally .ensures, c .before .before .before .before .before .before .mark-roots .ensures, c .before .before .before .before .before .before .before .before .nodes .ensures, c .before .before .before .before .before .before .before .before .before .agents .ensures) (least-same _ (bad-use (book-in m [])) (length (book-in m [] .nodes)) (λ j l. used-once (book-in m []) j (replicate 1024 0) (rw (length-replicate {A = ℕ} 1024 0) (omega (arith, nodes-most m []))) (getD-replicate {A = ℕ} 1024 j 0 0 (omega (arith, nodes-most m [])))))
+returns c = let m = c .before .before .before .before .before .before .before .before .before .before .before .args .image .now in c .not-once .ensures ∙ rw (c .before .before .before .tally .ensures, c .before .before .before .before .before .before .mark-roots .ensures, c .before .before .before .before .before .before .before .before .nodes .ensures, c .before .before .before .before .before .before .before .before .before .agents .ensures) (least-same _ (bad-use (program-in m)) (length (program-in m .nodes)) (λ j l. used-once (program-in m) j (replicate 1024 0) (rw (length-replicate {A = ℕ} 1024 0) (omega (arith, nodes-most m))) (getD-replicate {A = ℕ} 1024 j 0 0 (omega (arith, nodes-most m)))))
 
 pub bad-use-spec : {M : Type 1} → statement M
 bad-use-spec =

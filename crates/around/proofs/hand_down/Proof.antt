@@ -1,7 +1,7 @@
 use Rattle.around.proofs.Tables.{handed-step, handed-none}
 use Rattle.around.specs.Tables.{to-ab, to-c}
 use Rattle.book.specs.Around.{handed}
-use Rattle.book.specs.Image.{book-in}
+use Rattle.book.specs.Image.{program-in}
 use borrow.Author.Needs.{needs}
 use native.Mathlib.Omega.{arith}
 use lib.ListN.{length}
@@ -22,7 +22,7 @@ use Rattle.image.proofs.nodes.Reads as nodes-reads
 
 abbrev Inv-loop : tie.InvT-loop
 Inv-loop image s₀ table n k₀ s k =
-    (k ≤ n) × (length s ≡ length s₀) × (s ≡ handed (book-in image []) to-ab to-c k s₀)
+    (k ≤ n) × (length s ≡ length s₀) × (s ≡ handed (program-in image) to-ab to-c k s₀)
 
 abbrev μ-loop : tie.MeasureT-loop
 μ-loop image s₀ table n k₀ s k = n - k
@@ -33,7 +33,7 @@ nodes-requires c κs = search needs
 
 -- src/lib.rt:154:5
 loop-holds : tie.Need-loop-holds Inv-loop μ-loop
-loop-holds c = let a = c .before .before .before .args in (search needs, refl, handed-none (book-in (a .image .now) []) to-ab to-c (a .s .now))
+loop-holds c = let a = c .before .before .before .args in (search needs, refl, handed-none (program-in (a .image .now)) to-ab to-c (a .s .now))
 
 -- src/lib.rt:155:22
 add-m : tie.Need-add-m Inv-loop μ-loop
@@ -81,7 +81,7 @@ loop-less c = search needs
 
 -- src/lib.rt:154:5
 loop-again : tie.Need-loop-again Inv-loop μ-loop
-loop-again c = let a = c .before .before .before .before .before .before .before .before .before .before .before .before .before .before .before .before .args in let l = c .before .before .before .before .before .before .before .before .before .before .before .before .loop in (search needs, c .before .before .hand .kept .1 .0 ∙ l .inv .1, rw (handed-step (book-in (a .image .now) []) to-ab to-c (a .s .now) (l .k)) (c .before .before .hand .ensures ∙ rw (c .before .before .before .before .before .in-binder .ensures, c .before .before .before .before .before .before .in-forall .ensures, c .before .before .before .before .before .before .before .below .ensures, c .before .before .before .before .before .before .before .before .fetch .ensures, c .before .before .before .before .before .before .before .before .before .before .node-at .ensures, c .before .before .before .before .before .before .before .before .before .before .before .before .before .nodes .ensures, l .inv .2)))
+loop-again c = let a = c .before .before .before .before .before .before .before .before .before .before .before .before .before .before .before .before .args in let l = c .before .before .before .before .before .before .before .before .before .before .before .before .loop in (search needs, c .before .before .hand .kept .1 .0 ∙ l .inv .1, rw (handed-step (program-in (a .image .now)) to-ab to-c (a .s .now) (l .k)) (c .before .before .hand .ensures ∙ rw (c .before .before .before .before .before .in-binder .ensures, c .before .before .before .before .before .before .in-forall .ensures, c .before .before .before .before .before .before .before .below .ensures, c .before .before .before .before .before .before .before .before .fetch .ensures, c .before .before .before .before .before .before .before .before .before .before .node-at .ensures, c .before .before .before .before .before .before .before .before .before .before .before .before .before .nodes .ensures, l .inv .2)))
 
 -- src/lib.rt:148:1
 same-length : tie.Need-same-length Inv-loop μ-loop

@@ -1,6 +1,6 @@
 use Rattle.around.proofs.Tables.{roots-step, roots-none}
 use Rattle.around.specs.Tables.{rooted}
-use Rattle.book.specs.Image.{book-in}
+use Rattle.book.specs.Image.{program-in}
 use borrow.Author.Needs.{needs}
 use native.Mathlib.Omega.{arith}
 use lib.ListN.{length}
@@ -16,14 +16,14 @@ use Rattle.image.proofs.put_byte.Reads as put-byte-reads
 
 abbrev Inv-loop : tie.InvT-loop
 Inv-loop image n s₀ i₀ s i =
-    (i ≤ n) × (length s ≡ length s₀) × (s ≡ rooted (book-in image []) i s₀)
+    (i ≤ n) × (length s ≡ length s₀) × (s ≡ rooted (program-in image) i s₀)
 
 abbrev μ-loop : tie.MeasureT-loop
 μ-loop image n s₀ i₀ s i = n - i
 
 -- src/lib.rt:53:5
 loop-holds : tie.Need-loop-holds Inv-loop μ-loop
-loop-holds c = let a = c .before .before .args in (search needs, refl, roots-none (book-in (a .image .now) []) (a .s .now))
+loop-holds c = let a = c .before .before .args in (search needs, refl, roots-none (program-in (a .image .now)) (a .s .now))
 
 -- src/lib.rt:54:13
 agent-at-requires : tie.Need-agent-at-requires Inv-loop μ-loop
@@ -47,7 +47,7 @@ loop-less c = search needs
 
 -- src/lib.rt:53:5
 loop-again : tie.Need-loop-again Inv-loop μ-loop
-loop-again c = let a = c .before .before .before .before .before .before .before .before .before .before .args in let l = c .before .before .before .before .before .before .before .loop in (search needs, c .before .before .put-byte .kept .0 ∙ l .inv .1, rw (roots-step (book-in (a .image .now) []) (l .i) (a .s .now)) (c .before .before .put-byte .ensures ∙ rw (c .before .before .before .before .before .agent-at .ensures, l .inv .2)))
+loop-again c = let a = c .before .before .before .before .before .before .before .before .before .before .args in let l = c .before .before .before .before .before .before .before .loop in (search needs, c .before .before .put-byte .kept .0 ∙ l .inv .1, rw (roots-step (program-in (a .image .now)) (l .i) (a .s .now)) (c .before .before .put-byte .ensures ∙ rw (c .before .before .before .before .before .agent-at .ensures, l .inv .2)))
 
 -- src/lib.rt:49:1
 same-length : tie.Need-same-length Inv-loop μ-loop

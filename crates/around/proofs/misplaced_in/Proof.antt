@@ -1,7 +1,7 @@
 use Rattle.text.proofs.Words.{least-start, least-pass, least-stop, least-end}
 use Rattle.text.specs.Words.{least-from, least}
 use Rattle.around.specs.Tables.{misplaced-at}
-use Rattle.book.specs.Image.{book-in}
+use Rattle.book.specs.Image.{program-in}
 use mathlib.Core.List.{[]}
 use mathlib.Core.Path.{_≡_}
 use Prim.Native.Nat.{_≤_, _-_}
@@ -13,7 +13,7 @@ use Rattle.around.proofs.misplaced_in.Lts as lts
 use Rattle.around.proofs.misplaced_at.Reads as misplaced-at-reads
 
 abbrev Inv-loop : tie.InvT-loop
-Inv-loop image s n i₀ i = (i ≤ n) × (least-from (misplaced-at (book-in image []) s) (n - i) i ≡ least (misplaced-at (book-in image []) s) n)
+Inv-loop image s n i₀ i = (i ≤ n) × (least-from (misplaced-at (program-in image) s) (n - i) i ≡ least (misplaced-at (program-in image) s) n)
 
 abbrev μ-loop : tie.MeasureT-loop
 μ-loop image s n i₀ i = n - i
@@ -28,7 +28,7 @@ misplaced-at-requires c κs = search needs
 
 -- src/lib.rt:190:13
 returns : tie.Need-returns Inv-loop μ-loop
-returns c = let a = c .before .before .before .before .before .before .args in let l = c .before .before .before .loop in least-stop (misplaced-at (book-in (a .image .now) []) (a .s .now)) (a .n) (l .i) (c .before .before .loop-test .taken) (cc) (l .inv .1)
+returns c = let a = c .before .before .before .before .before .before .args in let l = c .before .before .before .loop in least-stop (misplaced-at (program-in (a .image .now)) (a .s .now)) (a .n) (l .i) (c .before .before .loop-test .taken) (cc) (l .inv .1)
 
 -- src/lib.rt:192:9
 add-i : tie.Need-add-i Inv-loop μ-loop
@@ -40,11 +40,11 @@ loop-less c = search needs
 
 -- src/lib.rt:188:5
 loop-again : tie.Need-loop-again Inv-loop μ-loop
-loop-again c = let a = c .before .before .before .before .before .before .args in let l = c .before .before .before .loop in (search needs, least-pass (misplaced-at (book-in (a .image .now) []) (a .s .now)) (a .n) (l .i) (c .before .before .loop-test .taken) (cc) (l .inv .1))
+loop-again c = let a = c .before .before .before .before .before .before .args in let l = c .before .before .before .loop in (search needs, least-pass (misplaced-at (program-in (a .image .now)) (a .s .now)) (a .n) (l .i) (c .before .before .loop-test .taken) (cc) (l .inv .1))
 
 -- src/lib.rt:184:1
 returns-2 : tie.Need-returns-2 Inv-loop μ-loop
-returns-2 c = let a = c .before .before .before .before .args in let l = c .before .loop in least-end (misplaced-at (book-in (a .image .now) []) (a .s .now)) (a .n) (l .i) (c .loop-test .left) (l .inv .1)
+returns-2 c = let a = c .before .before .before .before .args in let l = c .before .loop in least-end (misplaced-at (program-in (a .image .now)) (a .s .now)) (a .n) (l .i) (c .loop-test .left) (l .inv .1)
 
 pub misplaced-in-spec : {M : Type 1} → statement M
 misplaced-in-spec =

@@ -1,6 +1,6 @@
 use Rattle.around.proofs.Tables.{tally-step, tally-none}
 use Rattle.around.specs.Tables.{tallied}
-use Rattle.book.specs.Image.{book-in}
+use Rattle.book.specs.Image.{program-in}
 use borrow.Author.Needs.{needs}
 use native.Mathlib.Omega.{arith}
 use lib.ListN.{length}
@@ -16,14 +16,14 @@ use Rattle.image.proofs.node_at.Reads as node-at-reads
 
 abbrev Inv-loop : tie.InvT-loop
 Inv-loop image n s₀ table i₀ s i =
-    (i ≤ n) × (length s ≡ length s₀) × (s ≡ tallied (book-in image []) i s₀)
+    (i ≤ n) × (length s ≡ length s₀) × (s ≡ tallied (program-in image) i s₀)
 
 abbrev μ-loop : tie.MeasureT-loop
 μ-loop image n s₀ table i₀ s i = n - i
 
 -- src/lib.rt:62:5
 loop-holds : tie.Need-loop-holds Inv-loop μ-loop
-loop-holds c = let a = c .before .before .args in (search needs, refl, tally-none (book-in (a .image .now) []) (a .s .now))
+loop-holds c = let a = c .before .before .args in (search needs, refl, tally-none (program-in (a .image .now)) (a .s .now))
 
 -- src/lib.rt:63:13
 node-at-requires : tie.Need-node-at-requires Inv-loop μ-loop
@@ -43,7 +43,7 @@ loop-less c = search needs
 
 -- src/lib.rt:62:5
 loop-again : tie.Need-loop-again Inv-loop μ-loop
-loop-again c = let a = c .before .before .before .before .before .before .before .before .before .before .args in let l = c .before .before .before .before .before .before .before .loop in (search needs, c .before .before .count .kept .1 .0 ∙ l .inv .1, rw (tally-step (book-in (a .image .now) []) (l .i) (a .s .now)) (c .before .before .count .ensures ∙ rw (c .before .before .before .before .before .node-at .ensures, l .inv .2)))
+loop-again c = let a = c .before .before .before .before .before .before .before .before .before .before .args in let l = c .before .before .before .before .before .before .before .loop in (search needs, c .before .before .count .kept .1 .0 ∙ l .inv .1, rw (tally-step (program-in (a .image .now)) (l .i) (a .s .now)) (c .before .before .count .ensures ∙ rw (c .before .before .before .before .before .node-at .ensures, l .inv .2)))
 
 -- src/lib.rt:57:1
 same-length : tie.Need-same-length Inv-loop μ-loop

@@ -1,6 +1,6 @@
 use mathlib.Core.List.{[]}
 use native.Mathlib.Omega.{arith}
-use Rattle.book.specs.Image.{book-in}
+use Rattle.book.specs.Image.{program-in}
 use Rattle.book.proofs.Image.{elements-most}
 use Rattle.contents.proofs.Roll.{clear}
 use borrow.Author.Needs.{needs}
@@ -21,7 +21,7 @@ slice-aggregate-bad-entries c = search needs
 
 -- src/lib.rt:99:9
 bad-entries-requires : tie.Need-bad-entries-requires
-bad-entries-requires c κs = let m = c .before .before .before .before .before .args .image .now in clear (book-in m [] .E) 256 (omega (arith, c .before .before .elements .ensures, c .before .if1 .taken))
+bad-entries-requires c κs = let m = c .before .before .before .before .before .args .image .now in clear (program-in m .E) 256 (omega (arith, c .before .before .elements .ensures, c .before .if1 .taken))
 
 -- src/lib.rt:102:44
 slice-aggregate-bad-entries-2 : tie.Need-slice-aggregate-bad-entries-2
@@ -29,7 +29,7 @@ slice-aggregate-bad-entries-2 c = search needs
 
 -- src/lib.rt:102:9
 bad-entries-requires-2 : tie.Need-bad-entries-requires-2
-bad-entries-requires-2 c κs = let m = c .before .before .before .before .before .args .image .now in clear (book-in m [] .E) 10000 (elements-most m [])
+bad-entries-requires-2 c κs = let m = c .before .before .before .before .before .args .image .now in clear (program-in m .E) 10000 (elements-most m)
 
 -- src/lib.rt:94:1
 returns : tie.Need-returns

@@ -44,7 +44,7 @@ cast-walk-first c =
     let o = c .before .before .before .before .before .before .before .«open» in
     let d = c .before .before .before .check-call in
     let e = cleared (a .book .now) (a .contents .now) (a .work .now) (a .agent) (a .lent) (o .last .1 .0) (o .ensures .1) (o .result) (o .ensures .0) (c .before .before .before .before .before .if1 .left) (d .result) (d .ensures) (c .before .if2 .left) in
-    record { fits = omega (arith, e .passed .agent, agents-most (o .last .1 .0) []) }
+    record { fits = omega (arith, e .passed .agent, agents-most (o .last .1 .0)) }
 
 walk-first-requires : tie.Need-walk-first-requires
 walk-first-requires c κs =

@@ -1,5 +1,5 @@
 use Prim.Native.Nat.{ℕ}
-use Rattle.book.specs.Image.{capped, book-in}
+use Rattle.book.specs.Image.{capped, program-in}
 use mathlib.Core.Path.{_∙_, ap}
 use borrow.Author.Needs.{needs}
 use Rattle.image.proofs.elements.Statement.{statement}
@@ -19,7 +19,7 @@ cap-requires c κs = search needs
 
 -- src/lib.rt:109:1
 returns : tie.Need-returns
-unfolding book-in
+unfolding program-in
 returns c = c .cap .ensures .0 ∙ rw (c .before .fetch .ensures)
 
 pub elements-spec : {M : Type 1} → statement M

@@ -38,15 +38,15 @@ cast-result c = search needs
 
 -- src/lib.rt:239:18
 mul-result : tie.Need-mul-result
-mul-result c = let a = c .before .before .before .before .before .before .before .before .args in let b : c .before .before .before .before .before .before .elements .result ≤ 10000 = rw (c .before .before .before .before .before .before .elements .ensures) (elements-most (a .image .now) []) in omega (arith, mul-le-mul-left (a .x) b)
+mul-result c = let a = c .before .before .before .before .before .before .before .before .args in let b : c .before .before .before .before .before .before .elements .result ≤ 10000 = rw (c .before .before .before .before .before .before .elements .ensures) (elements-most (a .image .now)) in omega (arith, mul-le-mul-left (a .x) b)
 
 -- src/lib.rt:239:18
 add-result-3 : tie.Need-add-result-3
-add-result-3 c = let a = c .before .before .before .before .before .before .before .before .args in let b : c .before .before .before .before .before .before .elements .result ≤ 10000 = rw (c .before .before .before .before .before .before .elements .ensures) (elements-most (a .image .now) []) in omega (arith, mul-le-mul-left (a .x) b)
+add-result-3 c = let a = c .before .before .before .before .before .before .before .before .args in let b : c .before .before .before .before .before .before .elements .result ≤ 10000 = rw (c .before .before .before .before .before .before .elements .ensures) (elements-most (a .image .now)) in omega (arith, mul-le-mul-left (a .x) b)
 
 -- src/lib.rt:239:9
 add-result-4 : tie.Need-add-result-4
-add-result-4 c = let a = c .before .before .before .before .before .before .before .before .args in let b : c .before .before .before .before .before .before .elements .result ≤ 10000 = rw (c .before .before .before .before .before .before .elements .ensures) (elements-most (a .image .now) []) in omega (arith, mul-le-mul-left (a .x) b)
+add-result-4 c = let a = c .before .before .before .before .before .before .before .before .args in let b : c .before .before .before .before .before .before .elements .result ≤ 10000 = rw (c .before .before .before .before .before .before .elements .ensures) (elements-most (a .image .now)) in omega (arith, mul-le-mul-left (a .x) b)
 
 -- src/lib.rt:228:1
 returns : tie.Need-returns
@@ -58,7 +58,7 @@ returns-2 c = (rw (← c .before .before .before .before .before .function-at .e
 
 -- src/lib.rt:228:1
 returns-3 : tie.Need-returns-3
-returns-3 c = let a = c .before .before .before .before .before .before .before .before .args in let b : c .before .before .before .before .before .before .elements .result ≤ 10000 = rw (c .before .before .before .before .before .before .elements .ensures) (elements-most (a .image .now) []) in (rw (← c .before .before .before .before .before .function-at .ensures, ne-eqb _ _ (c .before .before .if1 .left), ne-eqb _ _ (c .if2 .left), ← c .before .before .before .before .before .before .elements .ensures), omega (arith, mul-le-mul-left (a .x) b))
+returns-3 c = let a = c .before .before .before .before .before .before .before .before .args in let b : c .before .before .before .before .before .before .elements .result ≤ 10000 = rw (c .before .before .before .before .before .before .elements .ensures) (elements-most (a .image .now)) in (rw (← c .before .before .before .before .before .function-at .ensures, ne-eqb _ _ (c .before .before .if1 .left), ne-eqb _ _ (c .if2 .left), ← c .before .before .before .before .before .before .elements .ensures), omega (arith, mul-le-mul-left (a .x) b))
 
 pub location-spec : {M : Type 1} → statement M
 location-spec =

@@ -29,11 +29,11 @@ row-requires c κs = search needs
 
 -- src/lib.rt:165:1
 returns : tie.Need-returns
-returns c = let a = c .before .before .before .before .before .args in rw (c .row .ensures) (sym (node-inside (a .image .now) [] (a .n) (rw (← c .before .before .before .fetch .ensures, ← c .before .before .cap .ensures .0) (c .before .if1 .taken))))
+returns c = let a = c .before .before .before .before .before .args in rw (c .row .ensures) (sym (node-inside (a .image .now) (a .n) (rw (← c .before .before .before .fetch .ensures, ← c .before .before .cap .ensures .0) (c .before .if1 .taken))))
 
 -- src/lib.rt:165:1
 returns-2 : tie.Need-returns-2
-returns-2 c = let a = c .before .before .before .before .args in sym (node-past (a .image .now) [] (a .n) (rw (← c .before .before .fetch .ensures, ← c .before .cap .ensures .0) (c .if1 .left)))
+returns-2 c = let a = c .before .before .before .before .args in sym (node-past (a .image .now) (a .n) (rw (← c .before .before .fetch .ensures, ← c .before .cap .ensures .0) (c .if1 .left)))
 
 pub node-at-spec : {M : Type 1} → statement M
 node-at-spec =

@@ -1,4 +1,4 @@
-use Rattle.book.specs.Image.{book-in}
+use Rattle.book.specs.Image.{program-in}
 use borrow.Author.Needs.{needs}
 use Rattle.image.proofs.permanent.Statement.{statement}
 use Rattle.image.proofs.permanent.Tie as tie
@@ -12,7 +12,7 @@ fetch-requires c κs = search needs
 
 -- src/lib.rt:116:1
 returns : tie.Need-returns
-unfolding book-in
+unfolding program-in
 returns c = c .fetch .ensures
 
 pub permanent-spec : {M : Type 1} → statement M

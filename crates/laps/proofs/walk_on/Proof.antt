@@ -38,7 +38,7 @@ same-length-2 : tie.Need-same-length-2
 same-length-2 c = search needs
 
 returns-2 : tie.Need-returns-2
-returns-2 c = let a = c .before .before .before .before .before .before .before .before .before .args in let o = c .before .check-order in (λ bk B lg to. lap-ends bk (a .log .now) (a .image .now) B lg (a .moves) (a .t7) (a .i) (a .contents .now) (a .readers .now) (a .writers .now) to (c .before .before .before .before .if1 .left) (o .result) (λ s d k. o .ensures B lg s d (to .passed .moves) (to .passed .rows) k) (c .ended .result) (c .ended .ensures .0) (c .ended .ensures .1) (a .work .now), (λ e. refl, omega (arith, c .ended .ensures .2)))
+returns-2 c = let a = c .before .before .before .before .before .before .before .before .before .args in let o = c .before .check-order in (λ bk B lg to. lap-ends bk (a .log .now) (a .image .now) B lg (a .moves) (a .t7) (a .i) (a .contents .now) (a .readers .now) (a .writers .now) to (c .before .before .before .before .if1 .left) (o .result) (λ s d k. o .ensures (B .program) lg s d (to .passed .moves) (to .passed .rows) k) (c .ended .result) (c .ended .ensures .0) (c .ended .ensures .1) (a .work .now), (λ e. refl, omega (arith, c .ended .ensures .2)))
 
 pub walk-on-spec : {M : Type 1} → statement M
 walk-on-spec =

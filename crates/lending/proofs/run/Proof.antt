@@ -127,8 +127,8 @@ module _ {M : Type 1} (𝓤 : URA M) (H : Heap 𝓤) (A : Atoms 𝓤) (W : Given
   abbrev Post : Val → SProp 𝓤
   Post = walkOf 𝓤 H A alone.ended stayed (alone.clauses 𝓤 H A mem run) .post ((κs, qs, tt, a, vals), tt)
 
-  abbrev Book : Fml
-  Book = ShrSlice (named 0) κ₀ u8 .own xb (sb ∷ [])
+  abbrev Program : Fml
+  Program = ShrSlice (named 0) κ₀ u8 .own xb (sb ∷ [])
 
   abbrev Log′ : Fml
   Log′ = ShrSlice (named 1) κ₁ u8 .own xg (sg ∷ [])
@@ -141,9 +141,9 @@ module _ {M : Type 1} (𝓤 : URA M) (H : Heap 𝓤) (A : Atoms 𝓤) (W : Given
   Said ys r cs rs ws zs = (answered r cs rs ws ≡ log-call (xb .now) (xg .now) lent (length ys)) × (zs ≡ all-written (call-lists (xb .now) (xg .now) lent (length ys)) ys) × Demand3 (xb .now) (xg .now) lent (length ys)
 
   exits : (ys : List Record) (r : Answer) (w : Val) → Is N.the-row r (w ∷ []) → (cs rs ws : List ℕ) (zs : List Record) → Said ys r cs rs ws zs → length ys ≡ min n 256 → length cs ≡ length (xc .now) → length rs ≡ length (xr .now) → length ws ≡ length (xw .now)
-      → ent 𝓤 (⋆ 𝓤 H A (‵ (flft κ₀ q₀) ∷ ‵ (flft κ₁ q₁) ∷ ‵ (flft κ₂ q₂) ∷ ‵ (flft κ₃ q₃) ∷ ‵ (flft κ₄ q₄) ∷ ‵ Book ∷ ‵ Log′ ∷ ‵ (finally u16 (xc .name) cs) ∷ ‵ (finally u64 (xr .name) rs) ∷ ‵ (finally u64 (xw .name) ws) ∷ [])) (Post w)
+      → ent 𝓤 (⋆ 𝓤 H A (‵ (flft κ₀ q₀) ∷ ‵ (flft κ₁ q₁) ∷ ‵ (flft κ₂ q₂) ∷ ‵ (flft κ₃ q₃) ∷ ‵ (flft κ₄ q₄) ∷ ‵ Program ∷ ‵ Log′ ∷ ‵ (finally u16 (xc .name) cs) ∷ ‵ (finally u64 (xr .name) rs) ∷ ‵ (finally u64 (xw .name) ws) ∷ [])) (Post w)
   exits ys r w is cs rs ws zs said l lc lr lw =
-      qed W (‵ (flft κ₀ q₀) ∷ ‵ (flft κ₁ q₁) ∷ ‵ (flft κ₂ q₂) ∷ ‵ (flft κ₃ q₃) ∷ ‵ (flft κ₄ q₄) ∷ ‵ Book ∷ ‵ Log′ ∷ ‵ (finally u16 (xc .name) cs) ∷ ‵ (finally u64 (xr .name) rs) ∷ ‵ (finally u64 (xw .name) ws) ∷ []) ∵
+      qed W (‵ (flft κ₀ q₀) ∷ ‵ (flft κ₁ q₁) ∷ ‵ (flft κ₂ q₂) ∷ ‵ (flft κ₃ q₃) ∷ ‵ (flft κ₄ q₄) ∷ ‵ Program ∷ ‵ Log′ ∷ ‵ (finally u16 (xc .name) cs) ∷ ‵ (finally u64 (xr .name) rs) ∷ ‵ (finally u64 (xw .name) ws) ∷ []) ∵
       suffices ! _ (ends-at 𝓤 H A alone.ended stayed (alone.clauses 𝓤 H A mem run) W ((κs, qs, tt, a, vals), tt) w r (tt, (tt, (cs, (rs, (ws, (tt, tt)))))) (tt, (tt, (lc, (lr, (lw, (tt, tt))))))) $
       says ! (said .0 ∙ ap (λ (m : ℕ). log-call (xb .now) (xg .now) lent m) l ∙ call-longer (xb .now) (xg .now) lent n, demand3 (xb .now) (xg .now) lent n) $
       nothing ! $ move ! (5 ∷ 0 ∷ []) $ join ! $ move ! (4 ∷ 0 ∷ []) $ join ! $ move ! (3 ∷ 0 ∷ []) $ join ! $ move ! (2 ∷ 0 ∷ []) $ join ! $ move ! (1 ∷ 0 ∷ []) $ join ! $ frame ! $
@@ -226,7 +226,7 @@ module _ {M : Type 1} (𝓤 : URA M) (H : Heap 𝓤) (A : Atoms 𝓤) (W : Given
         -- the first m records are lent, and `run` is called
         lft-new ! tt (λ ν. move ! (11 ∷ []) $ use1 W (later (some (λ (γ : GName). ‵ (MutSlice (named 5) (ν ∷ []) T.the-row .own (ref-at T.the-row l₈ 0 γ (take m ys)) (sliceVal (l₈, 0) (length (take m ys)) ∷ [])) ⊛ ‵ (LentPart T.the-row l₈ 0 (ν ∷ []) m ys γ)))) (lend-part T.the-row l₈ 0 𝓤 H A W (ν ∷ []) ys m (named 5) (room-first ys m l256 few)) $ await ! tt $ pick ! (λ γ. split ! $
         rewrite ! 0 (λ (k : ℕ). ‵ (MutSlice (named 5) (ν ∷ []) T.the-row .own (ref-at T.the-row l₈ 0 γ (take m ys)) (sliceVal (l₈, 0) k ∷ []))) (first-ones ys m l256 few) refl $
-        move ! (7 ∷ []) $ use1 W (‵ Book ⊛ ‵ Book) (shr-slice-copy 𝓤 H A W (named 0) κ₀ u8 .twice xb (sb ∷ [])) $ split ! $
+        move ! (7 ∷ []) $ use1 W (‵ Program ⊛ ‵ Program) (shr-slice-copy 𝓤 H A W (named 0) κ₀ u8 .twice xb (sb ∷ [])) $ split ! $
         move ! (8 ∷ []) $ use1 W (‵ Log′ ⊛ ‵ Log′) (shr-slice-copy 𝓤 H A W (named 1) κ₁ u8 .twice xg (sg ∷ [])) $ split ! $
         nothing ! $ move ! (7 ∷ 0 ∷ []) $ join ! $ move ! (10 ∷ 0 ∷ []) $ join ! $ move ! (10 ∷ 0 ∷ []) $ join ! $ move ! (10 ∷ 0 ∷ []) $ join ! $ move ! (10 ∷ 0 ∷ []) $ join ! $ move ! (10 ∷ 0 ∷ []) $ join ! $ nothing ! $ move ! (6 ∷ 0 ∷ []) $ fjoin ! $ move ! (7 ∷ 0 ∷ []) $ fjoin ! $ move ! (7 ∷ 0 ∷ []) $ fjoin ! $ move ! (7 ∷ 0 ∷ []) $ fjoin ! $ move ! (3 ∷ 0 ∷ []) $ fjoin ! $ move ! (4 ∷ 0 ∷ []) $ fjoin ! $
         move ! (1 ∷ 0 ∷ []) $ use2 W (raw (Run 𝓤 H A mem run .pre (to-run ν γ l₈ m (take m ys)))) (asked-run ν γ l₈ m (take m ys)) $

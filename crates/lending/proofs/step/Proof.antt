@@ -115,18 +115,18 @@ module _ {M : Type 1} (𝓤 : URA M) (H : Heap 𝓤) (A : Atoms 𝓤) (W : Given
   abbrev Post : Val → SProp 𝓤
   Post = walkOf 𝓤 H A alone.ended stayed (alone.clauses 𝓤 H A mem run) .post ((κs, qs, tt, a, vals), tt)
 
-  abbrev Book : Fml
-  Book = ShrSlice (named 0) κ₀ u8 .own xb (sb ∷ [])
+  abbrev Program : Fml
+  Program = ShrSlice (named 0) κ₀ u8 .own xb (sb ∷ [])
 
   -- what `lent_step::step` says
   abbrev Said : List Record → Answer → List ℕ → List Record → Type 0
   Said ys r cs zs = (r ≡ step-call (xb .now) (xc .now) k (length ys) .answer) × (cs ≡ step-call (xb .now) (xc .now) k (length ys) .contents) × (zs ≡ written (step-call (xb .now) (xc .now) k (length ys) .instructions) ys)
 
   exits : (ys : List Record) (r : Answer) (w : Val) → Is N.the-row r (w ∷ []) → (cs : List ℕ) (zs : List Record) → Said ys r cs zs → length ys ≡ min n 256 → length cs ≡ length (xc .now)
-      → ent 𝓤 (⋆ 𝓤 H A (‵ (flft κ₀ q₀) ∷ ‵ (flft κ₁ q₁) ∷ ‵ Book ∷ ‵ (finally u16 (xc .name) cs) ∷ [])) (Post w)
+      → ent 𝓤 (⋆ 𝓤 H A (‵ (flft κ₀ q₀) ∷ ‵ (flft κ₁ q₁) ∷ ‵ Program ∷ ‵ (finally u16 (xc .name) cs) ∷ [])) (Post w)
   exits ys r w is cs zs said l lc =
       let same = ap (λ (m : ℕ). step-call (xb .now) (xc .now) k m) l ∙ step-longer (xb .now) (xc .now) k n in
-      qed W (‵ (flft κ₀ q₀) ∷ ‵ (flft κ₁ q₁) ∷ ‵ Book ∷ ‵ (finally u16 (xc .name) cs) ∷ []) ∵
+      qed W (‵ (flft κ₀ q₀) ∷ ‵ (flft κ₁ q₁) ∷ ‵ Program ∷ ‵ (finally u16 (xc .name) cs) ∷ []) ∵
       suffices ! _ (ends-at 𝓤 H A alone.ended stayed (alone.clauses 𝓤 H A mem run) W ((κs, qs, tt, a, vals), tt) w r (tt, (cs, (tt, (tt, tt)))) (tt, (lc, (tt, (tt, tt))))) $
       says ! (said .0 ∙ ap (λ (s : Stepped). s .answer) same, said .1 ∙ ap (λ (s : Stepped). s .contents) same) $
       nothing ! $ move ! (2 ∷ 0 ∷ []) $ join ! $ move ! (1 ∷ 0 ∷ []) $ join ! $ frame ! $
@@ -205,7 +205,7 @@ module _ {M : Type 1} (𝓤 : URA M) (H : Heap 𝓤) (A : Atoms 𝓤) (W : Given
         -- the first m records are lent, and `step` is called
         lft-new ! tt (λ ν. move ! (5 ∷ []) $ use1 W (later (some (λ (γ : GName). ‵ (MutSlice (named 2) (ν ∷ []) T.the-row .own (ref-at T.the-row l₆ 0 γ (take m ys)) (sliceVal (l₆, 0) (length (take m ys)) ∷ [])) ⊛ ‵ (LentPart T.the-row l₆ 0 (ν ∷ []) m ys γ)))) (lend-part T.the-row l₆ 0 𝓤 H A W (ν ∷ []) ys m (named 2) (room-first ys m l256 few)) $ await ! tt $ pick ! (λ γ. split ! $
         rewrite ! 0 (λ (k : ℕ). ‵ (MutSlice (named 2) (ν ∷ []) T.the-row .own (ref-at T.the-row l₆ 0 γ (take m ys)) (sliceVal (l₆, 0) k ∷ []))) (first-ones ys m l256 few) refl $
-        move ! (4 ∷ []) $ use1 W (‵ Book ⊛ ‵ Book) (shr-slice-copy 𝓤 H A W (named 0) κ₀ u8 .twice xb (sb ∷ [])) $ split ! $
+        move ! (4 ∷ []) $ use1 W (‵ Program ⊛ ‵ Program) (shr-slice-copy 𝓤 H A W (named 0) κ₀ u8 .twice xb (sb ∷ [])) $ split ! $
         nothing ! $ move ! (5 ∷ 0 ∷ []) $ join ! $ move ! (6 ∷ 0 ∷ []) $ join ! $ move ! (6 ∷ 0 ∷ []) $ join ! $ nothing ! $ move ! (4 ∷ 0 ∷ []) $ fjoin ! $ owned ! usize (Is usize) (uint-makes 𝓤 H A W w64) k _ (refl, k-fits) $ fjoin ! $ move ! (5 ∷ 0 ∷ []) $ fjoin ! $ move ! (2 ∷ 0 ∷ []) $ fjoin ! $
         move ! (1 ∷ 0 ∷ []) $ use2 W (raw (Step 𝓤 H A mem run .pre (to-step ν γ l₆ m (take m ys)))) (asked-step ν γ l₆ m (take m ys)) $
         calls-at ! fm (Step 𝓤 H A mem run) known-step (to-step ν γ l₆ m (take m ys)) (and-then ! (load ! (from ! (stop !)) (look ! 22 refl)) (and-then ! (load ! (from ! (stop !)) (look ! 7 refl)) (and-then ! (load ! (from ! (stop !)) (look ! 18 refl)) (and-then ! (load ! (from ! (stop !)) (look ! 3 refl)) (no-more !))))) (λ w₁.

@@ -218,8 +218,8 @@ module _ {M : Type 1} (𝓤 : URA M) (H : Heap 𝓤) (A : Atoms 𝓤) (W : Given
   abbrev Post : Val → SProp 𝓤
   Post = walkOf 𝓤 H A run′.ended stayed (run′.clauses 𝓤 H A mem run) .post ((κs, qs, tt, a, vals), tt)
 
-  abbrev Book : Fml
-  Book = ShrSlice (named 0) κ₀ u8 .own xb (sb ∷ [])
+  abbrev Program : Fml
+  Program = ShrSlice (named 0) κ₀ u8 .own xb (sb ∷ [])
 
   abbrev Log′ : Fml
   Log′ = ShrSlice (named 1) κ₁ u8 .own xg (sg ∷ [])
@@ -235,11 +235,11 @@ module _ {M : Type 1} (𝓤 : URA M) (H : Heap 𝓤) (A : Atoms 𝓤) (W : Given
   answer-val s = LL.tuple-val N.the-type N′.the-laws (N.the-type .to (s .t .answer))
 
   exits : (s : Now) → Fine [] s
-      → ent 𝓤 (⋆ 𝓤 H A (‵ (flft κ₀ q₀) ∷ ‵ (flft κ₁ q₁) ∷ ‵ (flft κ₂ q₂) ∷ ‵ (flft κ₃ q₃) ∷ ‵ (flft κ₄ q₄) ∷ ‵ (flft κ₅ q₅) ∷ ‵ Book ∷ ‵ Log′
+      → ent 𝓤 (⋆ 𝓤 H A (‵ (flft κ₀ q₀) ∷ ‵ (flft κ₁ q₁) ∷ ‵ (flft κ₂ q₂) ∷ ‵ (flft κ₃ q₃) ∷ ‵ (flft κ₄ q₄) ∷ ‵ (flft κ₅ q₅) ∷ ‵ Program ∷ ‵ Log′
       ∷ ‵ (fobs δ₂ (codedHoleys u16 .code (heres u16 (s .cs)))) ∷ ‵ (fbor κ₂ (Held u16 (length (s .cs)) b₂ o₂ δ₂)) ∷ ‵ (fobs δ₃ (codedHoleys u64 .code (heres u64 (s .rs)))) ∷ ‵ (fbor κ₃ (Held u64 (length (s .rs)) b₃ o₃ δ₃))
       ∷ ‵ (fobs δ₄ (codedHoleys u64 .code (heres u64 (s .ws)))) ∷ ‵ (fbor κ₄ (Held u64 (length (s .ws)) b₄ o₄ δ₄)) ∷ ‵ (fobs δ₅ (codedHoleys T.the-row .code (heres T.the-row (s .zs)))) ∷ ‵ (fbor κ₅ (Held T.the-row (length (s .zs)) b₅ o₅ δ₅)) ∷ [])) (Post (answer-val s))
   exits s good =
-      qed W (‵ (flft κ₀ q₀) ∷ ‵ (flft κ₁ q₁) ∷ ‵ (flft κ₂ q₂) ∷ ‵ (flft κ₃ q₃) ∷ ‵ (flft κ₄ q₄) ∷ ‵ (flft κ₅ q₅) ∷ ‵ Book ∷ ‵ Log′
+      qed W (‵ (flft κ₀ q₀) ∷ ‵ (flft κ₁ q₁) ∷ ‵ (flft κ₂ q₂) ∷ ‵ (flft κ₃ q₃) ∷ ‵ (flft κ₄ q₄) ∷ ‵ (flft κ₅ q₅) ∷ ‵ Program ∷ ‵ Log′
       ∷ ‵ (fobs δ₂ (codedHoleys u16 .code (heres u16 (s .cs)))) ∷ ‵ (fbor κ₂ (Held u16 (length (s .cs)) b₂ o₂ δ₂)) ∷ ‵ (fobs δ₃ (codedHoleys u64 .code (heres u64 (s .rs)))) ∷ ‵ (fbor κ₃ (Held u64 (length (s .rs)) b₃ o₃ δ₃))
       ∷ ‵ (fobs δ₄ (codedHoleys u64 .code (heres u64 (s .ws)))) ∷ ‵ (fbor κ₄ (Held u64 (length (s .ws)) b₄ o₄ δ₄)) ∷ ‵ (fobs δ₅ (codedHoleys T.the-row .code (heres T.the-row (s .zs)))) ∷ ‵ (fbor κ₅ (Held T.the-row (length (s .zs)) b₅ o₅ δ₅)) ∷ []) ∵
       suffices ! _ (ends-at 𝓤 H A run′.ended stayed (run′.clauses 𝓤 H A mem run) W ((κs, qs, tt, a, vals), tt) (answer-val s) (s .t .answer) (tt, (tt, (s .cs, (s .rs, (s .ws, (s .zs, tt)))))) (tt, (tt, (good .contents, (good .readers, (good .writers, (good .records, tt))))))) $
@@ -332,7 +332,7 @@ module _ {M : Type 1} (𝓤 : URA M) (H : Heap 𝓤) (A : Atoms 𝓤) (W : Given
 
     -- what no turn changes
     abbrev Frame : List (Item 𝓤)
-    Frame = ‵ (fat fullShare (sliceTy (tyRef (named 0) imm (tyInt w8))) l₁ 0 sb) ∷ ‵ (fat fullShare (sliceTy (tyRef (named 1) imm (tyInt w8))) l₂ 0 sg) ∷ ‵ (fat fullShare (sliceTy (tyRef (named 2) mut (tyInt w16))) l₃ 0 sc) ∷ ‵ (fat fullShare (sliceTy (tyRef (named 3) mut (tyInt w64))) l₄ 0 sr) ∷ ‵ (fat fullShare (sliceTy (tyRef (named 4) mut (tyInt w64))) l₅ 0 sw) ∷ ‵ (fat fullShare (sliceTy (tyRef (named 5) mut (pointee (T.the-row .written)))) l₆ 0 sl) ∷ ‵ (fat fullShare (tyInt w64) l₇ 0 (vint w64 n)) ∷ ‵ (froom N′.mir l₀ 0) ∷ ‵ (froom (tyRef erased mut (tyInt w16)) l₁₂ 0) ∷ ‵ (froom (sliceTy (tyRef erased mut (tyInt w16))) l₁₃ 0) ∷ ‵ (froom (tyRef erased mut (tyInt w64)) l₁₄ 0) ∷ ‵ (froom (sliceTy (tyRef erased mut (tyInt w64))) l₁₅ 0) ∷ ‵ (froom (tyRef erased mut (tyInt w64)) l₁₆ 0) ∷ ‵ (froom (sliceTy (tyRef erased mut (tyInt w64))) l₁₇ 0) ∷ ‵ (froom (tyRef erased mut (tyArray (tyInt w16) 4296)) l₁₈ 0) ∷ ‵ (froom (tyRef erased mut (tyArray (tyInt w64) 256)) l₁₉ 0) ∷ ‵ (fsep (fobor κ₂ q₂ (Held u16 (length C) b₂ o₂ δ₂)) (fsep (fobs δ₂ (codedHoleys u16 .code (heres u16 C))) (fauth δ₂ (codedHoleys u16 .code (heres u16 C))))) ∷ ‵ (fsep (fobor κ₃ q₃ (Held u64 (length R) b₃ o₃ δ₃)) (fsep (fobs δ₃ (codedHoleys u64 .code (heres u64 R))) (fauth δ₃ (codedHoleys u64 .code (heres u64 R))))) ∷ ‵ (fsep (fobor κ₄ q₄ (Held u64 (length D) b₄ o₄ δ₄)) (fsep (fobs δ₄ (codedHoleys u64 .code (heres u64 D))) (fauth δ₄ (codedHoleys u64 .code (heres u64 D))))) ∷ ‵ (fsep (fobor κ₅ q₅ (Held T.the-row (length Y) b₅ o₅ δ₅)) (fsep (fobs δ₅ (codedHoleys T.the-row .code (heres T.the-row Y))) (fauth δ₅ (codedHoleys T.the-row .code (heres T.the-row Y))))) ∷ ‵ (flft κ₀ q₀) ∷ ‵ (flft κ₁ q₁) ∷ ‵ Book ∷ ‵ Log′ ∷ ‵ (fdies N′.mir l₀) ∷ ‵ (fdies (sliceTy (tyRef (named 0) imm (tyInt w8))) l₁) ∷ ‵ (fdies (sliceTy (tyRef (named 1) imm (tyInt w8))) l₂) ∷ ‵ (fdies (sliceTy (tyRef (named 2) mut (tyInt w16))) l₃) ∷ ‵ (fdies (sliceTy (tyRef (named 3) mut (tyInt w64))) l₄) ∷ ‵ (fdies (sliceTy (tyRef (named 4) mut (tyInt w64))) l₅) ∷ ‵ (fdies (sliceTy (tyRef (named 5) mut (pointee (T.the-row .written)))) l₆) ∷ ‵ (fdies (tyInt w64) l₇) ∷ ‵ (fdies (tyArray (tyInt w16) 4296) l₈) ∷ ‵ (fdies (tyArray (tyInt w64) 256) l₉) ∷ ‵ (fdies G′.mir l₁₀) ∷ ‵ (fdies (tyInt w64) l₁₁) ∷ ‵ (fdies (tyRef erased mut (tyInt w16)) l₁₂) ∷ ‵ (fdies (sliceTy (tyRef erased mut (tyInt w16))) l₁₃) ∷ ‵ (fdies (tyRef erased mut (tyInt w64)) l₁₄) ∷ ‵ (fdies (sliceTy (tyRef erased mut (tyInt w64))) l₁₅) ∷ ‵ (fdies (tyRef erased mut (tyInt w64)) l₁₆) ∷ ‵ (fdies (sliceTy (tyRef erased mut (tyInt w64))) l₁₇) ∷ ‵ (fdies (tyRef erased mut (tyArray (tyInt w16) 4296)) l₁₈) ∷ ‵ (fdies (tyRef erased mut (tyArray (tyInt w64) 256)) l₁₉) ∷ ‵ (fdies tyBool l₂₀) ∷ ‵ (fdies tyUnit l₂₁) ∷ ‵ (fdies (tyRef erased mut (pointee (T.the-row .written))) l₂₂) ∷ ‵ (fdies (sliceTy (tyRef erased mut (pointee (T.the-row .written)))) l₂₃) ∷ ‵ (fdies (tyRef erased mut (tyArray (tyInt w64) 256)) l₂₄) ∷ ‵ (fdies (sliceTy (tyRef erased mut (tyInt w64))) l₂₅) ∷ ‵ (fdies (tyRef erased mut (tyInt w16)) l₂₆) ∷ ‵ (fdies (sliceTy (tyRef erased mut (tyInt w16))) l₂₇) ∷ ‵ (fdies (tyRef erased mut (tyInt w64)) l₂₈) ∷ ‵ (fdies (sliceTy (tyRef erased mut (tyInt w64))) l₂₉) ∷ ‵ (fdies (tyRef erased mut (tyInt w64)) l₃₀) ∷ ‵ (fdies (sliceTy (tyRef erased mut (tyInt w64))) l₃₁) ∷ ‵ (fdies (tyRef erased imm (tyArray (tyInt w16) 4296)) l₃₂) ∷ ‵ (fdies (tyRef erased mut (tyArray (tyInt w64) 256)) l₃₃) ∷ []
+    Frame = ‵ (fat fullShare (sliceTy (tyRef (named 0) imm (tyInt w8))) l₁ 0 sb) ∷ ‵ (fat fullShare (sliceTy (tyRef (named 1) imm (tyInt w8))) l₂ 0 sg) ∷ ‵ (fat fullShare (sliceTy (tyRef (named 2) mut (tyInt w16))) l₃ 0 sc) ∷ ‵ (fat fullShare (sliceTy (tyRef (named 3) mut (tyInt w64))) l₄ 0 sr) ∷ ‵ (fat fullShare (sliceTy (tyRef (named 4) mut (tyInt w64))) l₅ 0 sw) ∷ ‵ (fat fullShare (sliceTy (tyRef (named 5) mut (pointee (T.the-row .written)))) l₆ 0 sl) ∷ ‵ (fat fullShare (tyInt w64) l₇ 0 (vint w64 n)) ∷ ‵ (froom N′.mir l₀ 0) ∷ ‵ (froom (tyRef erased mut (tyInt w16)) l₁₂ 0) ∷ ‵ (froom (sliceTy (tyRef erased mut (tyInt w16))) l₁₃ 0) ∷ ‵ (froom (tyRef erased mut (tyInt w64)) l₁₄ 0) ∷ ‵ (froom (sliceTy (tyRef erased mut (tyInt w64))) l₁₅ 0) ∷ ‵ (froom (tyRef erased mut (tyInt w64)) l₁₆ 0) ∷ ‵ (froom (sliceTy (tyRef erased mut (tyInt w64))) l₁₇ 0) ∷ ‵ (froom (tyRef erased mut (tyArray (tyInt w16) 4296)) l₁₈ 0) ∷ ‵ (froom (tyRef erased mut (tyArray (tyInt w64) 256)) l₁₉ 0) ∷ ‵ (fsep (fobor κ₂ q₂ (Held u16 (length C) b₂ o₂ δ₂)) (fsep (fobs δ₂ (codedHoleys u16 .code (heres u16 C))) (fauth δ₂ (codedHoleys u16 .code (heres u16 C))))) ∷ ‵ (fsep (fobor κ₃ q₃ (Held u64 (length R) b₃ o₃ δ₃)) (fsep (fobs δ₃ (codedHoleys u64 .code (heres u64 R))) (fauth δ₃ (codedHoleys u64 .code (heres u64 R))))) ∷ ‵ (fsep (fobor κ₄ q₄ (Held u64 (length D) b₄ o₄ δ₄)) (fsep (fobs δ₄ (codedHoleys u64 .code (heres u64 D))) (fauth δ₄ (codedHoleys u64 .code (heres u64 D))))) ∷ ‵ (fsep (fobor κ₅ q₅ (Held T.the-row (length Y) b₅ o₅ δ₅)) (fsep (fobs δ₅ (codedHoleys T.the-row .code (heres T.the-row Y))) (fauth δ₅ (codedHoleys T.the-row .code (heres T.the-row Y))))) ∷ ‵ (flft κ₀ q₀) ∷ ‵ (flft κ₁ q₁) ∷ ‵ Program ∷ ‵ Log′ ∷ ‵ (fdies N′.mir l₀) ∷ ‵ (fdies (sliceTy (tyRef (named 0) imm (tyInt w8))) l₁) ∷ ‵ (fdies (sliceTy (tyRef (named 1) imm (tyInt w8))) l₂) ∷ ‵ (fdies (sliceTy (tyRef (named 2) mut (tyInt w16))) l₃) ∷ ‵ (fdies (sliceTy (tyRef (named 3) mut (tyInt w64))) l₄) ∷ ‵ (fdies (sliceTy (tyRef (named 4) mut (tyInt w64))) l₅) ∷ ‵ (fdies (sliceTy (tyRef (named 5) mut (pointee (T.the-row .written)))) l₆) ∷ ‵ (fdies (tyInt w64) l₇) ∷ ‵ (fdies (tyArray (tyInt w16) 4296) l₈) ∷ ‵ (fdies (tyArray (tyInt w64) 256) l₉) ∷ ‵ (fdies G′.mir l₁₀) ∷ ‵ (fdies (tyInt w64) l₁₁) ∷ ‵ (fdies (tyRef erased mut (tyInt w16)) l₁₂) ∷ ‵ (fdies (sliceTy (tyRef erased mut (tyInt w16))) l₁₃) ∷ ‵ (fdies (tyRef erased mut (tyInt w64)) l₁₄) ∷ ‵ (fdies (sliceTy (tyRef erased mut (tyInt w64))) l₁₅) ∷ ‵ (fdies (tyRef erased mut (tyInt w64)) l₁₆) ∷ ‵ (fdies (sliceTy (tyRef erased mut (tyInt w64))) l₁₇) ∷ ‵ (fdies (tyRef erased mut (tyArray (tyInt w16) 4296)) l₁₈) ∷ ‵ (fdies (tyRef erased mut (tyArray (tyInt w64) 256)) l₁₉) ∷ ‵ (fdies tyBool l₂₀) ∷ ‵ (fdies tyUnit l₂₁) ∷ ‵ (fdies (tyRef erased mut (pointee (T.the-row .written))) l₂₂) ∷ ‵ (fdies (sliceTy (tyRef erased mut (pointee (T.the-row .written)))) l₂₃) ∷ ‵ (fdies (tyRef erased mut (tyArray (tyInt w64) 256)) l₂₄) ∷ ‵ (fdies (sliceTy (tyRef erased mut (tyInt w64))) l₂₅) ∷ ‵ (fdies (tyRef erased mut (tyInt w16)) l₂₆) ∷ ‵ (fdies (sliceTy (tyRef erased mut (tyInt w16))) l₂₇) ∷ ‵ (fdies (tyRef erased mut (tyInt w64)) l₂₈) ∷ ‵ (fdies (sliceTy (tyRef erased mut (tyInt w64))) l₂₉) ∷ ‵ (fdies (tyRef erased mut (tyInt w64)) l₃₀) ∷ ‵ (fdies (sliceTy (tyRef erased mut (tyInt w64))) l₃₁) ∷ ‵ (fdies (tyRef erased imm (tyArray (tyInt w16) 4296)) l₃₂) ∷ ‵ (fdies (tyRef erased mut (tyArray (tyInt w64) 256)) l₃₃) ∷ []
 
     abbrev At : Now → List (Item 𝓤)
     At s = ‵ (row u16 fullShare (s .cs) b₂ o₂) ∷ ‵ (row u64 fullShare (s .rs) b₃ o₃) ∷ ‵ (row u64 fullShare (s .ws) b₄ o₄) ∷ ‵ (row T.the-row fullShare (s .zs) b₅ o₅) ∷ ‵ (partAt (Array (UInt w16) 4296) fullShare (s .mi) l₈ 0) ∷ ‵ (partAt (Array (UInt w64) 256) fullShare (s .us) l₉ 0) ∷ ‵ (fat fullShare G′.mir l₁₀ 0 (mach (s .t))) ∷ ‵ (froom (tyInt w64) l₁₁ 0) ∷ ‵ (froom tyBool l₂₀ 0) ∷ ‵ (froom tyUnit l₂₁ 0) ∷ ‵ (froom (tyRef erased mut (pointee (T.the-row .written))) l₂₂ 0) ∷ ‵ (froom (sliceTy (tyRef erased mut (pointee (T.the-row .written)))) l₂₃ 0) ∷ ‵ (froom (tyRef erased mut (tyArray (tyInt w64) 256)) l₂₄ 0) ∷ ‵ (froom (sliceTy (tyRef erased mut (tyInt w64))) l₂₅ 0) ∷ ‵ (froom (tyRef erased mut (tyInt w16)) l₂₆ 0) ∷ ‵ (froom (sliceTy (tyRef erased mut (tyInt w16))) l₂₇ 0) ∷ ‵ (froom (tyRef erased mut (tyInt w64)) l₂₈ 0) ∷ ‵ (froom (sliceTy (tyRef erased mut (tyInt w64))) l₂₉ 0) ∷ ‵ (froom (tyRef erased mut (tyInt w64)) l₃₀ 0) ∷ ‵ (froom (sliceTy (tyRef erased mut (tyInt w64))) l₃₁ 0) ∷ ‵ (froom (tyRef erased imm (tyArray (tyInt w16) 4296)) l₃₂ 0) ∷ ‵ (froom (tyRef erased mut (tyArray (tyInt w64) 256)) l₃₃ 0) ∷ Frame
@@ -499,7 +499,7 @@ module _ {M : Type 1} (𝓤 : URA M) (H : Heap 𝓤) (A : Atoms 𝓤) (W : Given
       lft-new ! tt (λ ν₃. move ! (10 ∷ []) $ use1 W (later (some (λ (γ₃ : GName). ‵ (MutSlice (named 4) (ν₃ ∷ []) u64 .own (ref-at u64 b₄ o₄ γ₃ D) (sliceVal (b₄, o₄) (length D) ∷ [])) ⊛ ‵ (LentMut u64 b₄ o₄ (ν₃ ∷ []) (length D) γ₃)))) (lend-mut u64 b₄ o₄ 𝓤 H A W (ν₃ ∷ []) D (named 4) room-w) $ await ! tt $ pick ! (λ γ₃. split ! $
       lft-new ! tt (λ ν₄. move ! (20 ∷ []) $ use1 W (later (some (λ (γ₄ : GName). ‵ (MutRef (named 5) (ν₄ ∷ []) (Array (UInt w16) 4296) .own (array-at w16 4296 l₈ γ₄ (replicate 4296 0)) (vptr l₈ 0 ∷ [])) ⊛ ‵ (LentArray w16 4296 (ν₄ ∷ []) l₈ γ₄)))) (lend-array 𝓤 H A W w16 4296 l₈ (named 5) (ν₄ ∷ []) (replicate 4296 0)) $ await ! tt $ pick ! (λ γ₄. split ! $
       lft-new ! tt (λ ν₅. move ! (22 ∷ []) $ use1 W (later (some (λ (γ₅ : GName). ‵ (MutRef (named 6) (ν₅ ∷ []) (Array (UInt w64) 256) .own (array-at w64 256 l₉ γ₅ (replicate 256 0)) (vptr l₉ 0 ∷ [])) ⊛ ‵ (LentArray w64 256 (ν₅ ∷ []) l₉ γ₅)))) (lend-array 𝓤 H A W w64 256 l₉ (named 6) (ν₅ ∷ []) (replicate 256 0)) $ await ! tt $ pick ! (λ γ₅. split ! $
-      move ! (21 ∷ []) $ use1 W (‵ Book ⊛ ‵ Book) (shr-slice-copy 𝓤 H A W (named 0) κ₀ u8 .twice xb (sb ∷ [])) $ split ! $
+      move ! (21 ∷ []) $ use1 W (‵ Program ⊛ ‵ Program) (shr-slice-copy 𝓤 H A W (named 0) κ₀ u8 .twice xb (sb ∷ [])) $ split ! $
       move ! (22 ∷ []) $ use1 W (‵ Log′ ⊛ ‵ Log′) (shr-slice-copy 𝓤 H A W (named 1) κ₁ u8 .twice xg (sg ∷ [])) $ split ! $
       nothing ! $ move ! (7 ∷ 0 ∷ []) $ join ! $ move ! (9 ∷ 0 ∷ []) $ join ! $ move ! (11 ∷ 0 ∷ []) $ join ! $ move ! (13 ∷ 0 ∷ []) $ join ! $ move ! (15 ∷ 0 ∷ []) $ join ! $ move ! (20 ∷ 0 ∷ []) $ join ! $ move ! (20 ∷ 0 ∷ []) $ join ! $ nothing ! $ move ! (6 ∷ 0 ∷ []) $ fjoin ! $ move ! (7 ∷ 0 ∷ []) $ fjoin ! $ owned ! usize (Is usize) (uint-makes 𝓤 H A W w64) n _ (refl, room-l .0) $ fjoin ! $ move ! (8 ∷ 0 ∷ []) $ fjoin ! $ move ! (9 ∷ 0 ∷ []) $ fjoin ! $ move ! (10 ∷ 0 ∷ []) $ fjoin ! $ move ! (3 ∷ 0 ∷ []) $ fjoin ! $ move ! (4 ∷ 0 ∷ []) $ fjoin ! $
       move ! (1 ∷ 0 ∷ []) $ use2 W (raw (First 𝓤 H A mem run .pre (to-first ν₁ ν₂ ν₃ ν₄ ν₅ γ₁ γ₂ γ₃ γ₄ γ₅ l₈ l₉))) (asked-first ν₁ ν₂ ν₃ ν₄ ν₅ γ₁ γ₂ γ₃ γ₄ γ₅ l₈ l₉) $

@@ -136,8 +136,8 @@ module _ {M : Type 1} (𝓤 : URA M) (H : Heap 𝓤) (A : Atoms 𝓤) (W : Given
   abbrev Post : Val → SProp 𝓤
   Post = walkOf 𝓤 H A step.ended stayed (step.clauses 𝓤 H A mem run) .post ((κs, qs, tt, a, vals), tt)
 
-  abbrev Book : Fml
-  Book = ShrSlice (named 0) κ₀ u8 .own xb (sb ∷ [])
+  abbrev Program : Fml
+  Program = ShrSlice (named 0) κ₀ u8 .own xb (sb ∷ [])
 
   module _ (p : Paused) (mi us us′ : List ℕ) (zs : List Record) (ds : List ℕ) (r : Answer) (w : Val) (is-r : Is N.the-row r (w ∷ []))
       (e₁ : Halfway (xb .now) cs k n mi us p)
@@ -150,9 +150,9 @@ module _ {M : Type 1} (𝓤 : URA M) (H : Heap 𝓤) (A : Atoms 𝓤) (W : Given
           let few = half-few (xb .now) cs k n mi us p e₁ in
           half-passed (xb .now) cs k n mi us p e₁ us′ (lw ∙ l256) (e₂ .1 (few .1) (omega (arith, few .0, l256)))
 
-      exits : ent 𝓤 (⋆ 𝓤 H A (‵ (flft κ₀ q₀) ∷ ‵ (flft κ₁ q₁) ∷ ‵ (flft κ₂ q₂) ∷ ‵ Book ∷ ‵ (fobs δc (codedHoleys u16 .code (heres u16 ds))) ∷ ‵ (fbor κ₁ (Held u16 (length ds) bc oc δc)) ∷ ‵ (finally T.the-row (xl .name) zs) ∷ [])) (Post w)
+      exits : ent 𝓤 (⋆ 𝓤 H A (‵ (flft κ₀ q₀) ∷ ‵ (flft κ₁ q₁) ∷ ‵ (flft κ₂ q₂) ∷ ‵ Program ∷ ‵ (fobs δc (codedHoleys u16 .code (heres u16 ds))) ∷ ‵ (fbor κ₁ (Held u16 (length ds) bc oc δc)) ∷ ‵ (finally T.the-row (xl .name) zs) ∷ [])) (Post w)
       exits =
-          qed W (‵ (flft κ₀ q₀) ∷ ‵ (flft κ₁ q₁) ∷ ‵ (flft κ₂ q₂) ∷ ‵ Book ∷ ‵ (fobs δc (codedHoleys u16 .code (heres u16 ds))) ∷ ‵ (fbor κ₁ (Held u16 (length ds) bc oc δc)) ∷ ‵ (finally T.the-row (xl .name) zs) ∷ []) ∵
+          qed W (‵ (flft κ₀ q₀) ∷ ‵ (flft κ₁ q₁) ∷ ‵ (flft κ₂ q₂) ∷ ‵ Program ∷ ‵ (fobs δc (codedHoleys u16 .code (heres u16 ds))) ∷ ‵ (fbor κ₁ (Held u16 (length ds) bc oc δc)) ∷ ‵ (finally T.the-row (xl .name) zs) ∷ []) ∵
           suffices ! _ (ends-at 𝓤 H A step.ended stayed (step.clauses 𝓤 H A mem run) W ((κs, qs, tt, a, vals), tt) w r (tt, (ds, (tt, (zs, tt)))) (tt, (lc, (tt, (ll, tt))))) $
           says ! (let f = e₃ (xb .now) k n passed in (f .answer, f .contents, e₂ .0 ∙ ap (λ (is : List Instruction). written is (xl .now)) (half-made (xb .now) cs k n mi us p e₁))) $
           nothing ! $ move ! (3 ∷ 0 ∷ []) $ join ! $ move ! (2 ∷ 0 ∷ []) $ join ! $ move ! (1 ∷ 0 ∷ []) $ join ! $ frame ! $
@@ -248,7 +248,7 @@ module _ {M : Type 1} (𝓤 : URA M) (H : Heap 𝓤) (A : Atoms 𝓤) (W : Given
         lft-new ! tt (λ ν₁. move ! (1 ∷ []) $ use1 W (later (some (λ (γ₁ : GName). ‵ (ShrSlice (named 1) (ν₁ ∷ []) u16 .own (ref-at u16 bc oc γ₁ cs) (sliceVal (bc, oc) (length cs) ∷ [])) ⊛ ‵ (LentShr u16 bc oc (ν₁ ∷ []) cs)))) (lend-shr u16 bc oc 𝓤 H A W (ν₁ ∷ []) cs (named 1) room-c) $ await ! tt $ pick ! (λ γ₁. split ! $
         lft-new ! tt (λ ν₂. move ! (12 ∷ []) $ use1 W (later (some (λ (γ₂ : GName). ‵ (MutRef (named 2) (ν₂ ∷ []) (Array (UInt w16) 4296) .own (array-at w16 4296 l₆ γ₂ (replicate 4296 0)) (vptr l₆ 0 ∷ [])) ⊛ ‵ (LentArray w16 4296 (ν₂ ∷ []) l₆ γ₂)))) (lend-array 𝓤 H A W w16 4296 l₆ (named 2) (ν₂ ∷ []) (replicate 4296 0)) $ await ! tt $ pick ! (λ γ₂. split ! $
         lft-new ! tt (λ ν₃. move ! (14 ∷ []) $ use1 W (later (some (λ (γ₃ : GName). ‵ (MutRef (named 3) (ν₃ ∷ []) (Array (UInt w64) 256) .own (array-at w64 256 l₇ γ₃ (replicate 256 0)) (vptr l₇ 0 ∷ [])) ⊛ ‵ (LentArray w64 256 (ν₃ ∷ []) l₇ γ₃)))) (lend-array 𝓤 H A W w64 256 l₇ (named 3) (ν₃ ∷ []) (replicate 256 0)) $ await ! tt $ pick ! (λ γ₃. split ! $
-        move ! (13 ∷ []) $ use1 W (‵ Book ⊛ ‵ Book) (shr-slice-copy 𝓤 H A W (named 0) κ₀ u8 .twice xb (sb ∷ [])) $ split ! $
+        move ! (13 ∷ []) $ use1 W (‵ Program ⊛ ‵ Program) (shr-slice-copy 𝓤 H A W (named 0) κ₀ u8 .twice xb (sb ∷ [])) $ split ! $
         nothing ! $ move ! (5 ∷ 0 ∷ []) $ join ! $ move ! (7 ∷ 0 ∷ []) $ join ! $ move ! (9 ∷ 0 ∷ []) $ join ! $ move ! (14 ∷ 0 ∷ []) $ join ! $ nothing ! $ move ! (4 ∷ 0 ∷ []) $ fjoin ! $ move ! (5 ∷ 0 ∷ []) $ fjoin ! $ owned ! usize (Is usize) (uint-makes 𝓤 H A W w64) n _ (refl, room-l .0) $ fjoin ! $ owned ! usize (Is usize) (uint-makes 𝓤 H A W w64) k _ (refl, k-fits) $ fjoin ! $ move ! (6 ∷ 0 ∷ []) $ fjoin ! $ move ! (3 ∷ 0 ∷ []) $ fjoin ! $
         move ! (1 ∷ 0 ∷ []) $ use2 W (raw (First 𝓤 H A mem run .pre (to-first ν₁ ν₂ ν₃ γ₁ γ₂ γ₃ l₆ l₇))) (asked-first ν₁ ν₂ ν₃ γ₁ γ₂ γ₃ l₆ l₇) $
         calls-at ! fm (First 𝓤 H A mem run) known-first (to-first ν₁ ν₂ ν₃ γ₁ γ₂ γ₃ l₆ l₇) (and-then ! (load ! (from ! (stop !)) (look ! 50 refl)) (and-then ! (load ! (from ! (stop !)) (look ! 32 refl)) (and-then ! (load ! (from ! (stop !)) (look ! 46 refl)) (and-then ! (load ! (from ! (stop !)) (look ! 42 refl)) (and-then ! (load ! (from ! (stop !)) (look ! 30 refl)) (and-then ! (load ! (from ! (stop !)) (look ! 28 refl)) (no-more !))))))) (λ w₁.

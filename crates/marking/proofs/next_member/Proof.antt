@@ -3,7 +3,7 @@ use mathlib.Core.Path.{_≡_, refl, sym, _∙_}
 use Prim.Native.Nat.{ℕ, _-_, _<_, _≤_}
 use native.Mathlib.Omega.{arith}
 use lib.ListN.{getD}
-use Rattle.book.specs.Book.{Book, function-at, location}
+use Rattle.book.specs.Book.{Program, function-at, location}
 use Rattle.term.specs.Held.{function-run}
 use Rattle.marking.specs.Marking.{members-from}
 use Rattle.marking.proofs.Members.{member-here, member-not, no-member}
@@ -12,7 +12,7 @@ use Rattle.marking.proofs.next_member.Statement.{statement}
 use Rattle.marking.proofs.next_member.Tie as tie
 
 abbrev Inv-loop : tie.InvT-loop
-Inv-loop contents run e from y₀ y = (from ≤ y) × ((B : Book) (u : ℕ) → function-run run ≡ function-at B u → e ≡ B .E → members-from B contents u from ≡ members-from B contents u y)
+Inv-loop contents run e from y₀ y = (from ≤ y) × ((B : Program) (u : ℕ) → function-run run ≡ function-at B u → e ≡ B .E → members-from B contents u from ≡ members-from B contents u y)
 
 abbrev μ-loop : tie.MeasureT-loop
 μ-loop contents run e from y₀ y = e - y

@@ -1,7 +1,7 @@
 use Rattle.text.proofs.Words.{least-start, least-pass, least-stop, least-end}
 use Rattle.text.specs.Words.{least-from, least}
 use Rattle.book.specs.Lines.{bad-node}
-use Rattle.book.specs.Image.{book-in}
+use Rattle.book.specs.Image.{program-in}
 use mathlib.Core.List.{[]}
 use mathlib.Core.Path.{_≡_, refl}
 use Prim.Native.Nat.{_≤_, _-_}
@@ -13,7 +13,7 @@ use Rattle.nodes.proofs.bad_nodes.Lts as lts
 use Rattle.nodes.proofs.bad_node.Reads as bad-node-reads
 
 abbrev Inv-loop : tie.InvT-loop
-Inv-loop image n table i₀ i = (i ≤ n) × (least-from (bad-node (book-in image [])) (n - i) i ≡ least (bad-node (book-in image [])) n)
+Inv-loop image n table i₀ i = (i ≤ n) × (least-from (bad-node (program-in image)) (n - i) i ≡ least (bad-node (program-in image)) n)
 
 abbrev μ-loop : tie.MeasureT-loop
 μ-loop image n table i₀ i = n - i
@@ -28,7 +28,7 @@ bad-node-requires c κs = refl
 
 -- src/lib.rt:219:13
 returns : tie.Need-returns Inv-loop μ-loop
-returns c = let a = c .before .before .before .before .before .before .args in let l = c .before .before .before .before .loop in least-stop (bad-node (book-in (a .image .now) [])) (a .n) (l .i) (c .before .before .before .loop-test .taken) (cc) (l .inv .1)
+returns c = let a = c .before .before .before .before .before .before .args in let l = c .before .before .before .before .loop in least-stop (bad-node (program-in (a .image .now))) (a .n) (l .i) (c .before .before .before .loop-test .taken) (cc) (l .inv .1)
 
 -- src/lib.rt:221:9
 add-i : tie.Need-add-i Inv-loop μ-loop
@@ -40,11 +40,11 @@ loop-less c = search needs
 
 -- src/lib.rt:217:5
 loop-again : tie.Need-loop-again Inv-loop μ-loop
-loop-again c = let a = c .before .before .before .before .before .before .args in let l = c .before .before .before .before .loop in (search needs, least-pass (bad-node (book-in (a .image .now) [])) (a .n) (l .i) (c .before .before .before .loop-test .taken) (cc) (l .inv .1))
+loop-again c = let a = c .before .before .before .before .before .before .args in let l = c .before .before .before .before .loop in (search needs, least-pass (bad-node (program-in (a .image .now))) (a .n) (l .i) (c .before .before .before .loop-test .taken) (cc) (l .inv .1))
 
 -- src/lib.rt:212:1
 returns-2 : tie.Need-returns-2 Inv-loop μ-loop
-returns-2 c = let a = c .before .before .before .args in let l = c .before .loop in least-end (bad-node (book-in (a .image .now) [])) (a .n) (l .i) (c .loop-test .left) (l .inv .1)
+returns-2 c = let a = c .before .before .before .args in let l = c .before .loop in least-end (bad-node (program-in (a .image .now))) (a .n) (l .i) (c .loop-test .left) (l .inv .1)
 
 pub bad-nodes-spec : {M : Type 1} → statement M
 bad-nodes-spec =

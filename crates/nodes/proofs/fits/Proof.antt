@@ -2,7 +2,7 @@ use mathlib.Core.Path.{_≡_, _∙_, sym}
 use mathlib.Core.List.{[]}
 use native.Mathlib.Omega.{arith}
 use Rattle.book.specs.Lines.{fits}
-use Rattle.book.specs.Image.{book-in}
+use Rattle.book.specs.Image.{program-in}
 use Rattle.nodes.proofs.Classes as classes
 use borrow.Author.Needs.{needs}
 use Rattle.nodes.proofs.fits.Statement.{statement}
@@ -31,7 +31,7 @@ fits-other-requires-2 c κs = search needs
 
 -- src/lib.rt:197:1
 returns : tie.Need-returns
-returns c = let a = c .before .before .args in sym (classes.unused (book-in (a .image .now) []) (a .n) (a .s) (a .x) (c .if1 .taken))
+returns c = let a = c .before .before .args in sym (classes.unused (program-in (a .image .now)) (a .n) (a .s) (a .x) (c .if1 .taken))
 
 -- src/lib.rt:197:1
 returns-2 : tie.Need-returns-2
@@ -39,7 +39,7 @@ returns-2 c = search needs
 
 -- src/lib.rt:197:1
 returns-3 : tie.Need-returns-3
-returns-3 c = let a = c .before .before .before .before .before .before .args in c .fits-node .ensures ∙ rw (c .before .node-at .ensures, classes.node (book-in (a .image .now) []) (a .n) (a .s) (a .x) (omega arith) (omega arith))
+returns-3 c = let a = c .before .before .before .before .before .before .args in c .fits-node .ensures ∙ rw (c .before .node-at .ensures, classes.node (program-in (a .image .now)) (a .n) (a .s) (a .x) (omega arith) (omega arith))
 
 -- src/lib.rt:197:1
 returns-4 : tie.Need-returns-4

@@ -2,7 +2,7 @@ use mathlib.Core.Path.{_≡_, _∙_}
 use mathlib.Core.List.{[]}
 use native.Mathlib.Omega.{arith}
 use Rattle.book.specs.Lines.{fits}
-use Rattle.book.specs.Image.{book-in}
+use Rattle.book.specs.Image.{program-in}
 use Rattle.nodes.proofs.Classes as classes
 use borrow.Author.Needs.{needs}
 use Rattle.nodes.proofs.fits_other.Statement.{statement}
@@ -51,15 +51,15 @@ fits-target-requires c κs = search needs
 
 -- src/lib.rt:182:1
 returns : tie.Need-returns
-returns c = let a = c .before .before .before .before .args in c .fits-plain .ensures ∙ rw (c .before .permanent .ensures, classes.plain (book-in (a .image .now) []) (a .n) (a .s) (a .x) (c .before .before .before .before .pre .0) (omega arith))
+returns c = let a = c .before .before .before .before .args in c .fits-plain .ensures ∙ rw (c .before .permanent .ensures, classes.plain (program-in (a .image .now)) (a .n) (a .s) (a .x) (c .before .before .before .before .pre .0) (omega arith))
 
 -- src/lib.rt:182:1
 returns-2 : tie.Need-returns-2
-returns-2 c = let a = c .before .before .before .before .before .before .args in c .fits-function .ensures ∙ rw (c .before .function-at .ensures, c .before .before .functions .ensures, classes.function (book-in (a .image .now) []) (a .n) (a .s) (a .x) (omega arith) (omega arith))
+returns-2 c = let a = c .before .before .before .before .before .before .args in c .fits-function .ensures ∙ rw (c .before .function-at .ensures, c .before .before .functions .ensures, classes.function (program-in (a .image .now)) (a .n) (a .s) (a .x) (omega arith) (omega arith))
 
 -- src/lib.rt:182:1
 returns-3 : tie.Need-returns-3
-returns-3 c = let a = c .before .before .before .before .before .before .args in c .fits-target .ensures ∙ rw (c .before .function-at2 .ensures, c .before .before .node-at .ensures, classes.target (book-in (a .image .now) []) (a .n) (a .s) (a .x) (c .before .before .before .before .before .before .pre .1 (omega arith)))
+returns-3 c = let a = c .before .before .before .before .before .before .args in c .fits-target .ensures ∙ rw (c .before .function-at2 .ensures, c .before .before .node-at .ensures, classes.target (program-in (a .image .now)) (a .n) (a .s) (a .x) (c .before .before .before .before .before .before .pre .1 (omega arith)))
 
 pub fits-other-spec : {M : Type 1} → statement M
 fits-other-spec =

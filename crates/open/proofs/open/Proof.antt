@@ -18,7 +18,7 @@ returns c =
     let t = c .before .before .before .before .before .before .args .book .now in
     let k = c .before .before .before .check-into .ensures in (
       k .0,
-      λ B e. narrow-holds _ _ B (accepted t B e) (accepted-kinds t B e) (k .1 B e .2) (k .1 B e .0) (c .narrow .ensures),
+      λ b e. narrow-holds _ _ (b .program) (accepted t b e) (accepted-kinds t b e) (k .1 b e .2) (k .1 b e .0) (c .narrow .ensures),
     )
 
 pub open-spec : {M : Type 1} → statement M

@@ -1,5 +1,5 @@
 use mathlib.Core.Path.{_∙_}
-use Rattle.book.specs.Image.{book-in, capped}
+use Rattle.book.specs.Image.{program-in, capped}
 use borrow.Author.Needs.{needs}
 use Rattle.pages.proofs.elements.Statement.{statement}
 use Rattle.pages.proofs.elements.Tie as tie
@@ -18,7 +18,7 @@ capped-requires c κs = search needs
 
 -- src/lib.rt:37:1
 returns : tie.Need-returns
-unfolding book-in
+unfolding program-in
 returns c = (c .capped .ensures .0 ∙ rw (c .before .word .ensures), c .capped .ensures .1)
 
 pub elements-spec : {M : Type 1} → statement M

@@ -1,5 +1,5 @@
 use mathlib.Core.Path.{_∙_}
-use Rattle.book.specs.Image.{book-in}
+use Rattle.book.specs.Image.{program-in}
 use borrow.Author.Needs.{needs}
 use Rattle.pages.proofs.permanent.Statement.{statement}
 use Rattle.pages.proofs.permanent.Tie as tie
@@ -13,7 +13,7 @@ word-requires c κs = search needs
 
 -- src/lib.rt:44:1
 returns : tie.Need-returns
-unfolding book-in
+unfolding program-in
 returns c = c .word .ensures
 
 pub permanent-spec : {M : Type 1} → statement M

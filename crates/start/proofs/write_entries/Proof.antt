@@ -6,7 +6,7 @@ use lib.ListN.{length}
 use Rattle.text.specs.declared.Line.{Line}
 use Rattle.text.specs.Words.{table-from}
 use Rattle.text.specs.Text.{line}
-use Rattle.book.specs.Image.{book-in}
+use Rattle.book.specs.Image.{program-in}
 use Rattle.start.specs.Written.{line-put, lines-put, first-line, contents-lines}
 use Rattle.start.proofs.Entries.{lines-first, lines-next, lines-last}
 use Rattle.start.proofs.write_entries.Statement.{statement}
@@ -20,8 +20,8 @@ use Rattle.text.proofs.read_line.Reads as read-line-reads
 abbrev Inv-loop : tie.InvT-loop
 Inv-loop book image contents₀ f n a first count i₀ contents i =
     (length contents ≡ length contents₀)
-    × (lines-put (book-in image []) (table-from (λ k. line book (first-line book + k)) i (count - i)) contents
-    ≡ lines-put (book-in image []) (contents-lines book) contents₀)
+    × (lines-put (program-in image) (table-from (λ k. line book (first-line book + k)) i (count - i)) contents
+    ≡ lines-put (program-in image) (contents-lines book) contents₀)
 
 abbrev μ-loop : tie.MeasureT-loop
 μ-loop book image contents₀ f n a first count i₀ contents i = count - i
@@ -75,7 +75,7 @@ loop-holds : tie.Need-loop-holds Inv-loop μ-loop
 loop-holds c =
     let a = c .before .before .before .before .before .before .before .args in
     let t = a .book .now in
-    (refl, rw (c .before .before .before .read-line2 .ensures) (lines-first (book-in (a .image .now) []) (λ k. line t (first-line t + k)) (line t 1 .b) (a .contents .now)))
+    (refl, rw (c .before .before .before .read-line2 .ensures) (lines-first (program-in (a .image .now)) (λ k. line t (first-line t + k)) (line t 1 .b) (a .contents .now)))
 
 -- src/lib.rt:106:13
 read-line-requires-3 : tie.Need-read-line-requires-3 Inv-loop μ-loop
@@ -99,7 +99,7 @@ loop-again c =
     let a = c .before .before .before .before .before .before .before .before .before .before .before .before .before .before .args in
     let t = a .book .now in
     let l = c .before .before .before .before .before .before .loop in
-    let B = book-in (a .image .now) [] in
+    let B = program-in (a .image .now) in
     let here : c .before .before .before .before .read-line3 .result ≡ line t (first-line t + l .i) =
     c .before .before .before .before .read-line3 .ensures
     ∙ rw (
@@ -124,7 +124,7 @@ returns c =
     let a = c .before .before .before .before .before .before .before .before .before .args in
     let t = a .book .now in
     let l = c .before .loop in
-    sym (lines-last (book-in (a .image .now) []) (λ k. line t (first-line t + k)) (c .before .before .before .before .before .read-line2 .result .b) (l .i) (l .contents) (c .loop-test .left)) ∙ l .inv .1
+    sym (lines-last (program-in (a .image .now)) (λ k. line t (first-line t + k)) (c .before .before .before .before .before .read-line2 .result .b) (l .i) (l .contents) (c .loop-test .left)) ∙ l .inv .1
 
 pub write-entries-spec : {M : Type 1} → statement M
 write-entries-spec =

@@ -2,7 +2,7 @@ use mathlib.Core.Path.{_≡_, sym, ap, _∙_}
 use Prim.Native.Nat.{ℕ, _+_, _-_, _<_, _≤_}
 use native.Mathlib.Omega.{arith}
 use borrow.Author.Needs.{needs}
-use Rattle.book.specs.Book.{Book, size}
+use Rattle.book.specs.Book.{Program, size}
 use Rattle.table.specs.Part.{Past, Part}
 use Rattle.table.proofs.Scan.{Passed, scan-start, scan-skip, scan-pass, scan-stop, scan-end}
 use Rattle.table.proofs.bad_part.Statement.{statement}
@@ -16,7 +16,7 @@ use Rattle.pages.proofs.size.Reads as size-reads
 
 abbrev Inv-loop : tie.InvT-loop
 Inv-loop contents e p f first end v l₀ l =
-    (first ≤ l) × (l ≤ end) × ((B : Book) (k : Part B e p f first) → Passed B contents e p f first k l)
+    (first ≤ l) × (l ≤ end) × ((B : Program) (k : Part B e p f first) → Passed B contents e p f first k l)
 
 abbrev μ-loop : tie.MeasureT-loop
 μ-loop contents e p f first end v l₀ l = end - l
