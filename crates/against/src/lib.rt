@@ -4,7 +4,7 @@ use engine::Instruction;
 ghost use mathlib.Core.Path.{_≡_};
 ghost use mathlib.Core.List.{[]};
 ghost use Rattle.text.specs.Words.{has};
-ghost use Rattle.book.specs.Image.{program-in};
+ghost use Rattle.book.specs.Image.{held};
 ghost use Rattle.engine.specs.Move.{label-of, released, other};
 ghost use Rattle.records.specs.Code.{items};
 ghost use Rattle.traces.specs.Traces.{any, trace-in};
@@ -34,8 +34,8 @@ fn is_trace(e: u16, s: Spot, x: u16) -> bool
 }
 
 // Location l as it stands; past the last function there is none.
-fn spot_of(image: &[u16; 4296], contents: &[u16], l: u32) -> Spot
-    ensures { λ r. ⌜ r ≡ spot (program-in (now (image .entry))) (now (contents .entry)) l ⌝ }
+fn spot_of(image: &[u32; 4296], contents: &[u16], l: u32) -> Spot
+    ensures { λ r. ⌜ r ≡ spot (held (now (image .entry))) (now (contents .entry)) l ⌝ }
 {
     let held = numbers::fetch(contents, l as usize);
     let e = pages::elements(image);
@@ -147,14 +147,14 @@ fn is_doomed(list: &[u64], len: usize, what: Instruction) -> bool
 
 // The location of the instruction where it is less than best and clashes; else best.
 fn better_of(
-    image: &[u16; 4296],
+    image: &[u32; 4296],
     contents: &[u16],
     list: &[u64],
     len: usize,
     what: Instruction,
     best: u32,
 ) -> u32
-    ensures { λ r. ⌜ r ≡ better (program-in (now (image .entry))) (now (contents .entry)) (items (now (list .entry)) len) what best ⌝ }
+    ensures { λ r. ⌜ r ≡ better (held (now (image .entry))) (now (contents .entry)) (items (now (list .entry)) len) what best ⌝ }
 {
     let at = traces::own_location(what);
     if best <= at {
@@ -173,13 +173,13 @@ fn better_of(
 
 // The least location that clashes, or most: each instruction is held against all.
 pub fn first_of_all(
-    image: &[u16; 4296],
+    image: &[u32; 4296],
     contents: &[u16],
     list: &[u64],
     len: usize,
     most: u32,
 ) -> u32
-    ensures { λ r. ⌜ r ≡ best (program-in (now (image .entry))) (now (contents .entry)) (items (now (list .entry)) len) (items (now (list .entry)) len) most ⌝ }
+    ensures { λ r. ⌜ r ≡ best (held (now (image .entry))) (now (contents .entry)) (items (now (list .entry)) len) (items (now (list .entry)) len) most ⌝ }
 {
     let n = numbers::smaller(len, list.len());
     let mut least = most;

@@ -2,7 +2,7 @@
 use mathlib.Core.Path.{_≡_, refl, sym, _∙_, ap}
 use mathlib.Core.Bool.{Bool, true, false}
 use mathlib.Core.List.{List, [], _∷_}
-use Prim.Native.Nat.{ℕ, zero, suc, _+_, _-_, _*_, _^_, _<_, _≤_}
+use Prim.Native.Nat.{ℕ, zero, suc, _+_, _-_, _*_, _%_, _^_, _<_, _≤_}
 use native.Mathlib.Decide.{decLt}
 use native.Mathlib.Nat.{le-of-lt, lt-of-le-of-lt, mul-le-mul-left, mul-le-mul-right, mul-lt-mul-of-pos-right}
 use native.Mathlib.Numerals.{add-one}
@@ -20,7 +20,7 @@ use Rattle.book.specs.declared.Header.{Header}
 use Rattle.book.specs.declared.Function.{Function}
 use Rattle.book.specs.Book.{Program, L, total, size, function-at, node-at, agent-at, no-function, no-node, no-agent}
 use Rattle.book.specs.Lines.{lay-out, node-of, agent-of, program-of, first-node, first-agent}
-use Rattle.book.specs.Image.{image-length, word, row-in, capped, function-of, program-in, Holds, Counts, Room, stored, filled, first-of, laid-row}
+use Rattle.book.specs.Image.{image-length, word, narrow, row-in, capped, function-of, program-in, Holds, Counts, Room, stored, filled, first-of, laid-row}
 use Rattle.book.proofs.Accepted.{book-lengths}
 
 -- a count within its bound
@@ -37,6 +37,14 @@ capped-most n most = go (decLt n most)
     go : Dec (n < most) → capped n most ≤ most
     go (yes l) = rw (lt-ltb n most l) (omega arith)
     go (no l) = rw (le-ltb n most (omega arith)) (omega arith)
+
+-- ---- what the engine reads of a word
+
+pub narrow-word : (m : List ℕ) (i : ℕ) → word (narrow m) i ≡ word m i % 65536
+unfolding narrow
+narrow-word [] i = refl
+narrow-word (x ∷ m) zero = refl
+narrow-word (x ∷ m) (suc i) = narrow-word m i
 
 -- ---- what an image's program has
 

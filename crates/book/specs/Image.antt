@@ -1,8 +1,8 @@
 -- The image of a program, which the code holds: rows of four numbers. Rows 0 and 1 are `E P F N` and `A C L 0`; function f is row 2 + f (first, arity,
 -- kind), agent i row 34 + i (root, element), node n row 50 + n (kind, a, b, c). A count past its bound counts as the bound: every image holds a program.
 use mathlib.Core.Path.{_≡_}
-use mathlib.Core.List.{List}
-use Prim.Native.Nat.{ℕ, zero, suc, _+_, _*_, _≤_}
+use mathlib.Core.List.{List, map}
+use Prim.Native.Nat.{ℕ, zero, suc, _+_, _*_, _%_, _≤_}
 use lib.Dec.{ltb}
 use lib.ListN.{length, getD, set}
 use Rattle.text.specs.declared.Line.{Line}
@@ -38,6 +38,13 @@ program-in m =
       nodes = table (λ n. node-of (row-in m (50 + n))) (capped (word m 3) 1024);
       agents = table (λ i. agent-of (row-in m (34 + i))) (capped (word m 4) 16);
     }
+
+-- What the engine reads of an image: the low sixteen bits of each word, which are all of it where the book is accepted.
+unfoldable pub narrow : List ℕ → List ℕ
+narrow m = map (λ x. x % 65536) m
+
+abbrev pub held : List ℕ → Program
+held m = program-in (narrow m)
 
 -- the image is that of the program that a text says
 pub record Holds (m : List ℕ) (h : Header) (text : List ℕ) : Type 0 where

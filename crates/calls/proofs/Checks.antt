@@ -14,7 +14,7 @@ use Rattle.text.specs.Words.{if_then_else_, Checked, good, refused, _>>_, none-
 use Rattle.text.proofs.Words.{then-good, none-good, test-good, length-table-from}
 use Rattle.book.specs.Book.{Program, L}
 use Rattle.book.specs.Contents.{bad-value}
-use Rattle.book.specs.Image.{word, capped, program-in}
+use Rattle.book.specs.Image.{word, capped}
 use Rattle.engine.specs.Single.{check-agent, check-lent-step, check-contents}
 use Rattle.calls.specs.Call.{check-call, first-of}
 use Rattle.calls.proofs.Numbered.{Numbered, on, off, agent-numbered, lent-numbered}

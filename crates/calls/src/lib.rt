@@ -6,7 +6,7 @@ ghost use mathlib.Core.List.{[]};
 ghost use lib.ListN.{take};
 ghost use Rattle.text.specs.Words.{answer-of};
 ghost use Rattle.book.specs.Book.{L};
-ghost use Rattle.book.specs.Image.{program-in};
+ghost use Rattle.book.specs.Image.{held};
 ghost use Rattle.engine.specs.Single.{check-agent, check-lent-step, check-contents};
 ghost use Rattle.calls.specs.Call.{check-call, first-of};
 
@@ -43,8 +43,8 @@ fn first_of(a: Answer, b: Answer) -> Answer
 // ---- the checks
 
 // 9.
-fn check_agent(image: &[u16; 4296], agent: usize) -> Answer
-    ensures { λ r. ⌜ r ≡ answer-of (check-agent (program-in (now (image .entry))) agent) ⌝ }
+fn check_agent(image: &[u32; 4296], agent: usize) -> Answer
+    ensures { λ r. ⌜ r ≡ answer-of (check-agent (held (now (image .entry))) agent) ⌝ }
 {
     if agent < pages::agents(image) as usize {
         answer(0, 0, 0)
@@ -54,8 +54,8 @@ fn check_agent(image: &[u16; 4296], agent: usize) -> Answer
 }
 
 // 2, of contents and then of instructions.
-fn check_lent(image: &[u16; 4296], contents: &[u16], lent: usize) -> Answer
-    ensures { λ r. ⌜ r ≡ answer-of (check-lent-step (program-in (now (image .entry))) (now (contents .entry)) lent) ⌝ }
+fn check_lent(image: &[u32; 4296], contents: &[u16], lent: usize) -> Answer
+    ensures { λ r. ⌜ r ≡ answer-of (check-lent-step (held (now (image .entry))) (now (contents .entry)) lent) ⌝ }
 {
     let all = pages::total(image);
     if contents.len() < all as usize {
@@ -68,8 +68,8 @@ fn check_lent(image: &[u16; 4296], contents: &[u16], lent: usize) -> Answer
 }
 
 // 8.
-fn check_contents(image: &[u16; 4296], contents: &[u16]) -> Answer
-    ensures { λ r. ⌜ r ≡ answer-of (check-contents (program-in (now (image .entry))) (take (L (program-in (now (image .entry)))) (now (contents .entry)))) ⌝ }
+fn check_contents(image: &[u32; 4296], contents: &[u16]) -> Answer
+    ensures { λ r. ⌜ r ≡ answer-of (check-contents (held (now (image .entry))) (take (L (held (now (image .entry)))) (now (contents .entry)))) ⌝ }
 {
     let found = table::bad_value(image, contents);
     match found {
@@ -79,8 +79,8 @@ fn check_contents(image: &[u16; 4296], contents: &[u16]) -> Answer
 }
 
 // 9, 2 and 8.
-pub fn check_call(image: &[u16; 4296], contents: &[u16], agent: usize, lent: usize) -> Answer
-    ensures { λ r. ⌜ r ≡ answer-of (check-call (program-in (now (image .entry))) (now (contents .entry)) agent lent) ⌝ }
+pub fn check_call(image: &[u32; 4296], contents: &[u16], agent: usize, lent: usize) -> Answer
+    ensures { λ r. ⌜ r ≡ answer-of (check-call (held (now (image .entry))) (now (contents .entry)) agent lent) ⌝ }
 {
     let nine = check_agent(image, agent);
     let two = check_lent(image, contents, lent);

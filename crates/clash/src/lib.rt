@@ -4,7 +4,7 @@ ghost use mathlib.Core.Path.{_≡_};
 ghost use mathlib.Core.List.{[]};
 ghost use Prim.Native.Nat.{_<_, _≤_};
 ghost use lib.ListN.{length};
-ghost use Rattle.book.specs.Image.{program-in};
+ghost use Rattle.book.specs.Image.{held};
 ghost use Rattle.records.specs.Code.{items};
 ghost use Rattle.against.specs.Steps.{best};
 ghost use Rattle.clash.specs.Clash.{clash-by};
@@ -58,13 +58,13 @@ fn nearer(list: &[u64], i: usize, code: u64, least: u64) -> u64
 // The least location that clashes, or most. Without a release it is enough to hold each update against the last one before it at its location.
 // Counted from 1, `last` has the last update at each slot, and `prior` the one before each update at its slot.
 pub fn first_clash(
-    image: &[u16; 4296],
+    image: &[u32; 4296],
     contents: &[u16],
     list: &[u64],
     len: usize,
     most: u32,
 ) -> u32
-    ensures { λ r. ⌜ r ≡ best (program-in (now (image .entry))) (now (contents .entry)) (items (now (list .entry)) len) (items (now (list .entry)) len) most ⌝ }
+    ensures { λ r. ⌜ r ≡ best (held (now (image .entry))) (now (contents .entry)) (items (now (list .entry)) len) (items (now (list .entry)) len) most ⌝ }
 {
     let n = numbers::smaller(len, list.len());
     if MOST < n {
@@ -92,7 +92,7 @@ pub fn first_clash(
 // ---- any list
 
 // The least location that clashes.
-pub fn clash(image: &[u16; 4296], contents: &[u16], list: &[u64], len: usize) -> Found
+pub fn clash(image: &[u32; 4296], contents: &[u16], list: &[u64], len: usize) -> Found
     ensures { λ r. ⌜ r ≡ clash-by (now (image .entry)) (now (contents .entry)) (now (list .entry)) len ⌝ }
 {
     let most = pages::total(image);

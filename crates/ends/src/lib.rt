@@ -7,7 +7,7 @@ ghost use lib.ListN.{length, replicate};
 ghost use Rattle.text.specs.Words.{good, answer-of};
 ghost use Rattle.book.specs.Book.{Program, Book, L, start};
 ghost use Rattle.book.specs.Check.{check-book};
-ghost use Rattle.book.specs.Image.{program-in};
+ghost use Rattle.book.specs.Image.{held};
 ghost use Rattle.order.specs.Log.{Log};
 ghost use Rattle.order.specs.Run.{Run, touching, order-checked};
 ghost use Rattle.order.specs.Call.{check-lent};
@@ -66,12 +66,12 @@ fn clear(marks: &mut [u64])
 // The start of a run, with no marks.
 pub fn begin(
     book: &[u8],
-    image: &[u16; 4296],
+    image: &[u32; 4296],
     contents: &mut [u16],
     readers: &mut [u64],
     writers: &mut [u64],
 )
-    ensures { λ _. ⌜ ((b : Book) → check-book (now (book .entry)) ≡ good b → program-in (now (image .entry)) ≡ b .program → length (now (contents .entry)) ≡ L (b .program) → now (contents .exit) ≡ start b) ⌝ }
+    ensures { λ _. ⌜ ((b : Book) → check-book (now (book .entry)) ≡ good b → held (now (image .entry)) ≡ b .program → length (now (contents .entry)) ≡ L (b .program) → now (contents .exit) ≡ start b) ⌝ }
     ensures { λ _. ⌜ (now (readers .exit) ≡ replicate (length (now (readers .entry))) 0) × (now (writers .exit) ≡ replicate (length (now (writers .entry))) 0) ⌝ }
 {
     start::write_start(book, image, contents);

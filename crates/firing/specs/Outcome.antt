@@ -8,7 +8,7 @@ use lib.ListN.{length, getD}
 use Rattle.text.specs.Words.{has}
 use Rattle.text.specs.Refusals.{clash, idle-move}
 use Rattle.book.specs.Book.{Program, L, true-element, reserve}
-use Rattle.book.specs.Image.{program-in}
+use Rattle.book.specs.Image.{held}
 use Rattle.engine.specs.declared.Instruction.{Instruction}
 use Rattle.engine.specs.Move.{Moved, fires, stopped, released, fire, writes, fired-of, judged}
 use Rattle.engine.specs.Move as move
@@ -21,7 +21,7 @@ use Rattle.firing.specs.declared.Outcome.the-variants.{Fired, Clash, Idl
 
 -- its walk looked at ls
 abbrev pub move-by : List ℕ → List ℕ → List ℕ → ℕ → List ℕ → move.Fired
-move-by image c list n ls = fired-of (program-in image) c ls (items list n)
+move-by image c list n ls = fired-of (held image) c ls (items list n)
 
 -- ---- outcomes
 

@@ -9,7 +9,7 @@ ghost use lib.Dec.{ltb};
 ghost use lib.ListN.{length, getD, set};
 ghost use Rattle.text.specs.declared.Found.the-variants.{Nowhere};
 ghost use Rattle.book.specs.Book.{L};
-ghost use Rattle.book.specs.Image.{program-in};
+ghost use Rattle.book.specs.Image.{held};
 ghost use Rattle.pages.specs.Part.{put-in};
 ghost use Rattle.engine.specs.Move.{idle, fire};
 ghost use Rattle.records.specs.Code.{items};
@@ -53,8 +53,8 @@ fn has_change(n: u32, contents: &[u16], list: &[u64], len: usize) -> bool
 }
 
 // No location would change. A release always changes Reserve at its label, so only the instructions' own locations matter.
-pub fn is_idle(image: &[u16; 4296], contents: &[u16], list: &[u64], len: usize) -> bool
-    ensures { λ r. ⌜ (OffRoll (program-in (now (image .entry))) (now (contents .entry)) (items (now (list .entry)) len) → r ≡ idle (now (contents .entry)) (updates-by (now (image .entry)) (now (contents .entry)) (now (list .entry)) len)) ⌝ }
+pub fn is_idle(image: &[u32; 4296], contents: &[u16], list: &[u64], len: usize) -> bool
+    ensures { λ r. ⌜ (OffRoll (held (now (image .entry))) (now (contents .entry)) (items (now (list .entry)) len) → r ≡ idle (now (contents .entry)) (updates-by (now (image .entry)) (now (contents .entry)) (now (list .entry)) len)) ⌝ }
 {
     !has_change(pages::total(image), contents, list, len)
 }
@@ -101,12 +101,12 @@ fn put_in(
     }
 }
 
-// The part that location `at` is in; the one held, if that has it.
-fn part_at(image: &[u16; 4296], held: Part, at: usize) -> Part
-    ensures { λ r. ⌜ r ≡ part-after (program-in (now (image .entry))) held at ⌝ }
+// The part that location `at` is in; the last one, if that has it.
+fn part_at(image: &[u32; 4296], last: Part, at: usize) -> Part
+    ensures { λ r. ⌜ r ≡ part-after (held (now (image .entry))) last at ⌝ }
 {
-    if (held.first <= at) & (at < held.end) {
-        held
+    if (last.first <= at) & (at < last.end) {
+        last
     } else {
         pages::part_of(image, at)
     }
@@ -114,15 +114,15 @@ fn part_at(image: &[u16; 4296], held: Part, at: usize) -> Part
 
 // Each instruction's own location gets its own value, in its function's part.
 fn put_all(
-    image: &[u16; 4296],
+    image: &[u32; 4296],
     contents: &mut [u16],
     writers: &mut [u64],
     list: &[u64],
     len: usize,
     bit: u64,
 )
-    ensures { λ _. ⌜ (length (now (contents .entry)) ≡ L (program-in (now (image .entry))) → now (contents .exit) ≡ puts (items (now (list .entry)) len) (now (contents .entry))) ⌝ }
-    ensures { λ _. ⌜ (length (now (contents .entry)) ≡ L (program-in (now (image .entry))) → now (writers .exit) ≡ put-marks bit (length (now (contents .entry))) (items (now (list .entry)) len) (now (writers .entry))) ⌝ }
+    ensures { λ _. ⌜ (length (now (contents .entry)) ≡ L (held (now (image .entry))) → now (contents .exit) ≡ puts (items (now (list .entry)) len) (now (contents .entry))) ⌝ }
+    ensures { λ _. ⌜ (length (now (contents .entry)) ≡ L (held (now (image .entry))) → now (writers .exit) ≡ put-marks bit (length (now (contents .entry))) (items (now (list .entry)) len) (now (writers .entry))) ⌝ }
 {
     let n = numbers::smaller(len, list.len());
     let mut part = Part { first: 0, end: 0 };
@@ -146,15 +146,15 @@ fn put_all(
 
 // The contents and the writer marks after a move that does not clash: traces of released labels go first, then each update is put.
 pub fn fire(
-    image: &[u16; 4296],
+    image: &[u32; 4296],
     contents: &mut [u16],
     writers: &mut [u64],
     list: &[u64],
     len: usize,
     bit: u64,
 )
-    ensures { λ _. ⌜ (length (now (contents .entry)) ≡ L (program-in (now (image .entry))) → clash-by (now (image .entry)) (now (contents .entry)) (now (list .entry)) len ≡ Nowhere → now (contents .exit) ≡ fire (updates-by (now (image .entry)) (now (contents .entry)) (now (list .entry)) len) (now (contents .entry))) ⌝ }
-    ensures { λ _. ⌜ (length (now (contents .entry)) ≡ L (program-in (now (image .entry))) → now (writers .exit) ≡ marked bit (updates-by (now (image .entry)) (now (contents .entry)) (now (list .entry)) len) (now (writers .entry))) ⌝ }
+    ensures { λ _. ⌜ (length (now (contents .entry)) ≡ L (held (now (image .entry))) → clash-by (now (image .entry)) (now (contents .entry)) (now (list .entry)) len ≡ Nowhere → now (contents .exit) ≡ fire (updates-by (now (image .entry)) (now (contents .entry)) (now (list .entry)) len) (now (contents .entry))) ⌝ }
+    ensures { λ _. ⌜ (length (now (contents .entry)) ≡ L (held (now (image .entry))) → now (writers .exit) ≡ marked bit (updates-by (now (image .entry)) (now (contents .entry)) (now (list .entry)) len) (now (writers .entry))) ⌝ }
 {
     clearing::clear_all(image, contents, writers, list, len, bit);
     put_all(image, contents, writers, list, len, bit);
@@ -164,14 +164,14 @@ pub fn fire(
 
 // 15, then 16, else it fires. A refused move leaves contents and marks as they were.
 pub fn settle(
-    image: &[u16; 4296],
+    image: &[u32; 4296],
     contents: &mut [u16],
     writers: &mut [u64],
     list: &[u64],
     len: usize,
     bit: u64,
 ) -> Outcome
-    ensures { λ r. ⌜ (Ready (program-in (now (image .entry))) (now (contents .entry)) (items (now (list .entry)) len) → (ls : List ℕ) → Settled (move-by (now (image .entry)) (now (contents .entry)) (now (list .entry)) len ls) bit (now (contents .entry)) (now (writers .entry)) r (now (contents .exit)) (now (writers .exit))) ⌝ }
+    ensures { λ r. ⌜ (Ready (held (now (image .entry))) (now (contents .entry)) (items (now (list .entry)) len) → (ls : List ℕ) → Settled (move-by (now (image .entry)) (now (contents .entry)) (now (list .entry)) len ls) bit (now (contents .entry)) (now (writers .entry)) r (now (contents .exit)) (now (writers .exit))) ⌝ }
 {
     let all = pages::total(image);
     let at = clash::first_clash(image, contents, list, len, all);

@@ -8,7 +8,7 @@ use native.Mathlib.Omega.{arith}
 use lib.ListN.{length, take, drop}
 use Rattle.text.specs.declared.Answer.{Answer}
 use Rattle.book.specs.Book.{Program, L}
-use Rattle.book.specs.Image.{program-in}
+use Rattle.book.specs.Image.{held}
 use Rattle.engine.specs.Move.{Moved, fires, stopped, walked, made-by, move}
 use Rattle.engine.specs.Single.{Stepped, stepped, step-move, step-call}
 use Rattle.records.specs.Code.{items}
@@ -50,7 +50,7 @@ module _ (text c : List ℕ) (k n : ℕ) (m l : List ℕ) (p : Paused) where
     walks = λ y. absurd (h (ap (λ (b : Answer). b .number) (sym e) ∙ y));
   }
 
-  pub walked-half : p .answer .number ≡ 0 → p .count ≡ given-of (p .walk) → 256 ≤ n → On (program-in m) c k l (p .walk) → step-move (program-in m) c k ≡ step-call text c k n
+  pub walked-half : p .answer .number ≡ 0 → p .count ≡ given-of (p .walk) → 256 ≤ n → On (held m) c k l (p .walk) → step-move (held m) c k ≡ step-call text c k n
       → Halfway text c k n m l p
   walked-half z e r o w = record { stops = λ h. absurd (h z); walks = λ _. (e, record { lent = r; on = o; whole = w }) }
 
@@ -65,7 +65,7 @@ step-instructions B c k = go (move B (take (L B) c) (record { agent = k }))
 
 module _ (text c : List ℕ) (k n : ℕ) (m l : List ℕ) (p : Paused) (h : Halfway text c k n m l p) where
   abbrev A : Program
-  A = program-in m
+  A = held m
 
   -- the instructions of the call
   pub half-made : items l (p .count) ≡ step-call text c k n .instructions

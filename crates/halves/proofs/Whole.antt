@@ -9,7 +9,7 @@ use Rattle.text.specs.declared.Answer.{Answer}
 use Rattle.text.specs.Words.{Checked, good, refused, _>>=_, _>>_, answer-of}
 use Rattle.book.specs.Book.{Program, Book, L}
 use Rattle.book.specs.Check.{check-book}
-use Rattle.book.specs.Image.{program-in}
+use Rattle.book.specs.Image.{held}
 use Rattle.book.specs.Sound.{Lawful}
 use Rattle.book.proofs.Accepted.{accepted}
 use Rattle.book.proofs.Claims.{accepted-table}
@@ -37,9 +37,9 @@ module _ (c l : List ℕ) (k : ℕ) where
 
 -- what a call has passed before its move, whose image is m, and that the move is all that is left of it
 pub record Cleared (text c : List ℕ) (k n : ℕ) (m : List ℕ) : Type 0 where
-  pub passed : Passed (program-in m) c k n
-  pub ready : Ready (program-in m) (take (L (program-in m)) c) k
-  pub moved : step-move (program-in m) c k ≡ step-call text c k n
+  pub passed : Passed (held m) c k n
+  pub ready : Ready (held m) (take (L (held m)) c) k
+  pub moved : step-move (held m) c k ≡ step-call text c k n
 
 joined : {A : Type 0} (x y z : Checked (Unit {0})) (w : Checked A) → (x >> (y >> (z >> w))) ≡ ((x >> (y >> z)) >> w)
 unfolding _>>_
@@ -63,20 +63,20 @@ module _ (text c l : List ℕ) (k n : ℕ) where
       rw e
       (ap (step-answer c k) (joined (check-agent B k) (check-lent-step B c n) (check-contents B (take (L B) c)) (good B)))
 
-  module _ (m : List ℕ) (holds : (b : Book) → check-book text ≡ good b → program-in m ≡ b .program)
+  module _ (m : List ℕ) (holds : (b : Book) → check-book text ≡ good b → held m ≡ b .program)
       (a : Answer) (told : a ≡ answer-of (check-book text)) (zero-a : a .number ≡ 0)
-      (b : Answer) (call : b ≡ answer-of (check-call (program-in m) c k n)) where
+      (b : Answer) (call : b ≡ answer-of (check-call (held m) c k n)) where
     accepted-as : (b : Book) × (check-book text ≡ good b)
     accepted-as = accepts (check-book text) (book-numbered text) (sym (ap (λ (r : Answer). r .number) told) ∙ zero-a)
 
     abbrev B : Program
     B = accepted-as .0 .program
 
-    held : program-in m ≡ B
-    held = holds (accepted-as .0) (accepted-as .1)
+    is-held : held m ≡ B
+    is-held = holds (accepted-as .0) (accepted-as .1)
 
-    call-held : check-call (program-in m) c k n ≡ check-call B c k n
-    call-held = ap (λ (A : Program). check-call A c k n) held
+    call-held : check-call (held m) c k n ≡ check-call B c k n
+    call-held = ap (λ (A : Program). check-call A c k n) is-held
 
     pub refused-call : b .number ≢ 0 → Tells b 0 l c (step-call text c k n)
     refused-call h =
@@ -84,25 +84,25 @@ module _ (text c l : List ℕ) (k n : ℕ) where
         rw (e, step-good (accepted-as .0) (accepted-as .1)) (call-stops c l k (check-call B c k n) B (λ z. h (ap (λ (r : Answer). r .number) e ∙ z)))
 
     module _ (zero-b : b .number ≡ 0) where
-      goes : (u : Unit {0}) × (check-call (program-in m) c k n ≡ good u)
-      goes = accepts (check-call (program-in m) c k n) (call-numbered (program-in m) c k n) (sym (ap (λ (r : Answer). r .number) call) ∙ zero-b)
+      goes : (u : Unit {0}) × (check-call (held m) c k n ≡ good u)
+      goes = accepts (check-call (held m) c k n) (call-numbered (held m) c k n) (sym (ap (λ (r : Answer). r .number) call) ∙ zero-b)
 
-      shown : Passed (program-in m) c k n
-      shown = call-passed (program-in m) c k n (goes .0) (goes .1)
+      shown : Passed (held m) c k n
+      shown = call-passed (held m) c k n (goes .0) (goes .1)
 
-      lawful : Lawful (program-in m)
-      lawful = subst Lawful (sym held) (accepted text (accepted-as .0) (accepted-as .1))
+      lawful : Lawful (held m)
+      lawful = subst Lawful (sym is-held) (accepted text (accepted-as .0) (accepted-as .1))
 
-      ready : Ready (program-in m) (take (L (program-in m)) c) k
+      ready : Ready (held m) (take (L (held m)) c) k
       ready = record {
         lawful = lawful;
-        sound = accepted-table (program-in m) lawful (take (L (program-in m)) c) (length-take-le (L (program-in m)) c (shown .long)) (shown .fine);
+        sound = accepted-table (held m) lawful (take (L (held m)) c) (length-take-le (L (held m)) c (shown .long)) (shown .fine);
         agent = shown .agent;
       }
 
-      moved : step-move (program-in m) c k ≡ step-call text c k n
+      moved : step-move (held m) c k ≡ step-call text c k n
       moved =
-          ap (λ (A : Program). step-move A c k) held
+          ap (λ (A : Program). step-move A c k) is-held
           ∙ sym (call-goes c l k (check-call B c k n) (goes .0) B (sym call-held ∙ goes .1))
           ∙ sym (step-good (accepted-as .0) (accepted-as .1))
 

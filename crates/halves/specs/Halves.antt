@@ -5,7 +5,7 @@ use mathlib.Core.List.{List, []}
 use Prim.Native.Nat.{ℕ, _≤_}
 use lib.ListN.{length, take}
 use Rattle.book.specs.Book.{Program, L}
-use Rattle.book.specs.Image.{program-in}
+use Rattle.book.specs.Image.{held}
 use Rattle.engine.specs.Rule.{most-instructions}
 use Rattle.engine.specs.Single.{step-move, step-call}
 use Rattle.walk.specs.declared.State.{State}
@@ -23,8 +23,8 @@ pub record On (B : Program) (c : List ℕ) (k : ℕ) (l : List ℕ) (s : State) 
 -- the call that was not refused before its move, whose image is m
 pub record Walks (text c : List ℕ) (k n : ℕ) (m l : List ℕ) (s : State) : Type 0 where
   pub lent : most-instructions ≤ n
-  pub on : On (program-in m) c k l s
-  pub whole : step-move (program-in m) c k ≡ step-call text c k n
+  pub on : On (held m) c k l s
+  pub whole : step-move (held m) c k ≡ step-call text c k n
 
 -- a call up to the list
 pub record Halfway (text c : List ℕ) (k n : ℕ) (m l : List ℕ) (p : Paused) : Type 0 where

@@ -7,7 +7,7 @@ ghost use mathlib.Core.List.{List, []};
 ghost use Prim.Native.Nat.{ℕ, _≤_};
 ghost use lib.ListN.{length, take};
 ghost use Rattle.book.specs.Book.{L};
-ghost use Rattle.book.specs.Image.{program-in};
+ghost use Rattle.book.specs.Image.{held};
 ghost use Rattle.engine.specs.Single.{step-call};
 ghost use Rattle.moves.specs.Count.{given-of};
 ghost use Rattle.halves.specs.Halves.{On, Halfway};
@@ -38,10 +38,10 @@ fn held_back(a: Answer) -> Paused
 }
 
 // The walk of the move, on the first L records of a lent table.
-fn walk_first(image: &[u16; 4296], contents: &[u16], agent: u32, work: &mut [u64; 256]) -> Paused
-    requires { ⌜ (L (program-in (now image)) ≤ length (now contents)) × (Ready (program-in (now image)) (take (L (program-in (now image))) (now contents)) agent) ⌝ }
+fn walk_first(image: &[u32; 4296], contents: &[u16], agent: u32, work: &mut [u64; 256]) -> Paused
+    requires { ⌜ (L (held (now image)) ≤ length (now contents)) × (Ready (held (now image)) (take (L (held (now image))) (now contents)) agent) ⌝ }
     ensures { λ r. ⌜ (r .answer .number ≡ 0) × (r .count ≡ given-of (r .walk)) ⌝ }
-    ensures { λ r. ⌜ On (program-in (now (image .entry))) (now (contents .entry)) agent (now (work .exit)) (r .walk) ⌝ }
+    ensures { λ r. ⌜ On (held (now (image .entry))) (now (contents .entry)) agent (now (work .exit)) (r .walk) ⌝ }
 {
     let all = pages::total(image) as usize;
     let mut readers = [0u64; 1];
@@ -65,12 +65,12 @@ pub fn first_half(
     contents: &[u16],
     agent: usize,
     lent: usize,
-    image: &mut [u16; 4296],
+    image: &mut [u32; 4296],
     work: &mut [u64; 256],
 ) -> Paused
     ensures { λ r. ⌜ Halfway (now (book .entry)) (now (contents .entry)) agent lent (now (image .exit)) (now (work .exit)) r ⌝ }
 {
-    let a = open::open(book, image);
+    let a = book_check::check_into(book, image);
     if a.number != 0 {
         return held_back(a);
     }
@@ -84,7 +84,7 @@ pub fn first_half(
 // The rest of the move, by the instructions that came back from the list.
 pub fn second_half(
     contents: &mut [u16],
-    image: &[u16; 4296],
+    image: &[u32; 4296],
     work: &[u64; 256],
     p: Paused,
 ) -> Answer

@@ -11,7 +11,7 @@ use Rattle.text.specs.declared.Answer.{Answer}
 use Rattle.text.specs.Words.{good, answer-of}
 use Rattle.book.specs.Book.{Program, Book, L, start}
 use Rattle.book.specs.Check.{check-book}
-use Rattle.book.specs.Image.{program-in}
+use Rattle.book.specs.Image.{held}
 use Rattle.engine.specs.declared.Instruction.{Instruction}
 use Rattle.records.specs.Code.{items}
 use Rattle.engine.specs.Single.{over}
@@ -43,13 +43,13 @@ lap-starts b l m n order B g ok few d rs ws rs₀ ws₀ e hr hw er ew = record {
   passed = ok;
   few = few;
   most = omega arith;
-  going = subst (λ (c : List ℕ). Going (program-in m) (log-in l) (start B) 0 c rs ws) (sym e)
-      (going-start (program-in m) (log-in l) (start B) rs ws (start-in b l m n order B g ok) (none-in b l m n order B g ok rs rs₀ hr er) (none-in b l m n order B g ok ws ws₀ hw ew));
+  going = subst (λ (c : List ℕ). Going (held m) (log-in l) (start B) 0 c rs ws) (sym e)
+      (going-start (held m) (log-in l) (start B) rs ws (start-in b l m n order B g ok) (none-in b l m n order B g ok rs rs₀ hr er) (none-in b l m n order B g ok ws ws₀ hw ew));
 }
 
-pub from-none : (b l m : List ℕ) (B : Book) (g : Log) (n : ℕ) (t : Turn) (x d rs ws : List ℕ) → Stage b l m B g (lists-from (program-in m) (log-in l) (start B) (n - 0) 0) t x d rs ws
-    → Stage b l m B g (lists-from (program-in m) (log-in l) (start B) n 0) t x d rs ws
-from-none b l m B g n t x d rs ws s = subst (λ (j : ℕ). Stage b l m B g (lists-from (program-in m) (log-in l) (start B) j 0) t x d rs ws) {x = n - 0} {y = n} (omega arith) s
+pub from-none : (b l m : List ℕ) (B : Book) (g : Log) (n : ℕ) (t : Turn) (x d rs ws : List ℕ) → Stage b l m B g (lists-from (held m) (log-in l) (start B) (n - 0) 0) t x d rs ws
+    → Stage b l m B g (lists-from (held m) (log-in l) (start B) n 0) t x d rs ws
+from-none b l m B g n t x d rs ws s = subst (λ (j : ℕ). Stage b l m B g (lists-from (held m) (log-in l) (start B) j 0) t x d rs ws) {x = n - 0} {y = n} (omega arith) s
 
 -- ---- tables of which the first k records were lent on
 
@@ -66,7 +66,7 @@ long-of : (c d : List ℕ) (k : ℕ) → k ≤ length c → length d ≡ k → k
 long-of c d k h e = omega (arith, h, length-front c d k (e ∙ sym (length-take-le k c h)))
 
 module _
-    (b l : List ℕ) (lent : Tables) (n : ℕ) (m : List ℕ) (B : Book) (g : Log) (k : ℕ) (ek : k ≡ L (program-in m)) (same : L (program-in m) ≡ L (B .program)) (records : 256 ≤ n) (call : left-in lent (run-log B g) ≡ log-call b l lent n)
+    (b l : List ℕ) (lent : Tables) (n : ℕ) (m : List ℕ) (B : Book) (g : Log) (k : ℕ) (ek : k ≡ L (held m)) (same : L (held m) ≡ L (B .program)) (records : 256 ≤ n) (call : left-in lent (run-log B g) ≡ log-call b l lent n)
     (C R W : List ℕ) (hc : k ≤ length C) (hr : k ≤ length R) (hw : k ≤ length W) (pc : drop k C ≡ drop k (lent .contents)) (pr : drop k R ≡ drop k (lent .readers)) (pw : drop k W ≡ drop k (lent .writers))
   where
     lap-at : (rest : List (List Instruction)) (t : Turn) (x d rs ws : List ℕ) → length d ≡ k → length rs ≡ k → length ws ≡ k → Stage b l m B g rest t x d rs ws
@@ -109,8 +109,8 @@ module _ (book log : List ℕ) (t : Tables) (n : ℕ) (x image : List ℕ) (open
   lap-book z r more says = stopped-lap opened r more says (book-stops book log t n opened o z)
 
   module _
-      (z : opened .number ≡ 0) (holds : (B : Book) → check-book book ≡ good B → program-in image ≡ B .program)
-      (agents : ℕ) (all-agents : agents ≡ length (program-in image .agents)) (c : LogCheck) (checked : LogChecked agents log c)
+      (z : opened .number ≡ 0) (holds : (B : Book) → check-book book ≡ good B → held image ≡ B .program)
+      (agents : ℕ) (all-agents : agents ≡ length (held image .agents)) (c : LogCheck) (checked : LogChecked agents log c)
     where
       book-is : (B : Book) × (check-book book ≡ good B)
       book-is = book-good book log t n opened o z
@@ -118,7 +118,7 @@ module _ (book log : List ℕ) (t : Tables) (n : ℕ) (x image : List ℕ) (open
       abbrev B : Book
       B = book-is .0
 
-      is-held : program-in image ≡ B .program
+      is-held : held image ≡ B .program
       is-held = holds B (book-is .1)
 
       agents-same : length (B .program .agents) ≡ agents
@@ -135,10 +135,10 @@ module _ (book log : List ℕ) (t : Tables) (n : ℕ) (x image : List ℕ) (open
         abbrev g : Log
         g = log-is .0
 
-        held : Held g c
-        held = checked .held (B .program) g agents-same (log-is .1)
+        log-held : Held g c
+        log-held = checked .held (B .program) g agents-same (log-is .1)
 
-        module _ (all : ℕ) (total : all ≡ L (program-in image)) (short : Answer) (lent : (C : Program) → L C ≡ all → short ≡ answer-of (check-lent C (lengths t n))) where
+        module _ (all : ℕ) (total : all ≡ L (held image)) (short : Answer) (lent : (C : Program) → L C ≡ all → short ≡ answer-of (check-lent C (lengths t n))) where
           all-same : L (B .program) ≡ all
           all-same = sym (total ∙ ap L is-held)
 
@@ -150,17 +150,17 @@ module _ (book log : List ℕ) (t : Tables) (n : ℕ) (x image : List ℕ) (open
           pub lap-first : short .number ≡ 0 → (all ≤ length (t .contents)) × (all ≤ length (t .readers)) × (all ≤ length (t .writers)) × (256 ≤ n)
               → (r : Turn) (x′ d rs ws : List ℕ) → length d ≡ length (take all (t .contents)) → length rs ≡ length (take all (t .readers)) → length ws ≡ length (take all (t .writers))
               → ((B : Book) (g : Log) → c .moves ≤ 64 → Passed book log image (c .moves) (c .rows) B g → Long (B .program) (take all (t .contents)) (take all (t .readers)) (take all (t .writers))
-              → Stage book log image B g (lists-from (program-in image) (log-in log) (start B) (c .moves) 0) r x′ d rs ws)
+              → Stage book log image B g (lists-from (held image) (log-in log) (start B) (c .moves) 0) r x′ d rs ws)
               → Lap book log t n image (call-lists book log t n) r x′ (d ++ drop all (t .contents)) (rs ++ drop all (t .readers)) (ws ++ drop all (t .writers))
           lap-first v room r x′ d rs ws ld lr lw does =
               let e = lent (B .program) all-same in
               let lc : length (take all (t .contents)) ≡ all = length-take-le all (t .contents) (room .0) in
               let mr : length (take all (t .readers)) ≡ all = length-take-le all (t .readers) (room .1) in
               let mw : length (take all (t .writers)) ≡ all = length-take-le all (t .writers) (room .2) in
-              let ok : Passed book log image (c .moves) (c .rows) B g = record { book = book-is .1; image = holds B (book-is .1); log = log-is .1; moves = held .moves; rows = held .rows } in
-              let s = does B g (omega (arith, held .moves, passed (B .program) log g (log-is .1) .few)) ok (record { contents = lc ∙ sym all-same; readers = mr ∙ sym all-same; writers = mw ∙ sym all-same }) in
+              let ok : Passed book log image (c .moves) (c .rows) B g = record { book = book-is .1; image = holds B (book-is .1); log = log-is .1; moves = log-held .moves; rows = log-held .rows } in
+              let s = does B g (omega (arith, log-held .moves, passed (B .program) log g (log-is .1) .few)) ok (record { contents = lc ∙ sym all-same; readers = mr ∙ sym all-same; writers = mw ∙ sym all-same }) in
               let passes = lent-passes book log t n short B (book-is .1) g (log-is .1) e v in
-              let lists : lists-from (program-in image) (log-in log) (start B) (c .moves) 0 ≡ call-lists book log t n = lists-in book log image (c .moves) (c .rows) B g ok ∙ passes .1 in
+              let lists : lists-from (held image) (log-in log) (start B) (c .moves) 0 ≡ call-lists book log t n = lists-in book log image (c .moves) (c .rows) B g ok ∙ passes .1 in
               lap-at book log t n image B g all total (ap L is-held) (room .3) (passes .0) (t .contents) (t .readers) (t .writers) (room .0) (room .1) (room .2) refl refl refl
               (call-lists book log t n) r x′ d rs ws (ld ∙ lc) (lr ∙ mr) (lw ∙ mw) (subst (λ (q : List (List Instruction)). Stage book log image B g q r x′ d rs ws) lists s)
 
@@ -190,33 +190,33 @@ module _ (b l : List ℕ) (lent : Tables) (n : ℕ) (m : List ℕ) (is : List In
   kept : Kept b l lent n m (is ∷ rest) t x c rs ws
   kept = h .on (is-on b l lent n m is rest t x c rs ws h)
 
-  walking : Walking b l m (kept .B) (kept .g) t x (take (L (program-in m)) c) (take (L (program-in m)) rs) (take (L (program-in m)) ws)
+  walking : Walking b l m (kept .B) (kept .g) t x (take (L (held m)) c) (take (L (held m)) rs) (take (L (held m)) ws)
   walking = kept .stage .walking (is-on b l lent n m is rest t x c rs ws h)
 
-  all-lists : is ∷ rest ≡ items x (t .count) ∷ lists-from (program-in m) (log-in l) (start (kept .B)) (t .moves - suc (t .at)) (suc (t .at))
+  all-lists : is ∷ rest ≡ items x (t .count) ∷ lists-from (held m) (log-in l) (start (kept .B)) (t .moves - suc (t .at)) (suc (t .at))
   all-lists =
       kept .stage .lists (is-on b l lent n m is rest t x c rs ws h)
-      ∙ walking-lists b l m (kept .B) (kept .g) t x (take (L (program-in m)) c) (take (L (program-in m)) rs) (take (L (program-in m)) ws) walking
+      ∙ walking-lists b l m (kept .B) (kept .g) t x (take (L (held m)) c) (take (L (held m)) rs) (take (L (held m)) ws) walking
 
-  pub lap-next : (all k : ℕ) → all ≡ L (program-in m) → k ≡ min all (min (length c) (min (length rs) (length ws)))
+  pub lap-next : (all k : ℕ) → all ≡ L (held m) → k ≡ min all (min (length c) (min (length rs) (length ws)))
       → (r : Turn) (x′ d rs′ ws′ : List ℕ) → length d ≡ length (take k c) → length rs′ ≡ length (take k rs) → length ws′ ≡ length (take k ws)
       → ((q : List ℕ) (B : Book) (g : Log) → Walking q l m B g t x (take k c) (take k rs) (take k ws)
-      → Stage q l m B g (lists-from (program-in m) (log-in l) (start B) (t .moves - suc (t .at)) (suc (t .at))) r x′ d rs′ ws′)
+      → Stage q l m B g (lists-from (held m) (log-in l) (start B) (t .moves - suc (t .at)) (suc (t .at))) r x′ d rs′ ws′)
       → Lap b l lent n m rest r x′ (d ++ drop k c) (rs′ ++ drop k rs) (ws′ ++ drop k ws)
   lap-next all k ea ek r x′ d rs′ ws′ ld lr lw does =
       let K = kept in
-      let j : k ≡ L (program-in m) = omega (arith, ea, ek, K .contents .0, K .readers .0, K .writers .0) in
+      let j : k ≡ L (held m) = omega (arith, ea, ek, K .contents .0, K .readers .0, K .writers .0) in
       let w : Walking b l m (K .B) (K .g) t x (take k c) (take k rs) (take k ws) =
       subst (λ (q : ℕ). Walking b l m (K .B) (K .g) t x (take q c) (take q rs) (take q ws)) (sym j) walking in
       let hc : k ≤ length c = omega (arith, j, K .contents .0) in
       let hr : k ≤ length rs = omega (arith, j, K .readers .0) in
       let hw : k ≤ length ws = omega (arith, j, K .writers .0) in
       let s = does b (K .B) (K .g) w in
-      let q : lists-from (program-in m) (log-in l) (start (K .B)) (t .moves - suc (t .at)) (suc (t .at)) ≡ rest = sym (ap tail-of all-lists) in
+      let q : lists-from (held m) (log-in l) (start (K .B)) (t .moves - suc (t .at)) (suc (t .at)) ≡ rest = sym (ap tail-of all-lists) in
       lap-at b l lent n m (K .B) (K .g) k j (K .same) (K .records) (K .call) c rs ws hc hr hw (past k c (lent .contents) j (K .contents .1)) (past k rs (lent .readers) j (K .readers .1)) (past k ws (lent .writers) j (K .writers .1))
       rest r x′ d rs′ ws′ (ld ∙ length-take-le k c hc) (lr ∙ length-take-le k rs hr) (lw ∙ length-take-le k ws hw) (subst (λ (y : List (List Instruction)). Stage b l m (K .B) (K .g) y r x′ d rs′ ws′) q s)
     where
-      past : (i : ℕ) (y z : List ℕ) → i ≡ L (program-in m) → drop (L (program-in m)) y ≡ drop (L (program-in m)) z → drop i y ≡ drop i z
+      past : (i : ℕ) (y z : List ℕ) → i ≡ L (held m) → drop (L (held m)) y ≡ drop (L (held m)) z → drop i y ≡ drop i z
       past i y z e q = subst (λ (v : ℕ). drop v y ≡ drop v z) (sym e) q
 
   -- what is passed on now
@@ -249,7 +249,7 @@ module _ (b l : List ℕ) (lent : Tables) (n : ℕ) (m : List ℕ) (is : List In
               after = record {
                 fit = w .after .fit;
                 contents = w .after .contents;
-                readers = subst (λ (o : Walked). Gathered (program-in m) (w .old .contents) (2 ^ t .at) (line l (1 + t .at) .a) o (w .old .readers) (take (L (program-in m)) rs)) (sym i) (w .after .readers);
+                readers = subst (λ (o : Walked). Gathered (held m) (w .old .contents) (2 ^ t .at) (line l (1 + t .at) .a) o (w .old .readers) (take (L (held m)) rs)) (sym i) (w .after .readers);
                 writers = w .after .writers;
               };
               room = e;
@@ -274,7 +274,7 @@ is-over b l lent n m t x c rs ws h = go (t .more) refl
     go false y = y
     go true y =
         let K = h .on y in
-        let q = K .stage .lists y ∙ walking-lists b l m (K .B) (K .g) t x (take (L (program-in m)) c) (take (L (program-in m)) rs) (take (L (program-in m)) ws) (K .stage .walking y) in
+        let q = K .stage .lists y ∙ walking-lists b l m (K .B) (K .g) t x (take (L (held m)) c) (take (L (held m)) rs) (take (L (held m)) ws) (K .stage .walking y) in
         absurd (is-cons _ _ (sym q))
 
 -- and while there is more a move is on

@@ -6,7 +6,7 @@ use native.Mathlib.Omega.{arith}
 use lib.ListN.{length, replicate}
 use Rattle.text.specs.declared.Answer.{Answer}
 use Rattle.book.specs.Book.{Program, Book, L, start}
-use Rattle.book.specs.Image.{program-in}
+use Rattle.book.specs.Image.{held}
 use Rattle.book.specs.Sound.{Lawful, Sound}
 use Rattle.book.proofs.Claims.{accepted-book}
 use Rattle.engine.specs.Move.{Input, walked, move}
@@ -21,7 +21,7 @@ use Rattle.laps.proofs.Checks.{agents-low}
 
 module _ (b l m : List ℕ) (n : ℕ) (order : List ℕ) (B : Book) (g : Log) (ok : Passed b l m n order B g) where
   abbrev A : Program
-  A = program-in m
+  A = held m
 
   is-log : g ≡ log-in l
   is-log = passed-log (B .program) l g (ok .log)

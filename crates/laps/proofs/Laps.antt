@@ -11,7 +11,7 @@ use Rattle.text.specs.declared.Answer.{Answer}
 use Rattle.text.specs.Text.{line}
 use Rattle.text.proofs.Words.{length-table-from}
 use Rattle.book.specs.Book.{Program, Book, start}
-use Rattle.book.specs.Image.{program-in}
+use Rattle.book.specs.Image.{held}
 use Rattle.book.specs.Sound.{Lawful}
 use Rattle.engine.specs.declared.Instruction.{Instruction}
 use Rattle.engine.specs.Move.{walked, made-by}
@@ -53,7 +53,7 @@ module _ (B : Program) (g : Log) (c : List ℕ) where
 
 module _ (b l m : List ℕ) (B : Book) (g : Log) where
   abbrev A : Program
-  A = program-in m
+  A = held m
 
   abbrev h : Log
   h = log-in l

@@ -6,7 +6,7 @@ use lib.ListN.{length, take, drop}
 use Prim.Native.Nat.{ℕ, _+_, _-_, _^_, _≤_, _<_}
 use Rattle.text.specs.Text.{line}
 use Rattle.book.specs.Book.{Book, L, start}
-use Rattle.book.specs.Image.{program-in}
+use Rattle.book.specs.Image.{held}
 use Rattle.engine.specs.declared.Instruction.{Instruction}
 use Rattle.engine.specs.Rule.{most-instructions}
 use Rattle.moves.specs.Effect as effect
@@ -27,14 +27,14 @@ pub record Before (b l m : List ℕ) (B : Book) (g : Log) (n : ℕ) (rows : List
   pub passed : Passed b l m n rows B g
   pub few : n ≤ 64
   pub most : i ≤ n
-  pub going : Going (program-in m) (log-in l) (start B) i d rs ws
+  pub going : Going (held m) (log-in l) (start B) i d rs ws
 
 -- and the walk of move t.at has come to its end or been refused, with the list x
 pub record Walking (b l m : List ℕ) (B : Book) (g : Log) (t : Turn) (x d rs ws : List ℕ) : Type 0 where
   pub old : effect.Tables
   pub before : Before b l m B g (t .moves) (t .rows) (t .at) (old .contents) (old .readers) (old .writers)
   pub at : t .at < t .moves
-  pub after : effect.After (program-in m) (line l (1 + t .at) .a) (2 ^ t .at) old (t .walk) x (effect.tables d rs ws)
+  pub after : effect.After (held m) (line l (1 + t .at) .a) (2 ^ t .at) old (t .walk) x (effect.tables d rs ws)
   pub room : length x ≡ 256
   pub count : t .count ≡ given-of (t .walk)
 
@@ -42,7 +42,7 @@ pub record Walking (b l m : List ℕ) (B : Book) (g : Log) (t : Turn) (x d rs ws
 pub record Stage (b l m : List ℕ) (B : Book) (g : Log) (rest : List (List Instruction)) (t : Turn) (x d rs ws : List ℕ) : Type 0 where
   pub over : t .more ≡ false → (rest ≡ []) × (answered (t .answer) d rs ws ≡ run-log B g)
   pub walking : t .more ≡ true → Walking b l m B g t x d rs ws
-  pub lists : t .more ≡ true → rest ≡ lists-from (program-in m) (log-in l) (start B) (moves-left t) (t .at)
+  pub lists : t .more ≡ true → rest ≡ lists-from (held m) (log-in l) (start B) (moves-left t) (t .at)
 
 -- ---- the call, on tables of any length
 
@@ -50,12 +50,12 @@ pub record Stage (b l m : List ℕ) (B : Book) (g : Log) (rest : List (List Inst
 pub record Kept (b l : List ℕ) (lent : Tables) (n : ℕ) (m : List ℕ) (rest : List (List Instruction)) (t : Turn) (x c rs ws : List ℕ) : Type 0 where
   pub B : Book
   pub g : Log
-  pub stage : Stage b l m B g rest t x (take (L (program-in m)) c) (take (L (program-in m)) rs) (take (L (program-in m)) ws)
+  pub stage : Stage b l m B g rest t x (take (L (held m)) c) (take (L (held m)) rs) (take (L (held m)) ws)
   pub records : most-instructions ≤ n
-  pub contents : (L (program-in m) ≤ length c) × (drop (L (program-in m)) c ≡ drop (L (program-in m)) (lent .contents))
-  pub readers : (L (program-in m) ≤ length rs) × (drop (L (program-in m)) rs ≡ drop (L (program-in m)) (lent .readers))
-  pub writers : (L (program-in m) ≤ length ws) × (drop (L (program-in m)) ws ≡ drop (L (program-in m)) (lent .writers))
-  pub same : L (program-in m) ≡ L (B .program)
+  pub contents : (L (held m) ≤ length c) × (drop (L (held m)) c ≡ drop (L (held m)) (lent .contents))
+  pub readers : (L (held m) ≤ length rs) × (drop (L (held m)) rs ≡ drop (L (held m)) (lent .readers))
+  pub writers : (L (held m) ≤ length ws) × (drop (L (held m)) ws ≡ drop (L (held m)) (lent .writers))
+  pub same : L (held m) ≡ L (B .program)
   pub call : left-in lent (run-log B g) ≡ log-call b l lent n
 
 -- how far a call is; rest is what the moves from here on give

@@ -9,7 +9,7 @@ use Rattle.text.specs.Words.{good}
 use Rattle.text.specs.Text.{line}
 use Rattle.book.specs.Book.{Program, Book, L}
 use Rattle.book.specs.Check.{check-book}
-use Rattle.book.specs.Image.{program-in}
+use Rattle.book.specs.Image.{held}
 use Rattle.book.specs.Sound.{Sound}
 use Rattle.order.specs.Log.{Log, log-of, check-log}
 use Rattle.order.specs.Run.{Run, ran, run, LogAnswer}
@@ -40,7 +40,7 @@ pub record Going (B : Program) (g : Log) (c : List ℕ) (i : ℕ) (d rs ws : Lis
 -- The texts b and l passed their checks: they say the book B, whose program the image m holds, and the log g, of n moves and of that order
 pub record Passed (b l m : List ℕ) (n : ℕ) (order : List ℕ) (B : Book) (g : Log) : Type 0 where
   pub book : check-book b ≡ good B
-  pub image : program-in m ≡ B .program
+  pub image : held m ≡ B .program
   pub log : check-log (B .program) l ≡ good g
   pub moves : n ≡ length (g .moves)
   pub rows : RowsOf g order

@@ -6,7 +6,7 @@ ghost use mathlib.Core.Bool.{false};
 ghost use mathlib.Core.List.{List, [], _∷_};
 ghost use Prim.Native.Nat.{ℕ, suc, _+_, _-_, _^_, _<_, _≤_};
 ghost use Rattle.book.specs.Book.{Book, start};
-ghost use Rattle.book.specs.Image.{program-in};
+ghost use Rattle.book.specs.Image.{held};
 ghost use Rattle.engine.specs.declared.Instruction.{Instruction};
 ghost use Rattle.order.specs.Log.{Log};
 ghost use Rattle.order.specs.Call.{Tables};
@@ -62,13 +62,13 @@ fn walk_on(
     contents: &[u16],
     readers: &mut [u64],
     writers: &[u64],
-    image: &[u16; 4296],
+    image: &[u32; 4296],
     work: &mut [u64; 256],
     rows: [u64; 64],
     moves: u32,
     i: u32,
 ) -> Turn
-    ensures { λ r. ⌜ ((b : List ℕ) (B : Book) (g : Log) → Before b (now (log .entry)) (now (image .entry)) B g moves rows i (now (contents .entry)) (now (readers .entry)) (now (writers .entry)) → Stage b (now (log .entry)) (now (image .entry)) B g (lists-from (program-in (now (image .entry))) (log-in (now (log .entry))) (start B) (moves - i) i) r (now (work .exit)) (now (contents .entry)) (now (readers .exit)) (now (writers .entry))) ⌝ }
+    ensures { λ r. ⌜ ((b : List ℕ) (B : Book) (g : Log) → Before b (now (log .entry)) (now (image .entry)) B g moves rows i (now (contents .entry)) (now (readers .entry)) (now (writers .entry)) → Stage b (now (log .entry)) (now (image .entry)) B g (lists-from (held (now (image .entry))) (log-in (now (log .entry))) (start B) (moves - i) i) r (now (work .exit)) (now (contents .entry)) (now (readers .exit)) (now (writers .entry))) ⌝ }
     ensures { λ r. ⌜ (r .more ≡ false → now (work .exit) ≡ now (work .entry)) ⌝ }
     ensures { λ r. ⌜ moves-left r ≤ moves - i ⌝ }
 {
@@ -98,11 +98,11 @@ fn turn_on(
     contents: &mut [u16],
     readers: &mut [u64],
     writers: &mut [u64],
-    image: &[u16; 4296],
+    image: &[u32; 4296],
     work: &mut [u64; 256],
     t: Turn,
 ) -> Turn
-    ensures { λ r. ⌜ ((b : List ℕ) (B : Book) (g : Log) → Walking b (now (log .entry)) (now (image .entry)) B g t (now (work .entry)) (now (contents .entry)) (now (readers .entry)) (now (writers .entry)) → Stage b (now (log .entry)) (now (image .entry)) B g (lists-from (program-in (now (image .entry))) (log-in (now (log .entry))) (start B) (t .moves - suc (t .at)) (suc (t .at))) r (now (work .exit)) (now (contents .exit)) (now (readers .exit)) (now (writers .exit))) ⌝ }
+    ensures { λ r. ⌜ ((b : List ℕ) (B : Book) (g : Log) → Walking b (now (log .entry)) (now (image .entry)) B g t (now (work .entry)) (now (contents .entry)) (now (readers .entry)) (now (writers .entry)) → Stage b (now (log .entry)) (now (image .entry)) B g (lists-from (held (now (image .entry))) (log-in (now (log .entry))) (start B) (t .moves - suc (t .at)) (suc (t .at))) r (now (work .exit)) (now (contents .exit)) (now (readers .exit)) (now (writers .exit))) ⌝ }
     ensures { λ r. ⌜ (r .more ≡ false → now (work .exit) ≡ now (work .entry)) ⌝ }
     ensures { λ r. ⌜ (t .at < 64 → t .at < t .moves → moves-left r < moves-left t) ⌝ }
 {
@@ -145,12 +145,12 @@ fn start_on(
     contents: &mut [u16],
     readers: &mut [u64],
     writers: &mut [u64],
-    image: &[u16; 4296],
+    image: &[u32; 4296],
     work: &mut [u64; 256],
     rows: [u64; 64],
     moves: u32,
 ) -> Turn
-    ensures { λ r. ⌜ ((B : Book) (g : Log) → moves ≤ 64 → Passed (now (book .entry)) (now (log .entry)) (now (image .entry)) moves rows B g → Long (B .program) (now (contents .entry)) (now (readers .entry)) (now (writers .entry)) → Stage (now (book .entry)) (now (log .entry)) (now (image .entry)) B g (lists-from (program-in (now (image .entry))) (log-in (now (log .entry))) (start B) moves 0) r (now (work .exit)) (now (contents .exit)) (now (readers .exit)) (now (writers .exit))) ⌝ }
+    ensures { λ r. ⌜ ((B : Book) (g : Log) → moves ≤ 64 → Passed (now (book .entry)) (now (log .entry)) (now (image .entry)) moves rows B g → Long (B .program) (now (contents .entry)) (now (readers .entry)) (now (writers .entry)) → Stage (now (book .entry)) (now (log .entry)) (now (image .entry)) B g (lists-from (held (now (image .entry))) (log-in (now (log .entry))) (start B) moves 0) r (now (work .exit)) (now (contents .exit)) (now (readers .exit)) (now (writers .exit))) ⌝ }
 {
     ends::begin(book, image, contents, readers, writers);
     walk_on(log, contents, readers, writers, image, work, rows, moves, 0)
@@ -164,12 +164,12 @@ pub fn first_lap(
     readers: &mut [u64],
     writers: &mut [u64],
     lent: usize,
-    image: &mut [u16; 4296],
+    image: &mut [u32; 4296],
     work: &mut [u64; 256],
 ) -> Turn
     ensures { λ r. ⌜ Lap (now (book .entry)) (now (log .entry)) (tables (now (contents .entry)) (now (readers .entry)) (now (writers .entry))) lent (now (image .exit)) (call-lists (now (book .entry)) (now (log .entry)) (tables (now (contents .entry)) (now (readers .entry)) (now (writers .entry))) lent) r (now (work .exit)) (now (contents .exit)) (now (readers .exit)) (now (writers .exit)) ⌝ }
 {
-    let opened = open::open(book, image);
+    let opened = book_check::check_into(book, image);
     if opened.number != 0 {
         return ended(opened);
     }
@@ -204,7 +204,7 @@ pub fn next_lap(
     contents: &mut [u16],
     readers: &mut [u64],
     writers: &mut [u64],
-    image: &[u16; 4296],
+    image: &[u32; 4296],
     work: &mut [u64; 256],
     t: Turn,
 ) -> Turn

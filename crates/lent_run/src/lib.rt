@@ -22,7 +22,7 @@ pub fn run(
     ensures { λ r. ⌜ (answered r (now (contents .exit)) (now (readers .exit)) (now (writers .exit)) ≡ log-call (now (book .entry)) (now (log .entry)) (tables (now (contents .entry)) (now (readers .entry)) (now (writers .entry))) (length (now (instructions .entry)))) × (now (instructions .exit) ≡ all-written (call-lists (now (book .entry)) (now (log .entry)) (tables (now (contents .entry)) (now (readers .entry)) (now (writers .entry))) (length (now (instructions .entry)))) (now (instructions .entry))) × Demand3 (now (book .entry)) (now (log .entry)) (tables (now (contents .entry)) (now (readers .entry)) (now (writers .entry))) (length (now (instructions .entry))) ⌝ }
 {
     let lent = instructions.len();
-    let mut image = [0u16; 4296];
+    let mut image = [0u32; 4296];
     let mut work = [0u64; 256];
     let mut t = laps::first_lap(
         book,

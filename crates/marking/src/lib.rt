@@ -10,7 +10,8 @@ ghost use Rattle.book.specs.Book.{Program, function-at, offset, reserve, dynami
 ghost use Rattle.engine.specs.Look.{read, seen};
 ghost use Rattle.engine.specs.Move.{dynamic-among};
 ghost use Rattle.engine.specs.Rule.{members, lowest};
-ghost use Rattle.term.specs.Held.{held, function-run};
+ghost use Rattle.term.specs.Held.{function-run};
+ghost use Rattle.book.specs.Image.{held};
 ghost use Rattle.term.specs.Marks.{noted, marked, Placed, Runs};
 ghost use Rattle.marking.specs.Marking.{found-below, members-from, first-and-rest};
 
@@ -60,7 +61,7 @@ pub fn mark_function(readers: &mut [u64], bit: u64, kind: u16, first: usize, end
 
 // The lowest label of Reserve from `from` on, or E; the labels tried are marked.
 pub fn lowest(
-    image: &[u16; 4296],
+    image: &[u32; 4296],
     contents: &[u16],
     readers: &mut [u64],
     bit: u64,
@@ -81,7 +82,7 @@ pub fn lowest(
 }
 
 // Whether location x, Reserve's while x is an element, is dynamic.
-fn roll(image: &[u16; 4296], x: u16) -> bool
+fn roll(image: &[u32; 4296], x: u16) -> bool
     ensures { λ r. ⌜ (Placed (held (now (image .entry))) → r ≡ dynamic-at (held (now (image .entry))) x) ⌝ }
 {
     if x < pages::elements(image) {
@@ -91,7 +92,7 @@ fn roll(image: &[u16; 4296], x: u16) -> bool
 }
 
 // Marks Reserve at x.
-fn note_roll(image: &[u16; 4296], readers: &mut [u64], bit: u64, x: u16)
+fn note_roll(image: &[u32; 4296], readers: &mut [u64], bit: u64, x: u16)
     ensures { λ _. ⌜ (Placed (held (now (image .entry))) → now (readers .exit) ≡ noted (held (now (image .entry))) bit x (now (readers .entry))) ⌝ }
 {
     if roll(image, x) {
@@ -101,7 +102,7 @@ fn note_roll(image: &[u16; 4296], readers: &mut [u64], bit: u64, x: u16)
 
 // The value of Reserve at x.
 pub fn read_roll(
-    image: &[u16; 4296],
+    image: &[u32; 4296],
     contents: &[u16],
     readers: &mut [u64],
     bit: u64,
@@ -140,7 +141,7 @@ fn mark_run(readers: &mut [u64], bit: u64, run: Run, e: u16)
 }
 
 // Marks the universe u at all elements if it is dynamic.
-pub fn universe(image: &[u16; 4296], readers: &mut [u64], bit: u64, u: u16)
+pub fn universe(image: &[u32; 4296], readers: &mut [u64], bit: u64, u: u16)
     ensures { λ _. ⌜ ((c : List ℕ) → Placed (held (now (image .entry))) → now (readers .exit) ≡ marked bit (dynamic-among (held (now (image .entry))) (seen c (members (held (now (image .entry))) u 0 (held (now (image .entry)) .E)))) (now (readers .entry))) ⌝ }
 {
     let e = pages::elements(image);

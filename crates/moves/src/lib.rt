@@ -5,7 +5,7 @@ use walk::State;
 ghost use mathlib.Core.Path.{_≡_};
 ghost use mathlib.Core.List.{List, []};
 ghost use Prim.Native.Nat.{ℕ};
-ghost use Rattle.book.specs.Image.{program-in};
+ghost use Rattle.book.specs.Image.{held};
 ghost use Rattle.engine.specs.Move.{label-of, released, is-some, if-releasing};
 ghost use Rattle.records.specs.Code.{items};
 ghost use Rattle.firing.specs.Outcome.{Ready, move-by};
@@ -66,8 +66,8 @@ fn has_release(list: &[u64], len: usize) -> bool
 }
 
 // A move with a release reads every dynamic location.
-fn mark_rest(image: &[u16; 4296], readers: &mut [u64], bit: u64, list: &[u64], len: usize)
-    ensures { λ _. ⌜ now (readers .exit) ≡ marked bit (if-releasing (program-in (now (image .entry))) (released (items (now (list .entry)) len))) (now (readers .entry)) ⌝ }
+fn mark_rest(image: &[u32; 4296], readers: &mut [u64], bit: u64, list: &[u64], len: usize)
+    ensures { λ _. ⌜ now (readers .exit) ≡ marked bit (if-releasing (held (now (image .entry))) (released (items (now (list .entry)) len))) (now (readers .entry)) ⌝ }
 {
     if has_release(list, len) {
         walk::mark_all(image, readers, bit);
@@ -88,7 +88,7 @@ fn refuse(readers: &mut [u64], bit: u64, number: u32, q: u32) -> Verdict
 
 // A settled move's answer, and its reader marks: all that it reads, or none.
 fn close(
-    image: &[u16; 4296],
+    image: &[u32; 4296],
     readers: &mut [u64],
     bit: u64,
     list: &[u64],
@@ -96,7 +96,7 @@ fn close(
     what: Outcome,
 ) -> Verdict
     ensures { λ r. ⌜ r ≡ verdict-of what ⌝ }
-    ensures { λ _. ⌜ now (readers .exit) ≡ closed (program-in (now (image .entry))) bit (items (now (list .entry)) len) what (now (readers .entry)) ⌝ }
+    ensures { λ _. ⌜ now (readers .exit) ≡ closed (held (now (image .entry))) bit (items (now (list .entry)) len) what (now (readers .entry)) ⌝ }
 {
     match what {
         Outcome::Fired => {
@@ -110,7 +110,7 @@ fn close(
 
 // What is left of a move whose walk gave the first len of the list.
 fn finish(
-    image: &[u16; 4296],
+    image: &[u32; 4296],
     contents: &mut [u16],
     readers: &mut [u64],
     writers: &mut [u64],
@@ -118,7 +118,7 @@ fn finish(
     list: &[u64; 256],
     len: usize,
 ) -> Verdict
-    ensures { λ r. ⌜ (Ready (program-in (now (image .entry))) (now (contents .entry)) (items (now (list .entry)) len) → (ls : List ℕ) → Finished (program-in (now (image .entry))) (items (now (list .entry)) len) (move-by (now (image .entry)) (now (contents .entry)) (now (list .entry)) len ls) bit (now (contents .entry)) (now (readers .entry)) (now (writers .entry)) r (now (contents .exit)) (now (readers .exit)) (now (writers .exit))) ⌝ }
+    ensures { λ r. ⌜ (Ready (held (now (image .entry))) (now (contents .entry)) (items (now (list .entry)) len) → (ls : List ℕ) → Finished (held (now (image .entry))) (items (now (list .entry)) len) (move-by (now (image .entry)) (now (contents .entry)) (now (list .entry)) len ls) bit (now (contents .entry)) (now (readers .entry)) (now (writers .entry)) r (now (contents .exit)) (now (readers .exit)) (now (writers .exit))) ⌝ }
 {
     let what = firing::settle(image, contents, writers, list, len, bit);
     close(image, readers, bit, list, len, what)
@@ -126,7 +126,7 @@ fn finish(
 
 // The rest of a move whose walk came to the state s: refused as the walk was, or settled by the first s.len of the list.
 pub fn settle_move(
-    image: &[u16; 4296],
+    image: &[u32; 4296],
     contents: &mut [u16],
     readers: &mut [u64],
     writers: &mut [u64],
@@ -134,7 +134,7 @@ pub fn settle_move(
     list: &[u64; 256],
     s: State,
 ) -> Verdict
-    ensures { λ r. ⌜ ((k : ℕ) (t : Tables) → After (program-in (now (image .entry))) k bit t s (now (list .entry)) (tables (now (contents .entry)) (now (readers .entry)) (now (writers .entry))) → Effect (program-in (now (image .entry))) k bit t r (tables (now (contents .exit)) (now (readers .exit)) (now (writers .exit)))) ⌝ }
+    ensures { λ r. ⌜ ((k : ℕ) (t : Tables) → After (held (now (image .entry))) k bit t s (now (list .entry)) (tables (now (contents .entry)) (now (readers .entry)) (now (writers .entry))) → Effect (held (now (image .entry))) k bit t r (tables (now (contents .exit)) (now (readers .exit)) (now (writers .exit)))) ⌝ }
 {
     if s.refused != 0 {
         return Verdict {

@@ -1,6 +1,6 @@
-// Small functions that many crates use: the smaller of two numbers, and the number at an index of a list.
+// Small functions that many crates use: the smaller of two numbers, the number at an index of a list, and its low half.
 ghost use mathlib.Core.Path.{_≡_};
-ghost use Prim.Native.Nat.{min};
+ghost use Prim.Native.Nat.{_%_, min};
 ghost use lib.ListN.{getD};
 
 pub fn smaller(a: usize, b: usize) -> usize
@@ -14,4 +14,18 @@ pub fn fetch(s: &[u16], i: usize) -> u16
     ensures { λ r. ⌜ r ≡ getD (now (s .entry)) i 0 ⌝ }
 {
     if i < s.len() { s[i] } else { 0 }
+}
+
+// The low sixteen bits of a number.
+pub fn low(x: u32) -> u16
+    ensures { λ r. ⌜ r ≡ x % 65536 ⌝ }
+{
+    (x % 65536) as u16
+}
+
+// The low sixteen bits of the number at an index, 0 past the end.
+pub fn low_at(s: &[u32], i: usize) -> u16
+    ensures { λ r. ⌜ r ≡ getD (now (s .entry)) i 0 % 65536 ⌝ }
+{
+    if i < s.len() { low(s[i]) } else { 0 }
 }

@@ -1,4 +1,4 @@
-// A checked book as the engine reads it, from an image in words of sixteen bits: its counts, its functions, and how many
+// A checked book as the engine reads it, the low sixteen bits of each word of its image: its counts, its functions, and how many
 // locations it has.
 use book::Function;
 ghost use mathlib.Core.Path.{_≡_};
@@ -6,7 +6,7 @@ ghost use mathlib.Core.List.{[]};
 ghost use Prim.Native.Nat.{_≤_};
 ghost use lib.ListN.{length};
 ghost use Rattle.book.specs.Book.{L, size, relation, dynamic, default, function-at};
-ghost use Rattle.book.specs.Image.{word, capped, program-in};
+ghost use Rattle.book.specs.Image.{word, capped, held, narrow};
 ghost use Rattle.pages.specs.Part.{part-of};
 
 // The bounds of the counts in an image.
@@ -22,10 +22,10 @@ pub struct Part {
     pub end: usize,
 }
 
-pub fn word(image: &[u16; 4296], i: usize) -> u16
-    ensures { λ r. ⌜ r ≡ word (now (image .entry)) i ⌝ }
+pub fn word(image: &[u32; 4296], i: usize) -> u16
+    ensures { λ r. ⌜ r ≡ word (narrow (now (image .entry))) i ⌝ }
 {
-    numbers::fetch(image, i)
+    numbers::low_at(image, i)
 }
 
 // A count, or the most that it may be.
@@ -36,36 +36,36 @@ pub fn capped(n: u16, most: u16) -> u16
 }
 
 // E.
-pub fn elements(image: &[u16; 4296]) -> u16
-    ensures { λ r. ⌜ (r ≡ program-in (now (image .entry)) .E) × (r ≤ 10000) ⌝ }
+pub fn elements(image: &[u32; 4296]) -> u16
+    ensures { λ r. ⌜ (r ≡ held (now (image .entry)) .E) × (r ≤ 10000) ⌝ }
 {
     capped(word(image, 0), MOST_ELEMENTS)
 }
 
 // P.
-pub fn permanent(image: &[u16; 4296]) -> u16
-    ensures { λ r. ⌜ r ≡ program-in (now (image .entry)) .P ⌝ }
+pub fn permanent(image: &[u32; 4296]) -> u16
+    ensures { λ r. ⌜ r ≡ held (now (image .entry)) .P ⌝ }
 {
     word(image, 1)
 }
 
 // How many functions there are.
-pub fn functions(image: &[u16; 4296]) -> u16
-    ensures { λ r. ⌜ (r ≡ length (program-in (now (image .entry)) .functions)) × (r ≤ 32) ⌝ }
+pub fn functions(image: &[u32; 4296]) -> u16
+    ensures { λ r. ⌜ (r ≡ length (held (now (image .entry)) .functions)) × (r ≤ 32) ⌝ }
 {
     capped(word(image, 2), MOST_FUNCTIONS)
 }
 
 // How many agents there are.
-pub fn agents(image: &[u16; 4296]) -> u16
-    ensures { λ r. ⌜ (r ≡ length (program-in (now (image .entry)) .agents)) × (r ≤ 16) ⌝ }
+pub fn agents(image: &[u32; 4296]) -> u16
+    ensures { λ r. ⌜ (r ≡ length (held (now (image .entry)) .agents)) × (r ≤ 16) ⌝ }
 {
     capped(word(image, 4), MOST_AGENTS)
 }
 
 // Function f; past the last one all 0.
-pub fn function_at(image: &[u16; 4296], f: u16) -> Function
-    ensures { λ r. ⌜ r ≡ function-at (program-in (now (image .entry))) f ⌝ }
+pub fn function_at(image: &[u32; 4296], f: u16) -> Function
+    ensures { λ r. ⌜ r ≡ function-at (held (now (image .entry))) f ⌝ }
 {
     if f < functions(image) {
         let at = (2 + f as usize) * 4;
@@ -97,8 +97,8 @@ pub fn size(e: u16, arity: u32) -> u32
 }
 
 // L.
-pub fn total(image: &[u16; 4296]) -> u32
-    ensures { λ r. ⌜ r ≡ L (program-in (now (image .entry))) ⌝ }
+pub fn total(image: &[u32; 4296]) -> u32
+    ensures { λ r. ⌜ r ≡ L (held (now (image .entry))) ⌝ }
 {
     let e = elements(image);
     let n = functions(image);
@@ -113,8 +113,8 @@ pub fn total(image: &[u16; 4296]) -> u32
 }
 
 // The part that location l is in: the locations of its function. Past L it is empty.
-pub fn part_of(image: &[u16; 4296], l: usize) -> Part
-    ensures { λ r. ⌜ r ≡ part-of (program-in (now (image .entry))) l ⌝ }
+pub fn part_of(image: &[u32; 4296], l: usize) -> Part
+    ensures { λ r. ⌜ r ≡ part-of (held (now (image .entry))) l ⌝ }
 {
     let e = elements(image);
     let n = functions(image);

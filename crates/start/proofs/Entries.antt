@@ -2,8 +2,9 @@
 use mathlib.Core.Path.{_≡_, refl, sym, ap, subst, _∙_}
 use mathlib.Core.Bool.{true, false}
 use mathlib.Core.List.{List, [], _++_}
-use Prim.Native.Nat.{ℕ, zero, suc, _+_, _-_, _≤_, _<_}
+use Prim.Native.Nat.{ℕ, zero, suc, _+_, _-_, _%_, _≤_, _<_}
 use native.Mathlib.Numerals.{add-one}
+use native.Mathlib.Nat.{mod-eq-of-lt}
 use native.Mathlib.Omega.{arith}
 use lib.ListN.{length, getD, set, drop, length-set}
 use lib.Seq.{set-append-left}
@@ -16,15 +17,13 @@ use Rattle.book.specs.declared.Entry.{Entry}
 use Rattle.book.specs.Book.{Program, Book, L, size, function-at, no-entry, entry-at, entry-location, default-at, defaults, enter, start}
 use Rattle.book.specs.Lines.{first-entry, entry-of, entries-of, book-of}
 use Rattle.book.specs.Contents.{in-bounds, bad-entry}
-use Rattle.book.specs.Image.{program-in}
+use Rattle.book.specs.Image.{held}
 use Rattle.book.specs.Check.{check-header, check-lines, check-book}
 use Rattle.book.specs.Sound.{Lawful}
 use Rattle.book.proofs.Accepted.{header-bounded, header-is, lines-book, book-lengths, accepted-lines, accepted, accepted-entries}
 use Rattle.book.proofs.Places.{spot}
 use Rattle.book.proofs.Start.{in-bounds-is}
 use Rattle.pages.proofs.Parts.{between-inside, part-numbered, part-own}
-use Rattle.open.specs.Narrow.{narrowed}
-use Rattle.open.proofs.Fits.{narrowed-same}
 use Rattle.start.specs.Written.{line-put, lines-put, first-line, contents-lines}
 
 -- ---- the loop over the lines
@@ -58,10 +57,10 @@ module _ (B : Program) (ok : Lawful B) (few : length (B .functions) ≤ 32) (res
       let own : entry-location B (entry-of l) < f .first + size (B .E) (f .arity) =
       rw (part-own B ok (l .a) (l .b) (l .c) (s .function) (s .first) (s .second)) at (part-numbered B (entry-location B (entry-of l)) inside .inside) in
       rw (
-        narrowed-same (l .a) (omega (arith, s .function)),
-        narrowed-same (l .b) (omega (arith, s .first, ok .elements)),
-        narrowed-same (l .c) (omega (arith, s .second, ok .elements)),
-        narrowed-same (l .d) (omega (arith, s .value, ok .elements)),
+        mod-eq-of-lt {n = l .a} {m = 65536} (omega (arith, s .function)),
+        mod-eq-of-lt {n = l .b} {m = 65536} (omega (arith, s .first, ok .elements)),
+        mod-eq-of-lt {n = l .c} {m = 65536} (omega (arith, s .second, ok .elements)),
+        mod-eq-of-lt {n = l .d} {m = 65536} (omega (arith, s .value, ok .elements)),
         between-inside (f .first) (f .first + size (B .E) (f .arity)) (entry-location B (entry-of l)) (omega arith) own,
       ) (set-append-left c rest (entry-location B (entry-of l)) (l .d) (omega (arith, e, inside)))
 
@@ -105,12 +104,12 @@ module _ (text : List ℕ) (b : Book) (passes : check-book text ≡ good b) wher
           let k = header-bounded text h p in
           let s = lines-book text h b q in
           let long = book-lengths h text in
-          let nf : narrowed (line text 0 .c) ≡ h .functions =
-          narrowed-same (line text 0 .c) (omega (arith, ap (λ (x : Header). x .functions) e, k .functions .1)) ∙ ap (λ (x : Header). x .functions) e in
-          let nn : narrowed (line text 0 .d) ≡ h .nodes =
-          narrowed-same (line text 0 .d) (omega (arith, ap (λ (x : Header). x .nodes) e, k .nodes .1)) ∙ ap (λ (x : Header). x .nodes) e in
-          let na : narrowed (line text 1 .a) ≡ h .agents =
-          narrowed-same (line text 1 .a) (omega (arith, ap (λ (x : Header). x .agents) e, k .agents .1)) ∙ ap (λ (x : Header). x .agents) e in
+          let nf : line text 0 .c % 65536 ≡ h .functions =
+          mod-eq-of-lt {n = line text 0 .c} {m = 65536} (omega (arith, ap (λ (x : Header). x .functions) e, k .functions .1)) ∙ ap (λ (x : Header). x .functions) e in
+          let nn : line text 0 .d % 65536 ≡ h .nodes =
+          mod-eq-of-lt {n = line text 0 .d} {m = 65536} (omega (arith, ap (λ (x : Header). x .nodes) e, k .nodes .1)) ∙ ap (λ (x : Header). x .nodes) e in
+          let na : line text 1 .a % 65536 ≡ h .agents =
+          mod-eq-of-lt {n = line text 1 .a} {m = 65536} (omega (arith, ap (λ (x : Header). x .agents) e, k .agents .1)) ∙ ap (λ (x : Header). x .agents) e in
           let first : first-line text ≡ first-entry h = rw (nf, nn, na) in
           let many : length (b .entries) ≡ h .contents = ap (λ (x : Book). length (x .entries)) s ∙ long .3 in
           record {
@@ -135,9 +134,9 @@ module _ (text : List ℕ) (b : Book) (passes : check-book text ≡ good b) wher
       let k = in-bounds-is B (entry-of l) (rw e at (in-range B (b .entries) k (accepted-entries text b passes k h))) in
       record { function = k .0; first = k .1; second = k .2; value = k .3 }
 
-  pub start-is : (m c₀ mid out : List ℕ) → program-in m ≡ B → L B ≤ length c₀
-      → (L (program-in m) ≤ length c₀ → mid ≡ defaults (program-in m) ++ drop (L (program-in m)) c₀)
-      → out ≡ lines-put (program-in m) (contents-lines text) mid → out ≡ start b ++ drop (L B) c₀
+  pub start-is : (m c₀ mid out : List ℕ) → held m ≡ B → L B ≤ length c₀
+      → (L (held m) ≤ length c₀ → mid ≡ defaults (held m) ++ drop (L (held m)) c₀)
+      → out ≡ lines-put (held m) (contents-lines text) mid → out ≡ start b ++ drop (L B) c₀
   unfolding defaults start
   start-is m c₀ mid out held long p q =
       let s = said in

@@ -1,6 +1,6 @@
 -- What the code writes, step by step: one function's locations, then one line of the book after the other.
 use mathlib.Core.List.{List, [], _∷_, _++_}
-use Prim.Native.Nat.{ℕ, _+_, _-_}
+use Prim.Native.Nat.{ℕ, _+_, _-_, _%_}
 use lib.Dec.{leb}
 use lib.ListN.{length, take, drop, replicate}
 use Rattle.text.specs.declared.Line.{Line}
@@ -9,7 +9,6 @@ use Rattle.text.specs.Text.{line}
 use Rattle.book.specs.declared.Function.{Function}
 use Rattle.book.specs.Book.{Program, size, location, function-at}
 use Rattle.pages.specs.Part.{put-in}
-use Rattle.open.specs.Narrow.{narrowed}
 
 -- the places from `first` to `end` hold v, if there are as many
 abbrev pub run-filled : ℕ → ℕ → ℕ → List ℕ → List ℕ
@@ -23,7 +22,7 @@ function-put E g l v c = put-in (g .first) (g .first + size E (g .arity)) l v c
 -- a contents line put at its location: in an accepted book each of its numbers fits in sixteen bits
 abbrev pub line-put : Program → Line → List ℕ → List ℕ
 line-put B l c =
-    function-put (B .E) (function-at B (narrowed (l .a))) (location B (narrowed (l .a)) (narrowed (l .b)) (narrowed (l .c))) (narrowed (l .d)) c
+    function-put (B .E) (function-at B (l .a % 65536)) (location B (l .a % 65536) (l .b % 65536) (l .c % 65536)) (l .d % 65536) c
 
 unfoldable pub lines-put : Program → List Line → List ℕ → List ℕ
 lines-put B [] c = c
@@ -31,7 +30,7 @@ lines-put B (l ∷ ls) c = lines-put B ls (line-put B l c)
 
 -- where the contents lines of a book's text start, and those lines
 abbrev pub first-line : List ℕ → ℕ
-first-line text = 2 + narrowed (line text 0 .c) + narrowed (line text 0 .d) + narrowed (line text 1 .a)
+first-line text = 2 + line text 0 .c % 65536 + line text 0 .d % 65536 + line text 1 .a % 65536
 
 abbrev pub contents-lines : List ℕ → List Line
 contents-lines text = table (λ i. line text (first-line text + i)) (line text 1 .b)

@@ -6,7 +6,7 @@ ghost use Prim.Native.Nat.{_+_, _≤_};
 ghost use lib.ListN.{length, set, drop, replicate};
 ghost use Rattle.text.specs.Words.{good};
 ghost use Rattle.book.specs.Book.{Book, L, offset, defaults, start};
-ghost use Rattle.book.specs.Image.{program-in};
+ghost use Rattle.book.specs.Image.{held};
 ghost use Rattle.book.specs.Check.{check-book};
 ghost use Rattle.pages.specs.Part.{put-in};
 ghost use Rattle.start.specs.Written.{run-filled, line-put, lines-put, contents-lines};
@@ -33,8 +33,8 @@ fn fill_run(contents: &mut [u16], first: usize, end: usize, v: u16)
 }
 
 // Every location gets its default, function by function.
-fn write_defaults(image: &[u16; 4296], contents: &mut [u16])
-    ensures { λ _. ⌜ (L (program-in (now (image .entry))) ≤ length (now (contents .entry)) → now (contents .exit) ≡ defaults (program-in (now (image .entry))) ++ drop (L (program-in (now (image .entry)))) (now (contents .entry))) ⌝ }
+fn write_defaults(image: &[u32; 4296], contents: &mut [u16])
+    ensures { λ _. ⌜ (L (held (now (image .entry))) ≤ length (now (contents .entry)) → now (contents .exit) ≡ defaults (held (now (image .entry))) ++ drop (L (held (now (image .entry)))) (now (contents .entry))) ⌝ }
 {
     let e = pages::elements(image);
     let n = pages::functions(image);
@@ -83,13 +83,13 @@ fn put_in(contents: &mut [u16], first: usize, end: usize, i: usize, v: u16)
 }
 
 // A contents line's value is put at its location.
-fn write_line(image: &[u16; 4296], contents: &mut [u16], l: Line)
-    ensures { λ _. ⌜ now (contents .exit) ≡ line-put (program-in (now (image .entry))) l (now (contents .entry)) ⌝ }
+fn write_line(image: &[u32; 4296], contents: &mut [u16], l: Line)
+    ensures { λ _. ⌜ now (contents .exit) ≡ line-put (held (now (image .entry))) l (now (contents .entry)) ⌝ }
 {
-    let x = open::narrow_word(l.b);
-    let y = open::narrow_word(l.c);
+    let x = numbers::low(l.b);
+    let y = numbers::low(l.c);
     let e = pages::elements(image);
-    let g = pages::function_at(image, open::narrow_word(l.a));
+    let g = pages::function_at(image, numbers::low(l.a));
     let first = g.first as usize;
     let end = first + pages::size(e, g.arity) as usize;
     put_in(
@@ -97,19 +97,19 @@ fn write_line(image: &[u16; 4296], contents: &mut [u16], l: Line)
         first,
         end,
         offset(e, g.arity, x, y),
-        open::narrow_word(l.d),
+        numbers::low(l.d),
     );
 }
 
 // All contents lines, one by one; the header says where they start and how many there are.
-fn write_entries(book: &[u8], image: &[u16; 4296], contents: &mut [u16])
-    ensures { λ _. ⌜ now (contents .exit) ≡ lines-put (program-in (now (image .entry))) (contents-lines (now (book .entry))) (now (contents .entry)) ⌝ }
+fn write_entries(book: &[u8], image: &[u32; 4296], contents: &mut [u16])
+    ensures { λ _. ⌜ now (contents .exit) ≡ lines-put (held (now (image .entry))) (contents-lines (now (book .entry))) (now (contents .entry)) ⌝ }
 {
     let k = text::read_line(book, 0, 0);
     let l = text::read_line(book, 0, 1);
-    let f = open::narrow_word(k.c);
-    let n = open::narrow_word(k.d);
-    let a = open::narrow_word(l.a);
+    let f = numbers::low(k.c);
+    let n = numbers::low(k.d);
+    let a = numbers::low(l.a);
     let first = 2 + f as u32 + n as u32 + a as u32;
     let count = l.b;
     let mut i: u32 = 0;
@@ -121,8 +121,8 @@ fn write_entries(book: &[u8], image: &[u16; 4296], contents: &mut [u16])
 }
 
 // The start of a run of an accepted book, whose image it is; nothing past the last location is touched.
-pub fn write_start(book: &[u8], image: &[u16; 4296], contents: &mut [u16])
-    ensures { λ _. ⌜ ((b : Book) → check-book (now (book .entry)) ≡ good b → program-in (now (image .entry)) ≡ b .program → L (b .program) ≤ length (now (contents .entry)) → now (contents .exit) ≡ start b ++ drop (L (b .program)) (now (contents .entry))) ⌝ }
+pub fn write_start(book: &[u8], image: &[u32; 4296], contents: &mut [u16])
+    ensures { λ _. ⌜ ((b : Book) → check-book (now (book .entry)) ≡ good b → held (now (image .entry)) ≡ b .program → L (b .program) ≤ length (now (contents .entry)) → now (contents .exit) ≡ start b ++ drop (L (b .program)) (now (contents .entry))) ⌝ }
 {
     write_defaults(image, contents);
     write_entries(book, image, contents);

@@ -9,7 +9,7 @@ ghost use lib.Dec.{eqb, ltb};
 ghost use lib.ListN.{getD, take};
 ghost use Rattle.text.specs.Words.{least};
 ghost use Rattle.book.specs.Book.{Program, L, true-element, size, boolean, dynamic, default, place};
-ghost use Rattle.book.specs.Image.{program-in};
+ghost use Rattle.book.specs.Image.{held};
 ghost use Rattle.book.specs.Contents.{some-on-roll, all-permanent, bad-value};
 ghost use Rattle.table.specs.Part.{arguments-by, Blameless, Past, Part};
 
@@ -146,8 +146,8 @@ fn bad_part(contents: &[u16], e: u16, p: u16, f: Function, first: u32) -> Found
 }
 
 // The least location at fault, function after function.
-fn bad_in(image: &[u16; 4296], contents: &[u16]) -> Found
-    ensures { λ r. ⌜ r ≡ least (bad-value (program-in (now (image .entry))) (now (contents .entry))) (L (program-in (now (image .entry)))) ⌝ }
+fn bad_in(image: &[u32; 4296], contents: &[u16]) -> Found
+    ensures { λ r. ⌜ r ≡ least (bad-value (held (now (image .entry))) (now (contents .entry))) (L (held (now (image .entry)))) ⌝ }
 {
     let e = pages::elements(image);
     let p = pages::permanent(image);
@@ -167,8 +167,8 @@ fn bad_in(image: &[u16; 4296], contents: &[u16]) -> Found
 }
 
 // 8 of a lent table, whose first L records are judged.
-pub fn bad_value(image: &[u16; 4296], contents: &[u16]) -> Found
-    ensures { λ r. ⌜ r ≡ least (bad-value (program-in (now (image .entry))) (take (L (program-in (now (image .entry)))) (now (contents .entry)))) (L (program-in (now (image .entry)))) ⌝ }
+pub fn bad_value(image: &[u32; 4296], contents: &[u16]) -> Found
+    ensures { λ r. ⌜ r ≡ least (bad-value (held (now (image .entry))) (take (L (held (now (image .entry)))) (now (contents .entry)))) (L (held (now (image .entry)))) ⌝ }
 {
     let n = pages::total(image) as usize;
     if n <= contents.len() {

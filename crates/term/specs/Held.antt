@@ -5,15 +5,11 @@ use lib.ListN.{getD, take}
 use Rattle.book.specs.declared.Node.{Node}
 use Rattle.book.specs.declared.Function.{Function}
 use Rattle.book.specs.Book.{undef, Program, node-at}
-use Rattle.book.specs.Image.{program-in}
+use Rattle.book.specs.Image.{held}
 use Rattle.engine.specs.Look.{Look}
 use Rattle.engine.specs.Term.{Shape, an-element, a-variable, the-agent, of-none, of-one, of-two, a-not, no-term, a-join, apply, term-at, eval, target}
 use Rattle.term.specs.declared.Row.{Row}
 use Rattle.term.specs.declared.Run.{Run}
-
--- the program that an image holds
-abbrev pub held : List ℕ → Program
-held m = program-in m
 
 abbrev pub node-row : Row → Node
 node-row r = record { kind = r .kind; a = r .a; b = r .b; c = r .c }

@@ -5,7 +5,8 @@ ghost use lib.ListN.{getD};
 ghost use Rattle.book.specs.Book.{undef, boolean, truth, size, offset, node-at, function-at, location, dynamic-at};
 ghost use Rattle.engine.specs.Look.{read};
 ghost use Rattle.engine.specs.Term.{both, either, plus, minus, less, number, negate, apply, shapes, no-term};
-ghost use Rattle.term.specs.Held.{held, node-row, function-run, variables-of, value-at, aim-at, operated};
+ghost use Rattle.term.specs.Held.{node-row, function-run, variables-of, value-at, aim-at, operated};
+ghost use Rattle.book.specs.Image.{held};
 ghost use Rattle.term.specs.Marks.{mark-one, noted, Placed, Runs};
 
 // A node as the image has it.
@@ -24,16 +25,16 @@ pub struct Run {
 }
 
 // Node n; past the last all 0.
-pub fn node(image: &[u16; 4296], n: u16) -> Row
+pub fn node(image: &[u32; 4296], n: u16) -> Row
     ensures { λ r. ⌜ node-row r ≡ node-at (held (now (image .entry))) n ⌝ }
 {
-    if n < pages::capped(image[3], 1024) {
+    if n < pages::capped(numbers::low(image[3]), 1024) {
         let at = n as usize * 4 + 200;
         Row {
-            kind: image[at],
-            a: image[at + 1],
-            b: image[at + 2],
-            c: image[at + 3],
+            kind: numbers::low(image[at]),
+            a: numbers::low(image[at + 1]),
+            b: numbers::low(image[at + 2]),
+            c: numbers::low(image[at + 3]),
         }
     } else {
         Row {
@@ -46,15 +47,15 @@ pub fn node(image: &[u16; 4296], n: u16) -> Row
 }
 
 // Function f; past the last all 0.
-pub fn function(image: &[u16; 4296], f: u16) -> Run
+pub fn function(image: &[u32; 4296], f: u16) -> Run
     ensures { λ r. ⌜ function-run r ≡ function-at (held (now (image .entry))) f ⌝ }
 {
-    if f < pages::capped(image[2], 32) {
+    if f < pages::capped(numbers::low(image[2]), 32) {
         let at = f as usize * 4 + 8;
         Run {
-            first: image[at],
-            arity: image[at + 1],
-            kind: image[at + 2],
+            first: numbers::low(image[at]),
+            arity: numbers::low(image[at + 1]),
+            kind: numbers::low(image[at + 2]),
         }
     } else {
         Run {
@@ -90,14 +91,14 @@ pub fn locate(run: Run, e: u16, x: u16, y: u16) -> u32
 }
 
 // The location of function f at x and y.
-pub fn location(image: &[u16; 4296], f: u16, x: u16, y: u16) -> u32
+pub fn location(image: &[u32; 4296], f: u16, x: u16, y: u16) -> u32
     ensures { λ r. ⌜ r ≡ location (held (now (image .entry))) f x y ⌝ }
 {
     locate(function(image, f), pages::elements(image), x, y)
 }
 
 // Whether a location is dynamic, by the sizes of the functions from the first on.
-pub fn dynamic_at(image: &[u16; 4296], l: u32) -> bool
+pub fn dynamic_at(image: &[u32; 4296], l: u32) -> bool
     ensures { λ r. ⌜ r ≡ dynamic-at (held (now (image .entry))) l ⌝ }
 {
     let e = pages::elements(image);
@@ -117,7 +118,7 @@ pub fn dynamic_at(image: &[u16; 4296], l: u32) -> bool
 }
 
 // The same of function f's location at x and y, which its kind tells if they are elements.
-pub fn dynamic(image: &[u16; 4296], f: u16, x: u16, y: u16, at: u32) -> bool
+pub fn dynamic(image: &[u32; 4296], f: u16, x: u16, y: u16, at: u32) -> bool
     ensures { λ r. ⌜ (Placed (held (now (image .entry))) → at ≡ location (held (now (image .entry))) f x y → r ≡ dynamic-at (held (now (image .entry))) at) ⌝ }
 {
     if pages::functions(image) <= f {
@@ -144,7 +145,7 @@ pub fn mark(readers: &mut [u64], bit: u64, at: usize)
 }
 
 // Marks function f's location at x and y if it is dynamic.
-pub fn note(image: &[u16; 4296], readers: &mut [u64], bit: u64, f: u16, x: u16, y: u16, at: u32)
+pub fn note(image: &[u32; 4296], readers: &mut [u64], bit: u64, f: u16, x: u16, y: u16, at: u32)
     ensures { λ _. ⌜ (Placed (held (now (image .entry))) → at ≡ location (held (now (image .entry))) f x y → now (readers .exit) ≡ noted (held (now (image .entry))) bit at (now (readers .entry))) ⌝ }
 {
     if dynamic(image, f, x, y, at) {
@@ -154,7 +155,7 @@ pub fn note(image: &[u16; 4296], readers: &mut [u64], bit: u64, f: u16, x: u16, 
 
 // The value of function f at x and y.
 pub fn read(
-    image: &[u16; 4296],
+    image: &[u32; 4296],
     contents: &[u16],
     readers: &mut [u64],
     bit: u64,
@@ -294,7 +295,7 @@ pub fn variable(scope: &[u16; 9], a: u16) -> u16
 
 // The value of the term at node n, looking at most `depth` nodes down; what it reads is marked.
 pub fn eval(
-    image: &[u16; 4296],
+    image: &[u32; 4296],
     contents: &[u16],
     readers: &mut [u64],
     bit: u64,
@@ -338,7 +339,7 @@ pub fn eval(
 
 // The location that the term at node n names; its arguments are read.
 pub fn aim(
-    image: &[u16; 4296],
+    image: &[u32; 4296],
     contents: &[u16],
     readers: &mut [u64],
     bit: u64,

@@ -9,7 +9,8 @@ use Rattle.book.specs.Book.{node-at}
 use Rattle.engine.specs.Look.{Look}
 use Rattle.engine.specs.Rule.{Rule, rule-shape, rule-tree, Walk, Walked, going, met, most-instructions, walk}
 use Rattle.records.specs.Code.{items}
-use Rattle.term.specs.Held.{held, variables-of, agent-of}
+use Rattle.term.specs.Held.{variables-of, agent-of}
+use Rattle.book.specs.Image.{held}
 use Rattle.walk.specs.declared.State.{State}
 
 -- ---- a state and the list that goes with it

@@ -11,7 +11,8 @@ ghost use Rattle.book.specs.Book.{node-at, agent-at};
 ghost use Rattle.engine.specs.Move.{all-dynamic};
 ghost use Rattle.engine.specs.Term.{term-at};
 ghost use Rattle.engine.specs.Rule.{assign, bind, for-all, import, free, after, walk};
-ghost use Rattle.term.specs.Held.{held, variables-of, agent-of};
+ghost use Rattle.term.specs.Held.{variables-of, agent-of};
+ghost use Rattle.book.specs.Image.{held};
 ghost use Rattle.term.specs.Marks.{marked, Runs};
 ghost use Rattle.giving.specs.Giving.{walk-from, reached};
 ghost use Rattle.walk.specs.Gather.{agent-row, cleared, Gathered};
@@ -44,7 +45,7 @@ fn branch(x: u16, b: u16, c: u16) -> u16
 
 // Rule 21: the location that node a names gets the value of term b.
 fn assign(
-    image: &[u16; 4296],
+    image: &[u32; 4296],
     contents: &[u16],
     readers: &mut [u64],
     bit: u64,
@@ -66,7 +67,7 @@ fn assign(
 
 // Rule 27: the label that term a gives goes back to the roll.
 fn release(
-    image: &[u16; 4296],
+    image: &[u32; 4296],
     contents: &[u16],
     readers: &mut [u64],
     bit: u64,
@@ -88,7 +89,7 @@ fn release(
 // The rule at node n, looking at most `depth` nodes down; after a refusal nothing more is done.
 // Its kind decides: a pair's second part and a test's branch take the node's place, with no call; the other kinds end the walk.
 fn walk(
-    image: &[u16; 4296],
+    image: &[u32; 4296],
     contents: &[u16],
     readers: &mut [u64],
     bit: u64,
@@ -136,7 +137,7 @@ fn walk(
 
 // The body c of a row that binds variable a, with a at x.
 fn within(
-    image: &[u16; 4296],
+    image: &[u32; 4296],
     contents: &[u16],
     readers: &mut [u64],
     bit: u64,
@@ -156,7 +157,7 @@ fn within(
 
 // Rule 24: the body c with variable a at the value of term b.
 fn let_in(
-    image: &[u16; 4296],
+    image: &[u32; 4296],
     contents: &[u16],
     readers: &mut [u64],
     bit: u64,
@@ -175,7 +176,7 @@ fn let_in(
 
 // Rule 25: the body c with variable a at each member of the universe b, ascending.
 fn each(
-    image: &[u16; 4296],
+    image: &[u32; 4296],
     contents: &[u16],
     readers: &mut [u64],
     bit: u64,
@@ -205,7 +206,7 @@ fn each(
 
 // Rule 26: the lowest label of the roll enters the universe b; the body c with variable a at it.
 fn import(
-    image: &[u16; 4296],
+    image: &[u32; 4296],
     contents: &[u16],
     readers: &mut [u64],
     bit: u64,
@@ -231,14 +232,14 @@ pub struct Actor {
 }
 
 // Agent i; past the last all 0.
-fn agent_at(image: &[u16; 4296], i: u32) -> Actor
+fn agent_at(image: &[u32; 4296], i: u32) -> Actor
     ensures { λ r. ⌜ agent-row r ≡ agent-at (held (now (image .entry))) i ⌝ }
 {
-    if i < pages::capped(image[4], 16) as u32 {
+    if i < pages::capped(numbers::low(image[4]), 16) as u32 {
         let at = i as usize * 4 + 136;
         Actor {
-            root: image[at],
-            element: image[at + 1],
+            root: numbers::low(image[at]),
+            element: numbers::low(image[at + 1]),
         }
     } else {
         Actor {
@@ -271,7 +272,7 @@ fn ended(s: Pace) -> State
 
 // The walk of an agent's rule, with its marks; a refused one leaves none.
 pub fn gather(
-    image: &[u16; 4296],
+    image: &[u32; 4296],
     contents: &[u16],
     readers: &mut [u64],
     bit: u64,
@@ -297,7 +298,7 @@ pub fn gather(
 }
 
 // Marks every dynamic location, function by function: what a move with a release reads.
-pub fn mark_all(image: &[u16; 4296], readers: &mut [u64], bit: u64)
+pub fn mark_all(image: &[u32; 4296], readers: &mut [u64], bit: u64)
     ensures { λ _. ⌜ now (readers .exit) ≡ marked bit (all-dynamic (held (now (image .entry)))) (now (readers .entry)) ⌝ }
 {
     let e = pages::elements(image);

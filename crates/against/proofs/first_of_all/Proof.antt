@@ -3,7 +3,7 @@ use mathlib.Core.List.{List, []}
 use Prim.Native.Nat.{_+_, _-_}
 use borrow.Author.Needs.{needs}
 use lib.ListN.{getD, drop}
-use Rattle.book.specs.Image.{program-in}
+use Rattle.book.specs.Image.{held}
 use Rattle.engine.specs.declared.Instruction.{Instruction}
 use Rattle.records.specs.Code.{decode-of, items}
 use Rattle.against.specs.Steps.{better, best}
@@ -15,8 +15,8 @@ use Rattle.against.proofs.first_of_all.Lts as lts
 
 abbrev Inv-loop : tie.InvT-loop
 Inv-loop image contents list len most n least₀ j₀ least j =
-    best (program-in image) contents (items list len) (drop j (items list len)) least
-    ≡ best (program-in image) contents (items list len) (items list len) most
+    best (held image) contents (items list len) (drop j (items list len)) least
+    ≡ best (held image) contents (items list len) (items list len) most
 
 abbrev μ-loop : tie.MeasureT-loop
 μ-loop image contents list len most n least₀ j₀ least j = n - j
@@ -47,11 +47,11 @@ loop-less c = search needs
 
 loop-again : tie.Need-loop-again Inv-loop μ-loop
 unfolding best
-loop-again c = let a = c .before .before .before .before .before .before .before .before .args in let B = program-in (a .image .now) in let n = c .before .before .before .before .before .smaller in let l = c .before .before .before .before .loop in let is = items (a .list .now) (a .len) in let d = items-cons (a .list .now) (a .len) (n .result) (n .ensures) (l .j) (c .before .before .before .loop-test .taken) in let q : c .better-of .result ≡ better B (a .contents .now) is (decode-of (getD (a .list .now) (l .j) 0)) (l .least) = c .better-of .ensures ∙ rw (c .before .decode .ensures) in ap (best B (a .contents .now) is (drop (l .j + 1) is)) q ∙ sym (ap (λ (xs : List Instruction). best B (a .contents .now) is xs (l .least)) d) ∙ l .inv
+loop-again c = let a = c .before .before .before .before .before .before .before .before .args in let B = held (a .image .now) in let n = c .before .before .before .before .before .smaller in let l = c .before .before .before .before .loop in let is = items (a .list .now) (a .len) in let d = items-cons (a .list .now) (a .len) (n .result) (n .ensures) (l .j) (c .before .before .before .loop-test .taken) in let q : c .better-of .result ≡ better B (a .contents .now) is (decode-of (getD (a .list .now) (l .j) 0)) (l .least) = c .better-of .ensures ∙ rw (c .before .decode .ensures) in ap (best B (a .contents .now) is (drop (l .j + 1) is)) q ∙ sym (ap (λ (xs : List Instruction). best B (a .contents .now) is xs (l .least)) d) ∙ l .inv
 
 returns : tie.Need-returns Inv-loop μ-loop
 unfolding best
-returns c = let a = c .before .before .before .before .before .args in let B = program-in (a .image .now) in let n = c .before .before .smaller in let l = c .before .loop in let is = items (a .list .now) (a .len) in let d = items-end (a .list .now) (a .len) (n .result) (n .ensures) (l .j) (c .loop-test .left) in sym (ap (λ (xs : List Instruction). best B (a .contents .now) is xs (l .least)) d) ∙ l .inv
+returns c = let a = c .before .before .before .before .before .args in let B = held (a .image .now) in let n = c .before .before .smaller in let l = c .before .loop in let is = items (a .list .now) (a .len) in let d = items-end (a .list .now) (a .len) (n .result) (n .ensures) (l .j) (c .loop-test .left) in sym (ap (λ (xs : List Instruction). best B (a .contents .now) is xs (l .least)) d) ∙ l .inv
 
 pub first-of-all-spec : {M : Type 1} → statement M
 first-of-all-spec =

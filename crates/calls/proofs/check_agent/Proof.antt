@@ -1,6 +1,6 @@
 -- `check_agent` meets its contract.
 use Rattle.calls.proofs.Checks.{agent-there, agent-missing}
-use Rattle.book.specs.Image.{program-in}
+use Rattle.book.specs.Image.{held}
 use native.Mathlib.Omega.{arith}
 use mathlib.Core.List.{[]}
 use mathlib.Core.Path.{_∙_}
@@ -21,10 +21,10 @@ answer-requires-2 : tie.Need-answer-requires-2
 answer-requires-2 c κs = search needs
 
 returns : tie.Need-returns
-returns c = let a = c .before .before .before .args in c .answer .ensures ∙ agent-there (program-in (a .image .now)) (a .agent) (omega (arith, c .before .if1 .taken, c .before .before .agents .ensures .0))
+returns c = let a = c .before .before .before .args in c .answer .ensures ∙ agent-there (held (a .image .now)) (a .agent) (omega (arith, c .before .if1 .taken, c .before .before .agents .ensures .0))
 
 returns-2 : tie.Need-returns-2
-returns-2 c = let a = c .before .before .before .args in c .answer2 .ensures ∙ agent-missing (program-in (a .image .now)) (a .agent) (omega (arith, c .before .if1 .left, c .before .before .agents .ensures .0))
+returns-2 c = let a = c .before .before .before .args in c .answer2 .ensures ∙ agent-missing (held (a .image .now)) (a .agent) (omega (arith, c .before .if1 .left, c .before .before .agents .ensures .0))
 
 pub check-agent-spec : {M : Type 1} → statement M
 check-agent-spec =

@@ -1,6 +1,6 @@
 -- `check_call` meets its contract.
 use Rattle.calls.proofs.Checks.{all-three}
-use Rattle.book.specs.Image.{program-in}
+use Rattle.book.specs.Image.{held}
 use mathlib.Core.List.{[]}
 use borrow.Author.Needs.{needs}
 use Rattle.calls.proofs.check_call.Statement.{statement}
@@ -22,7 +22,7 @@ first-of-requires-2 : tie.Need-first-of-requires-2
 first-of-requires-2 c κs = search needs
 
 returns : tie.Need-returns
-returns c = let a = c .before .before .before .before .before .before .args in all-three (program-in (a .image .now)) (a .contents .now) (a .agent) (a .lent) _ _ _ _ _ (c .first-of2 .ensures) (c .before .first-of .ensures) (c .before .before .before .before .check-agent .ensures) (c .before .before .before .check-lent .ensures) (c .before .before .check-contents .ensures)
+returns c = let a = c .before .before .before .before .before .before .args in all-three (held (a .image .now)) (a .contents .now) (a .agent) (a .lent) _ _ _ _ _ (c .first-of2 .ensures) (c .before .first-of .ensures) (c .before .before .before .before .check-agent .ensures) (c .before .before .before .check-lent .ensures) (c .before .before .check-contents .ensures)
 
 pub check-call-spec : {M : Type 1} → statement M
 check-call-spec =

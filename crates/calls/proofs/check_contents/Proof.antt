@@ -1,7 +1,7 @@
 -- `check_contents` meets its contract.
 use Rattle.calls.proofs.Checks.{value-bad, values-fine}
 use Rattle.book.specs.Book.{L}
-use Rattle.book.specs.Image.{program-in}
+use Rattle.book.specs.Image.{held}
 use lib.ListN.{take}
 use mathlib.Core.List.{[]}
 use mathlib.Core.Path.{_∙_, sym}
@@ -25,10 +25,10 @@ answer-requires-2 : tie.Need-answer-requires-2
 answer-requires-2 c κs = search needs
 
 returns : tie.Need-returns
-returns c = let a = c .before .before .before .before .before .before .args in let B = program-in (a .image .now) in c .answer .ensures ∙ value-bad B (take (L B) (a .contents .now)) _ (sym (c .before .before .before .before .bad-value .ensures) ∙ c .before .before .found .given .1)
+returns c = let a = c .before .before .before .before .before .before .args in let B = held (a .image .now) in c .answer .ensures ∙ value-bad B (take (L B) (a .contents .now)) _ (sym (c .before .before .before .before .bad-value .ensures) ∙ c .before .before .found .given .1)
 
 returns-2 : tie.Need-returns-2
-returns-2 c = let a = c .before .before .before .before .before .args in let B = program-in (a .image .now) in c .answer2 .ensures ∙ values-fine B (take (L B) (a .contents .now)) (sym (c .before .before .before .bad-value .ensures) ∙ c .before .enum-told .given .1)
+returns-2 c = let a = c .before .before .before .before .before .args in let B = held (a .image .now) in c .answer2 .ensures ∙ values-fine B (take (L B) (a .contents .now)) (sym (c .before .before .before .bad-value .ensures) ∙ c .before .enum-told .given .1)
 
 pub check-contents-spec : {M : Type 1} → statement M
 check-contents-spec =

@@ -1,6 +1,6 @@
 -- `check_lent` meets its contract.
 use Rattle.calls.proofs.Checks.{Refusal, contents-short, list-short, both-lent}
-use Rattle.book.specs.Image.{program-in}
+use Rattle.book.specs.Image.{held}
 use native.Mathlib.Omega.{arith}
 use Prim.Native.Nat.{ℕ}
 use mathlib.Core.List.{[]}
@@ -19,19 +19,19 @@ answer-requires : tie.Need-answer-requires
 answer-requires c κs = search needs
 
 returns : tie.Need-returns
-returns c = let a = c .before .before .before .before .args in let t = c .before .before .total .ensures in c .answer .ensures ∙ ap (λ (x : ℕ). Refusal 2 x 0) t ∙ contents-short (program-in (a .image .now)) (a .contents .now) (a .lent) (omega (arith, c .before .if1 .taken, t))
+returns c = let a = c .before .before .before .before .args in let t = c .before .before .total .ensures in c .answer .ensures ∙ ap (λ (x : ℕ). Refusal 2 x 0) t ∙ contents-short (held (a .image .now)) (a .contents .now) (a .lent) (omega (arith, c .before .if1 .taken, t))
 
 answer-requires-2 : tie.Need-answer-requires-2
 answer-requires-2 c κs = search needs
 
 returns-2 : tie.Need-returns-2
-returns-2 c = let a = c .before .before .before .before .before .args in let t = c .before .before .before .total .ensures in c .answer2 .ensures ∙ list-short (program-in (a .image .now)) (a .contents .now) (a .lent) (omega (arith, c .before .before .if1 .left, t)) (omega (arith, c .before .if2 .taken))
+returns-2 c = let a = c .before .before .before .before .before .args in let t = c .before .before .before .total .ensures in c .answer2 .ensures ∙ list-short (held (a .image .now)) (a .contents .now) (a .lent) (omega (arith, c .before .before .if1 .left, t)) (omega (arith, c .before .if2 .taken))
 
 answer-requires-3 : tie.Need-answer-requires-3
 answer-requires-3 c κs = search needs
 
 returns-3 : tie.Need-returns-3
-returns-3 c = let a = c .before .before .before .before .before .args in let t = c .before .before .before .total .ensures in c .answer3 .ensures ∙ both-lent (program-in (a .image .now)) (a .contents .now) (a .lent) (omega (arith, c .before .before .if1 .left, t)) (omega (arith, c .before .if2 .left))
+returns-3 c = let a = c .before .before .before .before .before .args in let t = c .before .before .before .total .ensures in c .answer3 .ensures ∙ both-lent (held (a .image .now)) (a .contents .now) (a .lent) (omega (arith, c .before .before .if1 .left, t)) (omega (arith, c .before .if2 .left))
 
 pub check-lent-spec : {M : Type 1} → statement M
 check-lent-spec =

@@ -3,7 +3,7 @@ use mathlib.Core.List.{[]}
 use native.Mathlib.Omega.{arith}
 use borrow.Author.Needs.{needs}
 use Rattle.book.specs.Book.{L}
-use Rattle.book.specs.Image.{program-in}
+use Rattle.book.specs.Image.{held}
 use Rattle.records.specs.Code.{items}
 use Rattle.against.specs.Steps.{best}
 use Rattle.against.proofs.Best.{best-least, best-none}
@@ -21,7 +21,7 @@ first-clash-requires c κs = search needs
 returns : tie.Need-returns
 returns c =
     let a = c .before .before .before .before .before .args in
-    let B = program-in (a .image .now) in
+    let B = held (a .image .now) in
     let is = items (a .list .now) (a .len) in
     let t = c .before .before .total .ensures in
     let r = c .before .first-clash in
@@ -31,7 +31,7 @@ returns c =
 returns-2 : tie.Need-returns-2
 returns-2 c =
     let a = c .before .before .before .before .before .args in
-    let B = program-in (a .image .now) in
+    let B = held (a .image .now) in
     let is = items (a .list .now) (a .len) in
     let t = c .before .before .total .ensures in
     let r = c .before .first-clash in

@@ -4,7 +4,7 @@ use Prim.Native.Nat.{_-_, _<_, _≤_}
 use native.Mathlib.Omega.{arith}
 use borrow.Author.Needs.{needs}
 use lib.ListN.{length, getD}
-use Rattle.book.specs.Image.{program-in}
+use Rattle.book.specs.Image.{held}
 use Rattle.clash.specs.Steps.{location-of, slot-of, Last}
 use Rattle.traces.proofs.Laws.{take-min}
 use Rattle.clash.proofs.Rivals.{Looked, looked-start, looked-chain, held-in, looked-next, looked-best}
@@ -122,7 +122,7 @@ returns-3 c =
     let e : l .j ≡ n .result = omega (arith, l .inv .0, c .loop-test .left) in
     let m : Looked (a .list .now) (n .result) (a .most) (n .result) (l .last) (l .prior) (l .least) = rw e at (l .inv .1) in
     let f : n .result ≤ length (a .list .now) = omega (arith, n .ensures) in
-    rw (← take-min (a .list .now) (n .result) (a .len) (n .ensures)) (looked-best (program-in (a .image .now)) (a .contents .now) (a .list .now) (n .result) f (m .updates) (a .most) (l .last) (l .prior) (l .least) m)
+    rw (← take-min (a .list .now) (n .result) (a .len) (n .ensures)) (looked-best (held (a .image .now)) (a .contents .now) (a .list .now) (n .result) f (m .updates) (a .most) (l .last) (l .prior) (l .least) m)
 
 pub first-clash-spec : {M : Type 1} → statement M
 first-clash-spec =

@@ -3,7 +3,7 @@ use mathlib.Core.List.{List, []}
 use Prim.Native.Nat.{_+_, _-_}
 use borrow.Author.Needs.{needs}
 use lib.ListN.{length, getD, drop}
-use Rattle.book.specs.Image.{program-in}
+use Rattle.book.specs.Image.{held}
 use Rattle.engine.specs.declared.Instruction.{Instruction}
 use Rattle.records.specs.Code.{decode-of, items}
 use Rattle.clearing.specs.Steps.{clear-of, clear-marks-of, clears, clear-marks}
@@ -15,8 +15,8 @@ use Rattle.clearing.proofs.clear_all.Lts as lts
 
 abbrev Inv-loop : tie.InvT-loop
 Inv-loop image contents₀ writers₀ list len bit n j₀ contents writers j =
-    (clears (program-in image) (drop j (items list len)) contents ≡ clears (program-in image) (items list len) contents₀)
-    × (clear-marks bit (program-in image) (drop j (items list len)) contents writers ≡ clear-marks bit (program-in image) (items list len) contents₀ writers₀)
+    (clears (held image) (drop j (items list len)) contents ≡ clears (held image) (items list len) contents₀)
+    × (clear-marks bit (held image) (drop j (items list len)) contents writers ≡ clear-marks bit (held image) (items list len) contents₀ writers₀)
     × (length contents ≡ length contents₀) × (length writers ≡ length writers₀)
 
 abbrev μ-loop : tie.MeasureT-loop
@@ -48,7 +48,7 @@ loop-less c = search needs
 
 loop-again : tie.Need-loop-again Inv-loop μ-loop
 unfolding clears clear-marks
-loop-again c = let a = c .before .before .before .before .before .before .before .before .before .before .before .before .before .before .before .args in let B = program-in (a .image .now) in let n = c .before .before .before .before .before .before .before .before .before .before .before .smaller in let l = c .before .before .before .before .before .before .before .before .before .before .loop in let is = items (a .list .now) (a .len) in let w = decode-of (getD (a .list .now) (l .j) 0) in let d = items-cons (a .list .now) (a .len) (n .result) (n .ensures) (l .j) (c .before .before .before .before .before .before .before .before .before .loop-test .taken) in let q : c .before .before .before .before .clear-for .last .1 .0 ≡ clear-of B w (l .contents) = c .before .before .before .before .clear-for .ensures .0 ∙ rw (c .before .before .before .before .before .before .before .decode .ensures) in let p : c .before .before .before .before .clear-for .last .1 .1 .0 ≡ clear-marks-of (a .bit) B w (l .contents) (l .writers) = c .before .before .before .before .clear-for .ensures .1 ∙ rw (c .before .before .before .before .before .before .before .decode .ensures) in (ap (clears B (drop (l .j + 1) is)) q ∙ sym (ap (λ (xs : List Instruction). clears B xs (l .contents)) d) ∙ l .inv .0, ap₂ (clear-marks (a .bit) B (drop (l .j + 1) is)) q p ∙ sym (ap (λ (xs : List Instruction). clear-marks (a .bit) B xs (l .contents) (l .writers)) d) ∙ l .inv .1, c .before .before .before .before .clear-for .kept .1 .0 ∙ l .inv .2, c .before .before .before .before .clear-for .kept .1 .1 .0 ∙ l .inv .3)
+loop-again c = let a = c .before .before .before .before .before .before .before .before .before .before .before .before .before .before .before .args in let B = held (a .image .now) in let n = c .before .before .before .before .before .before .before .before .before .before .before .smaller in let l = c .before .before .before .before .before .before .before .before .before .before .loop in let is = items (a .list .now) (a .len) in let w = decode-of (getD (a .list .now) (l .j) 0) in let d = items-cons (a .list .now) (a .len) (n .result) (n .ensures) (l .j) (c .before .before .before .before .before .before .before .before .before .loop-test .taken) in let q : c .before .before .before .before .clear-for .last .1 .0 ≡ clear-of B w (l .contents) = c .before .before .before .before .clear-for .ensures .0 ∙ rw (c .before .before .before .before .before .before .before .decode .ensures) in let p : c .before .before .before .before .clear-for .last .1 .1 .0 ≡ clear-marks-of (a .bit) B w (l .contents) (l .writers) = c .before .before .before .before .clear-for .ensures .1 ∙ rw (c .before .before .before .before .before .before .before .decode .ensures) in (ap (clears B (drop (l .j + 1) is)) q ∙ sym (ap (λ (xs : List Instruction). clears B xs (l .contents)) d) ∙ l .inv .0, ap₂ (clear-marks (a .bit) B (drop (l .j + 1) is)) q p ∙ sym (ap (λ (xs : List Instruction). clear-marks (a .bit) B xs (l .contents) (l .writers)) d) ∙ l .inv .1, c .before .before .before .before .clear-for .kept .1 .0 ∙ l .inv .2, c .before .before .before .before .clear-for .kept .1 .1 .0 ∙ l .inv .3)
 
 same-length : tie.Need-same-length Inv-loop μ-loop
 same-length c = c .before .loop .inv .2
@@ -58,7 +58,7 @@ same-length-2 c = c .before .loop .inv .3
 
 returns : tie.Need-returns Inv-loop μ-loop
 unfolding clears clear-marks
-returns c = let a = c .before .before .before .before .before .before .args in let B = program-in (a .image .now) in let n = c .before .before .smaller in let l = c .before .loop in let d = items-end (a .list .now) (a .len) (n .result) (n .ensures) (l .j) (c .loop-test .left) in (sym (ap (λ (xs : List Instruction). clears B xs (l .contents)) d) ∙ l .inv .0, sym (ap (λ (xs : List Instruction). clear-marks (a .bit) B xs (l .contents) (l .writers)) d) ∙ l .inv .1)
+returns c = let a = c .before .before .before .before .before .before .args in let B = held (a .image .now) in let n = c .before .before .smaller in let l = c .before .loop in let d = items-end (a .list .now) (a .len) (n .result) (n .ensures) (l .j) (c .loop-test .left) in (sym (ap (λ (xs : List Instruction). clears B xs (l .contents)) d) ∙ l .inv .0, sym (ap (λ (xs : List Instruction). clear-marks (a .bit) B xs (l .contents) (l .writers)) d) ∙ l .inv .1)
 
 pub clear-all-spec : {M : Type 1} → statement M
 clear-all-spec =

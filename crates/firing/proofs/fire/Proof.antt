@@ -2,7 +2,7 @@ use mathlib.Core.Path.{ap, ap₂, _∙_}
 use mathlib.Core.List.{List, []}
 use Prim.Native.Nat.{ℕ}
 use lib.ListN.{length}
-use Rattle.book.specs.Image.{program-in}
+use Rattle.book.specs.Image.{held}
 use Rattle.records.specs.Code.{items}
 use Rattle.firing.specs.Steps.{puts, put-marks}
 use Rattle.firing.proofs.Fires.{fired-is, marked-is}
@@ -27,7 +27,7 @@ same-length-2 c = search needs
 returns : tie.Need-returns
 returns c =
     let a = c .before .before .before .before .before .before .before .before .before .before .before .before .before .before .before .before .before .args in
-    let B = program-in (a .image .now) in
+    let B = held (a .image .now) in
     let is = items (a .list .now) (a .len) in
     let k = c .before .before .before .before .before .before .before .before .before .before .before .clear-all in
     let r = c .before .before .before .before .put-all in (

@@ -5,7 +5,7 @@ use borrow.Author.Needs.{needs}
 use lib.Dec.{ltb}
 use lib.ListN.{length, getD, drop, set}
 use Rattle.book.specs.Book.{L}
-use Rattle.book.specs.Image.{program-in}
+use Rattle.book.specs.Image.{held}
 use Rattle.pages.specs.Part.{part-of}
 use Rattle.pages.proofs.Parts.{part-starts}
 use Rattle.engine.specs.declared.Instruction.{Instruction}
@@ -28,9 +28,9 @@ use Rattle.traces.proofs.own_value.Reads as own-value-reads
 
 abbrev Inv-loop : tie.InvT-loop
 Inv-loop image contents₀ writers₀ list len bit n part₀ j₀ contents writers part j =
-    (length contents₀ ≡ L (program-in image) → puts (drop j (items list len)) contents ≡ puts (items list len) contents₀)
-    × (length contents₀ ≡ L (program-in image) → put-marks bit (length contents₀) (drop j (items list len)) writers ≡ put-marks bit (length contents₀) (items list len) writers₀)
-    × (length contents ≡ length contents₀) × (length writers ≡ length writers₀) × Whole (program-in image) part
+    (length contents₀ ≡ L (held image) → puts (drop j (items list len)) contents ≡ puts (items list len) contents₀)
+    × (length contents₀ ≡ L (held image) → put-marks bit (length contents₀) (drop j (items list len)) writers ≡ put-marks bit (length contents₀) (items list len) writers₀)
+    × (length contents ≡ length contents₀) × (length writers ≡ length writers₀) × Whole (held image) part
 
 abbrev μ-loop : tie.MeasureT-loop
 μ-loop image contents₀ writers₀ list len bit n part₀ j₀ contents writers part j = n - j
@@ -41,7 +41,7 @@ smaller-requires c κs = search needs
 
 -- src/lib.rt:123:5
 loop-holds : tie.Need-loop-holds Inv-loop μ-loop
-loop-holds c = (λ long. refl, λ long. refl, refl, refl, none-held (program-in (c .before .before .before .before .args .image .now)))
+loop-holds c = (λ long. refl, λ long. refl, refl, refl, none-held (held (c .before .before .before .before .args .image .now)))
 
 -- src/lib.rt:124:36
 mul-decode : tie.Need-mul-decode Inv-loop μ-loop
@@ -74,7 +74,7 @@ own-value-requires c κs = search needs
 -- src/lib.rt:127:9
 put-in-requires : tie.Need-put-in-requires Inv-loop μ-loop
 put-in-requires c κs =
-    let B = program-in (c .before .before .before .before .before .before .before .before .before .before .before .before .before .args .image .now) in
+    let B = held (c .before .before .before .before .before .before .before .before .before .before .before .before .before .args .image .now) in
     let at = c .before .before .before .before .own-location .result in
     let h : c .before .before .before .part-at .result ≡ part-of B at = c .before .before .before .part-at .ensures ∙ next-held B (c .before .before .before .before .before .before .before .before .loop .part) at (c .before .before .before .before .before .before .before .before .loop .inv .4) in
     rw h (part-starts B at .0)
@@ -92,7 +92,7 @@ loop-again : tie.Need-loop-again Inv-loop μ-loop
 unfolding puts put-marks
 loop-again c =
     let a = c .before .before .before .before .before .before .before .before .before .before .before .before .before .before .before .before .before .before .args in
-    let B = program-in (a .image .now) in
+    let B = held (a .image .now) in
     let n = c .before .before .before .before .before .before .before .before .before .before .before .before .before .before .smaller in
     let l = c .before .before .before .before .before .before .before .before .before .before .before .before .before .loop in
     let is = items (a .list .now) (a .len) in

@@ -3,7 +3,7 @@ use mathlib.Core.Path.{_≡_, sym, _∙_}
 use mathlib.Core.Bool.{true, false}
 use borrow.Author.Tests.{lt-ltb, le-ltb, eq-eqb, ne-eqb}
 use Rattle.engine.specs.Rule.{not-free}
-use Rattle.term.specs.Held.{held}
+use Rattle.book.specs.Image.{held}
 use Rattle.giving.specs.Giving.{reached}
 use Rattle.giving.proofs.Steps.{freeing-ok, freeing-bad}
 use borrow.Author.Needs.{needs}

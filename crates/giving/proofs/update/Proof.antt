@@ -2,7 +2,7 @@
 use mathlib.Core.Path.{_≡_, sym, _∙_}
 use mathlib.Core.Bool.{true, false, _&&_, not}
 use Rattle.book.specs.Book.{boolean, relation, function-at}
-use Rattle.term.specs.Held.{held}
+use Rattle.book.specs.Image.{held}
 use Rattle.giving.specs.Giving.{reached}
 use Rattle.giving.proofs.Steps.{setting-ok, setting-bad}
 use borrow.Author.Needs.{needs}

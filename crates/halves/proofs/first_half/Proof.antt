@@ -1,5 +1,6 @@
 -- `first_half` meets its contract.
-use mathlib.Core.List.{[]}
+use Rattle.book_check.proofs.Fits.{held-is}
+use Rattle.book.specs.Image.{narrow}
 use mathlib.Core.Path.{_≡_}
 use native.Mathlib.Omega.{arith}
 use Rattle.book.proofs.Image.{agents-most}
@@ -9,8 +10,8 @@ use borrow.Author.Needs.{needs}
 use Rattle.halves.proofs.first_half.Statement.{statement}
 use Rattle.halves.proofs.first_half.Tie as tie
 
-open-requires : tie.Need-open-requires
-open-requires c κs = search needs
+check-into-requires : tie.Need-check-into-requires
+check-into-requires c κs = search needs
 
 held-back-requires : tie.Need-held-back-requires
 held-back-requires c κs = search needs
@@ -18,7 +19,7 @@ held-back-requires c κs = search needs
 returns : tie.Need-returns
 returns c =
     let a = c .before .before .before .before .before .before .before .args in
-    let o = c .before .before .before .«open» in
+    let o = c .before .before .before .check-into in
     let h = c .held-back in
     let z : (o .result .number ≡ 0) → ⊥ = c .before .if1 .taken in
     halted-half (a .book .now) (a .contents .now) (a .agent) (a .lent) (o .last .1 .0) (a .work .now) (h .result) (o .result) (h .ensures .0) (h .ensures .1) z (refused-book (a .book .now) (a .contents .now) (a .work .now) (a .agent) (a .lent) (o .result) (o .ensures .0) z)
@@ -32,34 +33,34 @@ held-back-requires-2 c κs = search needs
 returns-2 : tie.Need-returns-2
 returns-2 c =
     let a = c .before .before .before .before .before .before .before .before .before .before .before .args in
-    let o = c .before .before .before .before .before .before .before .«open» in
+    let o = c .before .before .before .before .before .before .before .check-into in
     let d = c .before .before .before .check-call in
     let h = c .held-back2 in
     let z : (d .result .number ≡ 0) → ⊥ = c .before .if2 .taken in
-    halted-half (a .book .now) (a .contents .now) (a .agent) (a .lent) (o .last .1 .0) (a .work .now) (h .result) (d .result) (h .ensures .0) (h .ensures .1) z (refused-call (a .book .now) (a .contents .now) (a .work .now) (a .agent) (a .lent) (o .last .1 .0) (o .ensures .1) (o .result) (o .ensures .0) (c .before .before .before .before .before .if1 .left) (d .result) (d .ensures) z)
+    halted-half (a .book .now) (a .contents .now) (a .agent) (a .lent) (o .last .1 .0) (a .work .now) (h .result) (d .result) (h .ensures .0) (h .ensures .1) z (refused-call (a .book .now) (a .contents .now) (a .work .now) (a .agent) (a .lent) (o .last .1 .0) (held-is (a .book .now) (o .last .1 .0) (o .ensures .1)) (o .result) (o .ensures .0) (c .before .before .before .before .before .if1 .left) (d .result) (d .ensures) z)
 
 cast-walk-first : tie.Need-cast-walk-first
 cast-walk-first c =
     let a = c .before .before .before .before .before .before .before .before .before .before .before .args in
-    let o = c .before .before .before .before .before .before .before .«open» in
+    let o = c .before .before .before .before .before .before .before .check-into in
     let d = c .before .before .before .check-call in
-    let e = cleared (a .book .now) (a .contents .now) (a .work .now) (a .agent) (a .lent) (o .last .1 .0) (o .ensures .1) (o .result) (o .ensures .0) (c .before .before .before .before .before .if1 .left) (d .result) (d .ensures) (c .before .if2 .left) in
-    record { fits = omega (arith, e .passed .agent, agents-most (o .last .1 .0)) }
+    let e = cleared (a .book .now) (a .contents .now) (a .work .now) (a .agent) (a .lent) (o .last .1 .0) (held-is (a .book .now) (o .last .1 .0) (o .ensures .1)) (o .result) (o .ensures .0) (c .before .before .before .before .before .if1 .left) (d .result) (d .ensures) (c .before .if2 .left) in
+    record { fits = omega (arith, e .passed .agent, agents-most (narrow (o .last .1 .0))) }
 
 walk-first-requires : tie.Need-walk-first-requires
 walk-first-requires c κs =
     let a = c .before .before .before .before .before .before .before .before .before .before .before .before .args in
-    let o = c .before .before .before .before .before .before .before .before .«open» in
+    let o = c .before .before .before .before .before .before .before .before .check-into in
     let d = c .before .before .before .before .check-call in
-    let e = cleared (a .book .now) (a .contents .now) (a .work .now) (a .agent) (a .lent) (o .last .1 .0) (o .ensures .1) (o .result) (o .ensures .0) (c .before .before .before .before .before .before .if1 .left) (d .result) (d .ensures) (c .before .before .if2 .left) in
+    let e = cleared (a .book .now) (a .contents .now) (a .work .now) (a .agent) (a .lent) (o .last .1 .0) (held-is (a .book .now) (o .last .1 .0) (o .ensures .1)) (o .result) (o .ensures .0) (c .before .before .before .before .before .before .if1 .left) (d .result) (d .ensures) (c .before .before .if2 .left) in
     (e .passed .long, e .ready)
 
 returns-3 : tie.Need-returns-3
 returns-3 c =
     let a = c .before .before .before .before .before .before .before .before .before .before .before .before .before .args in
-    let o = c .before .before .before .before .before .before .before .before .before .«open» in
+    let o = c .before .before .before .before .before .before .before .before .before .check-into in
     let d = c .before .before .before .before .before .check-call in
-    let e = cleared (a .book .now) (a .contents .now) (a .work .now) (a .agent) (a .lent) (o .last .1 .0) (o .ensures .1) (o .result) (o .ensures .0) (c .before .before .before .before .before .before .before .if1 .left) (d .result) (d .ensures) (c .before .before .before .if2 .left) in
+    let e = cleared (a .book .now) (a .contents .now) (a .work .now) (a .agent) (a .lent) (o .last .1 .0) (held-is (a .book .now) (o .last .1 .0) (o .ensures .1)) (o .result) (o .ensures .0) (c .before .before .before .before .before .before .before .if1 .left) (d .result) (d .ensures) (c .before .before .before .if2 .left) in
     let w = c .walk-first in
     walked-half (a .book .now) (a .contents .now) (a .agent) (a .lent) (o .last .1 .0) (w .last .1 .1 .1 .0) (w .result) (w .ensures .0 .0) (w .ensures .0 .1) (e .passed .records) (w .ensures .1) (e .moved)
 
@@ -67,7 +68,7 @@ pub first-half-spec : {M : Type 1} → statement M
 first-half-spec =
     tie.close
     (tie.spec
-    open-requires
+    check-into-requires
     held-back-requires
     returns
     check-call-requires

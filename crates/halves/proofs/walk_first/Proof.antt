@@ -4,7 +4,7 @@ use mathlib.Core.List.{[]}
 use native.Mathlib.Omega.{arith}
 use lib.ListN.{length}
 use lib.Seq.{length-take-le}
-use Rattle.book.specs.Image.{program-in}
+use Rattle.book.specs.Image.{held}
 use Rattle.halves.proofs.Halves.{on}
 use borrow.Author.Needs.{needs}
 use Rattle.halves.proofs.walk_first.Statement.{statement}
@@ -38,7 +38,7 @@ returns c =
     let t = c .before .before .before .before .before .before .total in
     let g = c .before .before .gather in
     let long : length (a .work .now) ≡ 256 = omega (arith, s .good) in
-    ((refl, c .given .ensures), on (program-in (a .image .now)) (a .contents .now) (a .agent) (t .result) (g .last .1 .1 .1 .1 .0) (g .result) (g .last .1 .1 .0) (t .ensures) (s .pre .0) (s .pre .1) (g .kept .1 .1 .0) (g .kept .1 .1 .1 .1 .0 ∙ long) (g .ensures (omega (arith, long))))
+    ((refl, c .given .ensures), on (held (a .image .now)) (a .contents .now) (a .agent) (t .result) (g .last .1 .1 .1 .1 .0) (g .result) (g .last .1 .1 .0) (t .ensures) (s .pre .0) (s .pre .1) (g .kept .1 .1 .0) (g .kept .1 .1 .1 .1 .0 ∙ long) (g .ensures (omega (arith, long))))
 
 pub walk-first-spec : {M : Type 1} → statement M
 walk-first-spec =

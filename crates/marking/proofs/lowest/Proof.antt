@@ -5,7 +5,7 @@ use lib.ListN.{length, getD, length-set}
 use borrow.Author.Tests.{lt-ltb, le-ltb}
 use Rattle.engine.specs.Look.{gives, seen}
 use Rattle.engine.specs.Rule.{lowest}
-use Rattle.term.specs.Held.{held}
+use Rattle.book.specs.Image.{held}
 use Rattle.term.specs.Marks.{marked}
 use Rattle.marking.proofs.Labels.{lowest-stop, lowest-pass, lowest-end, runs-lowest}
 use borrow.Author.Needs.{needs}

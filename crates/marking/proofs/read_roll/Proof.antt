@@ -1,5 +1,5 @@
 -- `read_roll` meets its contract.
-use Rattle.term.specs.Held.{held}
+use Rattle.book.specs.Image.{held}
 use Rattle.term.proofs.Marking.{runs-read}
 use borrow.Author.Needs.{needs}
 use Rattle.marking.proofs.read_roll.Statement.{statement}

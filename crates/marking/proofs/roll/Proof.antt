@@ -1,7 +1,7 @@
 -- `roll` meets its contract.
 use mathlib.Core.Path.{sym}
 use Prim.Native.Nat.{_<_}
-use Rattle.term.specs.Held.{held}
+use Rattle.book.specs.Image.{held}
 use borrow.Author.Needs.{needs}
 use Rattle.marking.proofs.roll.Statement.{statement}
 use Rattle.marking.proofs.roll.Tie as tie

@@ -2,7 +2,7 @@
 use mathlib.Core.Path.{_≡_, sym, _∙_}
 use mathlib.Core.Bool.{true, false}
 use Rattle.book.specs.Book.{location, dynamic-at}
-use Rattle.term.specs.Held.{held}
+use Rattle.book.specs.Image.{held}
 use Rattle.marking.proofs.Members.{universe-marks}
 use borrow.Author.Needs.{needs}
 use Rattle.marking.proofs.universe.Statement.{statement}

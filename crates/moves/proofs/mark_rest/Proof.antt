@@ -1,6 +1,6 @@
 use mathlib.Core.Path.{sym, _∙_}
 use mathlib.Core.List.{[]}
-use Rattle.book.specs.Image.{program-in}
+use Rattle.book.specs.Image.{held}
 use Rattle.engine.specs.Move.{released}
 use Rattle.records.specs.Code.{items}
 use Rattle.moves.proofs.Releases.{rest-some, rest-none}
@@ -26,11 +26,11 @@ same-length c = search needs
 
 -- src/lib.rt:73:1
 returns : tie.Need-returns
-returns c = let a = c .before .before .before .before .before .before .before .before .args in c .before .before .mark-all .ensures ∙ rest-some (program-in (a .image .now)) (a .bit) (released (items (a .list .now) (a .len))) (a .readers .now) (sym (c .before .before .before .before .before .has-release .ensures) ∙ c .before .before .before .before .if1 .taken)
+returns c = let a = c .before .before .before .before .before .before .before .before .args in c .before .before .mark-all .ensures ∙ rest-some (held (a .image .now)) (a .bit) (released (items (a .list .now) (a .len))) (a .readers .now) (sym (c .before .before .before .before .before .has-release .ensures) ∙ c .before .before .before .before .if1 .taken)
 
 -- src/lib.rt:73:1
 returns-2 : tie.Need-returns-2
-returns-2 c = let a = c .before .before .before .before .args in rest-none (program-in (a .image .now)) (a .bit) (released (items (a .list .now) (a .len))) (a .readers .now) (sym (c .before .has-release .ensures) ∙ c .if1 .left)
+returns-2 c = let a = c .before .before .before .before .args in rest-none (held (a .image .now)) (a .bit) (released (items (a .list .now) (a .len))) (a .readers .now) (sym (c .before .has-release .ensures) ∙ c .if1 .left)
 
 pub mark-rest-spec : {M : Type 1} → statement M
 mark-rest-spec =

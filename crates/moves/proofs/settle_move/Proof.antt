@@ -1,7 +1,7 @@
 -- `settle_move` meets its contract.
 use mathlib.Core.List.{[]}
 use borrow.Author.Needs.{needs}
-use Rattle.book.specs.Image.{program-in}
+use Rattle.book.specs.Image.{held}
 use Rattle.moves.proofs.Effect.{refused-state, finished-state}
 use Rattle.moves.proofs.settle_move.Statement.{statement}
 use Rattle.moves.proofs.settle_move.Tie as tie
@@ -12,7 +12,7 @@ cast-t9 c = search needs
 returns : tie.Need-returns
 returns c =
     let a = c .before .before .before .before .before .before .args in
-    λ k t h. refused-state (program-in (a .image .now)) k (a .bit) t (a .s) (a .list .now) (a .contents .now) (a .readers .now) (a .writers .now) h (c .before .if1 .taken)
+    λ k t h. refused-state (held (a .image .now)) k (a .bit) t (a .s) (a .list .now) (a .contents .now) (a .readers .now) (a .writers .now) h (c .before .if1 .taken)
 
 finish-requires : tie.Need-finish-requires
 finish-requires c κs = search needs
@@ -30,7 +30,7 @@ returns-2 : tie.Need-returns-2
 returns-2 c =
     let a = c .before .before .before .before .before .before .before .before .before .before .before .before .before .before .before .args in
     let f = c .before .before .before .before .before .before .finish in
-    λ k t h. finished-state (program-in (a .image .now)) k (a .bit) t (a .s) (a .list .now) (a .contents .now) (a .readers .now) (a .writers .now) h (c .before .before .before .before .before .before .before .before .before .before .if1 .left) (f .result) (f .last .1 .0) (f .last .1 .1 .0) (f .last .1 .1 .1 .0) (f .ensures)
+    λ k t h. finished-state (held (a .image .now)) k (a .bit) t (a .s) (a .list .now) (a .contents .now) (a .readers .now) (a .writers .now) h (c .before .before .before .before .before .before .before .before .before .before .if1 .left) (f .result) (f .last .1 .0) (f .last .1 .1 .0) (f .last .1 .1 .1 .0) (f .ensures)
 
 pub settle-move-spec : {M : Type 1} → statement M
 settle-move-spec =

@@ -1,4 +1,5 @@
 use mathlib.Core.List.{[]}
+use Rattle.book.specs.Image.{narrow}
 use Rattle.book.proofs.Image.{agents-long}
 use mathlib.Core.Path.{_∙_, sym}
 use borrow.Author.Needs.{needs}
@@ -19,7 +20,7 @@ capped-requires c κs = search needs
 
 -- src/lib.rt:51:1
 returns : tie.Need-returns
-returns c = (c .capped .ensures .0 ∙ rw (c .before .word .ensures) (sym (agents-long (c .before .before .args .image .now))), c .capped .ensures .1)
+returns c = (c .capped .ensures .0 ∙ rw (c .before .word .ensures) (sym (agents-long (narrow (c .before .before .args .image .now)))), c .capped .ensures .1)
 
 pub agents-spec : {M : Type 1} → statement M
 agents-spec = tie.close (tie.spec word-requires capped-requires returns)

@@ -1,5 +1,5 @@
 use mathlib.Core.Path.{_∙_}
-use Rattle.book.specs.Image.{program-in, capped}
+use Rattle.book.specs.Image.{capped, program-in}
 use borrow.Author.Needs.{needs}
 use Rattle.pages.proofs.elements.Statement.{statement}
 use Rattle.pages.proofs.elements.Tie as tie

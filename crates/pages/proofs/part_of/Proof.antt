@@ -1,6 +1,6 @@
 use Rattle.book.proofs.Image.{size-most}
 use Rattle.pages.proofs.Places.{From, from-start, from-next}
-use Rattle.book.specs.Image.{program-in}
+use Rattle.book.specs.Image.{held}
 use Rattle.book.specs.Book.{size, function-at}
 use borrow.Author.Needs.{needs}
 use native.Mathlib.Omega.{arith}
@@ -20,8 +20,8 @@ use Rattle.pages.proofs.size.Reads as size-reads
 
 abbrev Inv-loop : tie.InvT-loop
 Inv-loop image l e n first₀ g₀ first g =
-    From (program-in image) g first × (g ≤ n)
-    × Sought (program-in image) l g first
+    From (held image) g first × (g ≤ n)
+    × Sought (held image) l g first
 
 abbrev μ-loop : tie.MeasureT-loop
 μ-loop image l e n first₀ g₀ first g = n - g
@@ -36,7 +36,7 @@ functions-requires c κs = search needs
 
 -- src/lib.rt:123:5
 loop-holds : tie.Need-loop-holds Inv-loop μ-loop
-loop-holds c = (from-start (program-in (c .before .before .args .image .now)), omega arith, refl)
+loop-holds c = (from-start (held (c .before .before .args .image .now)), omega arith, refl)
 
 -- src/lib.rt:124:13
 function-at-requires : tie.Need-function-at-requires Inv-loop μ-loop
@@ -58,7 +58,7 @@ add-end c = record { fits = omega (arith, c .before .before .before .loop .inv .
 returns : tie.Need-returns Inv-loop μ-loop
 returns c =
     let a = c .before .before .before .before .before .before .before .args in
-    let B = program-in (a .image .now) in
+    let B = held (a .image .now) in
     let l = c .before .before .before .before .loop in
     let more : l .g < length (B .functions) = omega (arith, c .before .before .before .loop-test .taken, c .before .before .before .before .before .functions .ensures .0) in
     let ends : l .first + c .before .size .result ≡ l .first + size (B .E) (function-at B (l .g) .arity) =
@@ -77,7 +77,7 @@ loop-less c = search needs
 loop-again : tie.Need-loop-again Inv-loop μ-loop
 loop-again c =
     let a = c .before .before .before .before .before .before .before .args in
-    let B = program-in (a .image .now) in
+    let B = held (a .image .now) in
     let l = c .before .before .before .before .loop in
     let more : l .g < length (B .functions) = omega (arith, c .before .before .before .loop-test .taken, c .before .before .before .before .before .functions .ensures .0) in
     let ends : l .first + c .before .size .result ≡ l .first + size (B .E) (function-at B (l .g) .arity) =
@@ -92,7 +92,7 @@ returns-2 : tie.Need-returns-2 Inv-loop μ-loop
 returns-2 c =
     let a = c .before .before .before .before .args in
     let l = c .before .loop in
-    part-none (program-in (a .image .now)) (a .l) (l .g) (l .first) (l .inv .2) (omega (arith, c .loop-test .left, c .before .before .functions .ensures .0))
+    part-none (held (a .image .now)) (a .l) (l .g) (l .first) (l .inv .2) (omega (arith, c .loop-test .left, c .before .before .functions .ensures .0))
 
 pub part-of-spec : {M : Type 1} → statement M
 part-of-spec =

@@ -1,6 +1,6 @@
 use Rattle.book.proofs.Image.{size-most}
 use Rattle.pages.proofs.Places.{From, from-start, from-next, from-end}
-use Rattle.book.specs.Image.{program-in}
+use Rattle.book.specs.Image.{held}
 use Rattle.book.specs.Book.{size, function-at}
 use borrow.Author.Needs.{needs}
 use native.Mathlib.Omega.{arith}
@@ -17,7 +17,7 @@ use Rattle.pages.proofs.functions.Reads as functions-reads
 use Rattle.pages.proofs.size.Reads as size-reads
 
 abbrev Inv-loop : tie.InvT-loop
-Inv-loop image e n first₀ g₀ first g = From (program-in image) g first × (g ≤ n)
+Inv-loop image e n first₀ g₀ first g = From (held image) g first × (g ≤ n)
 
 abbrev μ-loop : tie.MeasureT-loop
 μ-loop image e n first₀ g₀ first g = n - g
@@ -32,7 +32,7 @@ functions-requires c κs = search needs
 
 -- src/lib.rt:98:5
 loop-holds : tie.Need-loop-holds Inv-loop μ-loop
-loop-holds c = (from-start (program-in (c .before .before .args .image .now)), omega arith)
+loop-holds c = (from-start (held (c .before .before .args .image .now)), omega arith)
 
 -- src/lib.rt:99:13
 function-at-requires : tie.Need-function-at-requires Inv-loop μ-loop
@@ -56,11 +56,11 @@ loop-less c = search needs
 
 -- src/lib.rt:98:5
 loop-again : tie.Need-loop-again Inv-loop μ-loop
-loop-again c = (rw (c .size .ensures .0, c .before .function-at .ensures, c .before .before .before .before .before .elements .ensures .0) (from-next (program-in (c .before .before .before .before .before .before .args .image .now)) (c .before .before .before .loop .g) (c .before .before .before .loop .first) (c .before .before .before .loop .inv .0) (omega (arith, c .before .before .loop-test .taken, c .before .before .before .before .functions .ensures .0)) (omega (arith, c .before .before .before .before .before .elements .ensures))), omega (arith, c .before .before .loop-test .taken))
+loop-again c = (rw (c .size .ensures .0, c .before .function-at .ensures, c .before .before .before .before .before .elements .ensures .0) (from-next (held (c .before .before .before .before .before .before .args .image .now)) (c .before .before .before .loop .g) (c .before .before .before .loop .first) (c .before .before .before .loop .inv .0) (omega (arith, c .before .before .loop-test .taken, c .before .before .before .before .functions .ensures .0)) (omega (arith, c .before .before .before .before .before .elements .ensures))), omega (arith, c .before .before .loop-test .taken))
 
 -- src/lib.rt:91:1
 returns : tie.Need-returns Inv-loop μ-loop
-returns c = from-end (program-in (c .before .before .before .before .args .image .now)) (c .before .loop .g) (c .before .loop .first) (c .before .loop .inv .0) (omega (arith, c .loop-test .left, c .before .before .functions .ensures .0))
+returns c = from-end (held (c .before .before .before .before .args .image .now)) (c .before .loop .g) (c .before .loop .first) (c .before .loop .inv .0) (omega (arith, c .loop-test .left, c .before .before .functions .ensures .0))
 
 pub total-spec : {M : Type 1} → statement M
 total-spec =

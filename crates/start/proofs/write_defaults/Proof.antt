@@ -5,7 +5,7 @@ use native.Mathlib.Omega.{arith}
 use borrow.Author.Needs.{needs}
 use lib.ListN.{length}
 use Rattle.book.specs.Book.{size, function-at}
-use Rattle.book.specs.Image.{program-in}
+use Rattle.book.specs.Image.{held}
 use Rattle.start.proofs.Defaults.{Painted, painted-start, painted-next, painted-end}
 use Rattle.start.proofs.write_defaults.Statement.{statement}
 use Rattle.start.proofs.write_defaults.Tie as tie
@@ -19,7 +19,7 @@ use Rattle.pages.proofs.functions.Reads as functions-reads
 use Rattle.pages.proofs.size.Reads as size-reads
 
 abbrev Inv-loop : tie.InvT-loop
-Inv-loop image contents₀ e n first₀ f₀ contents first f = Painted (program-in image) contents₀ first f contents × (f ≤ n)
+Inv-loop image contents₀ e n first₀ f₀ contents first f = Painted (held image) contents₀ first f contents × (f ≤ n)
 
 abbrev μ-loop : tie.MeasureT-loop
 μ-loop image contents₀ e n first₀ f₀ contents first f = n - f
@@ -34,7 +34,7 @@ functions-requires c κs = search needs
 
 -- src/lib.rt:42:5
 loop-holds : tie.Need-loop-holds Inv-loop μ-loop
-loop-holds c = let a = c .before .before .before .args in (painted-start (program-in (a .image .now)) (a .contents .now), omega arith)
+loop-holds c = let a = c .before .before .before .args in (painted-start (held (a .image .now)) (a .contents .now), omega arith)
 
 -- src/lib.rt:43:13
 function-at-requires : tie.Need-function-at-requires Inv-loop μ-loop
@@ -82,7 +82,7 @@ loop-less c = omega (arith, c .before .before .before .before .before .before .b
 loop-again : tie.Need-loop-again Inv-loop μ-loop
 loop-again c =
     let a = c .before .before .before .before .before .before .before .before .before .before .before .before .args in
-    let B = program-in (a .image .now) in
+    let B = held (a .image .now) in
     let l = c .before .before .before .before .before .before .before .before .loop in
     let s = c .before .before .before .before .before .size .result in
     let elements = c .before .before .before .before .before .before .before .before .before .before .elements .ensures in
@@ -104,7 +104,7 @@ returns : tie.Need-returns Inv-loop μ-loop
 returns c =
     let a = c .before .before .before .before .before .args in
     let l = c .before .loop in
-    painted-end (program-in (a .image .now)) (a .contents .now) (l .first) (l .f) (l .contents) (l .inv .0)
+    painted-end (held (a .image .now)) (a .contents .now) (l .first) (l .f) (l .contents) (l .inv .0)
     (omega (arith, c .loop-test .left, c .before .before .functions .ensures .0))
 
 pub write-defaults-spec : {M : Type 1} → statement M

@@ -6,22 +6,22 @@ use lib.ListN.{length}
 use Rattle.text.specs.declared.Line.{Line}
 use Rattle.text.specs.Words.{table-from}
 use Rattle.text.specs.Text.{line}
-use Rattle.book.specs.Image.{program-in}
+use Rattle.book.specs.Image.{held}
 use Rattle.start.specs.Written.{line-put, lines-put, first-line, contents-lines}
 use Rattle.start.proofs.Entries.{lines-first, lines-next, lines-last}
 use Rattle.start.proofs.write_entries.Statement.{statement}
 use Rattle.start.proofs.write_entries.Tie as tie
 use Rattle.start.proofs.write_entries.Reads as reads
 use Rattle.start.proofs.write_entries.Lts as lts
-use Rattle.open.proofs.narrow_word.Reads as narrow-word-reads
+use Rattle.numbers.proofs.low.Reads as low-reads
 use Rattle.start.proofs.write_line.Reads as write-line-reads
 use Rattle.text.proofs.read_line.Reads as read-line-reads
 
 abbrev Inv-loop : tie.InvT-loop
 Inv-loop book image contents₀ f n a first count i₀ contents i =
     (length contents ≡ length contents₀)
-    × (lines-put (program-in image) (table-from (λ k. line book (first-line book + k)) i (count - i)) contents
-    ≡ lines-put (program-in image) (contents-lines book) contents₀)
+    × (lines-put (held image) (table-from (λ k. line book (first-line book + k)) i (count - i)) contents
+    ≡ lines-put (held image) (contents-lines book) contents₀)
 
 abbrev μ-loop : tie.MeasureT-loop
 μ-loop book image contents₀ f n a first count i₀ contents i = count - i
@@ -35,16 +35,16 @@ read-line-requires-2 : tie.Need-read-line-requires-2 Inv-loop μ-loop
 read-line-requires-2 c κs = search needs
 
 -- src/lib.rt:99:9
-narrow-word-requires : tie.Need-narrow-word-requires Inv-loop μ-loop
-narrow-word-requires c κs = search needs
+low-requires : tie.Need-low-requires Inv-loop μ-loop
+low-requires c κs = search needs
 
 -- src/lib.rt:100:9
-narrow-word-requires-2 : tie.Need-narrow-word-requires-2 Inv-loop μ-loop
-narrow-word-requires-2 c κs = search needs
+low-requires-2 : tie.Need-low-requires-2 Inv-loop μ-loop
+low-requires-2 c κs = search needs
 
 -- src/lib.rt:101:9
-narrow-word-requires-3 : tie.Need-narrow-word-requires-3 Inv-loop μ-loop
-narrow-word-requires-3 c κs = search needs
+low-requires-3 : tie.Need-low-requires-3 Inv-loop μ-loop
+low-requires-3 c κs = search needs
 
 -- src/lib.rt:102:21
 cast-first : tie.Need-cast-first Inv-loop μ-loop
@@ -75,7 +75,7 @@ loop-holds : tie.Need-loop-holds Inv-loop μ-loop
 loop-holds c =
     let a = c .before .before .before .before .before .before .before .args in
     let t = a .book .now in
-    (refl, rw (c .before .before .before .read-line2 .ensures) (lines-first (program-in (a .image .now)) (λ k. line t (first-line t + k)) (line t 1 .b) (a .contents .now)))
+    (refl, rw (c .before .before .before .read-line2 .ensures) (lines-first (held (a .image .now)) (λ k. line t (first-line t + k)) (line t 1 .b) (a .contents .now)))
 
 -- src/lib.rt:106:13
 read-line-requires-3 : tie.Need-read-line-requires-3 Inv-loop μ-loop
@@ -99,13 +99,13 @@ loop-again c =
     let a = c .before .before .before .before .before .before .before .before .before .before .before .before .before .before .args in
     let t = a .book .now in
     let l = c .before .before .before .before .before .before .loop in
-    let B = program-in (a .image .now) in
+    let B = held (a .image .now) in
     let here : c .before .before .before .before .read-line3 .result ≡ line t (first-line t + l .i) =
     c .before .before .before .before .read-line3 .ensures
     ∙ rw (
-      c .before .before .before .before .before .before .before .narrow-word3 .ensures,
-      c .before .before .before .before .before .before .before .before .narrow-word2 .ensures,
-      c .before .before .before .before .before .before .before .before .before .narrow-word .ensures,
+      c .before .before .before .before .before .before .before .low3 .ensures,
+      c .before .before .before .before .before .before .before .before .low2 .ensures,
+      c .before .before .before .before .before .before .before .before .before .low .ensures,
       c .before .before .before .before .before .before .before .before .before .before .read-line2 .ensures,
       c .before .before .before .before .before .before .before .before .before .before .before .read-line .ensures,
     ) in
@@ -124,7 +124,7 @@ returns c =
     let a = c .before .before .before .before .before .before .before .before .before .args in
     let t = a .book .now in
     let l = c .before .loop in
-    sym (lines-last (program-in (a .image .now)) (λ k. line t (first-line t + k)) (c .before .before .before .before .before .read-line2 .result .b) (l .i) (l .contents) (c .loop-test .left)) ∙ l .inv .1
+    sym (lines-last (held (a .image .now)) (λ k. line t (first-line t + k)) (c .before .before .before .before .before .read-line2 .result .b) (l .i) (l .contents) (c .loop-test .left)) ∙ l .inv .1
 
 pub write-entries-spec : {M : Type 1} → statement M
 write-entries-spec =
@@ -134,9 +134,9 @@ write-entries-spec =
     μ-loop
     read-line-requires
     read-line-requires-2
-    narrow-word-requires
-    narrow-word-requires-2
-    narrow-word-requires-3
+    low-requires
+    low-requires-2
+    low-requires-3
     cast-first
     add-first
     cast-first-2

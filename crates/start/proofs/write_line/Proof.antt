@@ -4,7 +4,7 @@ use Rattle.start.proofs.write_line.Statement.{statement}
 use Rattle.start.proofs.write_line.Tie as tie
 use Rattle.start.proofs.write_line.Reads as reads
 use Rattle.start.proofs.write_line.Lts as lts
-use Rattle.open.proofs.narrow_word.Reads as narrow-word-reads
+use Rattle.numbers.proofs.low.Reads as low-reads
 use Rattle.pages.proofs.elements.Reads as elements-reads
 use Rattle.pages.proofs.function_at.Reads as function-at-reads
 use Rattle.pages.proofs.size.Reads as size-reads
@@ -12,20 +12,20 @@ use Rattle.start.proofs.offset.Reads as offset-reads
 use Rattle.start.proofs.put_in.Reads as put-in-reads
 
 -- src/lib.rt:89:9
-narrow-word-requires : tie.Need-narrow-word-requires
-narrow-word-requires c κs = search needs
+low-requires : tie.Need-low-requires
+low-requires c κs = search needs
 
 -- src/lib.rt:90:9
-narrow-word-requires-2 : tie.Need-narrow-word-requires-2
-narrow-word-requires-2 c κs = search needs
+low-requires-2 : tie.Need-low-requires-2
+low-requires-2 c κs = search needs
 
 -- src/lib.rt:91:9
 elements-requires : tie.Need-elements-requires
 elements-requires c κs = search needs
 
 -- src/lib.rt:92:39
-narrow-word-requires-3 : tie.Need-narrow-word-requires-3
-narrow-word-requires-3 c κs = search needs
+low-requires-3 : tie.Need-low-requires-3
+low-requires-3 c κs = search needs
 
 -- src/lib.rt:92:9
 function-at-requires : tie.Need-function-at-requires
@@ -52,8 +52,8 @@ offset-requires : tie.Need-offset-requires
 offset-requires c κs = search needs
 
 -- src/lib.rt:100:9
-narrow-word-requires-4 : tie.Need-narrow-word-requires-4
-narrow-word-requires-4 c κs = search needs
+low-requires-4 : tie.Need-low-requires-4
+low-requires-4 c κs = search needs
 
 -- src/lib.rt:95:5
 put-in-requires : tie.Need-put-in-requires
@@ -72,27 +72,27 @@ returns c =
       c .before .before .before .before .before .before .size .ensures .0,
       c .before .before .before .before .before .before .before .before .function-at .ensures,
       c .before .before .before .before .before .before .before .before .before .before .elements .ensures .0,
-      c .before .before .before .narrow-word4 .ensures,
-      c .before .before .before .before .before .before .before .before .before .narrow-word3 .ensures,
-      c .before .before .before .before .before .before .before .before .before .before .before .narrow-word2 .ensures,
-      c .before .before .before .before .before .before .before .before .before .before .before .before .narrow-word .ensures,
+      c .before .before .before .low4 .ensures,
+      c .before .before .before .before .before .before .before .before .before .low3 .ensures,
+      c .before .before .before .before .before .before .before .before .before .before .before .low2 .ensures,
+      c .before .before .before .before .before .before .before .before .before .before .before .before .low .ensures,
     )
 
 pub write-line-spec : {M : Type 1} → statement M
 write-line-spec =
     tie.close
     (tie.spec
-    narrow-word-requires
-    narrow-word-requires-2
+    low-requires
+    low-requires-2
     elements-requires
-    narrow-word-requires-3
+    low-requires-3
     function-at-requires
     cast-first
     size-requires
     cast-end
     add-end
     offset-requires
-    narrow-word-requires-4
+    low-requires-4
     put-in-requires
     same-length
     returns)

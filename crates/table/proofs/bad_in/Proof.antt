@@ -4,7 +4,7 @@ use Rattle.pages.proofs.Places.{From, from-start, from-next, from-end, from-fit
 use Rattle.table.proofs.Places.{part-of, part-pass, part-stop}
 use Rattle.table.specs.Part.{Part}
 use Rattle.book.specs.Contents.{bad-value}
-use Rattle.book.specs.Image.{program-in}
+use Rattle.book.specs.Image.{held}
 use Rattle.book.specs.Book.{L, size, function-at}
 use Rattle.text.proofs.Words.{least-start, least-here, least-end}
 use Rattle.text.specs.declared.Found.the-variants.{Nowhere, Here}
@@ -27,8 +27,8 @@ use Rattle.pages.proofs.size.Reads as size-reads
 
 abbrev Inv-loop : tie.InvT-loop
 Inv-loop image contents e p n first₀ g₀ first g =
-    From (program-in image) g first
-    × (least-from (bad-value (program-in image) contents) (L (program-in image) - first) first ≡ least (bad-value (program-in image) contents) (L (program-in image)))
+    From (held image) g first
+    × (least-from (bad-value (held image) contents) (L (held image) - first) first ≡ least (bad-value (held image) contents) (L (held image)))
     × (g ≤ n)
 
 abbrev μ-loop : tie.MeasureT-loop
@@ -48,7 +48,7 @@ functions-requires c κs = search needs
 
 -- src/lib.rt:239:5
 loop-holds : tie.Need-loop-holds Inv-loop μ-loop
-loop-holds c = let a = c .before .before .before .before .args in let B = program-in (a .image .now) in (from-start B, least-start (bad-value B (a .contents .now)) (L B), omega arith)
+loop-holds c = let a = c .before .before .before .before .args in let B = held (a .image .now) in (from-start B, least-start (bad-value B (a .contents .now)) (L B), omega arith)
 
 -- src/lib.rt:240:13
 function-at-requires : tie.Need-function-at-requires Inv-loop μ-loop
@@ -64,11 +64,11 @@ enum-known-found c = search needs
 
 -- src/lib.rt:243:32
 add-t12 : tie.Need-add-t12 Inv-loop μ-loop
-add-t12 c = let a = c .before .before .before .before .before .before .before .before .before .before .before .args in let B = program-in (a .image .now) in let l = c .before .before .before .before .before .before .loop in let f = c .before .before .before .before .function-at .result in let m : l .g < length (B .functions) = omega (arith, c .before .before .before .before .before .loop-test .taken, c .before .before .before .before .before .before .before .functions .ensures .0) in let q : size (c .before .before .before .before .before .before .before .before .before .elements .result) (f .arity) ≡ size (B .E) (function-at B (l .g) .arity) = rw (c .before .before .before .before .before .before .before .before .before .elements .ensures .0, c .before .before .before .before .function-at .ensures) in let k = part-of B (l .g) (l .first) (c .before .before .before .before .before .before .before .before .before .elements .result) (c .before .before .before .before .before .before .before .before .permanent .result) f (l .inv .0) m (c .before .before .before .before .before .before .before .before .before .elements .ensures .0) (c .before .before .before .before .before .before .before .before .permanent .ensures) (c .before .before .before .before .function-at .ensures) in let h : c .before .before .before .bad-part .result ≡ least (λ i. bad-value B (a .contents .now) (l .first + i)) (size (B .E) (function-at B (l .g) .arity)) = c .before .before .before .bad-part .ensures B k ∙ rw q in let w : l .first + size (B .E) (function-at B (l .g) .arity) ≤ L B = from-fits B (l .g) (l .first) (l .inv .0) m in let i = c .before .found .given .0 .0 in let o : least (λ i. bad-value B (a .contents .now) (l .first + i)) (size (B .E) (function-at B (l .g) .arity)) ≡ Here i = sym h ∙ c .before .found .given .1 in record { fits = omega (arith, least-here (λ i. bad-value B (a .contents .now) (l .first + i)) (size (B .E) (function-at B (l .g) .arity)) i o .0, l .inv .0 .low, c .before .before .before .before .before .loop-test .taken, c .before .before .before .before .before .before .before .functions .ensures .1, size-most (B .E) (function-at B (l .g) .arity) (omega (arith, c .before .before .before .before .before .before .before .before .before .elements .ensures))) }
+add-t12 c = let a = c .before .before .before .before .before .before .before .before .before .before .before .args in let B = held (a .image .now) in let l = c .before .before .before .before .before .before .loop in let f = c .before .before .before .before .function-at .result in let m : l .g < length (B .functions) = omega (arith, c .before .before .before .before .before .loop-test .taken, c .before .before .before .before .before .before .before .functions .ensures .0) in let q : size (c .before .before .before .before .before .before .before .before .before .elements .result) (f .arity) ≡ size (B .E) (function-at B (l .g) .arity) = rw (c .before .before .before .before .before .before .before .before .before .elements .ensures .0, c .before .before .before .before .function-at .ensures) in let k = part-of B (l .g) (l .first) (c .before .before .before .before .before .before .before .before .before .elements .result) (c .before .before .before .before .before .before .before .before .permanent .result) f (l .inv .0) m (c .before .before .before .before .before .before .before .before .before .elements .ensures .0) (c .before .before .before .before .before .before .before .before .permanent .ensures) (c .before .before .before .before .function-at .ensures) in let h : c .before .before .before .bad-part .result ≡ least (λ i. bad-value B (a .contents .now) (l .first + i)) (size (B .E) (function-at B (l .g) .arity)) = c .before .before .before .bad-part .ensures B k ∙ rw q in let w : l .first + size (B .E) (function-at B (l .g) .arity) ≤ L B = from-fits B (l .g) (l .first) (l .inv .0) m in let i = c .before .found .given .0 .0 in let o : least (λ i. bad-value B (a .contents .now) (l .first + i)) (size (B .E) (function-at B (l .g) .arity)) ≡ Here i = sym h ∙ c .before .found .given .1 in record { fits = omega (arith, least-here (λ i. bad-value B (a .contents .now) (l .first + i)) (size (B .E) (function-at B (l .g) .arity)) i o .0, l .inv .0 .low, c .before .before .before .before .before .loop-test .taken, c .before .before .before .before .before .before .before .functions .ensures .1, size-most (B .E) (function-at B (l .g) .arity) (omega (arith, c .before .before .before .before .before .before .before .before .before .elements .ensures))) }
 
 -- src/lib.rt:243:13
 returns : tie.Need-returns Inv-loop μ-loop
-returns c = let a = c .before .before .before .before .before .before .before .before .before .before .before .args in let B = program-in (a .image .now) in let l = c .before .before .before .before .before .before .loop in let f = c .before .before .before .before .function-at .result in let m : l .g < length (B .functions) = omega (arith, c .before .before .before .before .before .loop-test .taken, c .before .before .before .before .before .before .before .functions .ensures .0) in let q : size (c .before .before .before .before .before .before .before .before .before .elements .result) (f .arity) ≡ size (B .E) (function-at B (l .g) .arity) = rw (c .before .before .before .before .before .before .before .before .before .elements .ensures .0, c .before .before .before .before .function-at .ensures) in let k = part-of B (l .g) (l .first) (c .before .before .before .before .before .before .before .before .before .elements .result) (c .before .before .before .before .before .before .before .before .permanent .result) f (l .inv .0) m (c .before .before .before .before .before .before .before .before .before .elements .ensures .0) (c .before .before .before .before .before .before .before .before .permanent .ensures) (c .before .before .before .before .function-at .ensures) in let h : c .before .before .before .bad-part .result ≡ least (λ i. bad-value B (a .contents .now) (l .first + i)) (size (B .E) (function-at B (l .g) .arity)) = c .before .before .before .bad-part .ensures B k ∙ rw q in let w : l .first + size (B .E) (function-at B (l .g) .arity) ≤ L B = from-fits B (l .g) (l .first) (l .inv .0) m in let i = c .before .found .given .0 .0 in let o : least (λ i. bad-value B (a .contents .now) (l .first + i)) (size (B .E) (function-at B (l .g) .arity)) ≡ Here i = sym h ∙ c .before .found .given .1 in part-stop (bad-value B (a .contents .now)) (L B) (l .first) (size (B .E) (function-at B (l .g) .arity)) i w o (l .inv .1)
+returns c = let a = c .before .before .before .before .before .before .before .before .before .before .before .args in let B = held (a .image .now) in let l = c .before .before .before .before .before .before .loop in let f = c .before .before .before .before .function-at .result in let m : l .g < length (B .functions) = omega (arith, c .before .before .before .before .before .loop-test .taken, c .before .before .before .before .before .before .before .functions .ensures .0) in let q : size (c .before .before .before .before .before .before .before .before .before .elements .result) (f .arity) ≡ size (B .E) (function-at B (l .g) .arity) = rw (c .before .before .before .before .before .before .before .before .before .elements .ensures .0, c .before .before .before .before .function-at .ensures) in let k = part-of B (l .g) (l .first) (c .before .before .before .before .before .before .before .before .before .elements .result) (c .before .before .before .before .before .before .before .before .permanent .result) f (l .inv .0) m (c .before .before .before .before .before .before .before .before .before .elements .ensures .0) (c .before .before .before .before .before .before .before .before .permanent .ensures) (c .before .before .before .before .function-at .ensures) in let h : c .before .before .before .bad-part .result ≡ least (λ i. bad-value B (a .contents .now) (l .first + i)) (size (B .E) (function-at B (l .g) .arity)) = c .before .before .before .bad-part .ensures B k ∙ rw q in let w : l .first + size (B .E) (function-at B (l .g) .arity) ≤ L B = from-fits B (l .g) (l .first) (l .inv .0) m in let i = c .before .found .given .0 .0 in let o : least (λ i. bad-value B (a .contents .now) (l .first + i)) (size (B .E) (function-at B (l .g) .arity)) ≡ Here i = sym h ∙ c .before .found .given .1 in part-stop (bad-value B (a .contents .now)) (L B) (l .first) (size (B .E) (function-at B (l .g) .arity)) i w o (l .inv .1)
 
 enum-told : tie.Need-enum-told Inv-loop μ-loop
 enum-told c = search needs
@@ -91,11 +91,11 @@ loop-less c = search needs
 
 -- src/lib.rt:239:5
 loop-again : tie.Need-loop-again Inv-loop μ-loop
-loop-again c = let a = c .before .before .before .before .before .before .before .before .before .before .before .args in let B = program-in (a .image .now) in let l = c .before .before .before .before .before .before .loop in let f = c .before .before .before .before .function-at .result in let m : l .g < length (B .functions) = omega (arith, c .before .before .before .before .before .loop-test .taken, c .before .before .before .before .before .before .before .functions .ensures .0) in let q : size (c .before .before .before .before .before .before .before .before .before .elements .result) (f .arity) ≡ size (B .E) (function-at B (l .g) .arity) = rw (c .before .before .before .before .before .before .before .before .before .elements .ensures .0, c .before .before .before .before .function-at .ensures) in let k = part-of B (l .g) (l .first) (c .before .before .before .before .before .before .before .before .before .elements .result) (c .before .before .before .before .before .before .before .before .permanent .result) f (l .inv .0) m (c .before .before .before .before .before .before .before .before .before .elements .ensures .0) (c .before .before .before .before .before .before .before .before .permanent .ensures) (c .before .before .before .before .function-at .ensures) in let h : c .before .before .before .bad-part .result ≡ least (λ i. bad-value B (a .contents .now) (l .first + i)) (size (B .E) (function-at B (l .g) .arity)) = c .before .before .before .bad-part .ensures B k ∙ rw q in let w : l .first + size (B .E) (function-at B (l .g) .arity) ≤ L B = from-fits B (l .g) (l .first) (l .inv .0) m in let s : c .size .result ≡ size (B .E) (function-at B (l .g) .arity) = c .size .ensures .0 ∙ q in rw s (from-next B (l .g) (l .first) (l .inv .0) m (omega (arith, c .before .before .before .before .before .before .before .before .before .elements .ensures)), part-pass (bad-value B (a .contents .now)) (L B) (l .first) (size (B .E) (function-at B (l .g) .arity)) w (sym h ∙ c .before .enum-told .given .1) (l .inv .1), omega (arith, c .before .before .before .before .before .loop-test .taken))
+loop-again c = let a = c .before .before .before .before .before .before .before .before .before .before .before .args in let B = held (a .image .now) in let l = c .before .before .before .before .before .before .loop in let f = c .before .before .before .before .function-at .result in let m : l .g < length (B .functions) = omega (arith, c .before .before .before .before .before .loop-test .taken, c .before .before .before .before .before .before .before .functions .ensures .0) in let q : size (c .before .before .before .before .before .before .before .before .before .elements .result) (f .arity) ≡ size (B .E) (function-at B (l .g) .arity) = rw (c .before .before .before .before .before .before .before .before .before .elements .ensures .0, c .before .before .before .before .function-at .ensures) in let k = part-of B (l .g) (l .first) (c .before .before .before .before .before .before .before .before .before .elements .result) (c .before .before .before .before .before .before .before .before .permanent .result) f (l .inv .0) m (c .before .before .before .before .before .before .before .before .before .elements .ensures .0) (c .before .before .before .before .before .before .before .before .permanent .ensures) (c .before .before .before .before .function-at .ensures) in let h : c .before .before .before .bad-part .result ≡ least (λ i. bad-value B (a .contents .now) (l .first + i)) (size (B .E) (function-at B (l .g) .arity)) = c .before .before .before .bad-part .ensures B k ∙ rw q in let w : l .first + size (B .E) (function-at B (l .g) .arity) ≤ L B = from-fits B (l .g) (l .first) (l .inv .0) m in let s : c .size .result ≡ size (B .E) (function-at B (l .g) .arity) = c .size .ensures .0 ∙ q in rw s (from-next B (l .g) (l .first) (l .inv .0) m (omega (arith, c .before .before .before .before .before .before .before .before .before .elements .ensures)), part-pass (bad-value B (a .contents .now)) (L B) (l .first) (size (B .E) (function-at B (l .g) .arity)) w (sym h ∙ c .before .enum-told .given .1) (l .inv .1), omega (arith, c .before .before .before .before .before .loop-test .taken))
 
 -- src/lib.rt:231:1
 returns-2 : tie.Need-returns-2 Inv-loop μ-loop
-returns-2 c = let a = c .before .before .before .before .before .before .args in let B = program-in (a .image .now) in let l = c .before .loop in least-end (bad-value B (a .contents .now)) (L B) (l .first) (omega (arith, from-end B (l .g) (l .first) (l .inv .0) (omega (arith, c .loop-test .left, c .before .before .functions .ensures .0)))) (l .inv .1)
+returns-2 c = let a = c .before .before .before .before .before .before .args in let B = held (a .image .now) in let l = c .before .loop in least-end (bad-value B (a .contents .now)) (L B) (l .first) (omega (arith, from-end B (l .g) (l .first) (l .inv .0) (omega (arith, c .loop-test .left, c .before .before .functions .ensures .0)))) (l .inv .1)
 
 pub bad-in-spec : {M : Type 1} → statement M
 bad-in-spec =

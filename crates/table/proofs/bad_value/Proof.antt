@@ -1,7 +1,7 @@
 use Rattle.book.specs.Contents.{bad-value}
 use Rattle.text.specs.Words.{least}
 use Prim.Native.Nat.{_-_}
-use Rattle.book.specs.Image.{program-in}
+use Rattle.book.specs.Image.{held}
 use Rattle.book.specs.Book.{L}
 use lib.Seq.{take-all}
 use lib.ListN.{length, take}
@@ -43,7 +43,7 @@ bad-in-requires c κs = search needs
 
 -- src/lib.rt:263:9
 returns : tie.Need-returns
-returns c = let a = c .before .before .before .before .before .args in let B = program-in (a .image .now) in let e : c .before .before .before .total .result - 0 ≡ L B = omega (arith, c .before .before .before .total .ensures) in c .bad-in .ensures ∙ ap (λ (k : ℕ). least (bad-value B (take k (a .contents .now))) (L B)) e
+returns c = let a = c .before .before .before .before .before .args in let B = held (a .image .now) in let e : c .before .before .before .total .result - 0 ≡ L B = omega (arith, c .before .before .before .total .ensures) in c .bad-in .ensures ∙ ap (λ (k : ℕ). least (bad-value B (take k (a .contents .now))) (L B)) e
 
 -- src/lib.rt:265:5
 bad-in-requires-2 : tie.Need-bad-in-requires-2
@@ -51,7 +51,7 @@ bad-in-requires-2 c κs = search needs
 
 -- src/lib.rt:258:1
 returns-2 : tie.Need-returns-2
-returns-2 c = let a = c .before .before .before .before .args in let B = program-in (a .image .now) in let h : length (a .contents .now) ≤ L B = omega (arith, c .before .if1 .left, c .before .before .total .ensures) in c .bad-in2 .ensures ∙ rw (take-all (L B) (a .contents .now) h)
+returns-2 c = let a = c .before .before .before .before .args in let B = held (a .image .now) in let h : length (a .contents .now) ≤ L B = omega (arith, c .before .if1 .left, c .before .before .total .ensures) in c .bad-in2 .ensures ∙ rw (take-all (L B) (a .contents .now) h)
 
 pub bad-value-spec : {M : Type 1} → statement M
 bad-value-spec =

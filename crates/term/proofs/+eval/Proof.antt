@@ -7,7 +7,8 @@ use Rattle.book.specs.Book.{node-at, location}
 use Rattle.engine.specs.Look.{read, done, _>>=_}
 use Rattle.engine.specs.Term.{eval as value, negate, apply}
 use Rattle.engine.proofs.Steps.{term-zero, term-element, term-variable, term-agent, term-none, term-one, term-two, term-not, term-join, no-term-at}
-use Rattle.term.specs.Held.{held, node-row, agent-of, value-at}
+use Rattle.term.specs.Held.{node-row, agent-of, value-at}
+use Rattle.book.specs.Image.{held}
 use Rattle.term.proofs.Values.{join-kind}
 use Rattle.term.proofs.Marking.{runs-done, runs-gives, runs-bind}
 use borrow.Author.Needs.{needs}

@@ -3,7 +3,7 @@ use mathlib.Core.Path.{ap, sym, _∙_}
 use Prim.Native.Nat.{_<_}
 use lib.ListN.{length}
 use Rattle.book.specs.Book.{dynamic}
-use Rattle.term.specs.Held.{held}
+use Rattle.book.specs.Image.{held}
 use borrow.Author.Needs.{needs}
 use Rattle.term.proofs.dynamic.Statement.{statement}
 use Rattle.term.proofs.dynamic.Tie as tie

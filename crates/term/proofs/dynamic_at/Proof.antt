@@ -5,7 +5,7 @@ use native.Mathlib.Omega.{arith}
 use lib.ListN.{length, drop}
 use borrow.Author.Needs.{needs}
 use Rattle.book.specs.Book.{Place, dynamic, dynamic-at, function-at, size, place-in}
-use Rattle.term.specs.Held.{held}
+use Rattle.book.specs.Image.{held}
 use Rattle.term.proofs.Leaves.{scan-pass, scan-stop, scan-end}
 use Rattle.term.proofs.dynamic_at.Statement.{statement}
 use Rattle.term.proofs.dynamic_at.Tie as tie

@@ -1,7 +1,7 @@
 -- `read` meets its contract.
 use mathlib.Core.Path.{_∙_}
 use Rattle.book.specs.Book.{location}
-use Rattle.term.specs.Held.{held}
+use Rattle.book.specs.Image.{held}
 use Rattle.term.proofs.Marking.{runs-read}
 use borrow.Author.Needs.{needs}
 use Rattle.term.proofs.read.Statement.{statement}

@@ -9,7 +9,8 @@ use Rattle.book.specs.Book.{node-at}
 use Rattle.engine.specs.Look.{Look}
 use Rattle.engine.specs.Rule.{Walk, Walked, after, lowest, import-of, each as for-each, walk as walked}
 use Rattle.engine.proofs.Steps.{rule-last, rule-assign, rule-bind, rule-for-all, rule-import, rule-free, no-rule-at}
-use Rattle.term.specs.Held.{held, node-row, variables-of, agent-of, value-at}
+use Rattle.term.specs.Held.{node-row, variables-of, agent-of, value-at}
+use Rattle.book.specs.Image.{held}
 use Rattle.term.specs.Marks.{Runs}
 use Rattle.term.proofs.Marking.{runs-bind, runs-as}
 use Rattle.giving.specs.Giving.{Room, walk-from, reached}

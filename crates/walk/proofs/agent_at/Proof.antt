@@ -1,14 +1,18 @@
 -- `agent_at` meets its contract.
-use Prim.Native.Nat.{_<_, _≤_}
-use native.Mathlib.Omega.{arith}
-use Rattle.book.specs.Image.{word, capped}
-use Rattle.term.proofs.Leaves.{agent-in, agent-past, capped-most}
+use mathlib.Core.Path.{_≡_, sym, _∙_}
+use Prim.Native.Nat.{ℕ, _+_, _*_, _%_, _<_, _≤_}
+use Rattle.book.specs.Image.{word, capped, narrow}
+use Rattle.book.proofs.Image.{narrow-word}
+use Rattle.term.proofs.Leaves.{agent-in, agent-past}
 use borrow.Author.Needs.{needs}
 use Rattle.walk.proofs.agent_at.Statement.{statement}
 use Rattle.walk.proofs.agent_at.Tie as tie
 
-element-copy-out-capped : tie.Need-element-copy-out-capped
-element-copy-out-capped c = search needs
+element-copy-out-low : tie.Need-element-copy-out-low
+element-copy-out-low c = search needs
+
+low-requires : tie.Need-low-requires
+low-requires c κs = search needs
 
 capped-requires : tie.Need-capped-requires
 capped-requires c κs = search needs
@@ -22,40 +26,62 @@ mul-at c = search needs
 add-at : tie.Need-add-at
 add-at c = search needs
 
-mul-t11 : tie.Need-mul-t11
-mul-t11 c = search needs
+mul-low : tie.Need-mul-low
+mul-low c = search needs
 
-element-copy-out-t15 : tie.Need-element-copy-out-t15
-element-copy-out-t15 c = omega (arith, capped-most (word (c .before .before .before .args .image .now) 4) 16, c .before .capped .ensures .0)
+element-copy-out-low-2 : tie.Need-element-copy-out-low-2
+element-copy-out-low-2 c = search needs
 
-add-t12 : tie.Need-add-t12
-add-t12 c = search needs
+low-requires-2 : tie.Need-low-requires-2
+low-requires-2 c κs = search needs
 
-mul-t16 : tie.Need-mul-t16
-mul-t16 c = search needs
+add-low : tie.Need-add-low
+add-low c = search needs
 
-element-copy-out-t19 : tie.Need-element-copy-out-t19
-element-copy-out-t19 c = omega (arith, capped-most (word (c .before .before .before .before .args .image .now) 4) 16, c .before .before .capped .ensures .0)
+mul-low-2 : tie.Need-mul-low-2
+mul-low-2 c = search needs
+
+element-copy-out-low-3 : tie.Need-element-copy-out-low-3
+element-copy-out-low-3 c = search needs
+
+low-requires-3 : tie.Need-low-requires-3
+low-requires-3 c κs = search needs
 
 returns : tie.Need-returns
-returns c = let a = c .before .before .before .before .before .args in let h : a .i < capped (word (a .image .now) 4) 16 = rw (← c .before .before .before .capped .ensures .0) (c .before .before .if1 .taken) in agent-in (a .image .now) (a .i) h
+returns c =
+    let a = c .before .before .before .before .before .before .before .before .args in
+    let m = a .image .now in
+    let z : c .before .before .before .before .before .before .low .result ≡ word (narrow m) 4 = c .before .before .before .before .before .before .low .ensures ∙ sym (narrow-word m 4) in
+    let h : a .i < capped (word (narrow m) 4) 16 = rw (← z, ← c .before .before .before .before .before .capped .ensures .0) (c .before .before .before .before .if1 .taken) in
+    rw (
+      c .before .before .low2 .ensures ∙ sym (narrow-word m (a .i * 4 + 136)),
+      c .low3 .ensures ∙ sym (narrow-word m (a .i * 4 + 136 + 1)),
+    ) (agent-in m (a .i) h)
 
 returns-2 : tie.Need-returns-2
-returns-2 c = let a = c .before .before .before .args in let h : capped (word (a .image .now) 4) 16 ≤ a .i = rw (← c .before .capped .ensures .0) (c .if1 .left) in agent-past (a .image .now) (a .i) h
+returns-2 c =
+    let a = c .before .before .before .before .args in
+    let m = a .image .now in
+    let z : c .before .before .low .result ≡ word (narrow m) 4 = c .before .before .low .ensures ∙ sym (narrow-word m 4) in
+    let h : capped (word (narrow m) 4) 16 ≤ a .i = rw (← z, ← c .before .capped .ensures .0) (c .if1 .left) in
+    agent-past m (a .i) h
 
 pub agent-at-spec : {M : Type 1} → statement M
 agent-at-spec =
     tie.close
     (tie.spec
-    element-copy-out-capped
+    element-copy-out-low
+    low-requires
     capped-requires
     cast-if1
     mul-at
     add-at
-    mul-t11
-    element-copy-out-t15
-    add-t12
-    mul-t16
-    element-copy-out-t19
+    mul-low
+    element-copy-out-low-2
+    low-requires-2
+    add-low
+    mul-low-2
+    element-copy-out-low-3
+    low-requires-3
     returns
     returns-2)

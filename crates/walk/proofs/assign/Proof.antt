@@ -6,7 +6,8 @@ use Rattle.engine.specs.declared.Instruction.the-variants.{Update}
 use Rattle.engine.specs.Look.{done, _>>=_}
 use Rattle.engine.specs.Term.{term-at}
 use Rattle.engine.specs.Rule.{walk, refuse-if, not-boolean, give, _then_}
-use Rattle.term.specs.Held.{held, value-at, aim-at}
+use Rattle.term.specs.Held.{value-at, aim-at}
+use Rattle.book.specs.Image.{held}
 use Rattle.term.proofs.Marking.{runs-bind, runs-gives}
 use Rattle.giving.specs.Giving.{walk-from}
 use Rattle.giving.proofs.Steps.{reached-going}

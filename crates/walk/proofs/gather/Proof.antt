@@ -1,7 +1,7 @@
 -- `gather` meets its contract.
 use mathlib.Core.Path.{refl}
 use mathlib.Core.List.{[], _∷_}
-use Rattle.term.specs.Held.{held}
+use Rattle.book.specs.Image.{held}
 use Rattle.giving.specs.Giving.{walk-from}
 use Rattle.giving.proofs.Steps.{reached-going, reached-met}
 use Rattle.walk.specs.Walk.{walk-at}

@@ -7,7 +7,7 @@ use lib.ListN.{length, drop}
 use borrow.Author.Needs.{needs}
 use Rattle.book.specs.declared.Function.{Function}
 use Rattle.book.specs.Book.{function-at, size}
-use Rattle.term.specs.Held.{held}
+use Rattle.book.specs.Image.{held}
 use Rattle.term.specs.Marks.{marked}
 use Rattle.walk.proofs.Functions.{all-from, all-step, all-end, all-dynamic-is}
 use Rattle.walk.proofs.mark_all.Statement.{statement}

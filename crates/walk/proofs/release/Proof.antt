@@ -5,7 +5,8 @@ use Rattle.book.specs.Book.{reserve}
 use Rattle.engine.specs.declared.Instruction.the-variants.{Release}
 use Rattle.engine.specs.Look.{done, read, _>>=_}
 use Rattle.engine.specs.Rule.{walk, refuse-if, not-free, give, _then_}
-use Rattle.term.specs.Held.{held, value-at}
+use Rattle.term.specs.Held.{value-at}
+use Rattle.book.specs.Image.{held}
 use Rattle.term.proofs.Marking.{runs-bind, runs-gives}
 use Rattle.giving.specs.Giving.{walk-from}
 use Rattle.giving.proofs.Steps.{reached-going}

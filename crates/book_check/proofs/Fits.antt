@@ -1,46 +1,28 @@
--- The words of an accepted book's image fit in sixteen bits, so the narrow image holds the same book. Assumes nothing.
+-- The words of an accepted book's image fit in sixteen bits, so what the engine reads of it is its program. Assumes nothing.
 use mathlib.Core.Path.{_≡_, refl, sym, ap, _∙_}
 use mathlib.Core.Bool.{Bool, true, false, and-false}
 use mathlib.Core.List.{List}
 use Prim.Native.Nat.{ℕ, zero, suc, _+_, _*_, _≤_, _<_}
+use native.Mathlib.Nat.{mod-eq-of-lt}
 use native.Mathlib.Omega.{arith}
-use lib.Dec.{eqb, ltb}
-use lib.ListN.{length, getD, set, List·getD-eq-default}
-use lib.Seq.{getD-set-same, getD-set-other}
-use borrow.Author.Tests.{eqb-true, eqb-false, ltb-true, ltb-false, lt-ltb, le-ltb, ne-eqb}
-use Rattle.text.specs.Words.{table}
+use lib.Dec.{ltb}
+use lib.ListN.{length, List·getD-eq-default}
+use borrow.Author.Tests.{ltb-true, ltb-false, le-ltb, ne-eqb}
+use Rattle.text.specs.Words.{table, good}
 use Rattle.text.proofs.Words.{so-true, table-ext}
 use Rattle.book.specs.declared.Function.{Function}
 use Rattle.book.specs.declared.Node.{Node}
 use Rattle.book.specs.declared.Agent.{Agent}
-use Rattle.book.specs.Book.{Program, L, function-at, node-at, agent-at, location}
+use Rattle.book.specs.Book.{Program, Book, L, function-at, node-at, agent-at, location}
 use Rattle.book.specs.Kinds.{sort, sort-table}
 use Rattle.book.specs.Lines.{node-of, agent-of, fits, bad-node}
-use Rattle.book.specs.Image.{word, row-in, capped, function-of, program-in, Counts}
+use Rattle.book.specs.Image.{word, row-in, capped, function-of, program-in, narrow, held, Counts}
+use Rattle.book.specs.Check.{check-book}
 use Rattle.book.specs.Sound.{Lawful}
-use Rattle.book.proofs.Image.{functions-long, nodes-long, agents-long, functions-most, nodes-most, agents-most, function-inside, node-inside, agent-inside}
+use Rattle.book.proofs.Accepted.{accepted, accepted-kinds}
+use Rattle.book.proofs.Image.{narrow-word, functions-long, nodes-long, agents-long, functions-most, nodes-most, agents-most, function-inside, node-inside, agent-inside}
 use Rattle.book.proofs.Places.{spot}
-use Rattle.open.specs.Narrow.{narrowed, used, Narrowed}
-
--- ---- a word that fits
-
-pub narrowed-same : (x : ℕ) → x < 65536 → narrowed x ≡ x
-narrowed-same x h = rw (lt-ltb x 65536 h)
-
--- ---- the loop
-
-pub narrow-step :
-    (m o : List ℕ) (i : ℕ) → i < length o → Narrowed i m o → Narrowed (i + 1) m (set o i (narrowed (getD m i 0)))
-narrow-step m o i h e j k = go (eqb j i) refl
-  where
-    v : ℕ
-    v = narrowed (getD m i 0)
-
-    go : (b : Bool) → eqb j i ≡ b → word (set o i v) j ≡ narrowed (word m j)
-    go true q = rw (eqb-true j i q) (getD-set-same o i v 0 h)
-    go false q =
-        let other = eqb-false j i q in
-        getD-set-other o i j v 0 other ∙ e j (omega (arith, k, other))
+use Rattle.book_check.specs.Opened.{Opened}
 
 -- ---- nodes
 
@@ -94,23 +76,25 @@ small-node B n p f k e =
 
 -- ---- the image of a lawful book
 
-module _ (m o : List ℕ) (B : Program) (ok : Lawful B) (kinds : (f : ℕ) → function-at B f .kind ≤ 3) (counts : Counts m B)
-    (held : program-in m ≡ B) (narrow : Narrowed (used m) m o) where
-  word-small : (i : ℕ) → i < used m → word m i < 65536 → word o i ≡ word m i
-  word-small i k h = narrow i k ∙ narrowed-same (word m i) h
+module _ (m : List ℕ) (B : Program) (ok : Lawful B) (kinds : (f : ℕ) → function-at B f .kind ≤ 3) (counts : Counts m B) (is : program-in m ≡ B) where
+  abbrev o : List ℕ
+  o = narrow m
+
+  word-small : (i : ℕ) → word m i < 65536 → word o i ≡ word m i
+  word-small i h = narrow-word m i ∙ mod-eq-of-lt h
 
   few-functions : length (B .functions) ≤ 32
-  few-functions = omega (arith, ap (λ (X : Program). length (X .functions)) held, functions-most m)
+  few-functions = omega (arith, ap (λ (X : Program). length (X .functions)) is, functions-most m)
 
   few-nodes : length (B .nodes) ≤ 1024
-  few-nodes = omega (arith, ap (λ (X : Program). length (X .nodes)) held, nodes-most m)
+  few-nodes = omega (arith, ap (λ (X : Program). length (X .nodes)) is, nodes-most m)
 
   few-agents : length (B .agents) ≤ 16
-  few-agents = omega (arith, ap (λ (X : Program). length (X .agents)) held, agents-most m)
+  few-agents = omega (arith, ap (λ (X : Program). length (X .agents)) is, agents-most m)
 
   permanent-is : word m 1 ≡ B .P
   unfolding program-in
-  permanent-is = ap (λ (X : Program). X .P) held
+  permanent-is = ap (λ (X : Program). X .P) is
 
   few-permanent : B .P ≤ 10000
   few-permanent = omega (arith, ok .high, ok .elements)
@@ -118,51 +102,57 @@ module _ (m o : List ℕ) (B : Program) (ok : Lawful B) (kinds : (f : ℕ) → f
   function-same : (f : ℕ) → f < capped (word m 2) 32 → function-of (row-in o (2 + f)) ≡ function-of (row-in m (2 + f))
   function-same f h =
       let q : function-of (row-in m (2 + f)) ≡ function-at B f =
-      sym (function-inside m f h) ∙ ap (λ (X : Program). function-at X f) held in
+      sym (function-inside m f h) ∙ ap (λ (X : Program). function-at X f) is in
       let k : f < length (B .functions) =
-      omega (arith, ap (λ (X : Program). length (X .functions)) held, functions-long m) in
+      omega (arith, ap (λ (X : Program). length (X .functions)) is, functions-long m) in
       let s = spot B ok f 0 0 k (omega (arith, ok .low, ok .high)) (omega (arith, ok .low, ok .high)) .inside in
       rw (
-        word-small ((2 + f) * 4) (omega (arith, k, few-functions)) (omega (arith, ap (λ (x : Function). x .first) q, s, ok .locations)),
-        word-small ((2 + f) * 4 + 1) (omega (arith, k, few-functions)) (omega (arith, ap (λ (x : Function). x .arity) q, ok .arities f)),
-        word-small ((2 + f) * 4 + 2) (omega (arith, k, few-functions)) (omega (arith, ap (λ (x : Function). x .kind) q, kinds f)),
+        word-small ((2 + f) * 4) (omega (arith, ap (λ (x : Function). x .first) q, s, ok .locations)),
+        word-small ((2 + f) * 4 + 1) (omega (arith, ap (λ (x : Function). x .arity) q, ok .arities f)),
+        word-small ((2 + f) * 4 + 2) (omega (arith, ap (λ (x : Function). x .kind) q, kinds f)),
       )
 
   node-same : (n : ℕ) → n < capped (word m 3) 1024 → node-of (row-in o (50 + n)) ≡ node-of (row-in m (50 + n))
   node-same n h =
       let q : node-of (row-in m (50 + n)) ≡ node-at B n =
-      sym (node-inside m n h) ∙ ap (λ (X : Program). node-at X n) held in
+      sym (node-inside m n h) ∙ ap (λ (X : Program). node-at X n) is in
       let k : n < length (B .nodes) =
-      omega (arith, ap (λ (X : Program). length (X .nodes)) held, nodes-long m) in
+      omega (arith, ap (λ (X : Program). length (X .nodes)) is, nodes-long m) in
       let s = small-node B n few-permanent few-functions (omega (arith, few-nodes)) (ok .nodes n k) in
       rw (
-        word-small ((50 + n) * 4) (omega (arith, h)) (omega (arith, ap (λ (x : Node). x .kind) q, s .kind)),
-        word-small ((50 + n) * 4 + 1) (omega (arith, h)) (omega (arith, ap (λ (x : Node). x .a) q, s .a)),
-        word-small ((50 + n) * 4 + 2) (omega (arith, h)) (omega (arith, ap (λ (x : Node). x .b) q, s .b)),
-        word-small ((50 + n) * 4 + 3) (omega (arith, h)) (omega (arith, ap (λ (x : Node). x .c) q, s .c)),
+        word-small ((50 + n) * 4) (omega (arith, ap (λ (x : Node). x .kind) q, s .kind)),
+        word-small ((50 + n) * 4 + 1) (omega (arith, ap (λ (x : Node). x .a) q, s .a)),
+        word-small ((50 + n) * 4 + 2) (omega (arith, ap (λ (x : Node). x .b) q, s .b)),
+        word-small ((50 + n) * 4 + 3) (omega (arith, ap (λ (x : Node). x .c) q, s .c)),
       )
 
   agent-same : (i : ℕ) → i < capped (word m 4) 16 → agent-of (row-in o (34 + i)) ≡ agent-of (row-in m (34 + i))
   agent-same i h =
       let q : agent-of (row-in m (34 + i)) ≡ agent-at B i =
-      sym (agent-inside m i h) ∙ ap (λ (X : Program). agent-at X i) held in
+      sym (agent-inside m i h) ∙ ap (λ (X : Program). agent-at X i) is in
       let k : i < length (B .agents) =
-      omega (arith, ap (λ (X : Program). length (X .agents)) held, agents-long m) in
+      omega (arith, ap (λ (X : Program). length (X .agents)) is, agents-long m) in
       rw (
-        word-small ((34 + i) * 4) (omega (arith, k, few-agents)) (omega (arith, ap (λ (x : Agent). x .root) q, ok .roots i k .0, few-nodes)),
-        word-small ((34 + i) * 4 + 1) (omega (arith, k, few-agents)) (omega (arith, ap (λ (x : Agent). x .element) q, ok .agents i, few-permanent)),
+        word-small ((34 + i) * 4) (omega (arith, ap (λ (x : Agent). x .root) q, ok .roots i k .0, few-nodes)),
+        word-small ((34 + i) * 4 + 1) (omega (arith, ap (λ (x : Agent). x .element) q, ok .agents i, few-permanent)),
       )
 
-  pub narrow-holds : program-in o ≡ B
+  narrow-holds : held m ≡ B
   unfolding program-in
   narrow-holds =
       rw (
-        word-small 0 (omega arith) (omega (arith, counts .elements, ok .elements)),
-        word-small 1 (omega arith) (omega (arith, permanent-is, few-permanent)),
-        word-small 2 (omega arith) (omega (arith, counts .functions, few-functions)),
-        word-small 3 (omega arith) (omega (arith, counts .nodes, few-nodes)),
-        word-small 4 (omega arith) (omega (arith, counts .agents, few-agents)),
+        word-small 0 (omega (arith, counts .elements, ok .elements)),
+        word-small 1 (omega (arith, permanent-is, few-permanent)),
+        word-small 2 (omega (arith, counts .functions, few-functions)),
+        word-small 3 (omega (arith, counts .nodes, few-nodes)),
+        word-small 4 (omega (arith, counts .agents, few-agents)),
         table-ext (λ f. function-of (row-in o (2 + f))) (λ f. function-of (row-in m (2 + f))) (capped (word m 2) 32) function-same,
         table-ext (λ n. node-of (row-in o (50 + n))) (λ n. node-of (row-in m (50 + n))) (capped (word m 3) 1024) node-same,
         table-ext (λ i. agent-of (row-in o (34 + i))) (λ i. agent-of (row-in m (34 + i))) (capped (word m 4) 16) agent-same,
-      ) held
+      ) is
+
+-- what the check of an accepted book leaves is, as the engine reads it, the book's program
+pub held-is : (text m : List ℕ) → Opened m (check-book text) → (b : Book) → check-book text ≡ good b → held m ≡ b .program
+held-is text m opened b e =
+    let o = opened b e in
+    narrow-holds m (b .program) (accepted text b e) (accepted-kinds text b e) (o .2) (o .0)
