@@ -1,6 +1,7 @@
 // Refusal 15: each instruction held against all.
 use book::Function;
 use engine::Instruction;
+use numbers::Value;
 ghost use mathlib.Core.Path.{_≡_};
 ghost use mathlib.Core.List.{[]};
 ghost use Rattle.text.specs.Words.{has};
@@ -34,7 +35,7 @@ fn is_trace(e: u16, s: Spot, x: u16) -> bool
 }
 
 // Location l as it stands; past the last function there is none.
-fn spot_of(image: &[u32; 4296], contents: &[u16], l: u32) -> Spot
+fn spot_of(image: &[u32; 4296], contents: &[Value], l: u32) -> Spot
     ensures { λ r. ⌜ r ≡ spot (held (now (image .entry))) (now (contents .entry)) l ⌝ }
 {
     let held = numbers::fetch(contents, l as usize);
@@ -148,7 +149,7 @@ fn is_doomed(list: &[u64], len: usize, what: Instruction) -> bool
 // The location of the instruction where it is less than best and clashes; else best.
 fn better_of(
     image: &[u32; 4296],
-    contents: &[u16],
+    contents: &[Value],
     list: &[u64],
     len: usize,
     what: Instruction,
@@ -174,7 +175,7 @@ fn better_of(
 // The least location that clashes, or most: each instruction is held against all.
 pub fn first_of_all(
     image: &[u32; 4296],
-    contents: &[u16],
+    contents: &[Value],
     list: &[u64],
     len: usize,
     most: u32,

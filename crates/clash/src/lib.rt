@@ -1,4 +1,5 @@
 // Refusal 15: the least location that clashes, with a short way for updates alone.
+use numbers::Value;
 use text::Found;
 ghost use mathlib.Core.Path.{_≡_};
 ghost use mathlib.Core.List.{[]};
@@ -59,7 +60,7 @@ fn nearer(list: &[u64], i: usize, code: u64, least: u64) -> u64
 // Counted from 1, `last` has the last update at each slot, and `prior` the one before each update at its slot.
 pub fn first_clash(
     image: &[u32; 4296],
-    contents: &[u16],
+    contents: &[Value],
     list: &[u64],
     len: usize,
     most: u32,
@@ -92,7 +93,7 @@ pub fn first_clash(
 // ---- any list
 
 // The least location that clashes.
-pub fn clash(image: &[u32; 4296], contents: &[u16], list: &[u64], len: usize) -> Found
+pub fn clash(image: &[u32; 4296], contents: &[Value], list: &[u64], len: usize) -> Found
     ensures { λ r. ⌜ r ≡ clash-by (now (image .entry)) (now (contents .entry)) (now (list .entry)) len ⌝ }
 {
     let most = pages::total(image);

@@ -1,6 +1,7 @@
 // The traces of released labels cleared, function after function.
 use book::Function;
 use engine::Instruction;
+use numbers::Value;
 ghost use mathlib.Core.Path.{_≡_};
 ghost use mathlib.Core.List.{[]};
 ghost use Prim.Native.Nat.{_≤_};
@@ -10,7 +11,7 @@ ghost use Rattle.clearing.specs.Steps.{run-cleared, run-marked, cleared,
 
 // The function's own part is lent, from its first location; so are its marks.
 fn clear_run(
-    contents: &mut [u16],
+    contents: &mut [Value],
     writers: &mut [u64],
     e: u16,
     f: Function,
@@ -33,7 +34,7 @@ fn clear_run(
 }
 
 // The traces of x in all functions.
-fn clear(image: &[u32; 4296], contents: &mut [u16], writers: &mut [u64], x: u16, bit: u64)
+fn clear(image: &[u32; 4296], contents: &mut [Value], writers: &mut [u64], x: u16, bit: u64)
     ensures { λ _. ⌜ now (contents .exit) ≡ cleared (held (now (image .entry))) x (now (contents .entry)) ⌝ }
     ensures { λ _. ⌜ now (writers .exit) ≡ clear-marked bit (held (now (image .entry))) x (now (contents .entry)) (now (writers .entry)) ⌝ }
 {
@@ -52,7 +53,7 @@ fn clear(image: &[u32; 4296], contents: &mut [u16], writers: &mut [u64], x: u16,
 
 fn clear_for(
     image: &[u32; 4296],
-    contents: &mut [u16],
+    contents: &mut [Value],
     writers: &mut [u64],
     what: Instruction,
     bit: u64,
@@ -74,7 +75,7 @@ fn clear_for(
 // The traces of every label that is released.
 pub fn clear_all(
     image: &[u32; 4296],
-    contents: &mut [u16],
+    contents: &mut [Value],
     writers: &mut [u64],
     list: &[u64],
     len: usize,

@@ -1,4 +1,5 @@
 // The two ends of a log's run: before its moves 2 and the start with no marks, after them 17.
+use numbers::Value;
 use text::Answer;
 ghost use mathlib.Core.Path.{_≡_};
 ghost use mathlib.Core.List.{List};
@@ -67,7 +68,7 @@ fn clear(marks: &mut [u64])
 pub fn begin(
     book: &[u8],
     image: &[u32; 4296],
-    contents: &mut [u16],
+    contents: &mut [Value],
     readers: &mut [u64],
     writers: &mut [u64],
 )

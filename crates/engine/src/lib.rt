@@ -1,12 +1,10 @@
 // One move of an agent: what its rule gives.
-
-// The value of a location: an element.
-pub type Value = u16;
+use numbers::Value;
 
 // What a rule gives: a location gets a value, or a label goes back to the roll.
 pub enum Instruction {
-    Update { location: u32, value: u16 },
-    Release { label: u16 },
+    Update { location: u32, value: Value },
+    Release { label: Value },
 }
 
 // A record of the instruction list that a caller lends.

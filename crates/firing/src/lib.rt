@@ -1,5 +1,6 @@
 // The firing of a move: whether it clashes or is idle, and the contents and the writer marks after it.
 use engine::Instruction;
+use numbers::Value;
 use pages::Part;
 ghost use mathlib.Core.Path.{_≡_};
 ghost use mathlib.Core.List.{List, []};
@@ -29,7 +30,7 @@ pub enum Outcome {
 // ---- 16
 
 // An instruction changes the location that it is about, one of the first n.
-fn changes_own(n: u32, contents: &[u16], what: Instruction) -> bool
+fn changes_own(n: u32, contents: &[Value], what: Instruction) -> bool
     ensures { λ r. ⌜ r ≡ change n (now (contents .entry)) what ⌝ }
 {
     let l = traces::own_location(what);
@@ -37,7 +38,7 @@ fn changes_own(n: u32, contents: &[u16], what: Instruction) -> bool
 }
 
 // An instruction of the list does.
-fn has_change(n: u32, contents: &[u16], list: &[u64], len: usize) -> bool
+fn has_change(n: u32, contents: &[Value], list: &[u64], len: usize) -> bool
     ensures { λ r. ⌜ r ≡ any (change n (now (contents .entry))) (items (now (list .entry)) len) ⌝ }
 {
     let m = numbers::smaller(len, list.len());
@@ -53,7 +54,7 @@ fn has_change(n: u32, contents: &[u16], list: &[u64], len: usize) -> bool
 }
 
 // No location would change. A release always changes Reserve at its label, so only the instructions' own locations matter.
-pub fn is_idle(image: &[u32; 4296], contents: &[u16], list: &[u64], len: usize) -> bool
+pub fn is_idle(image: &[u32; 4296], contents: &[Value], list: &[u64], len: usize) -> bool
     ensures { λ r. ⌜ (OffRoll (held (now (image .entry))) (now (contents .entry)) (items (now (list .entry)) len) → r ≡ idle (now (contents .entry)) (updates-by (now (image .entry)) (now (contents .entry)) (now (list .entry)) len)) ⌝ }
 {
     !has_change(pages::total(image), contents, list, len)
@@ -62,7 +63,7 @@ pub fn is_idle(image: &[u32; 4296], contents: &[u16], list: &[u64], len: usize) 
 // ---- firing
 
 // Place i of a part gets v.
-fn put(part: &mut [u16], i: usize, v: u16)
+fn put(part: &mut [Value], i: usize, v: u16)
     requires { ⌜ i < length (now part) ⌝ }
     ensures { λ _. ⌜ now (part .exit) ≡ set (now (part .entry)) i v ⌝ }
 {
@@ -82,7 +83,7 @@ fn mark_in(writers: &mut [u64], first: usize, end: usize, at: usize, bit: u64)
 
 // A function's own part is lent, from its first location, as far as the table goes; location `at` gets v there, and its mark the bit.
 fn put_in(
-    contents: &mut [u16],
+    contents: &mut [Value],
     writers: &mut [u64],
     first: usize,
     end: usize,
@@ -115,7 +116,7 @@ fn part_at(image: &[u32; 4296], last: Part, at: usize) -> Part
 // Each instruction's own location gets its own value, in its function's part.
 fn put_all(
     image: &[u32; 4296],
-    contents: &mut [u16],
+    contents: &mut [Value],
     writers: &mut [u64],
     list: &[u64],
     len: usize,
@@ -147,7 +148,7 @@ fn put_all(
 // The contents and the writer marks after a move that does not clash: traces of released labels go first, then each update is put.
 pub fn fire(
     image: &[u32; 4296],
-    contents: &mut [u16],
+    contents: &mut [Value],
     writers: &mut [u64],
     list: &[u64],
     len: usize,
@@ -165,7 +166,7 @@ pub fn fire(
 // 15, then 16, else it fires. A refused move leaves contents and marks as they were.
 pub fn settle(
     image: &[u32; 4296],
-    contents: &mut [u16],
+    contents: &mut [Value],
     writers: &mut [u64],
     list: &[u64],
     len: usize,

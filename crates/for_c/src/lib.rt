@@ -1,4 +1,5 @@
 // What C can call. An answer comes in one number.
+use numbers::Value;
 use text::Answer;
 ghost use mathlib.Core.Path.{_≡_};
 ghost use Prim.Native.Nat.{_≤_};
@@ -33,7 +34,7 @@ fn in_one(a: Answer) -> u64
 
 // A single move: number × 2^48 + p × 2^24 + q; `lent` is how many instruction records there are.
 #[no_mangle]
-pub extern "C" fn rental_step(book: &[u8], contents: &mut [u16], agent: usize, lent: usize) -> u64
+pub extern "C" fn rental_step(book: &[u8], contents: &mut [Value], agent: usize, lent: usize) -> u64
     ensures { λ r. ⌜ r ≡ packed (step-call (now (book .entry)) (now (contents .entry)) agent lent .answer) ⌝ }
     ensures { λ r. ⌜ unpacked r ≡ step-call (now (book .entry)) (now (contents .entry)) agent lent .answer ⌝ }
     ensures { λ _. ⌜ now (contents .exit) ≡ step-call (now (book .entry)) (now (contents .entry)) agent lent .contents ⌝ }
@@ -46,7 +47,7 @@ pub extern "C" fn rental_step(book: &[u8], contents: &mut [u16], agent: usize, l
 pub extern "C" fn rental_run(
     book: &[u8],
     log: &[u8],
-    contents: &mut [u16],
+    contents: &mut [Value],
     readers: &mut [u64],
     writers: &mut [u64],
     lent: usize,

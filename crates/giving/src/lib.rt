@@ -76,7 +76,7 @@ pub fn named(image: &[u32; 4296], depth: usize, n: u16) -> u16
     if depth == 0 {
         return 0;
     }
-    let row = term::node(image, n);
+    let row = pages::node(image, n);
     let k = row.kind;
     match k {
         4 => row.a,
@@ -98,7 +98,7 @@ pub fn update(
 ) -> Pace
     ensures { λ r. ⌜ (Room (now (list .entry)) → reached r (now (list .exit)) ≡ (reached s (now (list .entry)) then setting (held (now (image .entry))) f at x n)) ⌝ }
 {
-    let run = term::function(image, f);
+    let run = pages::function(image, f);
     if relation(run.kind) {
         if term::boolean(x) {
             give(

@@ -1,5 +1,6 @@
 // A single move's call in two halves, between which its instructions may go through a lent list: the checks and
 // the walk, then the firing.
+use numbers::Value;
 use text::Answer;
 use walk::State;
 ghost use mathlib.Core.Path.{_≡_};
@@ -38,7 +39,7 @@ fn held_back(a: Answer) -> Paused
 }
 
 // The walk of the move, on the first L records of a lent table.
-fn walk_first(image: &[u32; 4296], contents: &[u16], agent: u32, work: &mut [u64; 256]) -> Paused
+fn walk_first(image: &[u32; 4296], contents: &[Value], agent: u32, work: &mut [u64; 256]) -> Paused
     requires { ⌜ (L (held (now image)) ≤ length (now contents)) × (Ready (held (now image)) (take (L (held (now image))) (now contents)) agent) ⌝ }
     ensures { λ r. ⌜ (r .answer .number ≡ 0) × (r .count ≡ given-of (r .walk)) ⌝ }
     ensures { λ r. ⌜ On (held (now (image .entry))) (now (contents .entry)) agent (now (work .exit)) (r .walk) ⌝ }
@@ -62,7 +63,7 @@ fn walk_first(image: &[u32; 4296], contents: &[u16], agent: u32, work: &mut [u64
 // The checks, and the walk of the move.
 pub fn first_half(
     book: &[u8],
-    contents: &[u16],
+    contents: &[Value],
     agent: usize,
     lent: usize,
     image: &mut [u32; 4296],
@@ -83,7 +84,7 @@ pub fn first_half(
 
 // The rest of the move, by the instructions that came back from the list.
 pub fn second_half(
-    contents: &mut [u16],
+    contents: &mut [Value],
     image: &[u32; 4296],
     work: &[u64; 256],
     p: Paused,

@@ -1,4 +1,5 @@
 // A log's run move by move: the checks, the start, each move's walk and firing, and 17.
+use numbers::Value;
 use text::Answer;
 use walk::State;
 ghost use mathlib.Core.Path.{_≡_};
@@ -59,7 +60,7 @@ fn bit_of(i: u32) -> u64
 // The walk of move i, if there is one; else the order is checked.
 fn walk_on(
     log: &[u8],
-    contents: &[u16],
+    contents: &[Value],
     readers: &mut [u64],
     writers: &[u64],
     image: &[u32; 4296],
@@ -95,7 +96,7 @@ fn walk_on(
 // The rest of the move that is on, on tables of just the records needed; then the next one's walk.
 fn turn_on(
     log: &[u8],
-    contents: &mut [u16],
+    contents: &mut [Value],
     readers: &mut [u64],
     writers: &mut [u64],
     image: &[u32; 4296],
@@ -142,7 +143,7 @@ fn following(i: u32) -> u32
 fn start_on(
     book: &[u8],
     log: &[u8],
-    contents: &mut [u16],
+    contents: &mut [Value],
     readers: &mut [u64],
     writers: &mut [u64],
     image: &[u32; 4296],
@@ -160,7 +161,7 @@ fn start_on(
 pub fn first_lap(
     book: &[u8],
     log: &[u8],
-    contents: &mut [u16],
+    contents: &mut [Value],
     readers: &mut [u64],
     writers: &mut [u64],
     lent: usize,
@@ -201,7 +202,7 @@ pub fn first_lap(
 // The rest of the move that is on, and the next one's walk.
 pub fn next_lap(
     log: &[u8],
-    contents: &mut [u16],
+    contents: &mut [Value],
     readers: &mut [u64],
     writers: &mut [u64],
     image: &[u32; 4296],

@@ -2,6 +2,7 @@
 // calls these needs no walk by hand.
 use engine::Instruction;
 use engine::Record;
+use numbers::Value;
 use text::Answer;
 ghost use mathlib.Core.Path.{_≡_};
 ghost use Rattle.engine.specs.declared.Instruction.the-variants.{Release};
@@ -20,7 +21,7 @@ fn blank() -> Record
 }
 
 // The single-move entry with a list of `lent` records. It lends 256 at most; a longer list makes no difference.
-pub fn step(book: &[u8], contents: &mut [u16], agent: usize, lent: usize) -> Answer
+pub fn step(book: &[u8], contents: &mut [Value], agent: usize, lent: usize) -> Answer
     ensures { λ r. ⌜ (r ≡ step-call (now (book .entry)) (now (contents .entry)) agent lent .answer) × (now (contents .exit) ≡ step-call (now (book .entry)) (now (contents .entry)) agent lent .contents) ⌝ }
 {
     let none = blank();
@@ -33,7 +34,7 @@ pub fn step(book: &[u8], contents: &mut [u16], agent: usize, lent: usize) -> Ans
 pub fn run(
     book: &[u8],
     log: &[u8],
-    contents: &mut [u16],
+    contents: &mut [Value],
     readers: &mut [u64],
     writers: &mut [u64],
     lent: usize,

@@ -1,5 +1,6 @@
 // A log's run through an instruction list that the caller lends: the log entry.
 use engine::Record;
+use numbers::Value;
 use text::Answer;
 ghost use mathlib.Core.Path.{_≡_};
 ghost use lib.ListN.{length};
@@ -14,7 +15,7 @@ ghost use Rattle.laps.specs.Turns.{tables, answered};
 pub fn run(
     book: &[u8],
     log: &[u8],
-    contents: &mut [u16],
+    contents: &mut [Value],
     readers: &mut [u64],
     writers: &mut [u64],
     instructions: &mut [Record],

@@ -1,5 +1,6 @@
 // A single move through an instruction list that the caller lends: the single-move entry.
 use engine::Record;
+use numbers::Value;
 use text::Answer;
 ghost use mathlib.Core.Path.{_≡_};
 ghost use lib.ListN.{length};
@@ -8,7 +9,12 @@ ghost use Rattle.lent.specs.Written.{written};
 
 // The single-move entry: a book, a contents table, an agent, and a list of instruction records. The
 // move's instructions are written into the list, and the move is fired by what is read from there.
-pub fn step(book: &[u8], contents: &mut [u16], agent: usize, instructions: &mut [Record]) -> Answer
+pub fn step(
+    book: &[u8],
+    contents: &mut [Value],
+    agent: usize,
+    instructions: &mut [Record],
+) -> Answer
     ensures { λ r. ⌜ (r ≡ step-call (now (book .entry)) (now (contents .entry)) agent (length (now (instructions .entry))) .answer) × (now (contents .exit) ≡ step-call (now (book .entry)) (now (contents .entry)) agent (length (now (instructions .entry))) .contents) × (now (instructions .exit) ≡ written (step-call (now (book .entry)) (now (contents .entry)) agent (length (now (instructions .entry))) .instructions) (now (instructions .entry))) ⌝ }
 {
     let lent = instructions.len();

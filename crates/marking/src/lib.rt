@@ -1,5 +1,6 @@
 // What rules look at beside their terms: labels, Reserve, universes; and the marks of it.
-use term::Run;
+use numbers::Value;
+use pages::Run;
 ghost use mathlib.Core.Path.{_≡_};
 ghost use mathlib.Core.List.{List, map};
 ghost use Prim.Native.Nat.{ℕ, _+_, _-_, _≤_};
@@ -10,7 +11,7 @@ ghost use Rattle.book.specs.Book.{Program, function-at, offset, reserve, dynami
 ghost use Rattle.engine.specs.Look.{read, seen};
 ghost use Rattle.engine.specs.Move.{dynamic-among};
 ghost use Rattle.engine.specs.Rule.{members, lowest};
-ghost use Rattle.term.specs.Held.{function-run};
+ghost use Rattle.pages.specs.Rows.{function-run};
 ghost use Rattle.book.specs.Image.{held};
 ghost use Rattle.term.specs.Marks.{noted, marked, Placed, Runs};
 ghost use Rattle.marking.specs.Marking.{found-below, members-from, first-and-rest};
@@ -62,7 +63,7 @@ pub fn mark_function(readers: &mut [u64], bit: u64, kind: u16, first: usize, end
 // The lowest label of Reserve from `from` on, or E; the labels tried are marked.
 pub fn lowest(
     image: &[u32; 4296],
-    contents: &[u16],
+    contents: &[Value],
     readers: &mut [u64],
     bit: u64,
     from: u16,
@@ -103,7 +104,7 @@ fn note_roll(image: &[u32; 4296], readers: &mut [u64], bit: u64, x: u16)
 // The value of Reserve at x.
 pub fn read_roll(
     image: &[u32; 4296],
-    contents: &[u16],
+    contents: &[Value],
     readers: &mut [u64],
     bit: u64,
     x: u16,
@@ -145,7 +146,7 @@ pub fn universe(image: &[u32; 4296], readers: &mut [u64], bit: u64, u: u16)
     ensures { λ _. ⌜ ((c : List ℕ) → Placed (held (now (image .entry))) → now (readers .exit) ≡ marked bit (dynamic-among (held (now (image .entry))) (seen c (members (held (now (image .entry))) u 0 (held (now (image .entry)) .E)))) (now (readers .entry))) ⌝ }
 {
     let e = pages::elements(image);
-    let run = term::function(image, u);
+    let run = pages::function(image, u);
     let at = term::locate(run, e, 0, 0);
     if term::dynamic(image, u, 0, 0, at) {
         mark_run(readers, bit, run, e);
@@ -153,7 +154,7 @@ pub fn universe(image: &[u32; 4296], readers: &mut [u64], bit: u64, u: u16)
 }
 
 // The least member of a universe from `from` on, or e; run is the universe's.
-pub fn next_member(contents: &[u16], run: Run, e: u16, from: u16) -> u16
+pub fn next_member(contents: &[Value], run: Run, e: u16, from: u16) -> u16
     ensures { λ r. ⌜ from ≤ r ⌝ }
     ensures { λ r. ⌜ ((B : Program) (u : ℕ) → function-run run ≡ function-at B u → e ≡ B .E → members-from B (now (contents .entry)) u from ≡ first-and-rest B (now (contents .entry)) u r) ⌝ }
 {

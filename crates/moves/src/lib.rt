@@ -1,6 +1,7 @@
 // One move: fired and marked, or refused.
 use engine::Instruction;
 use firing::Outcome;
+use numbers::Value;
 use walk::State;
 ghost use mathlib.Core.Path.{_≡_};
 ghost use mathlib.Core.List.{List, []};
@@ -111,7 +112,7 @@ fn close(
 // What is left of a move whose walk gave the first len of the list.
 fn finish(
     image: &[u32; 4296],
-    contents: &mut [u16],
+    contents: &mut [Value],
     readers: &mut [u64],
     writers: &mut [u64],
     bit: u64,
@@ -127,7 +128,7 @@ fn finish(
 // The rest of a move whose walk came to the state s: refused as the walk was, or settled by the first s.len of the list.
 pub fn settle_move(
     image: &[u32; 4296],
-    contents: &mut [u16],
+    contents: &mut [Value],
     readers: &mut [u64],
     writers: &mut [u64],
     bit: u64,

@@ -3,6 +3,9 @@ ghost use mathlib.Core.Path.{_≡_};
 ghost use Prim.Native.Nat.{_%_, min};
 ghost use lib.ListN.{getD};
 
+// The value of a location, an element: what contents, instructions and labels are held in.
+pub type Value = u16;
+
 pub fn smaller(a: usize, b: usize) -> usize
     ensures { λ r. ⌜ r ≡ min a b ⌝ }
 {
@@ -10,7 +13,7 @@ pub fn smaller(a: usize, b: usize) -> usize
 }
 
 // The number at an index, 0 past the end.
-pub fn fetch(s: &[u16], i: usize) -> u16
+pub fn fetch(s: &[Value], i: usize) -> Value
     ensures { λ r. ⌜ r ≡ getD (now (s .entry)) i 0 ⌝ }
 {
     if i < s.len() { s[i] } else { 0 }

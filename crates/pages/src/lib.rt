@@ -5,9 +5,10 @@ ghost use mathlib.Core.Path.{_≡_};
 ghost use mathlib.Core.List.{[]};
 ghost use Prim.Native.Nat.{_≤_};
 ghost use lib.ListN.{length};
-ghost use Rattle.book.specs.Book.{L, size, relation, dynamic, default, function-at};
+ghost use Rattle.book.specs.Book.{L, size, relation, dynamic, default, function-at, node-at, agent-at};
 ghost use Rattle.book.specs.Image.{word, capped, held, narrow};
 ghost use Rattle.pages.specs.Part.{part-of};
+ghost use Rattle.pages.specs.Rows.{node-row, function-run, agent-row};
 
 // The bounds of the counts in an image.
 pub const MOST_ELEMENTS: u16 = 10000;
@@ -154,4 +155,87 @@ pub fn default_of(f: Function) -> u16
     ensures { λ r. ⌜ r ≡ default f ⌝ }
 {
     if is_relation(f) { 1 } else { 0 }
+}
+
+// ---- rows as the engine holds them, in halves of words
+
+// A node as the image has it.
+pub struct Row {
+    pub kind: u16,
+    pub a: u16,
+    pub b: u16,
+    pub c: u16,
+}
+
+// A function as the image has it: its first location, its arity and its kind.
+pub struct Run {
+    pub first: u16,
+    pub arity: u16,
+    pub kind: u16,
+}
+
+// Node n; past the last all 0.
+pub fn node(image: &[u32; 4296], n: u16) -> Row
+    ensures { λ r. ⌜ node-row r ≡ node-at (held (now (image .entry))) n ⌝ }
+{
+    if n < capped(numbers::low(image[3]), 1024) {
+        let at = n as usize * 4 + 200;
+        Row {
+            kind: numbers::low(image[at]),
+            a: numbers::low(image[at + 1]),
+            b: numbers::low(image[at + 2]),
+            c: numbers::low(image[at + 3]),
+        }
+    } else {
+        Row {
+            kind: 0,
+            a: 0,
+            b: 0,
+            c: 0,
+        }
+    }
+}
+
+// Function f; past the last all 0.
+pub fn function(image: &[u32; 4296], f: u16) -> Run
+    ensures { λ r. ⌜ function-run r ≡ function-at (held (now (image .entry))) f ⌝ }
+{
+    if f < capped(numbers::low(image[2]), 32) {
+        let at = f as usize * 4 + 8;
+        Run {
+            first: numbers::low(image[at]),
+            arity: numbers::low(image[at + 1]),
+            kind: numbers::low(image[at + 2]),
+        }
+    } else {
+        Run {
+            first: 0,
+            arity: 0,
+            kind: 0,
+        }
+    }
+}
+
+// An agent as the image has it.
+pub struct Actor {
+    pub root: u16,
+    pub element: u16,
+}
+
+// Agent i; past the last all 0.
+pub fn agent_at(image: &[u32; 4296], i: u32) -> Actor
+    ensures { λ r. ⌜ agent-row r ≡ agent-at (held (now (image .entry))) i ⌝ }
+{
+    if i < capped(numbers::low(image[4]), 16) as u32 {
+        let at = i as usize * 4 + 136;
+        Actor {
+            root: numbers::low(image[at]),
+            element: numbers::low(image[at + 1]),
+        }
+    } else {
+        Actor {
+            root: 0,
+            element: 0,
+        }
+    }
 }

@@ -1,5 +1,6 @@
 // The printed answer of a log, and where the book of an input ends.
 use book::Function;
+use numbers::Value;
 use text::Answer;
 use text::Line;
 ghost use mathlib.Core.Path.{_≡_};
@@ -65,7 +66,7 @@ fn print_location(e: u32, f: Function, k: u32, i: u32, v: u16, n: u32, out: &mut
 }
 
 // Prints the contents of function k after n lines.
-fn print_function(image: &[u32], contents: &[u16], k: u32, n: u32, out: &mut [u8]) -> u32
+fn print_function(image: &[u32], contents: &[Value], k: u32, n: u32, out: &mut [u8]) -> u32
     requires { ⌜ n ≤ 3100000000 ⌝ }
     ensures { λ r. ⌜ (r ≡ n + length (function-lines (program-in (now (image .entry))) (now (contents .entry)) k)) × (now (out .exit) ≡ lines-put n (function-lines (program-in (now (image .entry))) (now (contents .entry)) k) (now (out .entry))) × (r ≤ n + 100000000) ⌝ }
 {
@@ -84,7 +85,7 @@ fn print_function(image: &[u32], contents: &[u16], k: u32, n: u32, out: &mut [u8
 }
 
 // Prints the non-default contents as lines of a book, from byte 25 on, as far as they fit. Says how many lines there are.
-pub fn print_contents(image: &[u32], contents: &[u16], out: &mut [u8]) -> u32
+pub fn print_contents(image: &[u32], contents: &[Value], out: &mut [u8]) -> u32
     ensures { λ r. ⌜ (r ≡ length (contents-lines (program-in (now (image .entry))) (now (contents .entry)))) × (now (out .exit) ≡ lines-put 0 (contents-lines (program-in (now (image .entry))) (now (contents .entry))) (now (out .entry))) ⌝ }
 {
     let all = image::functions(image);
@@ -98,7 +99,7 @@ pub fn print_contents(image: &[u32], contents: &[u16], out: &mut [u8]) -> u32
 }
 
 // The whole text of an answer: its first line, and when accepted the contents. Says how many bytes it has; those past it stay.
-pub fn print_answer(image: &[u32], contents: &[u16], answer: Answer, out: &mut [u8]) -> usize
+pub fn print_answer(image: &[u32], contents: &[Value], answer: Answer, out: &mut [u8]) -> usize
     ensures { λ r. ⌜ Prints (program-in (now (image .entry))) answer (now (contents .entry)) (now (out .entry)) r (now (out .exit)) ⌝ }
 {
     if answer.number == 0 {

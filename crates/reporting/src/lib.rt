@@ -1,5 +1,6 @@
 // What the program `rental` prints for any input.
 use book::Header;
+use numbers::Value;
 use text::Answer;
 use text::Line;
 ghost use mathlib.Core.Path.{_≡_};
@@ -53,7 +54,7 @@ fn print_refusal(answer: Answer, output: &mut [u8]) -> usize
 }
 
 // An answer with the contents of an accepted book, which stand in front of the table.
-fn print_accepted(book: &[u8], contents: &[u16], answer: Answer, output: &mut [u8]) -> usize
+fn print_accepted(book: &[u8], contents: &[Value], answer: Answer, output: &mut [u8]) -> usize
     requires { ⌜ most-output ≤ length (now output) ⌝ }
     ensures { λ r. ⌜ ((b : Book) → check-book (now (book .entry)) ≡ good b → L (b .program) ≤ 2048 → L (b .program) ≤ length (now (contents .entry)) → Shown (printed (b .program) answer (take (L (b .program)) (now (contents .entry)))) (now (output .entry)) r (now (output .exit))) ⌝ }
 {

@@ -1,4 +1,5 @@
 // The start of a run, written into a contents table: each location's default, then the book's entries.
+use numbers::Value;
 use text::Line;
 ghost use mathlib.Core.Path.{_≡_};
 ghost use mathlib.Core.List.{[], _++_};
@@ -12,7 +13,7 @@ ghost use Rattle.pages.specs.Part.{put-in};
 ghost use Rattle.start.specs.Written.{run-filled, line-put, lines-put, contents-lines};
 
 // Every place of a part gets v.
-fn fill(part: &mut [u16], v: u16)
+fn fill(part: &mut [Value], v: u16)
     ensures { λ _. ⌜ now (part .exit) ≡ replicate (length (now (part .entry))) v ⌝ }
 {
     let mut i: usize = 0;
@@ -23,7 +24,7 @@ fn fill(part: &mut [u16], v: u16)
 }
 
 // The locations from `first` to `end` get v, if the table has as many.
-fn fill_run(contents: &mut [u16], first: usize, end: usize, v: u16)
+fn fill_run(contents: &mut [Value], first: usize, end: usize, v: u16)
     requires { ⌜ first ≤ end ⌝ }
     ensures { λ _. ⌜ now (contents .exit) ≡ run-filled first end v (now (contents .entry)) ⌝ }
 {
@@ -33,7 +34,7 @@ fn fill_run(contents: &mut [u16], first: usize, end: usize, v: u16)
 }
 
 // Every location gets its default, function by function.
-fn write_defaults(image: &[u32; 4296], contents: &mut [u16])
+fn write_defaults(image: &[u32; 4296], contents: &mut [Value])
     ensures { λ _. ⌜ (L (held (now (image .entry))) ≤ length (now (contents .entry)) → now (contents .exit) ≡ defaults (held (now (image .entry))) ++ drop (L (held (now (image .entry)))) (now (contents .entry))) ⌝ }
 {
     let e = pages::elements(image);
@@ -63,7 +64,7 @@ fn offset(e: u16, arity: u32, x: u16, y: u16) -> usize
 }
 
 // Past the end nothing is put.
-fn put(part: &mut [u16], i: usize, v: u16)
+fn put(part: &mut [Value], i: usize, v: u16)
     ensures { λ _. ⌜ now (part .exit) ≡ set (now (part .entry)) i v ⌝ }
 {
     if i < part.len() {
@@ -72,7 +73,7 @@ fn put(part: &mut [u16], i: usize, v: u16)
 }
 
 // A function's own part is lent, from its first location, as far as the table goes; place i of it gets v.
-fn put_in(contents: &mut [u16], first: usize, end: usize, i: usize, v: u16)
+fn put_in(contents: &mut [Value], first: usize, end: usize, i: usize, v: u16)
     requires { ⌜ first ≤ end ⌝ }
     ensures { λ _. ⌜ now (contents .exit) ≡ put-in first end (first + i) v (now (contents .entry)) ⌝ }
 {
@@ -83,7 +84,7 @@ fn put_in(contents: &mut [u16], first: usize, end: usize, i: usize, v: u16)
 }
 
 // A contents line's value is put at its location.
-fn write_line(image: &[u32; 4296], contents: &mut [u16], l: Line)
+fn write_line(image: &[u32; 4296], contents: &mut [Value], l: Line)
     ensures { λ _. ⌜ now (contents .exit) ≡ line-put (held (now (image .entry))) l (now (contents .entry)) ⌝ }
 {
     let x = numbers::low(l.b);
@@ -102,7 +103,7 @@ fn write_line(image: &[u32; 4296], contents: &mut [u16], l: Line)
 }
 
 // All contents lines, one by one; the header says where they start and how many there are.
-fn write_entries(book: &[u8], image: &[u32; 4296], contents: &mut [u16])
+fn write_entries(book: &[u8], image: &[u32; 4296], contents: &mut [Value])
     ensures { λ _. ⌜ now (contents .exit) ≡ lines-put (held (now (image .entry))) (contents-lines (now (book .entry))) (now (contents .entry)) ⌝ }
 {
     let k = text::read_line(book, 0, 0);
@@ -121,7 +122,7 @@ fn write_entries(book: &[u8], image: &[u32; 4296], contents: &mut [u16])
 }
 
 // The start of a run of an accepted book, whose image it is; nothing past the last location is touched.
-pub fn write_start(book: &[u8], image: &[u32; 4296], contents: &mut [u16])
+pub fn write_start(book: &[u8], image: &[u32; 4296], contents: &mut [Value])
     ensures { λ _. ⌜ ((b : Book) → check-book (now (book .entry)) ≡ good b → held (now (image .entry)) ≡ b .program → L (b .program) ≤ length (now (contents .entry)) → now (contents .exit) ≡ start b ++ drop (L (b .program)) (now (contents .entry))) ⌝ }
 {
     write_defaults(image, contents);

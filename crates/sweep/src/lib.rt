@@ -1,5 +1,6 @@
 // A function's part of the contents swept: each trace of a label gets the default, and its mark the bit.
 use book::Function;
+use numbers::Value;
 ghost use mathlib.Core.Path.{_≡_};
 ghost use Prim.Native.Nat.{_+_, _/_, _%_, _<_};
 ghost use lib.Bits.{bitOr};
@@ -34,7 +35,7 @@ fn next_col(e: u16, i: usize, col: usize) -> usize
 
 // Location i of f's part gets its default and its mark the bit, if it is a trace of x.
 fn clear_one(
-    part: &mut [u16],
+    part: &mut [Value],
     marks: &mut [u64],
     e: u16,
     f: Function,
@@ -56,7 +57,7 @@ fn clear_one(
 }
 
 // The traces of x in f's part.
-pub fn clear_part(part: &mut [u16], marks: &mut [u64], e: u16, f: Function, x: u16, bit: u64)
+pub fn clear_part(part: &mut [Value], marks: &mut [u64], e: u16, f: Function, x: u16, bit: u64)
     ensures { λ _. ⌜ now (part .exit) ≡ part-cleared e f x (now (part .entry)) ⌝ }
     ensures { λ _. ⌜ now (marks .exit) ≡ part-marked bit e f x (now (part .entry)) (now (marks .entry)) ⌝ }
 {

@@ -1,5 +1,6 @@
 // Refusal 8 of a lent contents table.
 use book::Function;
+use numbers::Value;
 use text::Found;
 ghost use mathlib.Core.Path.{_≡_};
 ghost use mathlib.Core.Bool.{_&&_, _||_};
@@ -22,7 +23,7 @@ fn is_boolean(v: u16) -> bool
 // ---- 8
 
 // x is on the roll.
-fn on_roll(contents: &[u16], e: u16, x: u32) -> bool
+fn on_roll(contents: &[Value], e: u16, x: u32) -> bool
     ensures { λ r. ⌜ r ≡ (ltb x e && eqb (getD (now (contents .entry)) x 0) true-element) ⌝ }
 {
     (x < e as u32) & (numbers::fetch(contents, x as usize) == 2)
@@ -52,7 +53,7 @@ fn is_static_fine(p: u16, f: Function, v: u16, i: u32, row: u32, col: u32) -> bo
 }
 
 // One of the arguments is on the roll.
-fn some_on_roll(contents: &[u16], e: u16, arity: u32, i: u32, row: u32, col: u32) -> bool
+fn some_on_roll(contents: &[Value], e: u16, arity: u32, i: u32, row: u32, col: u32) -> bool
     ensures { λ r. ⌜ ((B : Program) → B .E ≡ e → r ≡ some-on-roll B (now (contents .entry)) (arguments-by arity i row col)) ⌝ }
 {
     if arity == 0 {
@@ -84,7 +85,7 @@ fn col_of(e: u16, arity: u32, i: u32) -> u32
 }
 
 // Location l, which is number i of f, is at fault.
-fn is_bad(contents: &[u16], e: u16, p: u16, f: Function, l: u32, i: u32) -> bool
+fn is_bad(contents: &[Value], e: u16, p: u16, f: Function, l: u32, i: u32) -> bool
     ensures { λ r. ⌜ ((B : Program) → B .E ≡ e → B .P ≡ p → place B l ≡ record { function = f; index = i } → r ≡ bad-value B (now (contents .entry)) l) ⌝ }
 {
     let row = row_of(e, f.arity, i);
@@ -102,7 +103,7 @@ fn is_bad(contents: &[u16], e: u16, p: u16, f: Function, l: u32, i: u32) -> bool
 }
 
 // What a location of f may hold without fault: its default, if that is an element and not on the roll; else a number that none holds.
-fn blameless(contents: &[u16], e: u16, f: Function) -> u32
+fn blameless(contents: &[Value], e: u16, f: Function) -> u32
     ensures { λ r. ⌜ Blameless (now (contents .entry)) e f r ⌝ }
 {
     let v = pages::default_of(f);
@@ -113,7 +114,7 @@ fn blameless(contents: &[u16], e: u16, f: Function) -> u32
 }
 
 // A location from l to end, before which, from l on, all hold v.
-fn past(contents: &[u16], v: u32, l: u32, end: u32) -> u32
+fn past(contents: &[Value], v: u32, l: u32, end: u32) -> u32
     requires { ⌜ l ≤ end ⌝ }
     ensures { λ r. ⌜ Past (now (contents .entry)) v l end r ⌝ }
 {
@@ -129,7 +130,7 @@ fn past(contents: &[u16], v: u32, l: u32, end: u32) -> u32
 }
 
 // The least location at fault of f's part, counted from its first. Nearly all are blameless, and only the others are judged.
-fn bad_part(contents: &[u16], e: u16, p: u16, f: Function, first: u32) -> Found
+fn bad_part(contents: &[Value], e: u16, p: u16, f: Function, first: u32) -> Found
     requires { ⌜ (e ≤ 10000) × (first ≤ 3200000000) ⌝ }
     ensures { λ r. ⌜ ((B : Program) → Part B e p f first → r ≡ least (λ i. bad-value B (now (contents .entry)) (first + i)) (size e (f .arity))) ⌝ }
 {
@@ -146,7 +147,7 @@ fn bad_part(contents: &[u16], e: u16, p: u16, f: Function, first: u32) -> Found
 }
 
 // The least location at fault, function after function.
-fn bad_in(image: &[u32; 4296], contents: &[u16]) -> Found
+fn bad_in(image: &[u32; 4296], contents: &[Value]) -> Found
     ensures { λ r. ⌜ r ≡ least (bad-value (held (now (image .entry))) (now (contents .entry))) (L (held (now (image .entry)))) ⌝ }
 {
     let e = pages::elements(image);
@@ -167,7 +168,7 @@ fn bad_in(image: &[u32; 4296], contents: &[u16]) -> Found
 }
 
 // 8 of a lent table, whose first L records are judged.
-pub fn bad_value(image: &[u32; 4296], contents: &[u16]) -> Found
+pub fn bad_value(image: &[u32; 4296], contents: &[Value]) -> Found
     ensures { λ r. ⌜ r ≡ least (bad-value (held (now (image .entry))) (take (L (held (now (image .entry)))) (now (contents .entry)))) (L (held (now (image .entry)))) ⌝ }
 {
     let n = pages::total(image) as usize;

@@ -1,21 +1,11 @@
--- What the code holds: the book in its image, rows of it, and the scope of a term.
+-- What the code holds: the program in its image, and the scope of a term.
 use mathlib.Core.List.{List, []}
 use Prim.Native.Nat.{ℕ}
 use lib.ListN.{getD, take}
-use Rattle.book.specs.declared.Node.{Node}
-use Rattle.book.specs.declared.Function.{Function}
 use Rattle.book.specs.Book.{undef, Program, node-at}
 use Rattle.book.specs.Image.{held}
 use Rattle.engine.specs.Look.{Look}
 use Rattle.engine.specs.Term.{Shape, an-element, a-variable, the-agent, of-none, of-one, of-two, a-not, no-term, a-join, apply, term-at, eval, target}
-use Rattle.term.specs.declared.Row.{Row}
-use Rattle.term.specs.declared.Run.{Run}
-
-abbrev pub node-row : Row → Node
-node-row r = record { kind = r .kind; a = r .a; b = r .b; c = r .c }
-
-abbrev pub function-run : Run → Function
-function-run r = record { first = r .first; arity = r .arity; kind = r .kind }
 
 -- a scope: the values of the eight variables, then the agent's element
 abbrev pub variables-of : List ℕ → List ℕ

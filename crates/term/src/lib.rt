@@ -1,70 +1,15 @@
 // Terms: their values in the book that an image holds, and the marks of what they read.
+use numbers::Value;
+use pages::Run;
 ghost use mathlib.Core.Path.{_≡_};
 ghost use Prim.Native.Nat.{_+_};
 ghost use lib.ListN.{getD};
 ghost use Rattle.book.specs.Book.{undef, boolean, truth, size, offset, node-at, function-at, location, dynamic-at};
 ghost use Rattle.engine.specs.Look.{read};
 ghost use Rattle.engine.specs.Term.{both, either, plus, minus, less, number, negate, apply, shapes, no-term};
-ghost use Rattle.term.specs.Held.{node-row, function-run, variables-of, value-at, aim-at, operated};
+ghost use Rattle.term.specs.Held.{variables-of, value-at, aim-at, operated};
 ghost use Rattle.book.specs.Image.{held};
 ghost use Rattle.term.specs.Marks.{mark-one, noted, Placed, Runs};
-
-// A node as the image has it.
-pub struct Row {
-    pub kind: u16,
-    pub a: u16,
-    pub b: u16,
-    pub c: u16,
-}
-
-// A function as the image has it: its first location, its arity and its kind.
-pub struct Run {
-    pub first: u16,
-    pub arity: u16,
-    pub kind: u16,
-}
-
-// Node n; past the last all 0.
-pub fn node(image: &[u32; 4296], n: u16) -> Row
-    ensures { λ r. ⌜ node-row r ≡ node-at (held (now (image .entry))) n ⌝ }
-{
-    if n < pages::capped(numbers::low(image[3]), 1024) {
-        let at = n as usize * 4 + 200;
-        Row {
-            kind: numbers::low(image[at]),
-            a: numbers::low(image[at + 1]),
-            b: numbers::low(image[at + 2]),
-            c: numbers::low(image[at + 3]),
-        }
-    } else {
-        Row {
-            kind: 0,
-            a: 0,
-            b: 0,
-            c: 0,
-        }
-    }
-}
-
-// Function f; past the last all 0.
-pub fn function(image: &[u32; 4296], f: u16) -> Run
-    ensures { λ r. ⌜ function-run r ≡ function-at (held (now (image .entry))) f ⌝ }
-{
-    if f < pages::capped(numbers::low(image[2]), 32) {
-        let at = f as usize * 4 + 8;
-        Run {
-            first: numbers::low(image[at]),
-            arity: numbers::low(image[at + 1]),
-            kind: numbers::low(image[at + 2]),
-        }
-    } else {
-        Run {
-            first: 0,
-            arity: 0,
-            kind: 0,
-        }
-    }
-}
 
 // How many locations a function of that arity has.
 pub fn size(e: u16, arity: u16) -> u32
@@ -94,7 +39,7 @@ pub fn locate(run: Run, e: u16, x: u16, y: u16) -> u32
 pub fn location(image: &[u32; 4296], f: u16, x: u16, y: u16) -> u32
     ensures { λ r. ⌜ r ≡ location (held (now (image .entry))) f x y ⌝ }
 {
-    locate(function(image, f), pages::elements(image), x, y)
+    locate(pages::function(image, f), pages::elements(image), x, y)
 }
 
 // Whether a location is dynamic, by the sizes of the functions from the first on.
@@ -106,7 +51,7 @@ pub fn dynamic_at(image: &[u32; 4296], l: u32) -> bool
     let mut left = l;
     let mut f: u16 = 0;
     while f < count {
-        let run = function(image, f);
+        let run = pages::function(image, f);
         let many = size(e, run.arity);
         if left < many {
             return 2 <= run.kind;
@@ -131,7 +76,7 @@ pub fn dynamic(image: &[u32; 4296], f: u16, x: u16, y: u16, at: u32) -> bool
     if e <= y {
         return dynamic_at(image, at);
     }
-    let run = function(image, f);
+    let run = pages::function(image, f);
     2 <= run.kind
 }
 
@@ -156,7 +101,7 @@ pub fn note(image: &[u32; 4296], readers: &mut [u64], bit: u64, f: u16, x: u16, 
 // The value of function f at x and y.
 pub fn read(
     image: &[u32; 4296],
-    contents: &[u16],
+    contents: &[Value],
     readers: &mut [u64],
     bit: u64,
     f: u16,
@@ -296,7 +241,7 @@ pub fn variable(scope: &[u16; 9], a: u16) -> u16
 // The value of the term at node n, looking at most `depth` nodes down; what it reads is marked.
 pub fn eval(
     image: &[u32; 4296],
-    contents: &[u16],
+    contents: &[Value],
     readers: &mut [u64],
     bit: u64,
     scope: &[u16; 9],
@@ -309,7 +254,7 @@ pub fn eval(
         return 0;
     }
     let less = depth - 1;
-    let row = node(image, n);
+    let row = pages::node(image, n);
     let k = row.kind;
     match k {
         1..=13 => match k {
@@ -340,7 +285,7 @@ pub fn eval(
 // The location that the term at node n names; its arguments are read.
 pub fn aim(
     image: &[u32; 4296],
-    contents: &[u16],
+    contents: &[Value],
     readers: &mut [u64],
     bit: u64,
     scope: &[u16; 9],
@@ -353,7 +298,7 @@ pub fn aim(
         return 0;
     }
     let less = depth - 1;
-    let row = node(image, n);
+    let row = pages::node(image, n);
     let k = row.kind;
     match k {
         4 => location(image, row.a, 0, 0),

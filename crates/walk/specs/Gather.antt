@@ -12,10 +12,6 @@ use Rattle.engine.specs.Look.{gives}
 use Rattle.engine.specs.Rule.{Walk, Walked, going, met, agent-walk}
 use Rattle.engine.specs.Move.{looked}
 use Rattle.term.specs.Marks.{marked, Placed}
-use Rattle.walk.specs.declared.Actor.{Actor}
-
-abbrev pub agent-row : Actor → Agent
-agent-row r = record { root = r .root; element = r .element }
 
 -- the marks without the bits that this mask lacks
 abbrev pub masked : ℕ → List ℕ → List ℕ

@@ -1,13 +1,14 @@
 // The walk of a rule: its instructions or its refusal, and the marks of what it reads.
 use giving::Pace;
-use term::Row;
+use numbers::Value;
+use pages::Row;
 ghost use mathlib.Core.Path.{_≡_};
 ghost use mathlib.Core.List.{List};
 ghost use Prim.Native.Nat.{ℕ};
 ghost use lib.Dec.{eqb};
 ghost use lib.ListN.{set};
 ghost use Rattle.text.specs.Words.{if_then_else_};
-ghost use Rattle.book.specs.Book.{node-at, agent-at};
+ghost use Rattle.book.specs.Book.{node-at};
 ghost use Rattle.engine.specs.Move.{all-dynamic};
 ghost use Rattle.engine.specs.Term.{term-at};
 ghost use Rattle.engine.specs.Rule.{assign, bind, for-all, import, free, after, walk};
@@ -15,7 +16,7 @@ ghost use Rattle.term.specs.Held.{variables-of, agent-of};
 ghost use Rattle.book.specs.Image.{held};
 ghost use Rattle.term.specs.Marks.{marked, Runs};
 ghost use Rattle.giving.specs.Giving.{walk-from, reached};
-ghost use Rattle.walk.specs.Gather.{agent-row, cleared, Gathered};
+ghost use Rattle.walk.specs.Gather.{cleared, Gathered};
 ghost use Rattle.walk.specs.Walk.{Room, outcome, rule-from, walk-at, body-at};
 
 // How far a walk came: how many instructions it has given, the label from which the next import looks,
@@ -46,7 +47,7 @@ fn branch(x: u16, b: u16, c: u16) -> u16
 // Rule 21: the location that node a names gets the value of term b.
 fn assign(
     image: &[u32; 4296],
-    contents: &[u16],
+    contents: &[Value],
     readers: &mut [u64],
     bit: u64,
     list: &mut [u64],
@@ -68,7 +69,7 @@ fn assign(
 // Rule 27: the label that term a gives goes back to the roll.
 fn release(
     image: &[u32; 4296],
-    contents: &[u16],
+    contents: &[Value],
     readers: &mut [u64],
     bit: u64,
     list: &mut [u64],
@@ -90,7 +91,7 @@ fn release(
 // Its kind decides: a pair's second part and a test's branch take the node's place, with no call; the other kinds end the walk.
 fn walk(
     image: &[u32; 4296],
-    contents: &[u16],
+    contents: &[Value],
     readers: &mut [u64],
     bit: u64,
     list: &mut [u64],
@@ -108,7 +109,7 @@ fn walk(
         if r.refused != 0 {
             return r;
         }
-        let row = term::node(image, at);
+        let row = pages::node(image, at);
         let less = left - 1;
         let k = row.kind;
         match k {
@@ -138,7 +139,7 @@ fn walk(
 // The body c of a row that binds variable a, with a at x.
 fn within(
     image: &[u32; 4296],
-    contents: &[u16],
+    contents: &[Value],
     readers: &mut [u64],
     bit: u64,
     list: &mut [u64],
@@ -158,7 +159,7 @@ fn within(
 // Rule 24: the body c with variable a at the value of term b.
 fn let_in(
     image: &[u32; 4296],
-    contents: &[u16],
+    contents: &[Value],
     readers: &mut [u64],
     bit: u64,
     list: &mut [u64],
@@ -177,7 +178,7 @@ fn let_in(
 // Rule 25: the body c with variable a at each member of the universe b, ascending.
 fn each(
     image: &[u32; 4296],
-    contents: &[u16],
+    contents: &[Value],
     readers: &mut [u64],
     bit: u64,
     list: &mut [u64],
@@ -191,7 +192,7 @@ fn each(
 {
     marking::universe(image, readers, bit, row.b);
     let e = pages::elements(image);
-    let run = term::function(image, row.b);
+    let run = pages::function(image, row.b);
     let mut r = s;
     let mut y = marking::next_member(contents, run, e, 0);
     while y < e {
@@ -207,7 +208,7 @@ fn each(
 // Rule 26: the lowest label of the roll enters the universe b; the body c with variable a at it.
 fn import(
     image: &[u32; 4296],
-    contents: &[u16],
+    contents: &[Value],
     readers: &mut [u64],
     bit: u64,
     list: &mut [u64],
@@ -223,30 +224,6 @@ fn import(
     let x = marking::lowest(image, contents, readers, bit, s.label);
     let t = giving::enroll(image, list, s, n, row.b, x);
     within(image, contents, readers, bit, list, scope, depth, t, row, x)
-}
-
-// An agent as the image has it.
-pub struct Actor {
-    pub root: u16,
-    pub element: u16,
-}
-
-// Agent i; past the last all 0.
-fn agent_at(image: &[u32; 4296], i: u32) -> Actor
-    ensures { λ r. ⌜ agent-row r ≡ agent-at (held (now (image .entry))) i ⌝ }
-{
-    if i < pages::capped(numbers::low(image[4]), 16) as u32 {
-        let at = i as usize * 4 + 136;
-        Actor {
-            root: numbers::low(image[at]),
-            element: numbers::low(image[at + 1]),
-        }
-    } else {
-        Actor {
-            root: 0,
-            element: 0,
-        }
-    }
 }
 
 // Takes a refused move's bit, and the higher ones, out of all marks; the moves before it have lower bits.
@@ -273,7 +250,7 @@ fn ended(s: Pace) -> State
 // The walk of an agent's rule, with its marks; a refused one leaves none.
 pub fn gather(
     image: &[u32; 4296],
-    contents: &[u16],
+    contents: &[Value],
     readers: &mut [u64],
     bit: u64,
     list: &mut [u64],
@@ -281,7 +258,7 @@ pub fn gather(
 ) -> State
     ensures { λ r. ⌜ (Room (now (list .entry)) → Gathered (held (now (image .entry))) (now (contents .entry)) bit agent (outcome r (now (list .exit))) (now (readers .entry)) (now (readers .exit))) ⌝ }
 {
-    let who = agent_at(image, agent);
+    let who = pages::agent_at(image, agent);
     let s = Pace {
         len: 0,
         label: pages::permanent(image),
@@ -306,7 +283,7 @@ pub fn mark_all(image: &[u32; 4296], readers: &mut [u64], bit: u64)
     let mut first: usize = 0;
     let mut f: u16 = 0;
     while f < count {
-        let run = term::function(image, f);
+        let run = pages::function(image, f);
         let end = first + term::size(e, run.arity) as usize;
         marking::mark_function(readers, bit, run.kind, first, end);
         first = end;

@@ -4,7 +4,7 @@ use mathlib.Core.List.{[]}
 use Rattle.book.specs.Book.{node-at}
 use Rattle.engine.specs.Term.{function-of}
 use Rattle.engine.proofs.Steps.{term-zero, function-none, function-one, function-two, no-function-of}
-use Rattle.term.specs.Held.{node-row}
+use Rattle.pages.specs.Rows.{node-row}
 use Rattle.book.specs.Image.{held}
 use borrow.Author.Needs.{needs}
 use Rattle.giving.proofs.named.Statement.{statement}

@@ -4,7 +4,7 @@ use Prim.Native.Nat.{ℕ, _-_, _<_, _≤_}
 use native.Mathlib.Omega.{arith}
 use lib.ListN.{getD}
 use Rattle.book.specs.Book.{Program, function-at, location}
-use Rattle.term.specs.Held.{function-run}
+use Rattle.pages.specs.Rows.{function-run}
 use Rattle.marking.specs.Marking.{members-from}
 use Rattle.marking.proofs.Members.{member-here, member-not, no-member}
 use borrow.Author.Needs.{needs}

@@ -7,7 +7,8 @@ use Rattle.book.specs.Book.{node-at, location}
 use Rattle.engine.specs.Look.{read, done, _>>=_}
 use Rattle.engine.specs.Term.{eval as value, negate, apply}
 use Rattle.engine.proofs.Steps.{term-zero, term-element, term-variable, term-agent, term-none, term-one, term-two, term-not, term-join, no-term-at}
-use Rattle.term.specs.Held.{node-row, agent-of, value-at}
+use Rattle.term.specs.Held.{agent-of, value-at}
+use Rattle.pages.specs.Rows.{node-row}
 use Rattle.book.specs.Image.{held}
 use Rattle.term.proofs.Values.{join-kind}
 use Rattle.term.proofs.Marking.{runs-done, runs-gives, runs-bind}
@@ -17,7 +18,7 @@ use borrow.Fn.PlainCycle.{Measures, is, falls, and}
 use Rattle.term.proofs.eval.Reads as eval
 use Rattle.term.proofs.eval.Kinds as eval-kinds
 use Rattle.term.proofs.+eval.Lts-eval as eval-lts
-use Rattle.term.proofs.node.Reads as node-reads
+use Rattle.pages.proofs.node.Reads as node-reads
 use Rattle.term.proofs.not.Reads as not-reads
 use Rattle.term.proofs.operate.Reads as operate-reads
 use Rattle.pages.proofs.permanent.Reads as permanent-reads

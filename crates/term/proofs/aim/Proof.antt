@@ -4,7 +4,8 @@ use Rattle.book.specs.Book.{node-at, location}
 use Rattle.engine.specs.Look.{done, _>>=_}
 use Rattle.engine.specs.Term.{target}
 use Rattle.engine.proofs.Steps.{term-zero, term-none, term-one, term-two, no-target}
-use Rattle.term.specs.Held.{node-row, variables-of, agent-of, value-at}
+use Rattle.term.specs.Held.{variables-of, agent-of, value-at}
+use Rattle.pages.specs.Rows.{node-row}
 use Rattle.book.specs.Image.{held}
 use Rattle.term.proofs.Marking.{runs-done, runs-gives, runs-bind}
 use borrow.Author.Needs.{needs}

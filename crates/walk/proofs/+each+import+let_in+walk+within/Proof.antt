@@ -9,7 +9,8 @@ use Rattle.book.specs.Book.{node-at}
 use Rattle.engine.specs.Look.{Look}
 use Rattle.engine.specs.Rule.{Walk, Walked, after, lowest, import-of, each as for-each, walk as walked}
 use Rattle.engine.proofs.Steps.{rule-last, rule-assign, rule-bind, rule-for-all, rule-import, rule-free, no-rule-at}
-use Rattle.term.specs.Held.{node-row, variables-of, agent-of, value-at}
+use Rattle.term.specs.Held.{variables-of, agent-of, value-at}
+use Rattle.pages.specs.Rows.{node-row}
 use Rattle.book.specs.Image.{held}
 use Rattle.term.specs.Marks.{Runs}
 use Rattle.term.proofs.Marking.{runs-bind, runs-as}
@@ -43,8 +44,8 @@ use Rattle.marking.proofs.next_member.Reads as next-member-reads
 use Rattle.marking.proofs.universe.Reads as universe-reads
 use Rattle.pages.proofs.elements.Reads as elements-reads
 use Rattle.term.proofs.eval.Reads as eval-reads
-use Rattle.term.proofs.function.Reads as function-reads
-use Rattle.term.proofs.node.Reads as node-reads
+use Rattle.pages.proofs.function.Reads as function-reads
+use Rattle.pages.proofs.node.Reads as node-reads
 use Rattle.walk.proofs.assign.Reads as assign-reads
 use Rattle.walk.proofs.bind.Reads as bind-reads
 use Rattle.walk.proofs.branch.Reads as branch-reads

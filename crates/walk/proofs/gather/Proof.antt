@@ -5,7 +5,7 @@ use Rattle.book.specs.Image.{held}
 use Rattle.giving.specs.Giving.{walk-from}
 use Rattle.giving.proofs.Steps.{reached-going, reached-met}
 use Rattle.walk.specs.Walk.{walk-at}
-use Rattle.walk.specs.Gather.{agent-row}
+use Rattle.pages.specs.Rows.{agent-row}
 use Rattle.walk.proofs.Steps.{runs-from}
 use Rattle.walk.proofs.Kept.{runs-agent, gathered, gathered-back}
 use borrow.Author.Needs.{needs}

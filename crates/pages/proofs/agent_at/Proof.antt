@@ -3,10 +3,10 @@ use mathlib.Core.Path.{_≡_, sym, _∙_}
 use Prim.Native.Nat.{ℕ, _+_, _*_, _%_, _<_, _≤_}
 use Rattle.book.specs.Image.{word, capped, narrow}
 use Rattle.book.proofs.Image.{narrow-word}
-use Rattle.term.proofs.Leaves.{agent-in, agent-past}
+use Rattle.pages.proofs.Rows.{agent-in, agent-past}
 use borrow.Author.Needs.{needs}
-use Rattle.walk.proofs.agent_at.Statement.{statement}
-use Rattle.walk.proofs.agent_at.Tie as tie
+use Rattle.pages.proofs.agent_at.Statement.{statement}
+use Rattle.pages.proofs.agent_at.Tie as tie
 
 element-copy-out-low : tie.Need-element-copy-out-low
 element-copy-out-low c = search needs
