@@ -8,7 +8,7 @@ use native.Mathlib.Nat.{le-of-lt, lt-of-le-of-lt, mul-le-mul-left, mul-le-mul-ri
 use native.Mathlib.Numerals.{add-one}
 use native.Mathlib.Omega.{arith}
 use lib.Pow.{pow-pos, pow-add}
-use lib.Dec.{eqb, ltb}
+use lib.Dec.{eqb}
 use lib.ListN.{length, getD, set, length-set}
 use lib.Seq.{getD-set-same, getD-set-other}
 use borrow.Author.Tests.{lt-ltb, le-ltb}
@@ -18,8 +18,8 @@ use Rattle.text.specs.Text.{line}
 use Rattle.text.proofs.Words.{length-table-from, getD-table, getD-table-past, table-ext}
 use Rattle.book.specs.declared.Header.{Header}
 use Rattle.book.specs.declared.Function.{Function}
-use Rattle.book.specs.Book.{Program, L, total, size, function-at, node-at, agent-at, no-function, no-node, no-agent}
-use Rattle.book.specs.Lines.{lay-out, node-of, agent-of, program-of, first-node, first-agent}
+use Rattle.book.specs.Book.{total, size, function-at, node-at, agent-at, no-function, no-node, no-agent}
+use Rattle.book.specs.Lines.{lay-out, node-of, agent-of, program-of}
 use Rattle.book.specs.Image.{image-length, word, narrow, row-in, capped, function-of, program-in, Holds, Counts, Room, stored, filled, first-of, laid-row}
 use Rattle.book.proofs.Accepted.{book-lengths}
 

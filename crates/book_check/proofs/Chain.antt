@@ -1,21 +1,18 @@
 -- The chain of checks, step by step, and that an image that holds the text's book gives its faults. Assumes nothing.
 use mathlib.Core.Path.{_≡_, refl, sym, _∙_, ap, subst}
 use mathlib.Core.Bool.{Bool, true, false}
-use mathlib.Core.List.{List, [], map}
-use Prim.Native.Nat.{ℕ, zero, suc, _+_, _-_, _<_, _≤_}
+use mathlib.Core.List.{List, map}
+use Prim.Native.Nat.{ℕ, _+_, _-_, _<_}
 use native.Mathlib.Nat.{zero-add}
 use native.Mathlib.Omega.{arith}
 use lib.ListN.{length, length-map}
-use Rattle.text.specs.declared.Line.{Line}
-use Rattle.text.specs.declared.Answer.{Answer}
 use Rattle.text.specs.declared.Found.{Found}
 use Rattle.text.specs.declared.Found.the-variants.{Nowhere, Here}
 use Rattle.text.specs.Words.{least, Checked, good, refused, _>>=_, _>>_, none-at, must, answer-of}
 use Rattle.text.specs.Refusals.{ill-formed, book-text, header-bounds}
 use Rattle.text.specs.Text.{line, bad-line}
-use Rattle.text.proofs.Words.{length-table-from, least-here, least-same}
+use Rattle.text.proofs.Words.{length-table-from, least-here}
 use Rattle.book.specs.declared.Header.{Header}
-use Rattle.book.specs.declared.Entry.{Entry}
 use Rattle.book.specs.Book.{Program, Book, L}
 use Rattle.book.specs.Lines.{header-of, bad-field, first-entry, program-of, entries-of, bad-node, bad-agent}
 use Rattle.book.specs.Use.{bad-use}

@@ -1,19 +1,19 @@
 -- The words of an accepted book's image fit in sixteen bits, so what the engine reads of it is its program. Assumes nothing.
-use mathlib.Core.Path.{_≡_, refl, sym, ap, _∙_}
-use mathlib.Core.Bool.{Bool, true, false, and-false}
+use mathlib.Core.Path.{_≡_, sym, ap, _∙_}
+use mathlib.Core.Bool.{true, false, and-false}
 use mathlib.Core.List.{List}
-use Prim.Native.Nat.{ℕ, zero, suc, _+_, _*_, _≤_, _<_}
+use Prim.Native.Nat.{ℕ, _+_, _*_, _≤_, _<_}
 use native.Mathlib.Nat.{mod-eq-of-lt}
 use native.Mathlib.Omega.{arith}
 use lib.Dec.{ltb}
 use lib.ListN.{length, List·getD-eq-default}
 use borrow.Author.Tests.{ltb-true, ltb-false, le-ltb, ne-eqb}
-use Rattle.text.specs.Words.{table, good}
+use Rattle.text.specs.Words.{good}
 use Rattle.text.proofs.Words.{so-true, table-ext}
 use Rattle.book.specs.declared.Function.{Function}
 use Rattle.book.specs.declared.Node.{Node}
 use Rattle.book.specs.declared.Agent.{Agent}
-use Rattle.book.specs.Book.{Program, Book, L, function-at, node-at, agent-at, location}
+use Rattle.book.specs.Book.{Program, Book, function-at, node-at, agent-at}
 use Rattle.book.specs.Kinds.{sort, sort-table}
 use Rattle.book.specs.Lines.{node-of, agent-of, fits, bad-node}
 use Rattle.book.specs.Image.{word, row-in, capped, function-of, program-in, narrow, held, Counts}

@@ -3,7 +3,6 @@ use numbers::Value;
 use text::Answer;
 use text::Found;
 ghost use mathlib.Core.Path.{_≡_};
-ghost use mathlib.Core.List.{[]};
 ghost use lib.ListN.{take};
 ghost use Rattle.text.specs.Words.{answer-of};
 ghost use Rattle.book.specs.Book.{L};

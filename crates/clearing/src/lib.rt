@@ -3,7 +3,6 @@ use book::Function;
 use engine::Instruction;
 use numbers::Value;
 ghost use mathlib.Core.Path.{_≡_};
-ghost use mathlib.Core.List.{[]};
 ghost use Prim.Native.Nat.{_≤_};
 ghost use Rattle.book.specs.Image.{held};
 ghost use Rattle.records.specs.Code.{items};

@@ -3,7 +3,6 @@ use book::Entry;
 use book::Function;
 use text::Found;
 ghost use mathlib.Core.Path.{_≡_};
-ghost use mathlib.Core.List.{[]};
 ghost use Prim.Native.Nat.{_+_};
 ghost use Rattle.text.specs.Words.{least};
 ghost use Rattle.text.specs.Text.{line};

@@ -3,7 +3,7 @@ use engine::Instruction;
 use numbers::Value;
 use pages::Part;
 ghost use mathlib.Core.Path.{_≡_};
-ghost use mathlib.Core.List.{List, []};
+ghost use mathlib.Core.List.{List};
 ghost use Prim.Native.Nat.{ℕ, _≤_, _<_};
 ghost use lib.Bits.{bitOr};
 ghost use lib.Dec.{ltb};

@@ -4,7 +4,7 @@ use numbers::Value;
 use text::Answer;
 use walk::State;
 ghost use mathlib.Core.Path.{_≡_};
-ghost use mathlib.Core.List.{List, []};
+ghost use mathlib.Core.List.{List};
 ghost use Prim.Native.Nat.{ℕ, _≤_};
 ghost use lib.ListN.{length, take};
 ghost use Rattle.book.specs.Book.{L};

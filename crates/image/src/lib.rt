@@ -7,7 +7,6 @@ use text::Line;
 ghost use mathlib.Core.Path.{_≡_};
 ghost use Prim.Native.Nat.{_+_, _<_, _≤_};
 ghost use lib.ListN.{length, getD, set};
-ghost use mathlib.Core.List.{[]};
 ghost use Rattle.text.specs.Text.{line};
 ghost use Rattle.book.specs.Book.{size, location, function-at, node-at, agent-at};
 ghost use Rattle.book.specs.Lines.{program-of};

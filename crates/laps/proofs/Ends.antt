@@ -1,7 +1,7 @@
 -- The run of texts that passed their checks: from the start, by the book that the image holds, to its end.
-use mathlib.Core.Path.{_≡_, refl, sym, ap, subst, _∙_}
-use mathlib.Core.List.{List, []}
-use Prim.Native.Nat.{ℕ, zero, suc, _<_}
+use mathlib.Core.Path.{_≡_, sym, ap, _∙_}
+use mathlib.Core.List.{List}
+use Prim.Native.Nat.{ℕ, _<_}
 use native.Mathlib.Omega.{arith}
 use lib.ListN.{length, replicate}
 use Rattle.text.specs.declared.Answer.{Answer}
@@ -9,11 +9,11 @@ use Rattle.book.specs.Book.{Program, Book, L, start}
 use Rattle.book.specs.Image.{held}
 use Rattle.book.specs.Sound.{Lawful, Sound}
 use Rattle.book.proofs.Claims.{accepted-book}
-use Rattle.engine.specs.Move.{Input, walked, move}
+use Rattle.engine.specs.Move.{move}
 use Rattle.order.specs.Pairs.{TwoFound, no-two, two}
 use Rattle.order.specs.Log.{Log, move-at}
-use Rattle.order.specs.Run.{Run, Ran, ran, halted, next, run, touching, order-checked, finish, run-from, run-log}
-use Rattle.order.specs.Lists.{lists-after, lists-from}
+use Rattle.order.specs.Run.{Run, Ran, ran, halted, run, touching, order-checked, finish, run-from, run-log}
+use Rattle.order.specs.Lists.{lists-from}
 use Rattle.log.proofs.Stages.{passed-log}
 use Rattle.ends.specs.Ends.{Holds}
 use Rattle.laps.specs.Turns.{log-in, answered, Passed}

@@ -4,7 +4,7 @@ use text::Answer;
 use walk::State;
 ghost use mathlib.Core.Path.{_≡_};
 ghost use mathlib.Core.Bool.{false};
-ghost use mathlib.Core.List.{List, [], _∷_};
+ghost use mathlib.Core.List.{List, _∷_};
 ghost use Prim.Native.Nat.{ℕ, suc, _+_, _-_, _^_, _<_, _≤_};
 ghost use Rattle.book.specs.Book.{Book, start};
 ghost use Rattle.book.specs.Image.{held};

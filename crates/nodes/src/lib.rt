@@ -4,7 +4,6 @@ use text::Found;
 use text::Line;
 ghost use mathlib.Core.Path.{_≡_};
 ghost use mathlib.Core.Logic.{_≢_};
-ghost use mathlib.Core.List.{[]};
 ghost use Prim.Native.Nat.{_+_, _-_, _≤_};
 ghost use Rattle.text.specs.Words.{least};
 ghost use Rattle.text.specs.Text.{line};

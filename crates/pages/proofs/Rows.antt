@@ -3,10 +3,30 @@ use mathlib.Core.Path.{_≡_, ap}
 use mathlib.Core.List.{List}
 use Prim.Native.Nat.{ℕ, _+_, _*_, _≤_, _<_}
 use native.Mathlib.Omega.{arith}
+use native.Mathlib.Decide.{decLt}
+use mathlib.Core.Logic.{_⊎_, inl, inr}
+use borrow.Author.Tests.{lt-ltb, le-ltb}
 use Rattle.text.proofs.Words.{getD-table, getD-table-past}
 use Rattle.book.specs.Book.{no-node, no-function, no-agent, node-at, function-at, agent-at}
 use Rattle.book.specs.Lines.{node-of, agent-of}
 use Rattle.book.specs.Image.{word, row-in, capped, function-of, program-in, narrow, held}
+
+-- a count and its bound, each passed or reached by itself
+pub capped-above : (n w most : ℕ) → n < w → n < most → n < capped w most
+capped-above n w most h k = go (decLt w most)
+  where
+    go : Dec (w < most) → n < capped w most
+    go (yes l) = rw (lt-ltb w most l) h
+    go (no l) = rw (le-ltb w most (omega arith)) k
+
+pub capped-reached : (n w most : ℕ) → (w ≤ n) ⊎ (most ≤ n) → capped w most ≤ n
+capped-reached n w most h = go (decLt w most) h
+  where
+    go : Dec (w < most) → (w ≤ n) ⊎ (most ≤ n) → capped w most ≤ n
+    go (yes l) (inl k) = rw (lt-ltb w most l) k
+    go (yes l) (inr k) = rw (lt-ltb w most l) (omega arith)
+    go (no l) (inl k) = rw (le-ltb w most (omega arith)) (omega arith)
+    go (no l) (inr k) = rw (le-ltb w most (omega arith)) k
 
 module _ (m : List ℕ) where
   pub node-in : (n : ℕ) → n < capped (word (narrow m) 3) 1024

@@ -2,10 +2,9 @@
 // locations it has.
 use book::Function;
 ghost use mathlib.Core.Path.{_≡_};
-ghost use mathlib.Core.List.{[]};
 ghost use Prim.Native.Nat.{_≤_};
 ghost use lib.ListN.{length};
-ghost use Rattle.book.specs.Book.{L, size, relation, dynamic, default, function-at, node-at, agent-at};
+ghost use Rattle.book.specs.Book.{L, size, relation, dynamic, default, function-at, node-at, agent-at, no-node};
 ghost use Rattle.book.specs.Image.{word, capped, held, narrow};
 ghost use Rattle.pages.specs.Part.{part-of};
 ghost use Rattle.pages.specs.Rows.{node-row, function-run, agent-row};
@@ -174,25 +173,34 @@ pub struct Run {
     pub kind: u16,
 }
 
-// Node n; past the last all 0.
+// The row of a node that there is not.
+fn no_row() -> Row
+    ensures { λ r. ⌜ node-row r ≡ no-node ⌝ }
+{
+    Row {
+        kind: 0,
+        a: 0,
+        b: 0,
+        c: 0,
+    }
+}
+
+// Node n; past the last all 0. Every term and rule is read through here, so the two bounds are tested one by one.
 pub fn node(image: &[u32; 4296], n: u16) -> Row
     ensures { λ r. ⌜ node-row r ≡ node-at (held (now (image .entry))) n ⌝ }
 {
-    if n < capped(numbers::low(image[3]), 1024) {
-        let at = n as usize * 4 + 200;
-        Row {
-            kind: numbers::low(image[at]),
-            a: numbers::low(image[at + 1]),
-            b: numbers::low(image[at + 2]),
-            c: numbers::low(image[at + 3]),
-        }
-    } else {
-        Row {
-            kind: 0,
-            a: 0,
-            b: 0,
-            c: 0,
-        }
+    if numbers::low(image[3]) <= n {
+        return no_row();
+    }
+    if 1024 <= n {
+        return no_row();
+    }
+    let at = n as usize * 4 + 200;
+    Row {
+        kind: numbers::low(image[at]),
+        a: numbers::low(image[at + 1]),
+        b: numbers::low(image[at + 2]),
+        c: numbers::low(image[at + 3]),
     }
 }
 

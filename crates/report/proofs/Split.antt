@@ -1,20 +1,18 @@
 -- The checks of an input are those of its book's lines and of what stands after them, as the log entry makes them. Assumes nothing.
 use mathlib.Core.Path.{_≡_, refl, sym, ap, _∙_}
-use mathlib.Core.List.{List, []}
-use Prim.Native.Nat.{ℕ, _+_, _*_, _≤_, _<_, min}
+use mathlib.Core.List.{List}
+use Prim.Native.Nat.{ℕ, _+_, _*_, _≤_, _<_}
 use native.Mathlib.Nat.{min-le-left}
 use native.Mathlib.Omega.{arith}
-use lib.Dec.{leb}
 use lib.ListN.{length, take, drop, length-take}
 use borrow.Author.Tests.{le-leb, lt-leb}
-use Rattle.text.specs.declared.Line.{Line}
-use Rattle.text.specs.Words.{least, table, Checked, good, refused, _>>=_, _>>_, none-at, must}
-use Rattle.text.specs.Text.{line-bytes, well-formed, numbers-of, line, bad-line}
+use Rattle.text.specs.Words.{least, Checked, good, refused, _>>=_, _>>_, must}
+use Rattle.text.specs.Text.{line-bytes, numbers-of, line, bad-line}
 use Rattle.text.proofs.Words.{least-same, table-ext}
 use Rattle.text.proofs.Fields.{part-of-front}
 use Rattle.book.specs.declared.Header.{Header}
 use Rattle.book.specs.Book.{Book}
-use Rattle.book.specs.Lines.{first-node, first-agent, first-entry, line-count, program-of, entries-of, node-of, agent-of, entry-of, lay-out, bad-function, bad-agent}
+use Rattle.book.specs.Lines.{first-node, first-agent, first-entry, line-count, program-of, entries-of, node-of, agent-of, entry-of, bad-function, bad-agent}
 use Rattle.book.specs.Check.{check-header, check-present, check-surplus, check-lines, check-book}
 use Rattle.order.specs.Log.{Log, check-log}
 use Rattle.order.specs.Call.{Lengths, check-lent, check-all}

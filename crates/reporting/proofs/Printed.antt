@@ -1,23 +1,20 @@
 -- What is printed is the text of the definition: the contents that a run leaves, the book in the image, and the checks of an input. Assumes nothing.
 use mathlib.Core.Path.{_≡_, refl, sym, ap, subst, _∙_}
 use mathlib.Core.Logic.{_≢_}
-use mathlib.Core.Bool.{Bool, true, false}
-use mathlib.Core.List.{List, [], _∷_, _++_, append-nil}
+use mathlib.Core.List.{List, _++_, append-nil}
 use Prim.Native.Nat.{ℕ, zero, suc, _-_, _≤_, _<_, min}
 use native.Mathlib.Nat.{min-eq-left, min-le-right}
 use native.Mathlib.Omega.{arith}
-use lib.Dec.{eqb, leb}
+use lib.Dec.{leb}
 use lib.ListN.{length, take, drop, replicate, length-replicate, length-drop}
 use lib.Seq.{take-all, take-append-seam}
 use borrow.Author.Tests.{ne-eqb, leb-true}
-use Rattle.text.specs.declared.Line.{Line}
 use Rattle.text.specs.declared.Answer.{Answer}
-use Rattle.text.specs.Words.{if_then_else_, Checked, good, refused, _>>=_, _>>_}
+use Rattle.text.specs.Words.{Checked, good, refused}
 use Rattle.text.specs.Text.{line, written}
 use Rattle.text.proofs.Words.{bind-good, then-good, found-good, test-good, good-same}
 use Rattle.book.specs.declared.Header.{Header}
-use Rattle.book.specs.declared.Entry.{Entry}
-use Rattle.book.specs.Book.{Program, Book, L, size, default, function-at, start}
+use Rattle.book.specs.Book.{Program, Book, L, start}
 use Rattle.book.specs.Lines.{header-of, book-of}
 use Rattle.book.specs.Check.{check-header, check-book}
 use Rattle.book.specs.Image.{word, program-in, Holds, Room}
@@ -29,9 +26,9 @@ use Rattle.engine.proofs.Moves.{fire-length}
 use Rattle.order.specs.Log.{Log, move-at, check-log}
 use Rattle.order.specs.Pairs.{TwoFound, no-two, two}
 use Rattle.order.specs.Run.{Run, Ran, ran, halted, moved, next, run, touching, LogAnswer, order-checked, finish, run-from, run-log}
-use Rattle.order.specs.Call.{Tables, Lengths, lengths, check-lent, check-all, left-in, log-answer, log-call}
+use Rattle.order.specs.Call.{Tables, Lengths, lengths, check-lent, check-all, log-answer, log-call}
 use Rattle.order.proofs.Numbers.{Early, off, all-early}
-use Rattle.report.specs.Report.{most-input, own-tables, check-input, part-lines, lines-from, contents-lines, all-written, first-line, print-answer, print-checked, rental}
+use Rattle.report.specs.Report.{most-input, own-tables, all-written, first-line, print-answer, print-checked, rental}
 use Rattle.report.proofs.Split.{input-long}
 use Rattle.write.specs.Bytes.{put-bytes}
 use Rattle.write.proofs.Bytes.{put-front}

@@ -2,7 +2,7 @@
 use numbers::Value;
 use text::Line;
 ghost use mathlib.Core.Path.{_≡_};
-ghost use mathlib.Core.List.{[], _++_};
+ghost use mathlib.Core.List.{_++_};
 ghost use Prim.Native.Nat.{_+_, _≤_};
 ghost use lib.ListN.{length, set, drop, replicate};
 ghost use Rattle.text.specs.Words.{good};

@@ -2,8 +2,8 @@
 use mathlib.Core.Path.{_≡_, refl, ap, _∙_}
 use mathlib.Core.Logic.{dite}
 use mathlib.Core.Bool.{Bool, true, false}
-use mathlib.Core.List.{List, [], _∷_}
-use Prim.Native.Nat.{ℕ, suc, _+_, _-_, _*_, _≤_, _<_}
+use mathlib.Core.List.{List}
+use Prim.Native.Nat.{ℕ, _+_, _-_, _≤_, _<_}
 use native.Mathlib.Numerals.{add-one}
 use native.Mathlib.Omega.{arith}
 use native.Mathlib.Decide.{decLt}
@@ -11,14 +11,10 @@ use lib.Dec.{ltb}
 use lib.ListN.{length, getD, drop, take, length-take, List·getD-eq-default, drop-of-length-le}
 use lib.Seq.{drop-cons, getD-take}
 use borrow.Author.Tests.{ltb-true, lt-ltb, le-ltb}
-use Rattle.text.specs.Words.{if_then_else_, table}
-use Rattle.text.proofs.Words.{length-table-from, getD-table, getD-table-past}
+use Rattle.text.specs.Words.{if_then_else_}
+use Rattle.text.proofs.Words.{length-table-from}
 use Rattle.book.specs.declared.Function.{Function}
-use Rattle.book.specs.declared.Node.{Node}
-use Rattle.book.specs.declared.Entry.{Entry}
-use Rattle.book.specs.declared.Agent.{Agent}
-use Rattle.book.specs.Book.{undef, Program, Place, dynamic, no-function, no-node, no-agent, function-at, node-at, agent-at, size, place-in, place, location, dynamic-at}
-use Rattle.book.specs.Lines.{node-of, agent-of}
+use Rattle.book.specs.Book.{undef, Program, Place, dynamic, no-function, function-at, size, place-in, location, dynamic-at}
 use Rattle.book.specs.Image.{word, row-in, capped, function-of, held, program-in, narrow}
 use Rattle.book.specs.Sound.{Lawful}
 use Rattle.book.proofs.Places.{spot, roll-place}

@@ -4,7 +4,7 @@ use pages::Run;
 ghost use mathlib.Core.Path.{_≡_};
 ghost use Prim.Native.Nat.{_+_};
 ghost use lib.ListN.{getD};
-ghost use Rattle.book.specs.Book.{undef, boolean, truth, size, offset, node-at, function-at, location, dynamic-at};
+ghost use Rattle.book.specs.Book.{undef, boolean, truth, size, offset, location, dynamic-at};
 ghost use Rattle.engine.specs.Look.{read};
 ghost use Rattle.engine.specs.Term.{both, either, plus, minus, less, number, negate, apply, shapes, no-term};
 ghost use Rattle.term.specs.Held.{variables-of, value-at, aim-at, operated};

@@ -2,7 +2,7 @@ use Rattle.contents.proofs.Roll.{entry-there, bad-bounds, bad-rest, rol
 use Rattle.contents.specs.Roll.{entries-from, marked, roll-of}
 use Rattle.book.specs.Image.{program-in}
 use Rattle.book.specs.Contents.{bad-entry, least-location}
-use Rattle.book.specs.Book.{Program, entry-at}
+use Rattle.book.specs.Book.{entry-at}
 use Rattle.book.specs.declared.Entry.{Entry}
 use Rattle.text.proofs.Words.{least-start, least-pass, least-stop, least-end}
 use Rattle.text.specs.Words.{least-from, least}

@@ -1,9 +1,10 @@
 -- `node` meets its contract.
 use mathlib.Core.Path.{_≡_, sym, _∙_}
-use Prim.Native.Nat.{ℕ, _+_, _*_, _%_, _<_, _≤_}
-use Rattle.book.specs.Image.{word, capped, narrow}
+use mathlib.Core.Logic.{inl, inr}
+use Prim.Native.Nat.{_+_, _*_, _<_}
+use Rattle.book.specs.Image.{word, narrow}
 use Rattle.book.proofs.Image.{narrow-word}
-use Rattle.pages.proofs.Rows.{node-in, node-past}
+use Rattle.pages.proofs.Rows.{capped-above, capped-reached, node-in, node-past}
 use borrow.Author.Needs.{needs}
 use Rattle.pages.proofs.node.Statement.{statement}
 use Rattle.pages.proofs.node.Tie as tie
@@ -14,8 +15,24 @@ element-copy-out-low c = search needs
 low-requires : tie.Need-low-requires
 low-requires c κs = search needs
 
-capped-requires : tie.Need-capped-requires
-capped-requires c κs = search needs
+no-row-requires : tie.Need-no-row-requires
+no-row-requires c κs = search needs
+
+returns : tie.Need-returns
+returns c =
+    let a = c .before .before .before .before .args in
+    let m = a .image .now in
+    let z : c .before .before .low .result ≡ word (narrow m) 3 = c .before .before .low .ensures ∙ sym (narrow-word m 3) in
+    c .no-row .ensures ∙ node-past m (a .n) (capped-reached (a .n) (word (narrow m) 3) 1024 (inl (rw (← z) (c .before .if1 .taken))))
+
+no-row-requires-2 : tie.Need-no-row-requires-2
+no-row-requires-2 c κs = search needs
+
+returns-2 : tie.Need-returns-2
+returns-2 c =
+    let a = c .before .before .before .before .before .args in
+    let m = a .image .now in
+    c .no-row2 .ensures ∙ node-past m (a .n) (capped-reached (a .n) (word (narrow m) 3) 1024 (inr (c .before .if2 .taken)))
 
 mul-at : tie.Need-mul-at
 mul-at c = search needs
@@ -68,26 +85,18 @@ element-copy-out-low-5 c = search needs
 low-requires-5 : tie.Need-low-requires-5
 low-requires-5 c κs = search needs
 
-returns : tie.Need-returns
-returns c =
+returns-3 : tie.Need-returns-3
+returns-3 c =
     let a = c .before .before .before .before .before .before .before .before .before .before .before .before .args in
     let m = a .image .now in
     let z : c .before .before .before .before .before .before .before .before .before .before .low .result ≡ word (narrow m) 3 = c .before .before .before .before .before .before .before .before .before .before .low .ensures ∙ sym (narrow-word m 3) in
-    let h : a .n < capped (word (narrow m) 3) 1024 = rw (← z, ← c .before .before .before .before .before .before .before .before .before .capped .ensures .0) (c .before .before .before .before .before .before .before .before .if1 .taken) in
+    let h : a .n < word (narrow m) 3 = rw (← z) (c .before .before .before .before .before .before .before .before .before .if1 .left) in
     rw (
       c .before .before .before .before .before .before .low2 .ensures ∙ sym (narrow-word m (a .n * 4 + 200)),
       c .before .before .before .before .low3 .ensures ∙ sym (narrow-word m (a .n * 4 + 200 + 1)),
       c .before .before .low4 .ensures ∙ sym (narrow-word m (a .n * 4 + 200 + 2)),
       c .low5 .ensures ∙ sym (narrow-word m (a .n * 4 + 200 + 3)),
-    ) (node-in m (a .n) h)
-
-returns-2 : tie.Need-returns-2
-returns-2 c =
-    let a = c .before .before .before .before .args in
-    let m = a .image .now in
-    let z : c .before .before .low .result ≡ word (narrow m) 3 = c .before .before .low .ensures ∙ sym (narrow-word m 3) in
-    let h : capped (word (narrow m) 3) 1024 ≤ a .n = rw (← z, ← c .before .capped .ensures .0) (c .if1 .left) in
-    node-past m (a .n) h
+    ) (node-in m (a .n) (capped-above (a .n) (word (narrow m) 3) 1024 h (c .before .before .before .before .before .before .before .before .if2 .left)))
 
 pub node-spec : {M : Type 1} → statement M
 node-spec =
@@ -95,7 +104,10 @@ node-spec =
     (tie.spec
     element-copy-out-low
     low-requires
-    capped-requires
+    no-row-requires
+    returns
+    no-row-requires-2
+    returns-2
     mul-at
     add-at
     mul-low
@@ -113,5 +125,4 @@ node-spec =
     mul-low-4
     element-copy-out-low-5
     low-requires-5
-    returns
-    returns-2)
+    returns-3)
