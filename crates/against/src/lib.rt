@@ -1,5 +1,6 @@
 // Refusal 15: each instruction held against all.
 use book::Function;
+use book::Image;
 use engine::Instruction;
 use numbers::Value;
 ghost use mathlib.Core.Path.{_≡_};
@@ -35,7 +36,7 @@ fn is_trace(e: u16, s: Spot, x: u16) -> bool
 }
 
 // Location l as it stands; past the last function there is none.
-fn spot_of(image: &[u32; 4296], contents: &[Value], l: u32) -> Spot
+fn spot_of(image: &Image, contents: &[Value], l: u32) -> Spot
     ensures { λ r. ⌜ r ≡ spot (held (now (image .entry))) (now (contents .entry)) l ⌝ }
 {
     let held = numbers::fetch(contents, l as usize);
@@ -148,7 +149,7 @@ fn is_doomed(list: &[u64], len: usize, what: Instruction) -> bool
 
 // The location of the instruction where it is less than best and clashes; else best.
 fn better_of(
-    image: &[u32; 4296],
+    image: &Image,
     contents: &[Value],
     list: &[u64],
     len: usize,
@@ -173,13 +174,7 @@ fn better_of(
 }
 
 // The least location that clashes, or most: each instruction is held against all.
-pub fn first_of_all(
-    image: &[u32; 4296],
-    contents: &[Value],
-    list: &[u64],
-    len: usize,
-    most: u32,
-) -> u32
+pub fn first_of_all(image: &Image, contents: &[Value], list: &[u64], len: usize, most: u32) -> u32
     ensures { λ r. ⌜ r ≡ best (held (now (image .entry))) (now (contents .entry)) (items (now (list .entry)) len) (items (now (list .entry)) len) most ⌝ }
 {
     let n = numbers::smaller(len, list.len());

@@ -1,5 +1,6 @@
 // The whole check of a book, refusals 1 and 3 to 8 in 01's order.
 use book::Header;
+use book::Image;
 use text::Answer;
 use text::Found;
 ghost use mathlib.Core.Path.{_≡_};
@@ -108,7 +109,7 @@ fn check_functions<'a>(text: &'a [u8], image: &'a [u32], h: Header) -> Answer
 }
 
 // 4 to 8 on lines that are all in form, read once into the image.
-fn check_lines(text: &[u8], h: Header, image: &mut [u32; 4296]) -> Answer
+fn check_lines(text: &[u8], h: Header, image: &mut Image) -> Answer
     requires { ⌜ Room h ⌝ }
     ensures { λ r. ⌜ (r ≡ answer-of (check-lines h (now (text .entry)))) × Opened (now (image .exit)) (check-lines h (now (text .entry))) ⌝ }
 {
@@ -117,7 +118,7 @@ fn check_lines(text: &[u8], h: Header, image: &mut [u32; 4296]) -> Answer
 }
 
 // 1 on all lines that the header calls for, and on what comes after them.
-fn check_form(text: &[u8], h: Header, image: &mut [u32; 4296]) -> Answer
+fn check_form(text: &[u8], h: Header, image: &mut Image) -> Answer
     requires { ⌜ Room h ⌝ }
     ensures { λ r. ⌜ (r ≡ answer-of (from-present h (now (text .entry)))) × Opened (now (image .exit)) (from-present h (now (text .entry))) ⌝ }
 {
@@ -136,7 +137,7 @@ fn check_form(text: &[u8], h: Header, image: &mut [u32; 4296]) -> Answer
 }
 
 // 3 on header lines that are in form, and what follows.
-fn check_header(text: &[u8], image: &mut [u32; 4296]) -> Answer
+fn check_header(text: &[u8], image: &mut Image) -> Answer
     requires { ⌜ least (bad-line (now text)) 2 ≡ Nowhere ⌝ }
     ensures { λ r. ⌜ (r ≡ answer-of (from-header (now (text .entry)))) × Opened (now (image .exit)) (from-header (now (text .entry))) ⌝ }
 {
@@ -160,7 +161,7 @@ fn check_header(text: &[u8], image: &mut [u32; 4296]) -> Answer
 }
 
 // The whole check of a book, which leaves the image of an accepted one.
-pub fn check_into(book: &[u8], image: &mut [u32; 4296]) -> Answer
+pub fn check_into(book: &[u8], image: &mut Image) -> Answer
     ensures { λ r. ⌜ (r ≡ answer-of (check-book (now (book .entry)))) × Opened (now (image .exit)) (check-book (now (book .entry))) ⌝ }
 {
     let found = text::bad_line(book, 2);

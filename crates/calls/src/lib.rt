@@ -1,4 +1,5 @@
 // The checks of a single move's call after the book's: 9, 2 and 8.
+use book::Image;
 use numbers::Value;
 use text::Answer;
 use text::Found;
@@ -43,7 +44,7 @@ fn first_of(a: Answer, b: Answer) -> Answer
 // ---- the checks
 
 // 9.
-fn check_agent(image: &[u32; 4296], agent: usize) -> Answer
+fn check_agent(image: &Image, agent: usize) -> Answer
     ensures { λ r. ⌜ r ≡ answer-of (check-agent (held (now (image .entry))) agent) ⌝ }
 {
     if agent < pages::agents(image) as usize {
@@ -54,7 +55,7 @@ fn check_agent(image: &[u32; 4296], agent: usize) -> Answer
 }
 
 // 2, of contents and then of instructions.
-fn check_lent(image: &[u32; 4296], contents: &[Value], lent: usize) -> Answer
+fn check_lent(image: &Image, contents: &[Value], lent: usize) -> Answer
     ensures { λ r. ⌜ r ≡ answer-of (check-lent-step (held (now (image .entry))) (now (contents .entry)) lent) ⌝ }
 {
     let all = pages::total(image);
@@ -68,7 +69,7 @@ fn check_lent(image: &[u32; 4296], contents: &[Value], lent: usize) -> Answer
 }
 
 // 8.
-fn check_contents(image: &[u32; 4296], contents: &[Value]) -> Answer
+fn check_contents(image: &Image, contents: &[Value]) -> Answer
     ensures { λ r. ⌜ r ≡ answer-of (check-contents (held (now (image .entry))) (take (L (held (now (image .entry)))) (now (contents .entry)))) ⌝ }
 {
     let found = table::bad_value(image, contents);
@@ -79,7 +80,7 @@ fn check_contents(image: &[u32; 4296], contents: &[Value]) -> Answer
 }
 
 // 9, 2 and 8.
-pub fn check_call(image: &[u32; 4296], contents: &[Value], agent: usize, lent: usize) -> Answer
+pub fn check_call(image: &Image, contents: &[Value], agent: usize, lent: usize) -> Answer
     ensures { λ r. ⌜ r ≡ answer-of (check-call (held (now (image .entry))) (now (contents .entry)) agent lent) ⌝ }
 {
     let nine = check_agent(image, agent);

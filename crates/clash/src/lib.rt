@@ -1,4 +1,5 @@
 // Refusal 15: the least location that clashes, with a short way for updates alone.
+use book::Image;
 use numbers::Value;
 use text::Found;
 ghost use mathlib.Core.Path.{_≡_};
@@ -57,13 +58,7 @@ fn nearer(list: &[u64], i: usize, code: u64, least: u64) -> u64
 
 // The least location that clashes, or most. Without a release it is enough to hold each update against the last one before it at its location.
 // Counted from 1, `last` has the last update at each slot, and `prior` the one before each update at its slot.
-pub fn first_clash(
-    image: &[u32; 4296],
-    contents: &[Value],
-    list: &[u64],
-    len: usize,
-    most: u32,
-) -> u32
+pub fn first_clash(image: &Image, contents: &[Value], list: &[u64], len: usize, most: u32) -> u32
     ensures { λ r. ⌜ r ≡ best (held (now (image .entry))) (now (contents .entry)) (items (now (list .entry)) len) (items (now (list .entry)) len) most ⌝ }
 {
     let n = numbers::smaller(len, list.len());
@@ -92,7 +87,7 @@ pub fn first_clash(
 // ---- any list
 
 // The least location that clashes.
-pub fn clash(image: &[u32; 4296], contents: &[Value], list: &[u64], len: usize) -> Found
+pub fn clash(image: &Image, contents: &[Value], list: &[u64], len: usize) -> Found
     ensures { λ r. ⌜ r ≡ clash-by (now (image .entry)) (now (contents .entry)) (now (list .entry)) len ⌝ }
 {
     let most = pages::total(image);

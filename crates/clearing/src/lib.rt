@@ -1,5 +1,6 @@
 // The traces of released labels cleared, function after function.
 use book::Function;
+use book::Image;
 use engine::Instruction;
 use numbers::Value;
 ghost use mathlib.Core.Path.{_≡_};
@@ -33,7 +34,7 @@ fn clear_run(
 }
 
 // The traces of x in all functions.
-fn clear(image: &[u32; 4296], contents: &mut [Value], writers: &mut [u64], x: u16, bit: u64)
+fn clear(image: &Image, contents: &mut [Value], writers: &mut [u64], x: u16, bit: u64)
     ensures { λ _. ⌜ now (contents .exit) ≡ cleared (held (now (image .entry))) x (now (contents .entry)) ⌝ }
     ensures { λ _. ⌜ now (writers .exit) ≡ clear-marked bit (held (now (image .entry))) x (now (contents .entry)) (now (writers .entry)) ⌝ }
 {
@@ -51,7 +52,7 @@ fn clear(image: &[u32; 4296], contents: &mut [Value], writers: &mut [u64], x: u1
 }
 
 fn clear_for(
-    image: &[u32; 4296],
+    image: &Image,
     contents: &mut [Value],
     writers: &mut [u64],
     what: Instruction,
@@ -73,7 +74,7 @@ fn clear_for(
 
 // The traces of every label that is released.
 pub fn clear_all(
-    image: &[u32; 4296],
+    image: &Image,
     contents: &mut [Value],
     writers: &mut [u64],
     list: &[u64],

@@ -1,4 +1,5 @@
 // The two ends of a log's run: before its moves 2 and the start with no marks, after them 17.
+use book::Image;
 use numbers::Value;
 use text::Answer;
 ghost use mathlib.Core.Path.{_≡_};
@@ -67,7 +68,7 @@ fn clear(marks: &mut [u64])
 // The start of a run, with no marks.
 pub fn begin(
     book: &[u8],
-    image: &[u32; 4296],
+    image: &Image,
     contents: &mut [Value],
     readers: &mut [u64],
     writers: &mut [u64],

@@ -1,4 +1,5 @@
 // The firing of a move: whether it clashes or is idle, and the contents and the writer marks after it.
+use book::Image;
 use engine::Instruction;
 use numbers::Value;
 use pages::Part;
@@ -54,7 +55,7 @@ fn has_change(n: u32, contents: &[Value], list: &[u64], len: usize) -> bool
 }
 
 // No location would change. A release always changes Reserve at its label, so only the instructions' own locations matter.
-pub fn is_idle(image: &[u32; 4296], contents: &[Value], list: &[u64], len: usize) -> bool
+pub fn is_idle(image: &Image, contents: &[Value], list: &[u64], len: usize) -> bool
     ensures { λ r. ⌜ (OffRoll (held (now (image .entry))) (now (contents .entry)) (items (now (list .entry)) len) → r ≡ idle (now (contents .entry)) (updates-by (now (image .entry)) (now (contents .entry)) (now (list .entry)) len)) ⌝ }
 {
     !has_change(pages::total(image), contents, list, len)
@@ -103,7 +104,7 @@ fn put_in(
 }
 
 // The part that location `at` is in; the last one, if that has it.
-fn part_at(image: &[u32; 4296], last: Part, at: usize) -> Part
+fn part_at(image: &Image, last: Part, at: usize) -> Part
     ensures { λ r. ⌜ r ≡ part-after (held (now (image .entry))) last at ⌝ }
 {
     if (last.first <= at) & (at < last.end) {
@@ -115,7 +116,7 @@ fn part_at(image: &[u32; 4296], last: Part, at: usize) -> Part
 
 // Each instruction's own location gets its own value, in its function's part.
 fn put_all(
-    image: &[u32; 4296],
+    image: &Image,
     contents: &mut [Value],
     writers: &mut [u64],
     list: &[u64],
@@ -147,7 +148,7 @@ fn put_all(
 
 // The contents and the writer marks after a move that does not clash: traces of released labels go first, then each update is put.
 pub fn fire(
-    image: &[u32; 4296],
+    image: &Image,
     contents: &mut [Value],
     writers: &mut [u64],
     list: &[u64],
@@ -165,7 +166,7 @@ pub fn fire(
 
 // 15, then 16, else it fires. A refused move leaves contents and marks as they were.
 pub fn settle(
-    image: &[u32; 4296],
+    image: &Image,
     contents: &mut [Value],
     writers: &mut [u64],
     list: &[u64],

@@ -1,4 +1,5 @@
 // The instructions that a walk gives: how far it is, one instruction more, or a refusal.
+use book::Image;
 use engine::Instruction;
 ghost use mathlib.Core.Path.{_≡_};
 ghost use mathlib.Core.Bool.{_||_};
@@ -70,7 +71,7 @@ fn relation(kind: u16) -> bool
 }
 
 // The function of the location that the term at node n names.
-pub fn named(image: &[u32; 4296], depth: usize, n: u16) -> u16
+pub fn named(image: &Image, depth: usize, n: u16) -> u16
     ensures { λ r. ⌜ r ≡ function-of (term-at (node-at (held (now (image .entry)))) depth n) ⌝ }
 {
     if depth == 0 {
@@ -87,15 +88,7 @@ pub fn named(image: &[u32; 4296], depth: usize, n: u16) -> u16
 }
 
 // Sets a location of function f to x; 11 if f is a relation and x not Boolean.
-pub fn update(
-    image: &[u32; 4296],
-    list: &mut [u64],
-    s: Pace,
-    n: u16,
-    f: u16,
-    at: u32,
-    x: u16,
-) -> Pace
+pub fn update(image: &Image, list: &mut [u64], s: Pace, n: u16, f: u16, at: u32, x: u16) -> Pace
     ensures { λ r. ⌜ (Room (now (list .entry)) → reached r (now (list .exit)) ≡ (reached s (now (list .entry)) then setting (held (now (image .entry))) f at x n)) ⌝ }
 {
     let run = pages::function(image, f);
@@ -127,7 +120,7 @@ pub fn update(
 }
 
 // The two updates by which an import at node n takes label x into universe u.
-fn take(image: &[u32; 4296], list: &mut [u64], s: Pace, n: u16, u: u16, x: u16) -> Pace
+fn take(image: &Image, list: &mut [u64], s: Pace, n: u16, u: u16, x: u16) -> Pace
     requires { ⌜ x < 65535 ⌝ }
     ensures { λ r. ⌜ (Room (now (list .entry)) → reached r (now (list .exit)) ≡ taking (held (now (image .entry))) u x n (walk-from s (now (list .entry)))) ⌝ }
 {
@@ -159,7 +152,7 @@ fn take(image: &[u32; 4296], list: &mut [u64], s: Pace, n: u16, u: u16, x: u16) 
 }
 
 // The same if x is an element; 13 if not, as no label is left.
-pub fn enroll(image: &[u32; 4296], list: &mut [u64], s: Pace, n: u16, u: u16, x: u16) -> Pace
+pub fn enroll(image: &Image, list: &mut [u64], s: Pace, n: u16, u: u16, x: u16) -> Pace
     ensures { λ r. ⌜ (s .refused ≡ 0 → Room (now (list .entry)) → reached r (now (list .exit)) ≡ enrolling (held (now (image .entry))) u x n (walk-from s (now (list .entry)))) ⌝ }
 {
     if x < pages::elements(image) {
@@ -170,7 +163,7 @@ pub fn enroll(image: &[u32; 4296], list: &mut [u64], s: Pace, n: u16, u: u16, x:
 }
 
 // Releases x, Reserve there being v; 12 if x is no label or in Reserve.
-pub fn free(image: &[u32; 4296], list: &mut [u64], s: Pace, n: u16, x: u16, v: u16) -> Pace
+pub fn free(image: &Image, list: &mut [u64], s: Pace, n: u16, x: u16, v: u16) -> Pace
     ensures { λ r. ⌜ (Room (now (list .entry)) → reached r (now (list .exit)) ≡ (reached s (now (list .entry)) then freeing (held (now (image .entry))) x v n)) ⌝ }
 {
     if x < pages::permanent(image) {

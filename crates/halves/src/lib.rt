@@ -1,5 +1,6 @@
 // A single move's call in two halves, between which its instructions may go through a lent list: the checks and
 // the walk, then the firing.
+use book::Image;
 use numbers::Value;
 use text::Answer;
 use walk::State;
@@ -39,7 +40,7 @@ fn held_back(a: Answer) -> Paused
 }
 
 // The walk of the move, on the first L records of a lent table.
-fn walk_first(image: &[u32; 4296], contents: &[Value], agent: u32, work: &mut [u64; 256]) -> Paused
+fn walk_first(image: &Image, contents: &[Value], agent: u32, work: &mut [u64; 256]) -> Paused
     requires { ⌜ (L (held (now image)) ≤ length (now contents)) × (Ready (held (now image)) (take (L (held (now image))) (now contents)) agent) ⌝ }
     ensures { λ r. ⌜ (r .answer .number ≡ 0) × (r .count ≡ given-of (r .walk)) ⌝ }
     ensures { λ r. ⌜ On (held (now (image .entry))) (now (contents .entry)) agent (now (work .exit)) (r .walk) ⌝ }
@@ -66,7 +67,7 @@ pub fn first_half(
     contents: &[Value],
     agent: usize,
     lent: usize,
-    image: &mut [u32; 4296],
+    image: &mut Image,
     work: &mut [u64; 256],
 ) -> Paused
     ensures { λ r. ⌜ Halfway (now (book .entry)) (now (contents .entry)) agent lent (now (image .exit)) (now (work .exit)) r ⌝ }
@@ -83,12 +84,7 @@ pub fn first_half(
 }
 
 // The rest of the move, by the instructions that came back from the list.
-pub fn second_half(
-    contents: &mut [Value],
-    image: &[u32; 4296],
-    work: &[u64; 256],
-    p: Paused,
-) -> Answer
+pub fn second_half(contents: &mut [Value], image: &Image, work: &[u64; 256], p: Paused) -> Answer
     ensures { λ r. ⌜ ((text : List ℕ) (k n : ℕ) → Halfway text (now (contents .entry)) k n (now (image .entry)) (now (work .entry)) p → Tells r (p .count) (now (work .entry)) (now (contents .exit)) (step-call text (now (contents .entry)) k n)) ⌝ }
 {
     let a = p.answer;

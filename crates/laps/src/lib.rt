@@ -1,4 +1,5 @@
 // A log's run move by move: the checks, the start, each move's walk and firing, and 17.
+use book::Image;
 use numbers::Value;
 use text::Answer;
 use walk::State;
@@ -63,7 +64,7 @@ fn walk_on(
     contents: &[Value],
     readers: &mut [u64],
     writers: &[u64],
-    image: &[u32; 4296],
+    image: &Image,
     work: &mut [u64; 256],
     rows: [u64; 64],
     moves: u32,
@@ -99,7 +100,7 @@ fn turn_on(
     contents: &mut [Value],
     readers: &mut [u64],
     writers: &mut [u64],
-    image: &[u32; 4296],
+    image: &Image,
     work: &mut [u64; 256],
     t: Turn,
 ) -> Turn
@@ -146,7 +147,7 @@ fn start_on(
     contents: &mut [Value],
     readers: &mut [u64],
     writers: &mut [u64],
-    image: &[u32; 4296],
+    image: &Image,
     work: &mut [u64; 256],
     rows: [u64; 64],
     moves: u32,
@@ -165,7 +166,7 @@ pub fn first_lap(
     readers: &mut [u64],
     writers: &mut [u64],
     lent: usize,
-    image: &mut [u32; 4296],
+    image: &mut Image,
     work: &mut [u64; 256],
 ) -> Turn
     ensures { λ r. ⌜ Lap (now (book .entry)) (now (log .entry)) (tables (now (contents .entry)) (now (readers .entry)) (now (writers .entry))) lent (now (image .exit)) (call-lists (now (book .entry)) (now (log .entry)) (tables (now (contents .entry)) (now (readers .entry)) (now (writers .entry))) lent) r (now (work .exit)) (now (contents .exit)) (now (readers .exit)) (now (writers .exit)) ⌝ }
@@ -205,7 +206,7 @@ pub fn next_lap(
     contents: &mut [Value],
     readers: &mut [u64],
     writers: &mut [u64],
-    image: &[u32; 4296],
+    image: &Image,
     work: &mut [u64; 256],
     t: Turn,
 ) -> Turn

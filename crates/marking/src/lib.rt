@@ -1,4 +1,5 @@
 // What rules look at beside their terms: labels, Reserve, universes; and the marks of it.
+use book::Image;
 use numbers::Value;
 use pages::Run;
 ghost use mathlib.Core.Path.{_≡_};
@@ -61,13 +62,7 @@ pub fn mark_function(readers: &mut [u64], bit: u64, kind: u16, first: usize, end
 // ---- labels and Reserve
 
 // The lowest label of Reserve from `from` on, or E; the labels tried are marked.
-pub fn lowest(
-    image: &[u32; 4296],
-    contents: &[Value],
-    readers: &mut [u64],
-    bit: u64,
-    from: u16,
-) -> u16
+pub fn lowest(image: &Image, contents: &[Value], readers: &mut [u64], bit: u64, from: u16) -> u16
     ensures { λ r. ⌜ Runs (held (now (image .entry))) (now (contents .entry)) bit (lowest from (held (now (image .entry)) .E - from)) (found-below (held (now (image .entry)) .E) r) (now (readers .entry)) (now (readers .exit)) ⌝ }
 {
     let e = pages::elements(image);
@@ -83,7 +78,7 @@ pub fn lowest(
 }
 
 // Whether location x, Reserve's while x is an element, is dynamic.
-fn roll(image: &[u32; 4296], x: u16) -> bool
+fn roll(image: &Image, x: u16) -> bool
     ensures { λ r. ⌜ (Placed (held (now (image .entry))) → r ≡ dynamic-at (held (now (image .entry))) x) ⌝ }
 {
     if x < pages::elements(image) {
@@ -93,7 +88,7 @@ fn roll(image: &[u32; 4296], x: u16) -> bool
 }
 
 // Marks Reserve at x.
-fn note_roll(image: &[u32; 4296], readers: &mut [u64], bit: u64, x: u16)
+fn note_roll(image: &Image, readers: &mut [u64], bit: u64, x: u16)
     ensures { λ _. ⌜ (Placed (held (now (image .entry))) → now (readers .exit) ≡ noted (held (now (image .entry))) bit x (now (readers .entry))) ⌝ }
 {
     if roll(image, x) {
@@ -102,13 +97,7 @@ fn note_roll(image: &[u32; 4296], readers: &mut [u64], bit: u64, x: u16)
 }
 
 // The value of Reserve at x.
-pub fn read_roll(
-    image: &[u32; 4296],
-    contents: &[Value],
-    readers: &mut [u64],
-    bit: u64,
-    x: u16,
-) -> u16
+pub fn read_roll(image: &Image, contents: &[Value], readers: &mut [u64], bit: u64, x: u16) -> u16
     ensures { λ r. ⌜ Runs (held (now (image .entry))) (now (contents .entry)) bit (read (reserve x)) r (now (readers .entry)) (now (readers .exit)) ⌝ }
 {
     note_roll(image, readers, bit, x);
@@ -142,7 +131,7 @@ fn mark_run(readers: &mut [u64], bit: u64, run: Run, e: u16)
 }
 
 // Marks the universe u at all elements if it is dynamic.
-pub fn universe(image: &[u32; 4296], readers: &mut [u64], bit: u64, u: u16)
+pub fn universe(image: &Image, readers: &mut [u64], bit: u64, u: u16)
     ensures { λ _. ⌜ ((c : List ℕ) → Placed (held (now (image .entry))) → now (readers .exit) ≡ marked bit (dynamic-among (held (now (image .entry))) (seen c (members (held (now (image .entry))) u 0 (held (now (image .entry)) .E)))) (now (readers .entry))) ⌝ }
 {
     let e = pages::elements(image);

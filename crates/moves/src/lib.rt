@@ -1,4 +1,5 @@
 // One move: fired and marked, or refused.
+use book::Image;
 use engine::Instruction;
 use firing::Outcome;
 use numbers::Value;
@@ -67,7 +68,7 @@ fn has_release(list: &[u64], len: usize) -> bool
 }
 
 // A move with a release reads every dynamic location.
-fn mark_rest(image: &[u32; 4296], readers: &mut [u64], bit: u64, list: &[u64], len: usize)
+fn mark_rest(image: &Image, readers: &mut [u64], bit: u64, list: &[u64], len: usize)
     ensures { λ _. ⌜ now (readers .exit) ≡ marked bit (if-releasing (held (now (image .entry))) (released (items (now (list .entry)) len))) (now (readers .entry)) ⌝ }
 {
     if has_release(list, len) {
@@ -89,7 +90,7 @@ fn refuse(readers: &mut [u64], bit: u64, number: u32, q: u32) -> Verdict
 
 // A settled move's answer, and its reader marks: all that it reads, or none.
 fn close(
-    image: &[u32; 4296],
+    image: &Image,
     readers: &mut [u64],
     bit: u64,
     list: &[u64],
@@ -111,7 +112,7 @@ fn close(
 
 // What is left of a move whose walk gave the first len of the list.
 fn finish(
-    image: &[u32; 4296],
+    image: &Image,
     contents: &mut [Value],
     readers: &mut [u64],
     writers: &mut [u64],
@@ -127,7 +128,7 @@ fn finish(
 
 // The rest of a move whose walk came to the state s: refused as the walk was, or settled by the first s.len of the list.
 pub fn settle_move(
-    image: &[u32; 4296],
+    image: &Image,
     contents: &mut [Value],
     readers: &mut [u64],
     writers: &mut [u64],

@@ -1,6 +1,7 @@
 // A checked book as the engine reads it, the low sixteen bits of each word of its image: its counts, its functions, and how many
 // locations it has.
 use book::Function;
+use book::Image;
 ghost use mathlib.Core.Path.{_≡_};
 ghost use Prim.Native.Nat.{_≤_};
 ghost use lib.ListN.{length};
@@ -22,7 +23,7 @@ pub struct Part {
     pub end: usize,
 }
 
-pub fn word(image: &[u32; 4296], i: usize) -> u16
+pub fn word(image: &Image, i: usize) -> u16
     ensures { λ r. ⌜ r ≡ word (narrow (now (image .entry))) i ⌝ }
 {
     numbers::low_at(image, i)
@@ -36,35 +37,35 @@ pub fn capped(n: u16, most: u16) -> u16
 }
 
 // E.
-pub fn elements(image: &[u32; 4296]) -> u16
+pub fn elements(image: &Image) -> u16
     ensures { λ r. ⌜ (r ≡ held (now (image .entry)) .E) × (r ≤ 10000) ⌝ }
 {
     capped(word(image, 0), MOST_ELEMENTS)
 }
 
 // P.
-pub fn permanent(image: &[u32; 4296]) -> u16
+pub fn permanent(image: &Image) -> u16
     ensures { λ r. ⌜ r ≡ held (now (image .entry)) .P ⌝ }
 {
     word(image, 1)
 }
 
 // How many functions there are.
-pub fn functions(image: &[u32; 4296]) -> u16
+pub fn functions(image: &Image) -> u16
     ensures { λ r. ⌜ (r ≡ length (held (now (image .entry)) .functions)) × (r ≤ 32) ⌝ }
 {
     capped(word(image, 2), MOST_FUNCTIONS)
 }
 
 // How many agents there are.
-pub fn agents(image: &[u32; 4296]) -> u16
+pub fn agents(image: &Image) -> u16
     ensures { λ r. ⌜ (r ≡ length (held (now (image .entry)) .agents)) × (r ≤ 16) ⌝ }
 {
     capped(word(image, 4), MOST_AGENTS)
 }
 
 // Function f; past the last one all 0.
-pub fn function_at(image: &[u32; 4296], f: u16) -> Function
+pub fn function_at(image: &Image, f: u16) -> Function
     ensures { λ r. ⌜ r ≡ function-at (held (now (image .entry))) f ⌝ }
 {
     if f < functions(image) {
@@ -97,7 +98,7 @@ pub fn size(e: u16, arity: u32) -> u32
 }
 
 // L.
-pub fn total(image: &[u32; 4296]) -> u32
+pub fn total(image: &Image) -> u32
     ensures { λ r. ⌜ r ≡ L (held (now (image .entry))) ⌝ }
 {
     let e = elements(image);
@@ -113,7 +114,7 @@ pub fn total(image: &[u32; 4296]) -> u32
 }
 
 // The part that location l is in: the locations of its function. Past L it is empty.
-pub fn part_of(image: &[u32; 4296], l: usize) -> Part
+pub fn part_of(image: &Image, l: usize) -> Part
     ensures { λ r. ⌜ r ≡ part-of (held (now (image .entry))) l ⌝ }
 {
     let e = elements(image);
@@ -186,7 +187,7 @@ fn no_row() -> Row
 }
 
 // Node n; past the last all 0. Every term and rule is read through here, so the two bounds are tested one by one.
-pub fn node(image: &[u32; 4296], n: u16) -> Row
+pub fn node(image: &Image, n: u16) -> Row
     ensures { λ r. ⌜ node-row r ≡ node-at (held (now (image .entry))) n ⌝ }
 {
     if numbers::low(image[3]) <= n {
@@ -205,7 +206,7 @@ pub fn node(image: &[u32; 4296], n: u16) -> Row
 }
 
 // Function f; past the last all 0.
-pub fn function(image: &[u32; 4296], f: u16) -> Run
+pub fn function(image: &Image, f: u16) -> Run
     ensures { λ r. ⌜ function-run r ≡ function-at (held (now (image .entry))) f ⌝ }
 {
     if f < capped(numbers::low(image[2]), 32) {
@@ -231,7 +232,7 @@ pub struct Actor {
 }
 
 // Agent i; past the last all 0.
-pub fn agent_at(image: &[u32; 4296], i: u32) -> Actor
+pub fn agent_at(image: &Image, i: u32) -> Actor
     ensures { λ r. ⌜ agent-row r ≡ agent-at (held (now (image .entry))) i ⌝ }
 {
     if i < capped(numbers::low(image[4]), 16) as u32 {

@@ -1,4 +1,5 @@
 // The start of a run, written into a contents table: each location's default, then the book's entries.
+use book::Image;
 use numbers::Value;
 use text::Line;
 ghost use mathlib.Core.Path.{_≡_};
@@ -34,7 +35,7 @@ fn fill_run(contents: &mut [Value], first: usize, end: usize, v: u16)
 }
 
 // Every location gets its default, function by function.
-fn write_defaults(image: &[u32; 4296], contents: &mut [Value])
+fn write_defaults(image: &Image, contents: &mut [Value])
     ensures { λ _. ⌜ (L (held (now (image .entry))) ≤ length (now (contents .entry)) → now (contents .exit) ≡ defaults (held (now (image .entry))) ++ drop (L (held (now (image .entry)))) (now (contents .entry))) ⌝ }
 {
     let e = pages::elements(image);
@@ -84,7 +85,7 @@ fn put_in(contents: &mut [Value], first: usize, end: usize, i: usize, v: u16)
 }
 
 // A contents line's value is put at its location.
-fn write_line(image: &[u32; 4296], contents: &mut [Value], l: Line)
+fn write_line(image: &Image, contents: &mut [Value], l: Line)
     ensures { λ _. ⌜ now (contents .exit) ≡ line-put (held (now (image .entry))) l (now (contents .entry)) ⌝ }
 {
     let x = numbers::low(l.b);
@@ -103,7 +104,7 @@ fn write_line(image: &[u32; 4296], contents: &mut [Value], l: Line)
 }
 
 // All contents lines, one by one; the header says where they start and how many there are.
-fn write_entries(book: &[u8], image: &[u32; 4296], contents: &mut [Value])
+fn write_entries(book: &[u8], image: &Image, contents: &mut [Value])
     ensures { λ _. ⌜ now (contents .exit) ≡ lines-put (held (now (image .entry))) (contents-lines (now (book .entry))) (now (contents .entry)) ⌝ }
 {
     let k = text::read_line(book, 0, 0);
@@ -122,7 +123,7 @@ fn write_entries(book: &[u8], image: &[u32; 4296], contents: &mut [Value])
 }
 
 // The start of a run of an accepted book, whose image it is; nothing past the last location is touched.
-pub fn write_start(book: &[u8], image: &[u32; 4296], contents: &mut [Value])
+pub fn write_start(book: &[u8], image: &Image, contents: &mut [Value])
     ensures { λ _. ⌜ ((b : Book) → check-book (now (book .entry)) ≡ good b → held (now (image .entry)) ≡ b .program → L (b .program) ≤ length (now (contents .entry)) → now (contents .exit) ≡ start b ++ drop (L (b .program)) (now (contents .entry))) ⌝ }
 {
     write_defaults(image, contents);

@@ -1,5 +1,6 @@
 // Refusal 8 of a lent contents table.
 use book::Function;
+use book::Image;
 use numbers::Value;
 use text::Found;
 ghost use mathlib.Core.Path.{_≡_};
@@ -146,7 +147,7 @@ fn bad_part(contents: &[Value], e: u16, p: u16, f: Function, first: u32) -> Foun
 }
 
 // The least location at fault, function after function.
-fn bad_in(image: &[u32; 4296], contents: &[Value]) -> Found
+fn bad_in(image: &Image, contents: &[Value]) -> Found
     ensures { λ r. ⌜ r ≡ least (bad-value (held (now (image .entry))) (now (contents .entry))) (L (held (now (image .entry)))) ⌝ }
 {
     let e = pages::elements(image);
@@ -167,7 +168,7 @@ fn bad_in(image: &[u32; 4296], contents: &[Value]) -> Found
 }
 
 // 8 of a lent table, whose first L records are judged.
-pub fn bad_value(image: &[u32; 4296], contents: &[Value]) -> Found
+pub fn bad_value(image: &Image, contents: &[Value]) -> Found
     ensures { λ r. ⌜ r ≡ least (bad-value (held (now (image .entry))) (take (L (held (now (image .entry)))) (now (contents .entry)))) (L (held (now (image .entry)))) ⌝ }
 {
     let n = pages::total(image) as usize;

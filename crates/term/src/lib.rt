@@ -1,4 +1,5 @@
 // Terms: their values in the book that an image holds, and the marks of what they read.
+use book::Image;
 use numbers::Value;
 use pages::Run;
 ghost use mathlib.Core.Path.{_≡_};
@@ -36,14 +37,14 @@ pub fn locate(run: Run, e: u16, x: u16, y: u16) -> u32
 }
 
 // The location of function f at x and y.
-pub fn location(image: &[u32; 4296], f: u16, x: u16, y: u16) -> u32
+pub fn location(image: &Image, f: u16, x: u16, y: u16) -> u32
     ensures { λ r. ⌜ r ≡ location (held (now (image .entry))) f x y ⌝ }
 {
     locate(pages::function(image, f), pages::elements(image), x, y)
 }
 
 // Whether a location is dynamic, by the sizes of the functions from the first on.
-pub fn dynamic_at(image: &[u32; 4296], l: u32) -> bool
+pub fn dynamic_at(image: &Image, l: u32) -> bool
     ensures { λ r. ⌜ r ≡ dynamic-at (held (now (image .entry))) l ⌝ }
 {
     let e = pages::elements(image);
@@ -63,7 +64,7 @@ pub fn dynamic_at(image: &[u32; 4296], l: u32) -> bool
 }
 
 // The same of function f's location at x and y, which its kind tells if they are elements.
-pub fn dynamic(image: &[u32; 4296], f: u16, x: u16, y: u16, at: u32) -> bool
+pub fn dynamic(image: &Image, f: u16, x: u16, y: u16, at: u32) -> bool
     ensures { λ r. ⌜ (Placed (held (now (image .entry))) → at ≡ location (held (now (image .entry))) f x y → r ≡ dynamic-at (held (now (image .entry))) at) ⌝ }
 {
     if pages::functions(image) <= f {
@@ -90,7 +91,7 @@ pub fn mark(readers: &mut [u64], bit: u64, at: usize)
 }
 
 // Marks function f's location at x and y if it is dynamic.
-pub fn note(image: &[u32; 4296], readers: &mut [u64], bit: u64, f: u16, x: u16, y: u16, at: u32)
+pub fn note(image: &Image, readers: &mut [u64], bit: u64, f: u16, x: u16, y: u16, at: u32)
     ensures { λ _. ⌜ (Placed (held (now (image .entry))) → at ≡ location (held (now (image .entry))) f x y → now (readers .exit) ≡ noted (held (now (image .entry))) bit at (now (readers .entry))) ⌝ }
 {
     if dynamic(image, f, x, y, at) {
@@ -100,7 +101,7 @@ pub fn note(image: &[u32; 4296], readers: &mut [u64], bit: u64, f: u16, x: u16, 
 
 // The value of function f at x and y.
 pub fn read(
-    image: &[u32; 4296],
+    image: &Image,
     contents: &[Value],
     readers: &mut [u64],
     bit: u64,
@@ -240,7 +241,7 @@ pub fn variable(scope: &[u16; 9], a: u16) -> u16
 
 // The value of the term at node n, looking at most `depth` nodes down; what it reads is marked.
 pub fn eval(
-    image: &[u32; 4296],
+    image: &Image,
     contents: &[Value],
     readers: &mut [u64],
     bit: u64,
@@ -284,7 +285,7 @@ pub fn eval(
 
 // The location that the term at node n names; its arguments are read.
 pub fn aim(
-    image: &[u32; 4296],
+    image: &Image,
     contents: &[Value],
     readers: &mut [u64],
     bit: u64,

@@ -1,4 +1,5 @@
 // The walk of a rule: its instructions or its refusal, and the marks of what it reads.
+use book::Image;
 use giving::Pace;
 use numbers::Value;
 use pages::Row;
@@ -46,7 +47,7 @@ fn branch(x: u16, b: u16, c: u16) -> u16
 
 // Rule 21: the location that node a names gets the value of term b.
 fn assign(
-    image: &[u32; 4296],
+    image: &Image,
     contents: &[Value],
     readers: &mut [u64],
     bit: u64,
@@ -68,7 +69,7 @@ fn assign(
 
 // Rule 27: the label that term a gives goes back to the roll.
 fn release(
-    image: &[u32; 4296],
+    image: &Image,
     contents: &[Value],
     readers: &mut [u64],
     bit: u64,
@@ -90,7 +91,7 @@ fn release(
 // The rule at node n, looking at most `depth` nodes down; after a refusal nothing more is done.
 // Its kind decides: a pair's second part and a test's branch take the node's place, with no call; the other kinds end the walk.
 fn walk(
-    image: &[u32; 4296],
+    image: &Image,
     contents: &[Value],
     readers: &mut [u64],
     bit: u64,
@@ -138,7 +139,7 @@ fn walk(
 
 // The body c of a row that binds variable a, with a at x.
 fn within(
-    image: &[u32; 4296],
+    image: &Image,
     contents: &[Value],
     readers: &mut [u64],
     bit: u64,
@@ -158,7 +159,7 @@ fn within(
 
 // Rule 24: the body c with variable a at the value of term b.
 fn let_in(
-    image: &[u32; 4296],
+    image: &Image,
     contents: &[Value],
     readers: &mut [u64],
     bit: u64,
@@ -177,7 +178,7 @@ fn let_in(
 
 // Rule 25: the body c with variable a at each member of the universe b, ascending.
 fn each(
-    image: &[u32; 4296],
+    image: &Image,
     contents: &[Value],
     readers: &mut [u64],
     bit: u64,
@@ -207,7 +208,7 @@ fn each(
 
 // Rule 26: the lowest label of the roll enters the universe b; the body c with variable a at it.
 fn import(
-    image: &[u32; 4296],
+    image: &Image,
     contents: &[Value],
     readers: &mut [u64],
     bit: u64,
@@ -249,7 +250,7 @@ fn ended(s: Pace) -> State
 
 // The walk of an agent's rule, with its marks; a refused one leaves none.
 pub fn gather(
-    image: &[u32; 4296],
+    image: &Image,
     contents: &[Value],
     readers: &mut [u64],
     bit: u64,
@@ -275,7 +276,7 @@ pub fn gather(
 }
 
 // Marks every dynamic location, function by function: what a move with a release reads.
-pub fn mark_all(image: &[u32; 4296], readers: &mut [u64], bit: u64)
+pub fn mark_all(image: &Image, readers: &mut [u64], bit: u64)
     ensures { λ _. ⌜ now (readers .exit) ≡ marked bit (all-dynamic (held (now (image .entry)))) (now (readers .entry)) ⌝ }
 {
     let e = pages::elements(image);
