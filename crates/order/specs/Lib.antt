@@ -8,3 +8,4 @@ pub mod Demand
 pub mod Open
 pub mod Claims
 pub mod Lists
+pub mod Table

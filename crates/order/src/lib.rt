@@ -2,3 +2,6 @@
 
 // A reader mark or a writer mark of a location: a set of 64 moves.
 pub type Mark = u64;
+
+// The order of a log, as specs/Table lays it out: the set of the moves before each of 64 moves, then the agent of each.
+pub type Order = [u64; 128];
