@@ -1,7 +1,9 @@
-// Links the static library of the proved code, which `rt staticlib` writes.
+// Links the static library of the proved code, which `rt staticlib` writes; RENTAL_LIBRARY names the folder of another one.
 fn main() {
-    let library = concat!(env!("CARGO_MANIFEST_DIR"), "/../../target/staticlib");
+    let here = concat!(env!("CARGO_MANIFEST_DIR"), "/../../target/staticlib");
+    let library = std::env::var("RENTAL_LIBRARY").unwrap_or_else(|_| here.to_string());
     println!("cargo:rustc-link-search=native={library}");
     println!("cargo:rustc-link-lib=static=for_c");
     println!("cargo:rerun-if-changed={library}");
+    println!("cargo:rerun-if-env-changed=RENTAL_LIBRARY");
 }

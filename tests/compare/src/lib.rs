@@ -1,13 +1,19 @@
 // The proved code's exported functions, and what the comparisons share.
 use paper::Answer;
 
+pub mod against;
 pub mod asked;
+pub mod benchmarks;
 pub mod comparison;
+pub mod counting;
+pub mod entries;
 pub mod loads;
 pub mod machine;
+pub mod meter;
 pub mod pen;
 pub mod rows;
 pub mod shops;
+pub mod table;
 mod tally;
 pub mod timing;
 

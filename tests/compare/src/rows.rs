@@ -1,24 +1,42 @@
-// The rows of the benchmarks: each measured in one run for the proved code and the independent one, and how they are printed.
+// The rows of the benchmarks: each measured in one run for the proved code and the independent one.
 use crate::loads::{Logged, Single};
-use crate::timing::{best_rounds, shown};
+use crate::meter::Meter;
 use crate::{check_book, paper_check_book, report_into, run, step, MOST_OUTPUT};
 use paper::{Answer, INSTRUCTIONS};
 use std::hint::black_box;
+use std::io;
 
-// What was measured, and the seconds of both.
+// What was measured: a call of the proved code and of the independent one, then what is taken off, 0 for most rows; and in how many units.
+#[derive(Clone, Debug, PartialEq)]
 pub struct Row {
     pub what: String,
-    pub proved: f64,
-    pub independent: f64,
+    pub units: f64,
+    pub measured: [f64; 4],
 }
 
 impl Row {
-    fn new(what: &str, [proved, independent]: [f64; 2]) -> Row {
-        Row { what: what.to_string(), proved, independent }
+    fn calls(what: &str, [proved, independent]: [f64; 2]) -> Row {
+        Row::difference(what, 1, [proved, independent, 0.0, 0.0])
+    }
+
+    fn difference(what: &str, units: u32, measured: [f64; 4]) -> Row {
+        Row { what: what.to_string(), units: f64::from(units), measured }
+    }
+
+    fn value(&self, side: usize) -> f64 {
+        (self.measured[side] - self.measured[side + 2]) / self.units
+    }
+
+    pub fn proved(&self) -> f64 {
+        self.value(0)
+    }
+
+    pub fn independent(&self) -> f64 {
+        self.value(1)
     }
 
     pub fn ratio(&self) -> f64 {
-        self.proved / self.independent
+        self.proved() / self.independent()
     }
 
     // The first bar: 2.0 for a node, 2.5 for the rest. The aim is 1.0.
@@ -31,28 +49,38 @@ impl Row {
         self.ratio() > bar
     }
 
-    pub fn plain(&self) -> String {
-        let Row { what, proved, independent } = self;
-        format!("{what:<66} {:>10} {:>12} {:>7.2}", shown(*proved), shown(*independent), self.ratio())
+    // A small difference of two large measures, of which an error is a large part.
+    pub fn is_faint(&self) -> bool {
+        self.measured[0] - self.measured[2] < 0.1 * self.measured[0]
     }
 
-    pub fn markdown(&self) -> String {
-        let Row { what, proved, independent } = self;
-        format!("| {what} | {} | {} | {:.2} |", shown(*proved), shown(*independent), self.ratio())
+    // The best of each measure of two rows.
+    pub fn best_of(mut self, other: &Row) -> Row {
+        self.measured.iter_mut().zip(other.measured).for_each(|(mine, theirs)| *mine = mine.min(theirs));
+        self
     }
-}
 
-pub fn plain_heading() -> String {
-    format!("{:<66} {:>10} {:>12} {:>7}", "", "proved", "independent", "ratio")
-}
+    // A row as one process of `bench` tells it to another: its parts between tabs.
+    pub fn line(&self) -> String {
+        let [a, b, c, d] = self.measured;
+        format!("{}\t{}\t{a}\t{b}\t{c}\t{d}", self.what, self.units)
+    }
 
-pub fn markdown_heading() -> String {
-    "| what | proved | independent | ratio |\n|---|---:|---:|---:|".to_string()
+    pub fn from_line(line: &str) -> io::Result<Row> {
+        Row::parsed(line.trim_end()).ok_or_else(|| io::Error::other(format!("not a row: '{line}'")))
+    }
+
+    fn parsed(line: &str) -> Option<Row> {
+        let (what, numbers) = line.split_once('\t')?;
+        let numbers: Vec<f64> = numbers.split('\t').map_while(|number| number.parse().ok()).collect();
+        let [units, measured @ ..] = <[f64; 5]>::try_from(numbers).ok()?;
+        Some(Row { what: what.to_string(), units, measured })
+    }
 }
 
 // ---- the book check
 
-pub fn book_row(what: &str, book: &[u8]) -> Row {
+pub fn book_row(what: &str, meter: &mut Meter, book: &[u8]) -> Row {
     assert_eq!(check_book(book), Answer::ACCEPTED, "{what}");
     assert_eq!(paper_check_book(book), Answer::ACCEPTED, "{what}");
     let proved = &mut || {
@@ -61,7 +89,7 @@ pub fn book_row(what: &str, book: &[u8]) -> Row {
     let independent = &mut || {
         black_box(paper_check_book(black_box(book)));
     };
-    Row::new(what, best_rounds([proved, independent]))
+    Row::calls(what, meter.measure([proved, independent]))
 }
 
 // ---- single moves
@@ -90,23 +118,20 @@ fn assert_steps_alike(what: &str, single: &Single) {
     }
 }
 
-pub fn step_row(what: &str, single: &Single) -> Row {
+pub fn step_row(what: &str, meter: &mut Meter, single: &Single) -> Row {
     assert_steps_alike(what, single);
     let (mut ours, mut theirs) = (stepping(single, step), stepping(single, paper::step));
-    Row::new(what, best_rounds([&mut ours, &mut theirs]))
+    Row::calls(what, meter.measure([&mut ours, &mut theirs]))
 }
 
-// The time of each of `units` by which the larger move is larger.
-pub fn slope_row(what: &str, small: &Single, large: &Single, units: u32) -> Row {
+// What each of `units` takes by which the larger move is larger.
+pub fn slope_row(what: &str, meter: &mut Meter, small: &Single, large: &Single, units: u32) -> Row {
     assert_steps_alike(what, small);
     assert_steps_alike(what, large);
-    let mut small_ours = stepping(small, step);
-    let mut small_theirs = stepping(small, paper::step);
-    let mut large_ours = stepping(large, step);
-    let mut large_theirs = stepping(large, paper::step);
-    let best = best_rounds([&mut small_ours, &mut small_theirs, &mut large_ours, &mut large_theirs]);
-    let each = |i: usize| (best[i + 2] - best[i]) / f64::from(units);
-    Row::new(what, [each(0), each(1)])
+    let (mut ours, mut theirs) = (stepping(large, step), stepping(large, paper::step));
+    let (mut our_less, mut their_less) = (stepping(small, step), stepping(small, paper::step));
+    let measured = meter.measure([&mut ours, &mut theirs, &mut our_less, &mut their_less]);
+    Row::difference(what, units, measured)
 }
 
 // ---- logs
@@ -149,31 +174,30 @@ fn assert_runs_alike(what: &str, logged: &Logged, number: u32) {
     assert!(ours == theirs, "{what}: what is left");
 }
 
-pub fn run_row(what: &str, logged: &Logged) -> Row {
+pub fn run_row(what: &str, meter: &mut Meter, logged: &Logged) -> Row {
     assert_runs_alike(what, logged, 0);
     let (mut ours, mut theirs) = (running(logged, run), running(logged, paper::run));
-    Row::new(what, best_rounds([&mut ours, &mut theirs]))
+    Row::calls(what, meter.measure([&mut ours, &mut theirs]))
 }
 
-// The time of each of `units` by which the larger run is larger.
-pub fn run_slope_row(what: &str, small: &Logged, large: &Logged, units: u32) -> Row {
-    let Row { proved, independent, .. } = beyond_row(what, large, small, 0);
-    Row::new(what, [proved, independent].map(|seconds| seconds / f64::from(units)))
+// What each of `units` takes by which the larger run is larger.
+pub fn run_slope_row(what: &str, meter: &mut Meter, small: &Logged, large: &Logged, units: u32) -> Row {
+    Row { units: f64::from(units), ..beyond_row(what, meter, large, small, 0) }
 }
 
-// The time by which one run is longer than another, which is answered with this number.
-pub fn beyond_row(what: &str, whole: &Logged, less: &Logged, number: u32) -> Row {
+// What one run takes more than another, which is answered with this number.
+pub fn beyond_row(what: &str, meter: &mut Meter, whole: &Logged, less: &Logged, number: u32) -> Row {
     assert_runs_alike(what, whole, 0);
     assert_runs_alike(what, less, number);
     let (mut ours, mut theirs) = (running(whole, run), running(whole, paper::run));
     let (mut our_less, mut their_less) = (running(less, run), running(less, paper::run));
-    let best = best_rounds([&mut ours, &mut theirs, &mut our_less, &mut their_less]);
-    Row::new(what, [best[0] - best[2], best[1] - best[3]])
+    let measured = meter.measure([&mut ours, &mut theirs, &mut our_less, &mut their_less]);
+    Row::difference(what, 1, measured)
 }
 
 // ---- whole inputs
 
-pub fn report_row(what: &str, input: &[u8]) -> Row {
+pub fn report_row(what: &str, meter: &mut Meter, input: &[u8]) -> Row {
     let mut output = vec![0; MOST_OUTPUT];
     let length = report_into(input, &mut output);
     assert_eq!(output[..length], paper::report(input), "{what}");
@@ -184,5 +208,5 @@ pub fn report_row(what: &str, input: &[u8]) -> Row {
     let independent = &mut || {
         black_box(paper::report(black_box(input)));
     };
-    Row::new(what, best_rounds([proved, independent]))
+    Row::calls(what, meter.measure([proved, independent]))
 }

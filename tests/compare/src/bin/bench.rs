@@ -1,128 +1,147 @@
 // Benchmarks: the proved code against the independent one in one run, as ratios. Tables are lent once and used again, caches are warm.
-// Usage: bench [--markdown] [WORD]; with a word, only the rows whose name has it.
-use compare::loads::{self, Logged};
+use compare::against::compare_builds;
+use compare::benchmarks::wanted;
+use compare::counting::{can_count, counted};
+use compare::entries::called;
 use compare::machine::machine;
-use compare::rows::*;
-use compare::shops::{paper_book, paper_log, shop, shop_log};
+use compare::meter::Meter;
+use compare::rows::Row;
+use compare::table::{cells, count, time, Table};
+use compare::timing::Rounds;
+use std::io;
+use std::path::{Path, PathBuf};
+use std::process::ExitCode;
+use std::time::Duration;
 
-// Which rows are wanted, how they are printed, and those that were measured.
-struct Bench {
-    markdown: bool,
-    word: String,
-    rows: Vec<Row>,
+const USAGE: &str = "\
+usage: bench [--instructions] [--markdown] [WORD]
+       bench --against BENCH [--instructions] [WORD]
+
+With a word, only the rows whose name has it. --instructions puts the instructions of one call beside its time, as
+callgrind counts them, without those of memset and memcpy; it needs valgrind. --against measures another build of this
+program and this one in turns and prints a table of before and after; tests/before_after.sh makes the two builds.
+";
+
+const ROUNDS: Rounds = Rounds { number: 51, length: Duration::from_millis(12) };
+const ROUNDS_OF_A_TURN: Rounds = Rounds { number: 20, length: Duration::from_millis(3) };
+
+const TIMES: &[&str] = &["what", "proved", "independent", "ratio"];
+const TIMES_AND_COUNTS: &[&str] =
+    &["what", "proved", "independent", "ratio", "instructions", "independent", "ratio"];
+
+const NO_VALGRIND: &str = "valgrind is not on this machine";
+
+enum Task {
+    Help,
+    Table,
+    // In turns with another build.
+    Against(PathBuf),
+    // What these two have this program do in a process of its own, as one build of two or under valgrind.
+    Turn,
+    Count,
 }
 
-impl Bench {
-    // Measures and prints a row, if it is wanted.
-    fn row(&mut self, what: &str, measure: impl FnOnce(&str) -> Row) {
-        if what.contains(&self.word) {
-            let row = measure(what);
-            println!("{}", if self.markdown { row.markdown() } else { row.plain() });
-            self.rows.push(row);
+struct Options {
+    task: Task,
+    markdown: bool,
+    instructions: bool,
+    word: String,
+}
+
+fn options() -> Option<Options> {
+    let mut options =
+        Options { task: Task::Table, markdown: false, instructions: false, word: String::new() };
+    let mut words = std::env::args().skip(1);
+    while let Some(word) = words.next() {
+        match word.as_str() {
+            "--help" => options.task = Task::Help,
+            "--turn" => options.task = Task::Turn,
+            "--count" => options.task = Task::Count,
+            "--against" => options.task = Task::Against(words.next()?.into()),
+            "--markdown" => options.markdown = true,
+            "--instructions" => options.instructions = true,
+            option if option.starts_with("--") => return None,
+            _ if options.word.is_empty() => options.word = word,
+            _ => options.word = format!("{} {word}", options.word),
         }
     }
+    Some(options)
 }
 
-fn book_checks(bench: &mut Bench) {
-    bench.row("book check: 01's book", |what| book_row(what, &paper_book()));
-    bench.row("book check: 1,024 nodes", |what| book_row(what, &loads::thousand_nodes()));
-    bench.row("book check: 65,281 contents lines", |what| book_row(what, &loads::full_contents()));
-    bench.row("book check: the shop's book", |what| book_row(what, &shop()));
+// The rows with this word as lines for the process that started this one.
+fn tell(word: &str, mut meter: Meter) {
+    wanted(word).iter().for_each(|benchmark| println!("{}", benchmark.measure(&mut meter).line()));
 }
 
-// Bodies walked 10,000 times in one move; the book check is the same in both moves but for the nodes' own lines.
-fn slopes(bench: &mut Bench) {
-    let turns = loads::MEMBERS * loads::MEMBERS;
-    bench.row("single move: each term node", |what| {
-        let nodes = loads::term_nodes(16) - loads::term_nodes(1);
-        slope_row(what, &loads::guards(1), &loads::guards(16), turns * nodes)
-    });
-    bench.row("log: each term node, its reads marked", |what| {
-        let nodes = loads::term_nodes(16) - loads::term_nodes(1);
-        run_slope_row(what, &loads::guards(1).logged(), &loads::guards(16).logged(), turns * nodes)
-    });
-    bench.row("single move: each rule node (both, skip)", |what| {
-        let nodes = loads::skip_nodes(65) - loads::skip_nodes(1);
-        slope_row(what, &loads::skips(1), &loads::skips(65), turns * nodes)
-    });
-    bench.row("single move: each rule node (if, let, both, skip, with their terms)", |what| {
-        let nodes = loads::choice_nodes(33) - loads::choice_nodes(1);
-        slope_row(what, &loads::choices(1), &loads::choices(33), turns * nodes)
-    });
-}
-
-fn single_moves(bench: &mut Bench) {
-    bench.row("single move: a term of 991 nodes, walked once", |what| step_row(what, &loads::wide_term()));
-    bench.row("single move: 1,013 rule nodes, walked once", |what| step_row(what, &loads::wide_rule()));
-    bench.row("single move: forall of 200 members, a set each", |what| step_row(what, &loads::two_hundred()));
-    bench.row("single move: two foralls over 1,000 members, 1,000,000 turns", |what| {
-        step_row(what, &loads::nested())
-    });
-    bench.row("single move: two foralls over 1,000 elements, 16 members, 256 sets", |what| {
-        step_row(what, &loads::nested_few())
-    });
-    bench.row("single move: a release, L 65,536", |what| step_row(what, &loads::release()));
-}
-
-fn logs(bench: &mut Bench) {
-    bench.row("log: 01's book and log, 2 moves", |what| {
-        run_row(what, &Logged { book: paper_book(), log: paper_log() })
-    });
-    bench.row("log: the shop's book, 64 moves of 16 agents", |what| {
-        let book = shop();
-        let log = shop_log(&book);
-        run_row(what, &Logged { book, log })
-    });
-    bench.row("log: 64 foralls of 200 members, a set each", |what| {
-        run_row(what, &loads::two_hundred_logged())
-    });
-    bench.row("log: 64 small moves with marks, L 65,536", |what| run_row(what, &loads::counts_logged()));
-    bench.row("log: 32 imports and 32 releases, L 65,536", |what| run_row(what, &loads::releases_logged()));
-}
-
-fn order_checks(bench: &mut Bench) {
-    bench.row("order: 64 moves, each desk's own in order", |what| run_row(what, &loads::desks_logged(false)));
-    bench.row("order: 64 moves, all 2,016 pairs", |what| run_row(what, &loads::desks_logged(true)));
-    bench.row("order: 32 releases and 32 imports, L 801", |what| run_row(what, &loads::depot_logged()));
-    bench.row("order: of these, 17 alone", |what| {
-        beyond_row(what, &loads::depot_logged(), &loads::depot_idle_at_last(), 16)
-    });
+// Measures and prints the rows one by one.
+fn print_table(options: &Options) -> io::Result<()> {
+    let (bench, counting) = (std::env::current_exe()?, options.instructions && can_count());
+    println!("{}", machine());
+    if options.instructions && !counting {
+        println!("Times alone: {NO_VALGRIND}.");
+    }
+    let headings = if counting { TIMES_AND_COUNTS } else { TIMES };
+    let table = Table { markdown: options.markdown, headings };
+    println!("\n{}", table.heading());
+    let mut rows = Vec::new();
+    for benchmark in wanted(&options.word) {
+        let row = benchmark.measure(&mut Meter::Clock(ROUNDS));
+        let mut line = [std::slice::from_ref(&row.what), &cells(&row, time)].concat();
+        if counting {
+            line.extend(cells(&counted(&bench, &row.what)?, count));
+        }
+        println!("{}", table.line(&line));
+        rows.push(row);
+    }
+    println!();
+    print_summary(&rows);
+    Ok(())
 }
 
 const WHOLE: &str = "rental:";
 
-fn whole_runs(bench: &mut Bench) {
-    bench.row("rental: 01's book and log", |what| report_row(what, &[paper_book(), paper_log()].concat()));
-    bench.row("rental: the shop's book, 64 moves of 16 agents", |what| {
-        let book = shop();
-        let log = shop_log(&book);
-        report_row(what, &[book, log].concat())
-    });
-}
-
 // The whole runs by their number in a second, and the rows above the bar.
-fn summary(bench: &Bench) {
-    for row in bench.rows.iter().filter(|row| row.what.starts_with(WHOLE)) {
-        let [proved, independent] = [row.proved, row.independent].map(|seconds| 1.0 / seconds);
+fn print_summary(rows: &[Row]) {
+    for row in rows.iter().filter(|row| row.what.starts_with(WHOLE)) {
+        let [proved, independent] = [row.proved(), row.independent()].map(|seconds| 1.0 / seconds);
         println!("- {}: {proved:.0} runs a second proved, {independent:.0} independent", row.what);
     }
-    for row in bench.rows.iter().filter(|row| row.is_above_bar()) {
+    for row in rows.iter().filter(|row| row.is_above_bar()) {
         println!("- above the bar: {}, {:.2}", row.what, row.ratio());
     }
 }
 
-fn main() {
-    let words: Vec<String> = std::env::args().skip(1).collect();
-    let (options, rest): (Vec<_>, Vec<_>) = words.into_iter().partition(|word| word.starts_with("--"));
-    let markdown = options.iter().any(|option| option == "--markdown");
-    let mut bench = Bench { markdown, word: rest.join(" "), rows: Vec::new() };
-    println!("{}\n\n{}", machine(), if markdown { markdown_heading() } else { plain_heading() });
-    book_checks(&mut bench);
-    slopes(&mut bench);
-    single_moves(&mut bench);
-    logs(&mut bench);
-    order_checks(&mut bench);
-    whole_runs(&mut bench);
-    println!();
-    summary(&bench);
+fn compare_with(before: &Path, options: &Options) -> io::Result<()> {
+    if options.instructions && !can_count() {
+        return Err(io::Error::other(NO_VALGRIND));
+    }
+    compare_builds([before, &std::env::current_exe()?], &options.word, options.instructions)
+}
+
+fn perform(options: &Options) -> io::Result<()> {
+    if wanted(&options.word).is_empty() {
+        return Err(io::Error::other(format!("no row has '{}' in its name", options.word)));
+    }
+    match &options.task {
+        Task::Help => print!("{USAGE}\nThe rows, the tests and the entries that they call:\n{}", called()),
+        Task::Turn => tell(&options.word, Meter::Clock(ROUNDS_OF_A_TURN)),
+        Task::Count => tell(&options.word, Meter::Callgrind { dumps: 0 }),
+        Task::Table => print_table(options)?,
+        Task::Against(before) => compare_with(before, options)?,
+    }
+    Ok(())
+}
+
+fn main() -> ExitCode {
+    let Some(options) = options() else {
+        eprint!("{USAGE}");
+        return ExitCode::from(2);
+    };
+    match perform(&options) {
+        Ok(()) => ExitCode::SUCCESS,
+        Err(error) => {
+            eprintln!("bench: {error}");
+            ExitCode::FAILURE
+        }
+    }
 }

@@ -1,0 +1,42 @@
+#!/usr/bin/env bash
+# Measures two static libraries of the proved code, row by row in turns, and prints a Markdown table: each row before and after, and its ratio
+# to the independent implementation. The last line names the rows that take more than 1.05 times before. With --instructions the table is in
+# instructions (valgrind counts them). Both libraries are linked with the benchmarks as they are here. All files go to a temporary folder.
+# Usage: tests/before_after.sh [--instructions] OLD.a NEW.a [WORD]; with a word, only the rows whose name has it.
+set -eu
+
+usage() {
+    echo "usage: tests/before_after.sh [--instructions] OLD.a NEW.a [WORD]" >&2
+    exit 2
+}
+
+options=()
+while [ $# -gt 0 ]; do
+    case $1 in
+        --instructions) options+=("$1") ;;
+        -*) usage ;;
+        *) break ;;
+    esac
+    shift
+done
+if [ $# -lt 2 ] || [ ! -f "$1" ] || [ ! -f "$2" ]; then usage; fi
+old=$1
+new=$2
+shift 2
+
+tests=$(cd "$(dirname "$0")" && pwd)
+work=$(mktemp -d)
+trap 'rm -rf "$work"' EXIT
+
+# build NAME LIBRARY: the program `bench` over a library, as $work/NAME/bench
+build() {
+    mkdir "$work/$1"
+    cp "$2" "$work/$1/libfor_c.a"
+    RENTAL_LIBRARY="$work/$1" cargo build --offline --release --quiet --manifest-path "$tests/Cargo.toml" \
+        --target-dir "$work/target" -p compare --bin bench
+    cp "$work/target/release/bench" "$work/$1/bench"
+}
+
+build before "$old"
+build after "$new"
+"$work/after/bench" --against "$work/before/bench" "${options[@]}" "$@"

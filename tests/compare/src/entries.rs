@@ -1,0 +1,36 @@
+// Which rows of the benchmarks and which comparison test call each public entry.
+pub struct Calls {
+    // An exported function, then the entries behind it, each called by the one before.
+    pub entries: &'static [&'static str],
+    // How the names of the rows begin.
+    pub rows: &'static [&'static str],
+    // A file of tests/compare/tests.
+    pub test: &'static str,
+}
+
+pub const CALLS: [Calls; 4] = [
+    Calls {
+        entries: &["for_c::rental_check_book", "book_check::check_book"],
+        rows: &["book check:"],
+        test: "books.rs",
+    },
+    Calls {
+        entries: &["for_c::rental_step", "lending::step", "lent_step::step"],
+        rows: &["single move:"],
+        test: "moves.rs",
+    },
+    Calls {
+        entries: &["for_c::rental_run", "lending::run", "lent_run::run"],
+        rows: &["log:", "order:"],
+        test: "logs.rs",
+    },
+    Calls { entries: &["for_c::rental_report", "reporting::report"], rows: &["rental:"], test: "reports.rs" },
+];
+
+// One line for each exported function.
+pub fn called() -> String {
+    let line = |Calls { entries, rows, test }: &Calls| {
+        format!("  {:<14} and {test:<11} call {}\n", rows.join(" "), entries.join(", "))
+    };
+    CALLS.iter().map(line).collect()
+}

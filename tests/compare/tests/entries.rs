@@ -1,0 +1,45 @@
+// Every public entry is called by a row of the benchmarks and by a comparison test.
+use compare::benchmarks::benchmarks;
+use compare::entries::{Calls, CALLS};
+use std::fs;
+use std::path::{Path, PathBuf};
+
+// A file of the repository.
+fn path(name: &str) -> PathBuf {
+    Path::new(env!("CARGO_MANIFEST_DIR")).join("../..").join(name)
+}
+
+fn text(name: &str) -> String {
+    fs::read_to_string(path(name)).expect(name)
+}
+
+#[test]
+fn all_of_the_list() {
+    let list = text("docs/ENTRIES.txt");
+    let mut listed: Vec<&str> = list.lines().filter(|line| !line.starts_with('#')).collect();
+    let mut called: Vec<&str> = CALLS.iter().flat_map(|calls| calls.entries).copied().collect();
+    listed.sort_unstable();
+    called.sort_unstable();
+    assert_eq!(listed, called);
+}
+
+#[test]
+fn rows_and_tests_are_there() {
+    for Calls { rows, test, .. } in &CALLS {
+        for begin in *rows {
+            assert!(benchmarks().any(|benchmark| benchmark.what.starts_with(begin)), "{begin}");
+        }
+        assert!(path(&format!("tests/compare/tests/{test}")).is_file(), "{test}");
+    }
+}
+
+#[test]
+fn each_is_called_by_the_one_before() {
+    for Calls { entries, .. } in &CALLS {
+        for two in entries.windows(2) {
+            let (caller, _) = two[0].split_once("::").expect("crate::function");
+            let source = text(&format!("crates/{caller}/src/lib.rt"));
+            assert!(source.contains(&format!("{}(", two[1])), "{caller} does not call {}", two[1]);
+        }
+    }
+}
