@@ -39,31 +39,15 @@ fn is_trace(e: u16, s: Spot, x: u16) -> bool
 fn spot_of(image: &Image, contents: &[Value], l: u32) -> Spot
     ensures { λ r. ⌜ r ≡ spot (held (now (image .entry))) (now (contents .entry)) l ⌝ }
 {
-    let held = numbers::fetch(contents, l as usize);
-    let e = pages::elements(image);
-    let n = pages::functions(image);
-    let mut first: usize = 0;
-    let mut g: u16 = 0;
-    while g < n {
-        let f = pages::function_at(image, g);
-        let end = first + pages::size(e, f.arity) as usize;
-        if (l as usize) < end {
-            return Spot {
-                location: l,
-                function: f,
-                index: l as usize - first,
-                held: held,
-            };
-        }
-        first = end;
-        g = g + 1;
-    }
-    let f = pages::function_at(image, n);
+    let at = l as usize;
+    let owner = pages::owner_of(image, at);
+    let index = if at < owner.end { at - owner.first } else { 0 };
+    let f = owner.function;
     Spot {
         location: l,
         function: f,
-        index: 0,
-        held: held,
+        index: index,
+        held: numbers::fetch(contents, at),
     }
 }
 

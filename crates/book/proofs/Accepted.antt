@@ -13,7 +13,7 @@ use Rattle.text.specs.declared.Line.{Line}
 use Rattle.text.specs.declared.Found.the-variants.{Nowhere}
 use Rattle.text.specs.Words.{table-from, table, least, good}
 use Rattle.text.specs.Text.{line, no-line}
-use Rattle.text.proofs.Words.{so-true, length-table-from, getD-table, getD-table-past, least-none, bind-good, found-good, test-good, good-same}
+use Rattle.text.proofs.Words.{so-true, length-table-from, getD-table, getD-table-past, least-none, bind-good, then-good, none-good, found-good, test-good, good-same}
 use Rattle.book.specs.declared.Header.{Header}
 use Rattle.book.specs.Book.{Program, Book, L, size, no-function, no-agent, function-at, node-at, agent-at}
 use Rattle.book.specs.Kinds.{is-rule}
@@ -21,7 +21,7 @@ use Rattle.book.specs.Lines.{header-of, bad-field, most-locations, first
 use Rattle.book.specs.Use.{bad-use}
 use Rattle.book.specs.Around.{bad-around}
 use Rattle.book.specs.Contents.{bad-entry}
-use Rattle.book.specs.Check.{check-header, check-present, check-surplus, check-lines, check-book}
+use Rattle.book.specs.Check.{check-header, check-present, check-surplus, check-program, check-lines, check-book}
 use Rattle.book.specs.Sound.{Laid, Lawful}
 
 -- ---- the header
@@ -140,25 +140,26 @@ record Passed (h : Header) (text : List ℕ) : Type 0 where
   pub entries : (i : ℕ) → i < h .contents → bad-entry (program-of h text) (entries-of h text) i ≡ false
 
 passed : (h : Header) (text : List ℕ) (b : Book) → check-lines h text ≡ good b → Passed h text × (book-of h text ≡ b)
-unfolding check-lines
+unfolding check-lines check-program
 passed h text b e =
     let A = program-of h text in
     let bad4 : ℕ → Bool = λ f. bad-function (line text (first-function + f)) f in
     let bad7 : ℕ → Bool = λ i. bad-agent A (line text (first-agent h + i)) i in
-    let e4 = found-good _ _ _ _ _ b e in
-    let e3 = test-good _ _ _ _ _ b (e4 .1) in
-    let e5 = found-good _ _ _ _ _ b (e3 .1) in
-    let e6 = found-good _ _ _ _ _ b (e5 .1) in
-    let e6′ = found-good _ _ _ _ _ b (e6 .1) in
-    let e7 = found-good _ _ _ _ _ b (e6′ .1) in
-    let e8 = found-good _ _ _ _ (good (book-of h text)) b (e7 .1) in (
+    let r = then-good (check-program h text) _ b e in
+    let e4 = found-good _ _ _ _ _ (r .0) (r .1) in
+    let e3 = test-good _ _ _ _ _ (r .0) (e4 .1) in
+    let e5 = found-good _ _ _ _ _ (r .0) (e3 .1) in
+    let e6 = found-good _ _ _ _ _ (r .0) (e5 .1) in
+    let e6′ = found-good _ _ _ _ _ (r .0) (e6 .1) in
+    let e7 = none-good _ _ _ _ (r .0) (e6′ .1) in
+    let e8 = found-good _ _ _ _ (good (book-of h text)) b (r .2) in (
       record {
         functions = least-none bad4 (h .functions) (e4 .0);
         locations = leb-true (L A) most-locations (e3 .0);
         nodes = least-none (bad-node A) (h .nodes) (e5 .0);
         uses = least-none (bad-use A) (h .nodes) (e6 .0);
         around = least-none (bad-around A) (h .nodes) (e6′ .0);
-        agents = least-none bad7 (h .agents) (e7 .0);
+        agents = least-none bad7 (h .agents) e7;
         entries = least-none (bad-entry A (entries-of h text)) (h .contents) (e8 .0);
       },
       good-same (book-of h text) b (e8 .1),

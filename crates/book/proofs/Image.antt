@@ -20,7 +20,7 @@ use Rattle.book.specs.declared.Header.{Header}
 use Rattle.book.specs.declared.Function.{Function}
 use Rattle.book.specs.Book.{total, size, function-at, node-at, agent-at, no-function, no-node, no-agent}
 use Rattle.book.specs.Lines.{lay-out, node-of, agent-of, program-of}
-use Rattle.book.specs.Image.{image-length, word, narrow, row-in, capped, function-of, program-in, Holds, Counts, Room, stored, filled, first-of, laid-row}
+use Rattle.book.specs.Image.{image-length, word, narrow, row-in, capped, function-of, program-in, Holds, Counts, Room, capped-header, stored, filled, first-of, laid-row}
 use Rattle.book.proofs.Accepted.{book-lengths}
 
 -- a count within its bound
@@ -31,12 +31,23 @@ uncapped n most h = go (decLt n most)
     go (yes l) = rw (lt-ltb n most l)
     go (no l) = let e : n ≡ most = omega arith in rw (le-ltb n most (omega arith)) (sym e)
 
-capped-most : (n most : ℕ) → capped n most ≤ most
+pub capped-most : (n most : ℕ) → capped n most ≤ most
 capped-most n most = go (decLt n most)
   where
     go : Dec (n < most) → capped n most ≤ most
     go (yes l) = rw (lt-ltb n most l) (omega arith)
     go (no l) = rw (le-ltb n most (omega arith)) (omega arith)
+
+-- a header within its bounds
+pub within-bounds : (h : Header) → Room h → capped-header h ≡ h
+within-bounds h room =
+    rw (
+      uncapped (h .elements) 10000 (room .elements),
+      uncapped (h .functions) 32 (room .functions),
+      uncapped (h .nodes) 1024 (room .nodes),
+      uncapped (h .agents) 16 (room .agents),
+      uncapped (h .contents) 65536 (room .contents),
+    )
 
 -- ---- what the engine reads of a word
 
@@ -100,7 +111,7 @@ module _ (m : List ℕ) where
 
 -- ---- rows stored
 
-length-stored : (r : ℕ) (l : Line) (m : List ℕ) → length (stored r l m) ≡ length m
+pub length-stored : (r : ℕ) (l : Line) (m : List ℕ) → length (stored r l m) ≡ length m
 unfolding stored
 length-stored r l m = simp length-set
 
@@ -111,7 +122,7 @@ stored-at :
 unfolding stored
 stored-at r l m i a b c d = simp getD-set-other
 
-stored-other : (r : ℕ) (l : Line) (m : List ℕ) (q : ℕ) → (q ≡ r → ⊥) → row-in (stored r l m) q ≡ row-in m q
+pub stored-other : (r : ℕ) (l : Line) (m : List ℕ) (q : ℕ) → (q ≡ r → ⊥) → row-in (stored r l m) q ≡ row-in m q
 stored-other r l m q n =
     rw (
       stored-at r l m (q * 4) (λ e. n (omega arith)) (λ e. omega arith) (λ e. omega arith) (λ e. omega arith),
@@ -120,7 +131,7 @@ stored-other r l m q n =
       stored-at r l m (q * 4 + 3) (λ e. omega arith) (λ e. omega arith) (λ e. omega arith) (λ e. n (omega arith)),
     )
 
-stored-same : (r : ℕ) (l : Line) (m : List ℕ) → r * 4 + 3 < length m → row-in (stored r l m) r ≡ l
+pub stored-same : (r : ℕ) (l : Line) (m : List ℕ) → r * 4 + 3 < length m → row-in (stored r l m) r ≡ l
 unfolding stored
 stored-same n l ns h =
     let l0 : n * 4 < length ns = omega arith in
@@ -143,19 +154,19 @@ module _ (f : ℕ → Line) (base : ℕ) where
   length-filled zero i m = refl
   length-filled (suc left) i m = length-filled left (suc i) (stored (base + i) (f i) m) ∙ length-stored (base + i) (f i) m
 
-  filled-below : (left i : ℕ) (m : List ℕ) (q : ℕ) → q < base + i → row-in (filled f base left i m) q ≡ row-in m q
+  pub filled-below : (left i : ℕ) (m : List ℕ) (q : ℕ) → q < base + i → row-in (filled f base left i m) q ≡ row-in m q
   unfolding filled
   filled-below zero i m q h = refl
   filled-below (suc left) i m q h =
       filled-below left (suc i) (stored (base + i) (f i) m) q (omega arith) ∙ stored-other (base + i) (f i) m q (λ e. omega arith)
 
-  filled-above : (left i : ℕ) (m : List ℕ) (q : ℕ) → base + i + left ≤ q → row-in (filled f base left i m) q ≡ row-in m q
+  pub filled-above : (left i : ℕ) (m : List ℕ) (q : ℕ) → base + i + left ≤ q → row-in (filled f base left i m) q ≡ row-in m q
   unfolding filled
   filled-above zero i m q h = refl
   filled-above (suc left) i m q h =
       filled-above left (suc i) (stored (base + i) (f i) m) q (omega arith) ∙ stored-other (base + i) (f i) m q (λ e. omega arith)
 
-  filled-in :
+  pub filled-in :
       (left i : ℕ) (m : List ℕ) → (base + i + left) * 4 ≤ length m → (j : ℕ) → i ≤ j → j < i + left → row-in (filled f base left i m) (base + j) ≡ f j
   unfolding filled
   filled-in zero i m h j l g = absurd (omega arith)

@@ -10,7 +10,7 @@ use Rattle.text.proofs.Checks.{Ends, on, off, Any, also, bind-ends, then-ends, 
 use Rattle.book.specs.declared.Header.{Header}
 use Rattle.book.specs.Book.{Program, Book, L}
 use Rattle.book.specs.Lines.{first-entry, line-count}
-use Rattle.book.specs.Check.{check-header, check-present, check-surplus, check-lines, check-book}
+use Rattle.book.specs.Check.{check-header, check-present, check-surplus, check-program, check-lines, check-book}
 use Rattle.book.proofs.Accepted.{Bounded, header-bounded, book-lengths, lines-book, accepted-lines, accepted}
 
 abbrev pub OfBook : ℕ → ℕ → ℕ → Type 0
@@ -22,13 +22,17 @@ header-ends text =
     also {S = OfBook} (then-ends (none-ends OfBook 1 0 0 _ 2 (λ p k. omega arith)) (then-ends {H = Any} (none-ends OfBook 3 0 0 _ 8 (λ p k. omega arith)) (on tt)))
     (header-bounded text) (λ n p q r. r)
 
+program-ends : (h : Header) (text : List ℕ) → Bounded h → Ends Any OfBook (check-program h text)
+unfolding check-program
+program-ends h text b =
+    then-ends (none-ends OfBook 4 0 0 _ (h .functions) (λ p k. omega arith)) (then-ends (must-ends OfBook _ 3 8 0 (omega arith))
+    (then-ends (none-ends OfBook 5 0 0 _ (h .nodes) (λ p k. omega arith)) (then-ends (none-ends OfBook 6 0 0 _ (h .nodes) (λ p k. omega arith))
+    (then-ends (none-ends OfBook 6 0 0 _ (h .nodes) (λ p k. omega arith)) (none-ends OfBook 7 0 0 _ (h .agents) (λ p k. omega arith))))))
+
 lines-ends : (h : Header) (text : List ℕ) → Bounded h → Ends Any OfBook (check-lines h text)
 unfolding check-lines
 lines-ends h text b =
-    then-ends (none-ends OfBook 4 0 0 _ (h .functions) (λ p k. omega arith)) (then-ends (must-ends OfBook _ 3 8 0 (omega arith))
-    (then-ends (none-ends OfBook 5 0 0 _ (h .nodes) (λ p k. omega arith)) (then-ends (none-ends OfBook 6 0 0 _ (h .nodes) (λ p k. omega arith))
-    (then-ends (none-ends OfBook 6 0 0 _ (h .nodes) (λ p k. omega arith)) (then-ends (none-ends OfBook 7 0 0 _ (h .agents) (λ p k. omega arith))
-    (then-ends (none-ends OfBook 8 (first-entry h) 0 _ (h .contents) (λ p k. omega arith)) (on tt)))))))
+    then-ends (program-ends h text b) (then-ends (none-ends OfBook 8 (first-entry h) 0 _ (h .contents) (λ p k. omega arith)) (on tt))
 
 -- what the nodes and locations of an accepted book's program number at most
 pub record Fits (B : Program) : Type 0 where

@@ -29,9 +29,9 @@ check-present h text = none-at ill-formed 0 book-text (least (bad-line text) (li
 unfoldable pub check-surplus : Header → List ℕ → Checked (Unit {0})
 check-surplus h text = must (leb (length text) (line-length * line-count h)) ill-formed (line-count h) book-text
 
--- 4, 3 for L, 5 to 8
-unfoldable pub check-lines : Header → List ℕ → Checked Book
-check-lines h text = do
+-- 4, 3 for L, 5 to 7
+unfoldable pub check-program : Header → List ℕ → Checked (Unit {0})
+check-program h text = do
   let B = program-of h text
   none-at function-line 0 0 (least (λ f. bad-function (line text (first-function + f)) f) (h .functions))
   must (leb (L B) most-locations) header-bounds 8 0
@@ -39,7 +39,12 @@ check-lines h text = do
   none-at node-use 0 0 (least (bad-use B) (h .nodes))
   none-at node-use 0 0 (least (bad-around B) (h .nodes))
   none-at agent-line 0 0 (least (λ i. bad-agent B (line text (first-agent h + i)) i) (h .agents))
-  none-at contents-rule (first-entry h) 0 (least (bad-entry B (entries-of h text)) (h .contents))
+
+-- and 8
+unfoldable pub check-lines : Header → List ℕ → Checked Book
+check-lines h text = do
+  check-program h text
+  none-at contents-rule (first-entry h) 0 (least (bad-entry (program-of h text) (entries-of h text)) (h .contents))
   good (book-of h text)
 
 unfoldable pub check-book : List ℕ → Checked Book

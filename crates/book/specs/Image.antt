@@ -67,6 +67,18 @@ pub record Room (h : Header) : Type 0 where
   pub agents : h .agents ≤ 16
   pub contents : h .contents ≤ 65536
 
+-- a header with each count that is past its bound at the bound
+abbrev pub capped-header : Header → Header
+capped-header h =
+    record {
+      elements = capped (h .elements) 10000;
+      permanent = h .permanent;
+      functions = capped (h .functions) 32;
+      nodes = capped (h .nodes) 1024;
+      agents = capped (h .agents) 16;
+      contents = capped (h .contents) 65536;
+    }
+
 -- ---- rows stored
 
 unfoldable pub stored : ℕ → Line → List ℕ → List ℕ

@@ -1,90 +1,259 @@
--- The chain of checks, step by step, and that an image that holds the text's book gives its faults. Assumes nothing.
+-- The checks that the code makes of an image, of rows and of lines are those of the definition, one after the other. Assumes nothing.
 use mathlib.Core.Path.{_≡_, refl, sym, _∙_, ap, subst}
-use mathlib.Core.Bool.{Bool, true, false}
+use mathlib.Core.Logic.{_≢_}
+use mathlib.Core.Bool.{Bool, true, false, not}
 use mathlib.Core.List.{List, map}
-use Prim.Native.Nat.{ℕ, _+_, _-_, _<_}
-use native.Mathlib.Nat.{zero-add}
+use Prim.Native.Nat.{ℕ, zero, suc, _+_, _-_, _<_, _≤_}
 use native.Mathlib.Omega.{arith}
+use lib.Dec.{leb}
 use lib.ListN.{length, length-map}
+use Rattle.text.specs.declared.Answer.{Answer}
 use Rattle.text.specs.declared.Found.{Found}
 use Rattle.text.specs.declared.Found.the-variants.{Nowhere, Here}
-use Rattle.text.specs.Words.{least, Checked, good, refused, _>>=_, _>>_, none-at, must, answer-of}
-use Rattle.text.specs.Refusals.{ill-formed, book-text, header-bounds}
-use Rattle.text.specs.Text.{line, bad-line}
-use Rattle.text.proofs.Words.{length-table-from, least-here}
+use Rattle.text.specs.declared.Line.{Line}
+use Rattle.text.specs.Words.{if_then_else_, least-from, least, Checked, good, refused, _>>=_, _>>_, none-at, must, answer-of}
+use Rattle.text.specs.Refusals.{ill-formed, book-text, header-bounds, function-line, node-line, node-use, agent-line, contents-rule}
+use Rattle.text.specs.Text.{line, line-bytes, well-formed, bad-line}
+use Rattle.text.proofs.Words.{least-same, least-first, least-rest, then-good}
+use Rattle.text.proofs.Checks.{Numbered, none-numbered, must-numbered, then-ends, then-stops, then-goes-on}
 use Rattle.book.specs.declared.Header.{Header}
 use Rattle.book.specs.Book.{Program, Book, L}
-use Rattle.book.specs.Lines.{header-of, bad-field, first-entry, program-of, entries-of, bad-node, bad-agent}
+use Rattle.book.specs.Lines.{header-of, bad-field, most-locations, first-agent, first-entry, line-count, program-of, entries-of, book-of, bad-function, bad-node, bad-agent}
 use Rattle.book.specs.Use.{bad-use}
 use Rattle.book.specs.Around.{bad-around}
 use Rattle.book.specs.Contents.{bad-entry}
-use Rattle.book.specs.Check.{check-header, check-present, check-surplus, check-lines, check-book}
-use Rattle.book.specs.Image.{word, program-in, Holds, Counts, Room}
-use Rattle.book.proofs.Accepted.{header-bounded, lines-book}
-use Rattle.contents.specs.Roll.{entries-from}
-use Rattle.book_check.specs.Opened.{Opened}
-use Rattle.book_check.specs.Chain.{refusal, from-contents, from-agents, from-around, from-use, from-nodes, from-locations, from-functions, from-surplus, from-present, from-header}
-
--- ---- one check, and what follows
-
-module _ (n : ℕ) (f : Found) (d : Checked Book) where
-  pub at-place : (p : ℕ) → f ≡ Here p → refusal n p ≡ answer-of (none-at n 0 0 f >> d)
-  unfolding none-at _>>_
-  at-place p e = rw (e, zero-add p)
-
-  pub at-line : (first p : ℕ) → f ≡ Here p → refusal n (first + p) ≡ answer-of (none-at n first 0 f >> d)
-  unfolding none-at _>>_
-  at-line first p e = rw e
-
-  pub passed : (first : ℕ) → f ≡ Nowhere → answer-of d ≡ answer-of (none-at n first 0 f >> d)
-  unfolding none-at _>>_
-  passed first e = rw e
-
-module _ (b : Bool) (n p : ℕ) (d : Checked Book) where
-  pub met : b ≡ true → answer-of d ≡ answer-of (must b n p 0 >> d)
-  unfolding must _>>_
-  met e = rw e
-
-  pub unmet : b ≡ false → refusal n p ≡ answer-of (must b n p 0 >> d)
-  unfolding must _>>_
-  unmet e = rw e
-
--- ---- what the checks leave in the image
-
--- a refused book leaves nothing to show
-module _ (n : ℕ) (f : Found) (d : Checked Book) (m : List ℕ) where
-  pub opened-refused : (first p : ℕ) → f ≡ Here p → Opened m (none-at n first 0 f >> d)
-  unfolding none-at _>>_
-  opened-refused first p e = rw e (λ B q. let z : _≡_ {A = ℕ} 0 1 = cc in absurd (omega arith))
-
-  pub opened-passed : (first : ℕ) → f ≡ Nowhere → Opened m d → Opened m (none-at n first 0 f >> d)
-  unfolding none-at _>>_
-  opened-passed first e o = rw e o
-
-module _ (b : Bool) (n p : ℕ) (d : Checked Book) (m : List ℕ) where
-  pub opened-met : b ≡ true → Opened m d → Opened m (must b n p 0 >> d)
-  unfolding must _>>_
-  opened-met e o = rw e o
-
-  pub opened-unmet : b ≡ false → Opened m (must b n p 0 >> d)
-  unfolding must _>>_
-  opened-unmet e = rw e (λ B q. let z : _≡_ {A = ℕ} 0 1 = cc in absurd (omega arith))
-
--- an image that holds the text's program holds that of the book accepted
-pub opened-lines :
-    (m : List ℕ) (h : Header) (text : List ℕ) → Holds m h text → Counts m (program-of h text) → Opened m (check-lines h text)
-opened-lines m h text holds counts b e =
-    subst (λ (x : Book). (program-in m ≡ x .program) × (word m 6 ≡ L (x .program)) × Counts m (x .program)) (sym (lines-book text h b e)) (holds .program, holds .locations, counts)
+use Rattle.book.specs.Check.{check-header, check-present, check-surplus, check-program, check-lines, check-book}
+use Rattle.book.specs.Image.{image-length, word, row-in, capped, program-in, Holds, Counts, Room, capped-header}
+use Rattle.book.proofs.Accepted.{header-bounded, lines-book, book-lengths}
+use Rattle.book.proofs.Image.{uncapped, within-bounds, functions-long}
+use Rattle.rows.specs.Rows.{headed, taken, passed, laid, Rows}
+use Rattle.rows.proofs.Rows.{length-headed, length-taken, taken-rows, laid-holds, laid-agent}
+use Rattle.contents.specs.declared.Faults.{Faults}
+use Rattle.contents.specs.Pass.{faults, bad-at, faults-from, first-line}
+use Rattle.contents.specs.Pass.{line-count as contents-count}
+use Rattle.book_check.specs.Opened.{Opened, check-text}
 
 -- the length of an array that is lent
 pub unmapped : (A B : Type 0) (f : A → B) (l : List A) (n : ℕ) → length (map f l) ≡ n → length l ≡ n
 unmapped A B f l n e = sym (length-map l f) ∙ e
 
--- ---- the chain is the whole check
+-- ---- one check, answered by a, and what follows
 
-pub lines-chain : (h : Header) (text : List ℕ) → from-functions h text ≡ check-lines h text
-unfolding check-lines from-functions from-locations from-nodes from-use from-around from-agents from-contents
-lines-chain h text = refl
+module _ {A B : Type 0} where
+  pub stops : (c : Checked A) (d : Checked B) (a : Answer) → a ≡ answer-of c → a .number ≢ 0 → a ≡ answer-of (c >> d)
+  stops c d a e n = e ∙ sym (then-stops c d (rw e at n))
+
+  pub goes-on : (c : Checked A) (d : Checked B) (a : Answer) → Numbered c → a ≡ answer-of c → a .number ≡ 0 → (c >> d) ≡ d
+  goes-on c d a k e z = then-goes-on c d k (ap (λ (x : Answer). x .number) (sym e) ∙ z)
+
+  pub after : (c : Checked A) (d : Checked B) (a r : Answer) → Numbered c → a ≡ answer-of c → a .number ≡ 0 → r ≡ answer-of d → r ≡ answer-of (c >> d)
+  after c d a r k e z p = p ∙ ap answer-of (sym (goes-on c d a k e z))
+
+  -- a check whose value is let go
+  pub last : (c : Checked A) (b : B) (a : Answer) → a ≡ answer-of c → a ≡ answer-of (c >> good b)
+  unfolding _>>_
+  last c b a e = e ∙ go c
+    where
+      go : (c : Checked A) → answer-of c ≡ answer-of (c >> good b)
+      go (good x) = refl
+      go (refused n p q) = refl
+
+-- the place found is the one that is looked for
+pub answered : (n : ℕ) (a : Answer) (f g : Found) → a ≡ answer-of (none-at n 0 0 f) → f ≡ g → a ≡ answer-of (none-at n 0 0 g)
+answered n a f g e p = e ∙ ap (λ (x : Found). answer-of (none-at n 0 0 x)) p
+
+-- a refused book leaves nothing to show
+pub opened-refused : (m : List ℕ) (c : Checked Book) (a : Answer) → a ≡ answer-of c → a .number ≢ 0 → Opened m c
+opened-refused m c a e n b q = absurd (n (ap (λ (x : Answer). x .number) (e ∙ ap answer-of q)))
+
+-- ---- 4 to 7, on an image
+
+abbrev pub of-functions : List ℕ → Checked (Unit {0})
+of-functions m = none-at function-line 0 0 (least (λ f. bad-function (row-in m (2 + f)) f) (length (program-in m .functions)))
+
+module _ (o : List ℕ) where
+  abbrev pub of-locations : Checked (Unit {0})
+  of-locations = must (leb (word o 6) most-locations) header-bounds 8 0
+
+  abbrev pub of-nodes : Checked (Unit {0})
+  of-nodes = none-at node-line 0 0 (least (bad-node (program-in o)) (length (program-in o .nodes)))
+
+  abbrev pub of-use : Checked (Unit {0})
+  of-use = none-at node-use 0 0 (least (bad-use (program-in o)) (length (program-in o .nodes)))
+
+  abbrev pub of-around : Checked (Unit {0})
+  of-around = none-at node-use 0 0 (least (bad-around (program-in o)) (length (program-in o .nodes)))
+
+  abbrev pub of-agents : Checked (Unit {0})
+  of-agents = none-at agent-line 0 0 (least (λ i. bad-agent (program-in o) (row-in o (34 + i)) i) (length (program-in o .agents)))
+
+  abbrev pub from-locations : Checked (Unit {0})
+  from-locations = of-locations >> (of-nodes >> (of-use >> (of-around >> of-agents)))
+
+module _ (m : List ℕ) (h : Header) (text : List ℕ) (room : Room h) (long : image-length ≤ length m) (rows : Rows m h text) where
+  abbrev o : List ℕ
+  o = laid m
+
+  holds : Holds o h text
+  holds = laid-holds m h text room long rows
+
+  functions-count : length (program-in m .functions) ≡ h .functions
+  functions-count =
+      functions-long m ∙ ap (λ (n : ℕ). capped n 32) (ap (λ (l : Line). l .c) (rows .head)) ∙ uncapped (h .functions) 32 (room .functions)
+
+  functions-held :
+      least (λ f. bad-function (row-in m (2 + f)) f) (length (program-in m .functions)) ≡ least (λ f. bad-function (line text (2 + f)) f) (h .functions)
+  functions-held =
+      ap (least (λ f. bad-function (row-in m (2 + f)) f)) functions-count
+      ∙ least-same (λ f. bad-function (row-in m (2 + f)) f) (λ f. bad-function (line text (2 + f)) f) (h .functions)
+      (λ f l. ap (λ (r : Line). bad-function r f) (rows .function f l))
+
+  held : (bad : Program → ℕ → Bool) → least (bad (program-in o)) (length (program-in o .nodes)) ≡ least (bad (program-of h text)) (h .nodes)
+  held bad =
+      ap (λ (B : Program). least (bad B) (length (B .nodes))) (holds .program) ∙ ap (least (bad (program-of h text))) (book-lengths h text .1)
+
+  agents-held :
+      least (λ i. bad-agent (program-in o) (row-in o (34 + i)) i) (length (program-in o .agents))
+      ≡ least (λ i. bad-agent (program-of h text) (line text (first-agent h + i)) i) (h .agents)
+  agents-held =
+      ap (λ (B : Program). least (λ i. bad-agent B (row-in o (34 + i)) i) (length (B .agents))) (holds .program)
+      ∙ ap (least (λ i. bad-agent (program-of h text) (row-in o (34 + i)) i)) (book-lengths h text .2)
+      ∙ least-same (λ i. bad-agent (program-of h text) (row-in o (34 + i)) i) (λ i. bad-agent (program-of h text) (line text (first-agent h + i)) i) (h .agents)
+      (λ i l. ap (λ (r : Line). bad-agent (program-of h text) r i) (laid-agent m h text room long rows i l))
+
+  pub program-held : (of-functions m >> from-locations o) ≡ check-program h text
+  unfolding check-program
+  program-held = rw (functions-held, holds .locations, held bad-node, held bad-use, held bad-around, agents-held)
+
+-- ---- refusals have numbers
+
+pub present-numbered : (h : Header) (text : List ℕ) → Numbered (check-present h text)
+unfolding check-present
+present-numbered h text = none-numbered _ _ _ _ (omega arith)
+
+pub surplus-numbered : (h : Header) (text : List ℕ) → Numbered (check-surplus h text)
+unfolding check-surplus
+surplus-numbered h text = must-numbered _ _ _ _ (omega arith)
+
+pub program-numbered : (h : Header) (text : List ℕ) → Numbered (check-program h text)
+unfolding check-program
+program-numbered h text =
+    then-ends (none-numbered _ _ _ _ (omega arith)) (then-ends (must-numbered _ _ _ _ (omega arith))
+    (then-ends (none-numbered _ _ _ _ (omega arith)) (then-ends (none-numbered _ _ _ _ (omega arith))
+    (then-ends (none-numbered _ _ _ _ (omega arith)) (none-numbered _ _ _ _ (omega arith))))))
+
+-- ---- 1 on the lines after the header
+
+-- the rows taken, where all were in form
+module _ (h : Header) (text m : List ℕ) (room : Room h) (f : Found) where
+  pub rows-found : f ≡ least-from (bad-line text) (first-entry (capped-header h) - 2) 2 → f ≡ least-from (bad-line text) (first-entry h - 2) 2
+  rows-found e = e ∙ ap (λ (g : Header). least-from (bad-line text) (first-entry g - 2) 2) (within-bounds h room)
+
+  pub rows-taken :
+      (n : List ℕ) → image-length ≤ length n → n ≡ taken (capped-header h) text (passed 2 (first-entry (capped-header h)) f) (headed (capped-header h) m) →
+      answer-of (none-at ill-formed 0 book-text f) .number ≡ 0 → Rows n h text
+  unfolding none-at
+  rows-taken n long e z =
+      go f z (e ∙ ap (λ (g : Header). taken g text (passed 2 (first-entry g) f) (headed g m)) (within-bounds h room))
+    where
+      go : (f : Found) → answer-of (none-at ill-formed 0 book-text f) .number ≡ 0 → n ≡ taken h text (passed 2 (first-entry h) f) (headed h m) → Rows n h text
+      go Nowhere z e =
+          let l : length n ≡ length m = ap length e ∙ length-taken h room text (headed h m) (first-entry h - 2) ∙ length-headed h m in
+          rw e (taken-rows h room text m (omega arith))
+      go (Here p) z e = absurd (omega arith)
+
+module _ (h : Header) (text : List ℕ) where
+  abbrev rows-form : Found
+  rows-form = least-from (bad-line text) (first-entry h - 2) 2
+
+  abbrev contents-form : Found
+  contents-form = least-from (bad-line text) (h .contents) (first-entry h)
+
+module _ (h : Header) (text : List ℕ) (sound : least (bad-line text) 2 ≡ Nowhere) where
+  after-header : least (bad-line text) (line-count h) ≡ least-from (bad-line text) (first-entry h - 2 + h .contents) 2
+  after-header =
+      let n : line-count h ≡ 2 + (first-entry h - 2 + h .contents) = omega arith in
+      ap (least (bad-line text)) n ∙ least-rest (bad-line text) 2 (first-entry h - 2 + h .contents) 0 sound
+
+  pub rows-refused :
+      (f : Found) → f ≡ rows-form h text → answer-of (none-at ill-formed 0 book-text f) .number ≢ 0 → none-at ill-formed 0 book-text f ≡ check-present h text
+  unfolding check-present none-at
+  rows-refused Nowhere e n = absurd (n refl)
+  rows-refused (Here p) e n = rw (after-header ∙ least-first (bad-line text) (first-entry h - 2) (h .contents) 2 p (sym e))
+
+  pub rows-passed :
+      (f : Found) → f ≡ rows-form h text → answer-of (none-at ill-formed 0 book-text f) .number ≡ 0 →
+      none-at ill-formed 0 book-text (contents-form h text) ≡ check-present h text
+  unfolding check-present none-at
+  rows-passed Nowhere e z =
+      let n : 2 + (first-entry h - 2) ≡ first-entry h = omega arith in
+      let l = least-rest (bad-line text) (first-entry h - 2) (h .contents) 2 (sym e) in
+      ap (none-at ill-formed 0 book-text) (sym (after-header ∙ l ∙ ap (least-from (bad-line text) (h .contents)) n))
+  rows-passed (Here p) e z = absurd (omega arith)
+
+-- ---- 8: the pass over the contents lines
+
+-- a place counted from `first`
+shifted :
+    (n q first : ℕ) (bad : ℕ → Bool) (k j : ℕ) → none-at n 0 q (least-from (λ i. bad (i - first)) k (first + j)) ≡ none-at n first q (least-from bad k j)
+unfolding least-from none-at
+shifted n q first bad zero j = refl
+shifted n q first bad (suc k) j =
+    let e : first + j - first ≡ j = omega arith in
+    let s : first + suc j ≡ suc (first + j) = omega arith in
+    rw e (go (bad j) (rw s at (shifted n q first bad k (suc j))))
+  where
+    go :
+        (t : Bool) → none-at n 0 q (least-from (λ i. bad (i - first)) k (suc (first + j))) ≡ none-at n first q (least-from bad k (suc j)) →
+        none-at n 0 q (if t then Here (first + j) else least-from (λ i. bad (i - first)) k (suc (first + j)))
+        ≡ none-at n first q (if t then Here j else least-from bad k (suc j))
+    go true p = let z : 0 + (first + j) ≡ first + j = omega arith in rw z
+    go false p = p
+
+module _ (o : List ℕ) (h : Header) (text : List ℕ) (room : Room h) (holds : Holds o h text) where
+  first-is : first-line o ≡ first-entry h
+  first-is =
+      let l = book-lengths h text in
+      ap (λ (B : Program). 2 + length (B .functions) + length (B .nodes) + length (B .agents)) (holds .program) ∙ rw (l .0, l .1, l .2)
+
+  count-is : contents-count o ≡ h .contents
+  count-is = ap (λ (n : ℕ). capped n 65536) (holds .contents) ∙ uncapped (h .contents) 65536 (room .contents)
+
+  abbrev rule : Found
+  rule = least-from (bad-at (program-of h text) text (first-entry h) (h .contents)) (h .contents) (first-entry h)
+
+  found : faults-from (program-in o) text (first-line o) (contents-count o) ≡ faults (contents-form h text) rule
+  unfolding faults-from
+  found = rw (first-is, count-is, holds .program)
+
+  module _ (r : Faults) (is : r ≡ faults-from (program-in o) text (first-line o) (contents-count o)) where
+    pub form-found : r .form ≡ contents-form h text
+    form-found = ap (λ (x : Faults). x .form) (is ∙ found)
+
+    pub rule-found :
+        answer-of (none-at ill-formed 0 book-text (r .form)) .number ≡ 0 →
+        none-at contents-rule 0 0 (r .rule) ≡ none-at contents-rule (first-entry h) 0 (least (bad-entry (program-of h text) (entries-of h text)) (h .contents))
+    unfolding none-at entries-of
+    rule-found z =
+        let n : first-entry h + 0 ≡ first-entry h = omega arith in
+        ap (none-at contents-rule 0 0) (ap (λ (x : Faults). x .rule) (is ∙ found) ∙ go (contents-form h text) (rw form-found at z))
+        ∙ (rw n at (shifted contents-rule 0 (first-entry h) (bad-entry (program-of h text) (entries-of h text)) (h .contents) 0))
+      where
+        go : (f : Found) → answer-of (none-at ill-formed 0 book-text f) .number ≡ 0 → faults f rule .rule ≡ rule
+        go Nowhere z = refl
+        go (Here p) z = absurd (omega arith)
+
+-- ---- what the checks leave in the image
+
+-- an image that holds the text's program holds that of the book accepted
+pub opened-text : (o : List ℕ) (h : Header) (text : List ℕ) → Holds o h text → Counts o (program-of h text) → Opened o (check-text h text)
+opened-text o h text holds counts b e =
+    let r = then-good (check-present h text) (check-surplus h text >> check-lines h text) b e in
+    let s = then-good (check-surplus h text) (check-lines h text) b (r .2) in
+    subst (λ (x : Book). (program-in o ≡ x .program) × (word o 6 ≡ L (x .program)) × Counts o (x .program)) (sym (lines-book text h b (s .2)))
+    (holds .program, holds .locations, counts)
+
+-- ---- the header
 
 bound : (a b : Checked (Unit {0})) (h : Header) (f : Header → Checked Book) → ((a >> (b >> good h)) >>= f) ≡ (a >> (b >> f h))
 unfolding _>>_ _>>=_
@@ -92,61 +261,63 @@ bound (good x) (good y) h f = refl
 bound (good x) (refused n p q) h f = refl
 bound (refused n p q) b h f = refl
 
-pub book-chain : (text : List ℕ) → (none-at ill-formed 0 book-text (least (bad-line text) 2) >> from-header text) ≡ check-book text
-unfolding check-book check-header from-header from-present from-surplus
-book-chain text =
-    sym
-    (bound (none-at ill-formed 0 book-text (least (bad-line text) 2)) (none-at header-bounds 0 0 (least (bad-field (line text 0) (line text 1)) 8))
-    (header-of (line text 0) (line text 1))
-    (λ h. check-present h text >> (check-surplus h text >> check-lines h text)))
+module _ (text : List ℕ) where
+  abbrev pub of-line : ℕ → Checked (Unit {0})
+  of-line i = must (well-formed (line-bytes text i)) ill-formed i book-text
 
--- ---- the header has room
+  abbrev pub of-bounds : Checked (Unit {0})
+  of-bounds = none-at header-bounds 0 0 (least (bad-field (line text 0) (line text 1)) 8)
 
-header-good :
-    (text : List ℕ) → least (bad-line text) 2 ≡ Nowhere → least (bad-field (line text 0) (line text 1)) 8 ≡ Nowhere →
-    check-header text ≡ good (header-of (line text 0) (line text 1))
-unfolding check-header none-at _>>_
-header-good text p q = rw (p, q)
+  abbrev pub header : Header
+  header = header-of (line text 0) (line text 1)
 
-pub header-room :
-    (text : List ℕ) → least (bad-line text) 2 ≡ Nowhere → least (bad-field (line text 0) (line text 1)) 8 ≡ Nowhere →
-    Room (header-of (line text 0) (line text 1))
-header-room text p q =
-    let b = header-bounded text (header-of (line text 0) (line text 1)) (header-good text p q) in
-    record {
-      elements = b .elements .1;
-      functions = b .functions .1;
-      nodes = b .nodes .1;
-      agents = b .agents .1;
-      contents = b .contents;
-    }
+  two-lines : (d : Checked Book) → (of-line 0 >> (of-line 1 >> d)) ≡ (none-at ill-formed 0 book-text (least (bad-line text) 2) >> d)
+  unfolding must none-at least-from _>>_
+  two-lines d = go (well-formed (line-bytes text 0)) (well-formed (line-bytes text 1))
+    where
+      go :
+          (a b : Bool) → (must a ill-formed 0 book-text >> (must b ill-formed 1 book-text >> d))
+          ≡ (none-at ill-formed 0 book-text (if not a then Here 0 else if not b then Here 1 else Nowhere) >> d)
+      go true true = refl
+      go true false = refl
+      go false b = refl
 
--- ---- the faults of an image that holds the text's program are those of the program
+  pub book-chain : (of-line 0 >> (of-line 1 >> (of-bounds >> check-text header text))) ≡ check-book text
+  unfolding check-book check-header
+  book-chain =
+      two-lines (of-bounds >> check-text header text)
+      ∙ sym (bound (none-at ill-formed 0 book-text (least (bad-line text) 2)) of-bounds header (λ h. check-text h text))
 
-module _ (m : List ℕ) (h : Header) (text : List ℕ) (holds : Holds m h text) where
-  nodes-count : length (program-of h text .nodes) ≡ h .nodes
-  unfolding program-of
-  nodes-count = length-table-from _ 0 (h .nodes)
+  -- both lines are in form
+  pub lines-sound : well-formed (line-bytes text 0) ≡ true → well-formed (line-bytes text 1) ≡ true → least (bad-line text) 2 ≡ Nowhere
+  unfolding least-from
+  lines-sound a b = rw (a, b)
 
-  pub nodes-held : least (bad-node (program-in m)) (h .nodes) ≡ least (bad-node (program-of h text)) (h .nodes)
-  nodes-held = ap (λ (B : Program). least (bad-node B) (h .nodes)) (holds .program)
+  header-good : least (bad-line text) 2 ≡ Nowhere → least (bad-field (line text 0) (line text 1)) 8 ≡ Nowhere → check-header text ≡ good header
+  unfolding check-header none-at _>>_
+  header-good p q = rw (p, q)
 
-  pub agents-held :
-      (first : ℕ) → least (λ i. bad-agent (program-in m) (line text (first + i)) i) (h .agents)
-      ≡ least (λ i. bad-agent (program-of h text) (line text (first + i)) i) (h .agents)
-  agents-held first = ap (λ (B : Program). least (λ i. bad-agent B (line text (first + i)) i) (h .agents)) (holds .program)
+  pub header-room : least (bad-line text) 2 ≡ Nowhere → least (bad-field (line text 0) (line text 1)) 8 ≡ Nowhere → Room header
+  header-room p q =
+      let b = header-bounded text header (header-good p q) in
+      record {
+        elements = b .elements .1;
+        functions = b .functions .1;
+        nodes = b .nodes .1;
+        agents = b .agents .1;
+        contents = b .contents;
+      }
 
-  pub use-held : least (bad-use (program-in m)) (length (program-in m .nodes)) ≡ least (bad-use (program-of h text)) (h .nodes)
-  use-held = ap (λ (B : Program). least (bad-use B) (length (B .nodes))) (holds .program) ∙ ap (least (bad-use (program-of h text))) nodes-count
+-- what header checks that pass have passed
+pub line-passed : (t : Bool) (p : ℕ) (a : Answer) → a ≡ answer-of (must t ill-formed p book-text) → a .number ≡ 0 → t ≡ true
+unfolding must
+line-passed true p a e z = refl
+line-passed false p a e z = absurd (omega (arith, ap (λ (x : Answer). x .number) e))
 
-  pub around-held : least (bad-around (program-in m)) (length (program-in m .nodes)) ≡ least (bad-around (program-of h text)) (h .nodes)
-  around-held = ap (λ (B : Program). least (bad-around B) (length (B .nodes))) (holds .program) ∙ ap (least (bad-around (program-of h text))) nodes-count
+pub bounds-passed : (f : Found) (a : Answer) → a ≡ answer-of (none-at header-bounds 0 0 f) → a .number ≡ 0 → f ≡ Nowhere
+unfolding none-at
+bounds-passed Nowhere a e z = refl
+bounds-passed (Here p) a e z = absurd (omega (arith, ap (λ (x : Answer). x .number) e))
 
-  pub contents-held :
-      least (bad-entry (program-in m) (entries-from text (first-entry h) (h .contents))) (h .contents) ≡ least (bad-entry (program-of h text) (entries-of h text)) (h .contents)
-  unfolding entries-of
-  contents-held = ap (λ (B : Program). least (bad-entry B (entries-of h text)) (h .contents)) (holds .program)
-
-  -- a place found among the contents lines is that of a line of the text
-  pub contents-place : (p : ℕ) → least (bad-entry (program-of h text) (entries-of h text)) (h .contents) ≡ Here p → p < h .contents
-  contents-place p e = least-here (bad-entry (program-of h text) (entries-of h text)) (h .contents) p e .0
+pub opened-same : (m : List ℕ) (c d : Checked Book) → c ≡ d → Opened m d → Opened m c
+opened-same m c d e o b q = o b (sym e ∙ q)

@@ -2,10 +2,16 @@
 use mathlib.Core.Path.{_≡_}
 use mathlib.Core.List.{List}
 use Prim.Native.Nat.{ℕ}
-use Rattle.text.specs.Words.{Checked, good}
+use Rattle.text.specs.Words.{Checked, good, _>>_}
+use Rattle.book.specs.declared.Header.{Header}
 use Rattle.book.specs.Book.{Book, L}
 use Rattle.book.specs.Image.{word, program-in, Counts}
+use Rattle.book.specs.Check.{check-present, check-surplus, check-lines}
 
 -- of a refused book the image may hold anything
 abbrev pub Opened : List ℕ → Checked Book → Type 0
 Opened m r = (b : Book) → r ≡ good b → (program-in m ≡ b .program) × (word m 6 ≡ L (b .program)) × Counts m (b .program)
+
+-- the check of a book once its header is known
+abbrev pub check-text : Header → List ℕ → Checked Book
+check-text h text = check-present h text >> (check-surplus h text >> check-lines h text)

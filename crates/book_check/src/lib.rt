@@ -1,174 +1,125 @@
-// The whole check of a book, refusals 1 and 3 to 8 in 01's order.
+// The whole check of a book, refusals 1 and 3 to 8 in 01's order. Each line of its text is read once.
 use book::Header;
 use book::Image;
 use text::Answer;
-use text::Found;
+use text::Line;
 ghost use mathlib.Core.Path.{_≡_};
-ghost use Prim.Native.Nat.{_+_};
+ghost use mathlib.Core.List.{List};
+ghost use Prim.Native.Nat.{ℕ, _≤_};
+ghost use lib.ListN.{length};
 ghost use Rattle.text.specs.declared.Found.the-variants.{Nowhere};
 ghost use Rattle.text.specs.Words.{least, answer-of};
 ghost use Rattle.text.specs.Text.{bad-line};
-ghost use Rattle.book.specs.Image.{Holds, Room};
-ghost use Rattle.book.specs.Check.{check-lines, check-book};
-ghost use Rattle.book_check.specs.Opened.{Opened};
-ghost use Rattle.book_check.specs.Chain.{refusal, from-contents, from-agents, from-around, from-use, from-nodes, from-locations, from-functions, from-present, from-header};
+ghost use Rattle.book.specs.declared.Header.{Header};
+ghost use Rattle.book.specs.Lines.{header-of};
+ghost use Rattle.book.specs.Image.{image-length, Room};
+ghost use Rattle.book.specs.Check.{check-program, check-book};
+ghost use Rattle.rows.specs.Rows.{laid, Rows};
+ghost use Rattle.book_check.specs.Opened.{Opened, check-text};
 
 // The place of L among the fields of the header.
 const FIELD_OF_L: u32 = 8;
 
-fn refuse(number: u32, p: u32) -> Answer
-    ensures { λ r. ⌜ r ≡ refusal number p ⌝ }
+fn header_of(k: Line, l: Line) -> Header
+    ensures { λ r. ⌜ r ≡ header-of k l ⌝ }
 {
-    Answer { number, p, q: 0 }
-}
-
-// 8.
-fn check_contents<'a>(text: &'a [u8], image: &'a [u32], h: Header) -> Answer
-    requires { ⌜ (Room h) × (Holds (now image) h (now text)) ⌝ }
-    ensures { λ r. ⌜ r ≡ answer-of (from-contents h (now (text .entry))) ⌝ }
-{
-    let first = 2 + h.functions + h.nodes + h.agents;
-    let found = contents::bad_contents(text, image, first, h.contents);
-    match found {
-        Found::Here(i) => refuse(text::CONTENTS_RULE, first + i),
-        Found::Nowhere => refuse(0, 0),
+    Header {
+        elements: k.a,
+        permanent: k.b,
+        functions: k.c,
+        nodes: k.d,
+        agents: l.a,
+        contents: l.b,
     }
 }
 
-// 7, then 8.
-fn check_agents<'a>(text: &'a [u8], image: &'a [u32], h: Header) -> Answer
-    requires { ⌜ (Room h) × (Holds (now image) h (now text)) ⌝ }
-    ensures { λ r. ⌜ r ≡ answer-of (from-agents h (now (text .entry))) ⌝ }
+// 4, 3 for L, 5 to 7 on the rows of lines that are in form. The functions are laid out once their lines are judged.
+fn check_program(image: &mut Image) -> Answer
+    ensures { λ r. ⌜ (now (image .exit) ≡ laid (now (image .entry))) × (image-length ≤ length (now (image .entry))) × ((h : Header) (text : List ℕ) → Room h → Rows (now (image .entry)) h text → r ≡ answer-of (check-program h text)) ⌝ }
 {
-    let first = 2 + h.functions + h.nodes;
-    let found = nodes::bad_agents(text, image, first, h.agents);
-    match found {
-        Found::Here(i) => refuse(text::AGENT_LINE, i),
-        Found::Nowhere => check_contents(text, image, h),
+    let bad_function = header::bad_functions(image);
+    rows::lay_out(image);
+    let functions = text::none_at(text::FUNCTION_LINE, 0, bad_function);
+    if functions.number != 0 {
+        return functions;
     }
-}
-
-// 6, binding, depth and nesting, and what follows.
-fn check_around<'a>(text: &'a [u8], image: &'a [u32], h: Header) -> Answer
-    requires { ⌜ (Room h) × (Holds (now image) h (now text)) ⌝ }
-    ensures { λ r. ⌜ r ≡ answer-of (from-around h (now (text .entry))) ⌝ }
-{
-    let found = around::bad_around(image);
-    match found {
-        Found::Here(i) => refuse(text::NODE_USE, i),
-        Found::Nowhere => check_agents(text, image, h),
+    let all = image::fetch(image, 6);
+    let locations = text::must(
+        all <= book::MOST_LOCATIONS,
+        text::HEADER_BOUNDS,
+        FIELD_OF_L,
+        0,
+    );
+    if locations.number != 0 {
+        return locations;
     }
-}
-
-// 6, use, and what follows.
-fn check_use<'a>(text: &'a [u8], image: &'a [u32], h: Header) -> Answer
-    requires { ⌜ (Room h) × (Holds (now image) h (now text)) ⌝ }
-    ensures { λ r. ⌜ r ≡ answer-of (from-use h (now (text .entry))) ⌝ }
-{
-    let found = around::bad_use(image);
-    match found {
-        Found::Here(i) => refuse(text::NODE_USE, i),
-        Found::Nowhere => check_around(text, image, h),
+    let nodes = text::none_at(text::NODE_LINE, 0, nodes::bad_nodes(image));
+    if nodes.number != 0 {
+        return nodes;
     }
-}
-
-// 5, and what follows.
-fn check_nodes<'a>(text: &'a [u8], image: &'a [u32], h: Header) -> Answer
-    requires { ⌜ (Room h) × (Holds (now image) h (now text)) ⌝ }
-    ensures { λ r. ⌜ r ≡ answer-of (from-nodes h (now (text .entry))) ⌝ }
-{
-    let found = nodes::bad_nodes(image, h.nodes);
-    match found {
-        Found::Here(i) => refuse(text::NODE_LINE, i),
-        Found::Nowhere => check_use(text, image, h),
+    let uses = text::none_at(text::NODE_USE, 0, around::bad_use(image));
+    if uses.number != 0 {
+        return uses;
     }
-}
-
-// 3 for L, and what follows.
-fn check_locations<'a>(text: &'a [u8], image: &'a [u32], h: Header) -> Answer
-    requires { ⌜ (Room h) × (Holds (now image) h (now text)) ⌝ }
-    ensures { λ r. ⌜ r ≡ answer-of (from-locations h (now (text .entry))) ⌝ }
-{
-    if image::fetch(image, 6) <= book::MOST_LOCATIONS {
-        check_nodes(text, image, h)
-    } else {
-        refuse(text::HEADER_BOUNDS, FIELD_OF_L)
+    let around = text::none_at(text::NODE_USE, 0, around::bad_around(image));
+    if around.number != 0 {
+        return around;
     }
+    text::none_at(text::AGENT_LINE, 0, nodes::bad_agents(image))
 }
 
-// 4, and what follows.
-fn check_functions<'a>(text: &'a [u8], image: &'a [u32], h: Header) -> Answer
-    requires { ⌜ (Room h) × (Holds (now image) h (now text)) ⌝ }
-    ensures { λ r. ⌜ r ≡ answer-of (from-functions h (now (text .entry))) ⌝ }
+// 1 on all lines after the header, and 4 to 8.
+fn check_text(text: &[u8], h: Header, image: &mut Image) -> Answer
+    requires { ⌜ (Room h) × (least (bad-line (now text)) 2 ≡ Nowhere) ⌝ }
+    ensures { λ r. ⌜ (r ≡ answer-of (check-text h (now (text .entry)))) × Opened (now (image .exit)) (check-text h (now (text .entry))) ⌝ }
 {
-    let found = header::bad_functions(text, h.functions);
-    match found {
-        Found::Here(i) => refuse(text::FUNCTION_LINE, i),
-        Found::Nowhere => check_locations(text, image, h),
+    let rows = text::none_at(text::ILL_FORMED, 0, rows::take(text, h, image));
+    if rows.number != 0 {
+        return rows;
     }
-}
-
-// 4 to 8 on lines that are all in form, read once into the image.
-fn check_lines(text: &[u8], h: Header, image: &mut Image) -> Answer
-    requires { ⌜ Room h ⌝ }
-    ensures { λ r. ⌜ (r ≡ answer-of (check-lines h (now (text .entry)))) × Opened (now (image .exit)) (check-lines h (now (text .entry))) ⌝ }
-{
-    image::decode(text, h, image);
-    check_functions(text, image, h)
-}
-
-// 1 on all lines that the header calls for, and on what comes after them.
-fn check_form(text: &[u8], h: Header, image: &mut Image) -> Answer
-    requires { ⌜ Room h ⌝ }
-    ensures { λ r. ⌜ (r ≡ answer-of (from-present h (now (text .entry)))) × Opened (now (image .exit)) (from-present h (now (text .entry))) ⌝ }
-{
+    let program = check_program(image);
+    let contents = contents::judge(text, image);
+    let ill_formed = contents.form;
+    let at_fault = contents.rule;
+    let form = text::none_at(text::ILL_FORMED, 0, ill_formed);
+    if form.number != 0 {
+        return form;
+    }
     let all = 2 + h.functions + h.nodes + h.agents + h.contents;
-    let found = text::bad_line(text, all);
-    match found {
-        Found::Here(i) => refuse(text::ILL_FORMED, i),
-        Found::Nowhere => {
-            if text.len() <= text::LINE * all as usize {
-                check_lines(text, h, image)
-            } else {
-                refuse(text::ILL_FORMED, all)
-            }
-        }
+    let surplus = text::must(
+        text.len() <= text::LINE * all as usize,
+        text::ILL_FORMED,
+        all,
+        0,
+    );
+    if surplus.number != 0 {
+        return surplus;
     }
-}
-
-// 3 on header lines that are in form, and what follows.
-fn check_header(text: &[u8], image: &mut Image) -> Answer
-    requires { ⌜ least (bad-line (now text)) 2 ≡ Nowhere ⌝ }
-    ensures { λ r. ⌜ (r ≡ answer-of (from-header (now (text .entry)))) × Opened (now (image .exit)) (from-header (now (text .entry))) ⌝ }
-{
-    let k = text::read_line(text, 0, 0);
-    let l = text::read_line(text, 0, 1);
-    let found = header::bad_header(k, l);
-    match found {
-        Found::Here(i) => refuse(text::HEADER_BOUNDS, i),
-        Found::Nowhere => {
-            let h = Header {
-                elements: k.a,
-                permanent: k.b,
-                functions: k.c,
-                nodes: k.d,
-                agents: l.a,
-                contents: l.b,
-            };
-            check_form(text, h, image)
-        }
+    if program.number != 0 {
+        return program;
     }
+    text::none_at(text::CONTENTS_RULE, 0, at_fault)
 }
 
 // The whole check of a book, which leaves the image of an accepted one.
 pub fn check_into(book: &[u8], image: &mut Image) -> Answer
     ensures { λ r. ⌜ (r ≡ answer-of (check-book (now (book .entry)))) × Opened (now (image .exit)) (check-book (now (book .entry))) ⌝ }
 {
-    let found = text::bad_line(book, 2);
-    match found {
-        Found::Here(i) => refuse(text::ILL_FORMED, i),
-        Found::Nowhere => check_header(book, image),
+    let k = text::parse(book, 0);
+    let first = text::must(k.ok, text::ILL_FORMED, 0, 0);
+    if first.number != 0 {
+        return first;
     }
+    let l = text::parse(book, 1);
+    let second = text::must(l.ok, text::ILL_FORMED, 1, 0);
+    if second.number != 0 {
+        return second;
+    }
+    let bounds = text::none_at(text::HEADER_BOUNDS, 0, header::bad_header(k.line, l.line));
+    if bounds.number != 0 {
+        return bounds;
+    }
+    check_text(book, header_of(k.line, l.line), image)
 }
 
 // The whole check of a book.

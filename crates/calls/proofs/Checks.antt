@@ -1,23 +1,23 @@
--- The checks 9, 2 and 8: what each answers, that the earlier of two answers is that of both in turn, and what they show when all pass.
-use mathlib.Core.Path.{_≡_, refl, ap}
-use mathlib.Core.Bool.{Bool, true, false}
-use mathlib.Core.List.{List, []}
-use Prim.Native.Nat.{ℕ, _≤_, _<_}
+-- The checks 9, 2 and 8: what each answers, what they answer in turn, and what they show when all pass.
+use mathlib.Core.Path.{_≡_, sym, ap, _∙_}
+use mathlib.Core.Logic.{_≢_}
+use mathlib.Core.List.{List}
+use Prim.Native.Nat.{ℕ, _≤_, _<_, min}
 use native.Mathlib.Nat.{zero-add}
-use native.Mathlib.Omega.{arith}
-use lib.Dec.{ltb, leb}
+use native.Mathlib.Omega.{arith, min-cases}
+use lib.Dec.{leb}
 use lib.ListN.{length, take}
-use borrow.Author.Tests.{ltb-true, leb-true, lt-ltb, le-ltb, le-leb, lt-leb, ne-eqb}
+use lib.Seq.{take-all}
+use borrow.Author.Tests.{ltb-true, leb-true, lt-ltb, le-ltb, le-leb, lt-leb}
 use Rattle.text.specs.declared.Answer.{Answer}
 use Rattle.text.specs.declared.Found.the-variants.{Nowhere, Here}
-use Rattle.text.specs.Words.{if_then_else_, Checked, good, refused, _>>_, none-at, must, answer-of, least}
-use Rattle.text.proofs.Words.{then-good, none-good, test-good, length-table-from}
+use Rattle.text.specs.Words.{Checked, good, refused, _>>_, none-at, must, answer-of, least}
+use Rattle.text.proofs.Words.{then-good, none-good, test-good}
 use Rattle.book.specs.Book.{Program, L}
 use Rattle.book.specs.Contents.{bad-value}
-use Rattle.book.specs.Image.{word, capped}
-use Rattle.engine.specs.Single.{check-agent, check-lent-step, check-contents}
-use Rattle.calls.specs.Call.{check-call, first-of}
-use Rattle.calls.proofs.Numbered.{Numbered, on, off, agent-numbered, lent-numbered}
+use Rattle.engine.specs.Single.{check-agent, check-step-lengths, check-lent-step, check-contents}
+use Rattle.calls.specs.Call.{check-call}
+use Rattle.calls.proofs.Numbered.{Numbered, accepts, agent-numbered, lengths-numbered}
 
 abbrev pub Refusal : ℕ → ℕ → ℕ → Answer
 Refusal n p q = record { number = n; p = p; q = q }
@@ -33,18 +33,18 @@ module _ (B : Program) (k : ℕ) where
   unfolding check-agent must
   agent-missing h = rw (le-ltb k (length (B .agents)) h)
 
-module _ (B : Program) (c : List ℕ) (n : ℕ) where
-  pub contents-short : length c < L B → Refusal 2 (L B) 0 ≡ answer-of (check-lent-step B c n)
-  unfolding check-lent-step must _>>_
-  contents-short h = rw (lt-leb (L B) (length c) h)
+module _ (locations : ℕ) (c : List ℕ) (n : ℕ) where
+  pub contents-short : length c < locations → Refusal 2 locations 0 ≡ answer-of (check-step-lengths locations c n)
+  unfolding must _>>_
+  contents-short h = rw (lt-leb locations (length c) h)
 
-  pub list-short : L B ≤ length c → n < 256 → Refusal 2 256 3 ≡ answer-of (check-lent-step B c n)
-  unfolding check-lent-step must _>>_
-  list-short h g = rw (le-leb (L B) (length c) h, lt-leb 256 n g)
+  pub list-short : locations ≤ length c → n < 256 → Refusal 2 256 3 ≡ answer-of (check-step-lengths locations c n)
+  unfolding must _>>_
+  list-short h g = rw (le-leb locations (length c) h, lt-leb 256 n g)
 
-  pub both-lent : L B ≤ length c → 256 ≤ n → Refusal 0 0 0 ≡ answer-of (check-lent-step B c n)
-  unfolding check-lent-step must _>>_
-  both-lent h g = rw (le-leb (L B) (length c) h, le-leb 256 n g)
+  pub both-lent : locations ≤ length c → 256 ≤ n → Refusal 0 0 0 ≡ answer-of (check-step-lengths locations c n)
+  unfolding must _>>_
+  both-lent h g = rw (le-leb locations (length c) h, le-leb 256 n g)
 
 module _ (B : Program) (c : List ℕ) where
   pub value-bad : (l : ℕ) → least (bad-value B c) (L B) ≡ Here l → Refusal 8 l 0 ≡ answer-of (check-contents B c)
@@ -55,25 +55,50 @@ module _ (B : Program) (c : List ℕ) where
   unfolding check-contents none-at
   values-fine e = rw e
 
+-- the first k records of a table, as far as it goes
+pub taken : (k n : ℕ) (c : List ℕ) → n ≡ min k (length c) → take n c ≡ take k c
+taken k n c e =
+    min-cases k (length c) (take n c ≡ take k c)
+    (λ h f. ap (λ (i : ℕ). take i c) (e ∙ f))
+    (λ h f. take-all n c (omega (arith, e, f)) ∙ sym (take-all k c h))
+
 -- ---- one after the other
 
-first-then : {A B : Type 0} (x : Checked A) (y : Checked B) → Numbered x → first-of (answer-of x) (answer-of y) ≡ answer-of (x >> y)
-unfolding _>>_
-first-then (good a) y (on h) = refl
-first-then (refused n p q) y (off h) = rw (ne-eqb n 0 (λ e. omega (arith, h .0, e)))
+module _ {A B : Type 0} (r : Answer) (x : Checked A) (y : Checked B) where
+  -- the first refuses
+  stops : r ≡ answer-of x → r .number ≢ 0 → r ≡ answer-of (x >> y)
+  unfolding _>>_
+  stops e h = go x e
+    where
+      go : (z : Checked A) → r ≡ answer-of z → r ≡ answer-of (z >> y)
+      go (good a) f = absurd (h (ap (λ (a : Answer). a .number) f))
+      go (refused n p q) f = f
 
-in-turn : (B : Program) (c : List ℕ) (k n : ℕ) →
-    first-of (answer-of (check-agent B k)) (first-of (answer-of (check-lent-step B c n)) (answer-of (check-contents B (take (L B) c))))
-    ≡ answer-of (check-call B c k n)
-unfolding check-call
-in-turn B c k n =
-    rw (first-then (check-lent-step B c n) (check-contents B (take (L B) c)) (lent-numbered B c k n))
-    (first-then (check-agent B k) (check-lent-step B c n >> check-contents B (take (L B) c)) (agent-numbered B c k n))
+  -- the first passes
+  goes : (s : Answer) → s ≡ answer-of x → Numbered x → s .number ≡ 0 → r ≡ answer-of y → r ≡ answer-of (x >> y)
+  unfolding _>>_
+  goes s e h z f = rw (accepts x h (ap (λ (a : Answer). a .number) (sym e) ∙ z) .1) f
 
-pub all-three : (B : Program) (c : List ℕ) (k n : ℕ) (r s nine two eight : Answer) → r ≡ first-of nine s → s ≡ first-of two eight
-    → nine ≡ answer-of (check-agent B k) → two ≡ answer-of (check-lent-step B c n) → eight ≡ answer-of (check-contents B (take (L B) c))
-    → r ≡ answer-of (check-call B c k n)
-all-three B c k n r s nine two eight er es e9 e2 e8 = rw (er, es, e9, e2, e8) (in-turn B c k n)
+module _ (B : Program) (locations : ℕ) (c : List ℕ) (k n : ℕ) (nine : Answer) (is-nine : nine ≡ answer-of (check-agent B k)) where
+  pub nine-refuses : nine .number ≢ 0 → nine ≡ answer-of (check-call B locations c k n)
+  unfolding check-call
+  nine-refuses h = stops nine _ _ is-nine h
+
+  module _ (passed : nine .number ≡ 0) (two : Answer) (is-two : two ≡ answer-of (check-step-lengths locations c n)) where
+    after-nine : (r : Answer) → r ≡ answer-of (check-step-lengths locations c n >> check-contents B (take locations c)) → r ≡ answer-of (check-call B locations c k n)
+    unfolding check-call
+    after-nine r e = goes r _ _ nine is-nine (agent-numbered B k) passed e
+
+    pub two-refuses : two .number ≢ 0 → two ≡ answer-of (check-call B locations c k n)
+    two-refuses h = after-nine two (stops two _ _ is-two h)
+
+    pub eight-last : two .number ≡ 0 → (r : Answer) → r ≡ answer-of (check-contents B (take locations c)) → r ≡ answer-of (check-call B locations c k n)
+    eight-last z r e = after-nine r (goes r _ _ two is-two (lengths-numbered locations c n) z e)
+
+-- where they are the book's locations, 2 is that of the book
+pub lengths-are : (B : Program) (locations : ℕ) (c : List ℕ) (n : ℕ) → locations ≡ L B → check-step-lengths locations c n ≡ check-lent-step B c n
+unfolding check-lent-step
+lengths-are B locations c n e = ap (λ (i : ℕ). check-step-lengths i c n) e
 
 -- ---- what they show
 
@@ -83,15 +108,15 @@ pub record Passed (B : Program) (c : List ℕ) (k n : ℕ) : Type 0 where
   pub records : 256 ≤ n
   pub fine : least (bad-value B (take (L B) c)) (L B) ≡ Nowhere
 
-pub call-passed : (B : Program) (c : List ℕ) (k n : ℕ) (u : Unit {0}) → check-call B c k n ≡ good u → Passed B c k n
-unfolding check-call check-agent check-lent-step check-contents _>>_
-call-passed B c k n u e =
+pub call-passed : (B : Program) (locations : ℕ) (c : List ℕ) (k n : ℕ) → locations ≡ L B → (u : Unit {0}) → check-call B locations c k n ≡ good u → Passed B c k n
+unfolding check-call check-agent check-contents _>>_
+call-passed B locations c k n same u e =
     let e9 = test-good _ _ _ _ _ u e in
     let e2 = then-good _ _ u (e9 .1) in
     let e0 = test-good _ _ _ _ _ (e2 .0) (e2 .1) in
     record {
       agent = ltb-true k (length (B .agents)) (e9 .0);
-      long = leb-true (L B) (length c) (e0 .0);
+      long = rw (← same) (leb-true locations (length c) (e0 .0));
       records = leb-true 256 n (test-good (leb 256 n) 2 256 3 (good u) u (ap (λ (x : Checked (Unit {0})). x >> good u) (e0 .1)) .0);
-      fine = none-good 8 0 0 (least (bad-value B (take (L B) c)) (L B)) u (e2 .2);
+      fine = ap (λ (i : ℕ). least (bad-value B (take i c)) (L B)) (sym same) ∙ none-good 8 0 0 (least (bad-value B (take locations c)) (L B)) u (e2 .2);
     }

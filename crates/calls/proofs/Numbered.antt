@@ -5,12 +5,11 @@ use Prim.Native.Nat.{ℕ, _≤_}
 use native.Mathlib.Omega.{arith}
 use lib.ListN.{take}
 use Rattle.text.specs.Words.{Checked, good, refused, answer-of}
-pub use Rattle.text.proofs.Checks.{on, off}
-use Rattle.text.proofs.Checks.{Ends, Any, also, then-ends, none-ends, must-ends}
+use Rattle.text.proofs.Checks.{Ends, off, Any, also, then-ends, none-ends, must-ends}
 use Rattle.book.specs.Book.{Program, L}
 use Rattle.book.specs.Check.{check-book}
 use Rattle.book.proofs.Refusals.{book-ends}
-use Rattle.engine.specs.Single.{check-agent, check-lent-step, check-contents}
+use Rattle.engine.specs.Single.{check-agent, check-step-lengths, check-contents}
 use Rattle.calls.specs.Call.{check-call}
 
 abbrev Between : ℕ → ℕ → ℕ → Type 0
@@ -24,23 +23,21 @@ Numbered c = Ends Any Between c
 pub book-numbered : (text : List ℕ) → Numbered (check-book text)
 book-numbered text = also (book-ends text) (λ B e. tt) (λ n p q r. omega arith)
 
-module _ (B : Program) (c : List ℕ) (k n : ℕ) where
-  pub agent-numbered : Numbered (check-agent B k)
-  unfolding check-agent
-  agent-numbered = must-ends Between _ _ _ _ (omega arith)
+pub agent-numbered : (B : Program) (k : ℕ) → Numbered (check-agent B k)
+unfolding check-agent
+agent-numbered B k = must-ends Between _ _ _ _ (omega arith)
 
-  pub lent-numbered : Numbered (check-lent-step B c n)
-  unfolding check-lent-step
-  lent-numbered = then-ends (must-ends Between _ _ _ _ (omega arith)) (must-ends Between _ _ _ _ (omega arith))
+pub lengths-numbered : (locations : ℕ) (c : List ℕ) (n : ℕ) → Numbered (check-step-lengths locations c n)
+lengths-numbered locations c n = then-ends (must-ends Between _ _ _ _ (omega arith)) (must-ends Between _ _ _ _ (omega arith))
 
-  contents-numbered : Numbered (check-contents B c)
-  unfolding check-contents
-  contents-numbered = none-ends Between _ _ _ _ _ (λ p h. omega arith)
+contents-numbered : (B : Program) (c : List ℕ) → Numbered (check-contents B c)
+unfolding check-contents
+contents-numbered B c = none-ends Between _ _ _ _ _ (λ p h. omega arith)
 
-pub call-numbered : (B : Program) (c : List ℕ) (k n : ℕ) → Numbered (check-call B c k n)
+pub call-numbered : (B : Program) (locations : ℕ) (c : List ℕ) (k n : ℕ) → Numbered (check-call B locations c k n)
 unfolding check-call
-call-numbered B c k n =
-    then-ends (agent-numbered B c k n) (then-ends (lent-numbered B c k n) (contents-numbered B (take (L B) c) k n))
+call-numbered B locations c k n =
+    then-ends (agent-numbered B k) (then-ends (lengths-numbered locations c n) (contents-numbered B (take locations c)))
 
 -- number 0 accepts
 pub accepts : {A : Type 0} (c : Checked A) → Numbered c → answer-of c .number ≡ 0 → (a : A) × (c ≡ good a)

@@ -1,4 +1,4 @@
-// The checks of a single move's call after the book's: 9, 2 and 8.
+// The checks of a single move's call after the book's: 9, then 2, then 8.
 use book::Image;
 use numbers::Value;
 use text::Answer;
@@ -6,23 +6,17 @@ use text::Found;
 ghost use mathlib.Core.Path.{_≡_};
 ghost use lib.ListN.{take};
 ghost use Rattle.text.specs.Words.{answer-of};
-ghost use Rattle.book.specs.Book.{L};
-ghost use Rattle.book.specs.Image.{held};
-ghost use Rattle.engine.specs.Single.{check-agent, check-lent-step, check-contents};
-ghost use Rattle.calls.specs.Call.{check-call, first-of};
+ghost use Rattle.book.specs.Image.{word, held};
+ghost use Rattle.engine.specs.Single.{check-agent, check-step-lengths, check-contents};
+ghost use Rattle.calls.specs.Call.{check-call};
 
 // Records in a list of instructions.
 const MOST_INSTRUCTIONS: usize = 256;
-
-// Agents in a book, at most.
-const MOST_AGENTS: u16 = 16;
 
 // The lent tables, as the q of 2.
 const CONTENTS: u32 = 0;
 
 const INSTRUCTIONS: u32 = 3;
-
-// ---- answers
 
 fn answer(number: u32, p: u32, q: u32) -> Answer
     ensures { λ r. ⌜ r ≡ record { number = number; p = p; q = q } ⌝ }
@@ -33,15 +27,6 @@ fn answer(number: u32, p: u32, q: u32) -> Answer
         q: q,
     }
 }
-
-// a if it refuses, and b otherwise.
-fn first_of(a: Answer, b: Answer) -> Answer
-    ensures { λ r. ⌜ r ≡ first-of a b ⌝ }
-{
-    if a.number == 0 { b } else { a }
-}
-
-// ---- the checks
 
 // 9.
 fn check_agent(image: &Image, agent: usize) -> Answer
@@ -56,11 +41,11 @@ fn check_agent(image: &Image, agent: usize) -> Answer
 
 // 2, of contents and then of instructions.
 fn check_lent(image: &Image, contents: &[Value], lent: usize) -> Answer
-    ensures { λ r. ⌜ r ≡ answer-of (check-lent-step (held (now (image .entry))) (now (contents .entry)) lent) ⌝ }
+    ensures { λ r. ⌜ r ≡ answer-of (check-step-lengths (word (now (image .entry)) 6) (now (contents .entry)) lent) ⌝ }
 {
-    let all = pages::total(image);
-    if contents.len() < all as usize {
-        return answer(text::LENT_SHORT, all, CONTENTS);
+    let locations = pages::locations(image);
+    if contents.len() < locations as usize {
+        return answer(text::LENT_SHORT, locations, CONTENTS);
     }
     if lent < MOST_INSTRUCTIONS {
         return answer(text::LENT_SHORT, 256, INSTRUCTIONS);
@@ -68,23 +53,29 @@ fn check_lent(image: &Image, contents: &[Value], lent: usize) -> Answer
     answer(0, 0, 0)
 }
 
-// 8.
+// 8, of as many records as there are locations.
 fn check_contents(image: &Image, contents: &[Value]) -> Answer
-    ensures { λ r. ⌜ r ≡ answer-of (check-contents (held (now (image .entry))) (take (L (held (now (image .entry)))) (now (contents .entry)))) ⌝ }
+    ensures { λ r. ⌜ r ≡ answer-of (check-contents (held (now (image .entry))) (take (word (now (image .entry)) 6) (now (contents .entry)))) ⌝ }
 {
-    let found = table::bad_value(image, contents);
+    let n = numbers::smaller(pages::locations(image) as usize, contents.len());
+    let found = table::bad_value(image, &contents[..n]);
     match found {
         Found::Here(l) => answer(text::CONTENTS_RULE, l, 0),
         Found::Nowhere => answer(0, 0, 0),
     }
 }
 
-// 9, 2 and 8.
+// 9, then 2, then 8, which reads the whole table.
 pub fn check_call(image: &Image, contents: &[Value], agent: usize, lent: usize) -> Answer
-    ensures { λ r. ⌜ r ≡ answer-of (check-call (held (now (image .entry))) (now (contents .entry)) agent lent) ⌝ }
+    ensures { λ r. ⌜ r ≡ answer-of (check-call (held (now (image .entry))) (word (now (image .entry)) 6) (now (contents .entry)) agent lent) ⌝ }
 {
     let nine = check_agent(image, agent);
+    if nine.number != 0 {
+        return nine;
+    }
     let two = check_lent(image, contents, lent);
-    let eight = check_contents(image, contents);
-    first_of(nine, first_of(two, eight))
+    if two.number != 0 {
+        return two;
+    }
+    check_contents(image, contents)
 }

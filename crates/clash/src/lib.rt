@@ -1,14 +1,12 @@
 // Refusal 15: the least location that clashes, with a short way for updates alone.
 use book::Image;
 use numbers::Value;
-use text::Found;
 ghost use mathlib.Core.Path.{_≡_};
 ghost use Prim.Native.Nat.{_<_, _≤_};
 ghost use lib.ListN.{length};
 ghost use Rattle.book.specs.Image.{held};
 ghost use Rattle.records.specs.Code.{items};
 ghost use Rattle.against.specs.Steps.{best};
-ghost use Rattle.clash.specs.Clash.{clash-by};
 ghost use Rattle.clash.specs.Steps.{location-of, slot-of, Last, Chain, nearer};
 
 // ---- updates alone, as the numbers that stand for them: a location with two values
@@ -82,18 +80,4 @@ pub fn first_clash(image: &Image, contents: &[Value], list: &[u64], len: usize, 
         j = j + 1;
     }
     least as u32
-}
-
-// ---- any list
-
-// The least location that clashes.
-pub fn clash(image: &Image, contents: &[Value], list: &[u64], len: usize) -> Found
-    ensures { λ r. ⌜ r ≡ clash-by (now (image .entry)) (now (contents .entry)) (now (list .entry)) len ⌝ }
-{
-    let most = pages::total(image);
-    let at = first_clash(image, contents, list, len, most);
-    if at < most {
-        return Found::Here(at);
-    }
-    Found::Nowhere
 }

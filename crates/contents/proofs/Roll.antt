@@ -115,19 +115,24 @@ rest-of B es i e s at p k =
     )
 
 module _ (B : Program) (es : List Entry) (i : ℕ) (e : Entry) (at : entry-at es i ≡ e) where
-  pub bad-bounds : in-bounds B e ≡ false → bad-entry B es i ≡ true
-  unfolding bad-entry in-bounds
-  bad-bounds p = rw (at, p)
-
-  pub bad-rest :
-      (s : List ℕ) → Clear (B .E) s → in-bounds B e ≡ true →
+  -- the tests that the code makes of an entry
+  pub bad-tests :
+      (s : List ℕ) → Clear (B .E) s →
       bad-entry B es i
       ≡ not
-      (in-form (B .P) e (function-at B (e .function)) && leb (least-location B es i) (location B (e .function) (e .arg1) (e .arg2))
-      && untraced-by (roll-of es i s) e)
-  bad-rest s k p = rest-of B es i e s at p k
+      ((ltb (e .function) (length (B .functions)) && ltb (e .arg1) (B .E) && ltb (e .arg2) (B .E) && ltb (e .value) (B .E))
+      && (in-form (B .P) e (function-at B (e .function)) && leb (least-location B es i) (entry-location B e) && untraced-by (roll-of es i s) e))
+  unfolding in-bounds bad-entry
+  bad-tests s k = go (in-bounds B e) refl
+    where
+      rest : Bool
+      rest = in-form (B .P) e (function-at B (e .function)) && leb (least-location B es i) (entry-location B e) && untraced-by (roll-of es i s) e
 
-  pub low-step : least-location B es (i + 1) ≡ location B (e .function) (e .arg1) (e .arg2) + 1
+      go : (t : Bool) → in-bounds B e ≡ t → bad-entry B es i ≡ not (t && rest)
+      go true p = rest-of B es i e s at p k
+      go false p = rw (at, p)
+
+  pub low-step : least-location B es (i + 1) ≡ entry-location B e + 1
   unfolding least-location
   low-step = rw (add-one i, at)
 
@@ -137,8 +142,3 @@ low-none B es = refl
 
 pub entry-there : (text : List ℕ) (first n i : ℕ) → i < n → entry-at (entries-from text first n) i ≡ entry-of (line text (first + i))
 entry-there text first n i h = getD-table (λ i. entry-of (line text (first + i))) n i no-entry h
-
--- where a relation's default does not count, it is undef
-pub undef-only : (r : Bool) (v : ℕ) → (not r && not (eqb v 0)) ≡ (not r && not (eqb v (if r then 1 else 0)))
-undef-only true v = refl
-undef-only false v = refl

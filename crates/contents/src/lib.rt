@@ -1,21 +1,32 @@
-// 8: contents lines, over the text and the image of a book.
+// 1 and 8 on the contents lines of a book, in one pass over its text and the image of its program.
 use book::Entry;
 use book::Function;
+use book::Image;
 use text::Found;
+use text::Line;
 ghost use mathlib.Core.Path.{_≡_};
-ghost use Prim.Native.Nat.{_+_};
-ghost use Rattle.text.specs.Words.{least};
-ghost use Rattle.text.specs.Text.{line};
+ghost use mathlib.Core.Bool.{_&&_, _||_, not};
+ghost use Prim.Native.Nat.{_+_, _-_, _<_, _≤_};
+ghost use lib.Dec.{eqb, ltb, leb};
+ghost use Rattle.text.specs.declared.Found.the-variants.{Here};
+ghost use Rattle.text.specs.Words.{least-from};
+ghost use Rattle.text.specs.Text.{bad-line};
+ghost use Rattle.book.specs.Book.{true-element, relation, dynamic, default, offset};
 ghost use Rattle.book.specs.Lines.{entry-of};
-ghost use Rattle.book.specs.Contents.{in-bounds, in-form, bad-entry};
+ghost use Rattle.book.specs.Contents.{in-form};
 ghost use Rattle.book.specs.Image.{program-in};
-ghost use Rattle.contents.specs.Roll.{entries-from, marked, untraced-by, Clear};
+ghost use Rattle.contents.specs.Roll.{marked, untraced-by, Clear};
+ghost use Rattle.contents.specs.Pass.{faults, faults-from, first-line, line-count};
 
-// Entry i of those whose lines start at line `first`.
-pub fn read_entry(text: &[u8], first: u32, i: u32) -> Entry
-    ensures { λ r. ⌜ r ≡ entry-of (line (now (text .entry)) (first + i)) ⌝ }
+// What the pass finds: the least line out of form, and if there is none the least at fault by 8.
+pub struct Faults {
+    pub form: Found,
+    pub rule: Found,
+}
+
+fn entry(l: Line) -> Entry
+    ensures { λ r. ⌜ r ≡ entry-of l ⌝ }
 {
-    let l = text::read_line(text, first, i);
     Entry {
         function: l.a,
         arg1: l.b,
@@ -24,25 +35,73 @@ pub fn read_entry(text: &[u8], first: u32, i: u32) -> Entry
     }
 }
 
-// A function, and elements for its arguments and value.
-fn in_bounds(image: &[u32], x: Entry) -> bool
-    ensures { λ r. ⌜ r ≡ in-bounds (program-in (now (image .entry))) x ⌝ }
+// One of f functions, and for its arguments and value some of e elements.
+fn in_bounds(f: u32, e: u32, x: Entry) -> bool
+    ensures { λ r. ⌜ r ≡ ltb (x .function) f && ltb (x .arg1) e && ltb (x .arg2) e && ltb (x .value) e ⌝ }
 {
-    let f = image::functions(image);
-    let e = image::elements(image);
     (x.function < f) & (x.arg1 < e) & (x.arg2 < e) & (x.value < e)
+}
+
+// Unused arguments are 0.
+fn arguments_fit(x: Entry, f: Function) -> bool
+    ensures { λ r. ⌜ r ≡ (leb 1 (f .arity) || eqb (x .arg1) 0) && (eqb (f .arity) 2 || eqb (x .arg2) 0) ⌝ }
+{
+    if f.arity == 2 {
+        true
+    } else {
+        ((1 <= f.arity) | (x.arg1 == 0)) & (x.arg2 == 0)
+    }
+}
+
+// The value is true in a relation, and not undef elsewhere.
+fn value_fits(x: Entry, f: Function) -> bool
+    ensures { λ r. ⌜ r ≡ relation f && eqb (x .value) true-element || not (relation f) && not (eqb (x .value) (default f)) ⌝ }
+{
+    if (f.kind == 1) | (f.kind == 3) {
+        x.value == 2
+    } else {
+        !(x.value == 0)
+    }
+}
+
+// A static function has no label; p elements are permanent.
+fn static_fits(p: u32, x: Entry, f: Function) -> bool
+    ensures { λ r. ⌜ r ≡ dynamic f || ltb (x .arg1) p && ltb (x .arg2) p && ltb (x .value) p ⌝ }
+{
+    if 2 <= f.kind {
+        true
+    } else {
+        (x.arg1 < p) & (x.arg2 < p) & (x.value < p)
+    }
+}
+
+// Reserve holds for labels only.
+fn reserve_fits(p: u32, x: Entry) -> bool
+    ensures { λ r. ⌜ r ≡ not (eqb (x .function) 0) || leb p (x .arg1) ⌝ }
+{
+    if x.function == 0 { p <= x.arg1 } else { true }
 }
 
 // What an entry of function f may be, p being the number of permanent elements.
 fn in_form(p: u32, x: Entry, f: Function) -> bool
     ensures { λ r. ⌜ r ≡ in-form p x f ⌝ }
 {
-    let relation = (f.kind == 1) | (f.kind == 3);
-    ((1 <= f.arity) | (x.arg1 == 0))
-        & ((f.arity == 2) | (x.arg2 == 0))
-        & ((relation & (x.value == 2)) | (!relation & !(x.value == 0)))
-        & ((2 <= f.kind) | ((x.arg1 < p) & (x.arg2 < p) & (x.value < p)))
-        & (!(x.function == 0) | (p <= x.arg1))
+    arguments_fit(x, f) & value_fits(x, f) & static_fits(p, x, f) & reserve_fits(p, x)
+}
+
+// The location of an entry of function f.
+fn location(e: u32, f: Function, x: Entry) -> u64
+    requires { ⌜ e ≤ 10000 ⌝ }
+    ensures { λ r. ⌜ (r ≡ f .first + offset e (f .arity) (x .arg1) (x .arg2)) × (r < 1000000000000000) ⌝ }
+{
+    let first = f.first as u64;
+    if f.arity == 0 {
+        first + 0
+    } else if f.arity == 1 {
+        first + x.arg1 as u64
+    } else {
+        first + (x.arg1 as u64 * e as u64 + x.arg2 as u64)
+    }
 }
 
 // An entry of function 0 puts its label on the roll.
@@ -64,40 +123,74 @@ fn no_trace(roll: &[u8], x: Entry) -> bool
     (x.function == 0) | ((a == 0) & (b == 0) & (v == 0))
 }
 
-// 8: the least of n entries that is at fault; their lines start at line `first`. The roll is clear to begin with.
-fn bad_entries<'a>(text: &'a [u8], image: &'a [u32], first: u32, n: u32, roll: &mut [u8]) -> Found
+// Line i is at fault: the others up to `end` have only their form to be judged.
+fn fault_at(text: &[u8], i: u32, end: u32) -> Faults
+    ensures { λ r. ⌜ r ≡ faults (least-from (bad-line (now (text .entry))) (end - i) i) (Here i) ⌝ }
+{
+    let found = text::bad_line_from(text, i, end);
+    match found {
+        Found::Nowhere => Faults {
+            form: Found::Nowhere,
+            rule: Found::Here(i),
+        },
+        Found::Here(j) => Faults {
+            form: Found::Here(j),
+            rule: Found::Nowhere,
+        },
+    }
+}
+
+// Judges the lines from `first` up to `end`. The roll is clear to begin with.
+fn judge_lines<'a>(
+    text: &'a [u8],
+    image: &'a [u32],
+    first: u32,
+    end: u32,
+    roll: &mut [u8],
+) -> Faults
     requires { ⌜ Clear (program-in (now image) .E) (now roll) ⌝ }
-    ensures { λ r. ⌜ r ≡ least (bad-entry (program-in (now (image .entry))) (entries-from (now (text .entry)) first n)) n ⌝ }
+    ensures { λ r. ⌜ r ≡ faults-from (program-in (now (image .entry))) (now (text .entry)) first (end - first) ⌝ }
 {
     let p = image::permanent(image);
-    let mut i: u32 = 0;
+    let e = image::elements(image);
+    let n = image::functions(image);
+    let mut i = first;
     let mut low: u64 = 0;
-    while i < n {
-        let x = read_entry(text, first, i);
-        if !in_bounds(image, x) {
-            return Found::Here(i);
+    while i < end {
+        let l = text::parse(text, i);
+        if !l.ok {
+            return Faults {
+                form: Found::Here(i),
+                rule: Found::Nowhere,
+            };
         }
+        let x = entry(l.line);
         let f = image::function_at(image, x.function);
-        let place = image::location(image, x.function, x.arg1, x.arg2);
-        if !(in_form(p, x, f) & (low <= place) & no_trace(roll, x)) {
-            return Found::Here(i);
+        let place = location(e, f, x);
+        if !(in_bounds(n, e, x) & (in_form(p, x, f) & (low <= place) & no_trace(roll, x))) {
+            return fault_at(text, i, end);
         }
         mark(roll, x);
         low = place + 1;
         i += 1;
     }
-    Found::Nowhere
+    Faults {
+        form: Found::Nowhere,
+        rule: Found::Nowhere,
+    }
 }
 
-// 8: the same. Most books have few elements, and a small roll is soon cleared.
-pub fn bad_contents<'a>(text: &'a [u8], image: &'a [u32], first: u32, n: u32) -> Found
-    ensures { λ r. ⌜ r ≡ least (bad-entry (program-in (now (image .entry))) (entries-from (now (text .entry)) first n)) n ⌝ }
+// 1 and 8: the least contents line out of form, or else the least at fault. Most books have few elements, and a small roll is soon cleared.
+pub fn judge<'a>(text: &'a [u8], image: &'a Image) -> Faults
+    ensures { λ r. ⌜ r ≡ faults-from (program-in (now (image .entry))) (now (text .entry)) (first-line (now (image .entry))) (line-count (now (image .entry))) ⌝ }
 {
+    let first = 2 + image::functions(image) + image::nodes(image) + image::agents(image);
+    let end = first + image::cap(image::fetch(image, 5), book::MOST_CONTENTS);
     if image::elements(image) <= 256 {
         let mut roll = [0u8; 256];
-        bad_entries(text, image, first, n, &mut roll)
+        judge_lines(text, image, first, end, &mut roll)
     } else {
         let mut roll = [0u8; 10000];
-        bad_entries(text, image, first, n, &mut roll)
+        judge_lines(text, image, first, end, &mut roll)
     }
 }

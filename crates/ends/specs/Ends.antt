@@ -1,12 +1,12 @@
--- What the ends of a log's run hold: its tables, and the order of its log.
+-- What the ends of a log's run hold: its tables; and the answer of the order check.
 use mathlib.Core.Path.{_≡_}
 use mathlib.Core.List.{List}
-use Prim.Native.Nat.{ℕ}
-use lib.ListN.{length, getD}
+use Rattle.text.specs.declared.Answer.{Answer}
+use Rattle.text.specs.Refusals.{unordered-touch}
 use Rattle.book.specs.Book.{Program, L}
-use Rattle.order.specs.Pairs.{rows}
-use Rattle.order.specs.Log.{Log}
+use Rattle.order.specs.Pairs.{TwoFound, no-two, two}
 use Rattle.order.specs.Run.{Run, readers, writers}
+use Prim.Native.Nat.{ℕ}
 
 -- the tables are those of a run: its contents, and the marks of the moves that fired
 pub record Holds (B : Program) (s : Run) (c rs ws : List ℕ) : Type 0 where
@@ -14,6 +14,7 @@ pub record Holds (B : Program) (s : Run) (c rs ws : List ℕ) : Type 0 where
   pub readers : rs ≡ readers (L B) (s .fired)
   pub writers : ws ≡ writers (L B) (s .fired)
 
--- the order of a log, as rows
-abbrev pub RowsOf : Log → List ℕ → Type 0
-RowsOf g order = (j : ℕ) → getD order j 0 ≡ getD (rows (g .pairs) (length (g .moves))) j 0
+-- 17 at the pair found; 0 0 0 if there is none
+abbrev pub touch-answer : TwoFound → Answer
+touch-answer no-two = record { number = 0; p = 0; q = 0 }
+touch-answer (two i j) = record { number = unordered-touch; p = i; q = j }

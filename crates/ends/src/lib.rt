@@ -1,19 +1,18 @@
 // The two ends of a log's run: before its moves 2 and the start with no marks, after them 17.
 use book::Image;
 use numbers::Value;
+use order::Lengths;
+use order::Order;
 use text::Answer;
 ghost use mathlib.Core.Path.{_≡_};
-ghost use mathlib.Core.List.{List};
-ghost use Prim.Native.Nat.{ℕ, _≤_};
 ghost use lib.ListN.{length, replicate};
-ghost use Rattle.text.specs.Words.{good, answer-of};
-ghost use Rattle.book.specs.Book.{Program, Book, L, start};
-ghost use Rattle.book.specs.Check.{check-book};
+ghost use Rattle.text.specs.Words.{answer-of};
 ghost use Rattle.book.specs.Image.{held};
-ghost use Rattle.order.specs.Log.{Log};
-ghost use Rattle.order.specs.Run.{Run, touching, order-checked};
-ghost use Rattle.order.specs.Call.{check-lent};
-ghost use Rattle.ends.specs.Ends.{Holds, RowsOf};
+ghost use Rattle.order.specs.Pairs.{least-two};
+ghost use Rattle.order.specs.Call.{check-lengths};
+ghost use Rattle.start.specs.Written.{started};
+ghost use Rattle.touch.specs.Marked.{unordered-marked, clipped};
+ghost use Rattle.ends.specs.Ends.{touch-answer};
 
 // The least number of instruction records lent.
 const MOST_INSTRUCTIONS: usize = 256;
@@ -34,21 +33,20 @@ pub fn triple(number: u32, p: u32, q: u32) -> Answer
     Answer { number, p, q }
 }
 
-// 2, lowest table first.
-pub fn check_lent(all: u32, contents: usize, readers: usize, writers: usize, lent: usize) -> Answer
-    ensures { λ r. ⌜ ((B : Program) → L B ≡ all → r ≡ answer-of (check-lent B (record { contents = contents; readers = readers; writers = writers; instructions = lent }))) ⌝ }
-    ensures { λ r. ⌜ (r .number ≡ 0 → (all ≤ contents) × (all ≤ readers) × (all ≤ writers) × (256 ≤ lent)) ⌝ }
+// 2, lowest table first, where there are so many locations.
+pub fn check_lent(locations: u32, lent: Lengths) -> Answer
+    ensures { λ r. ⌜ r ≡ answer-of (check-lengths locations lent) ⌝ }
 {
-    if contents < all as usize {
-        return triple(text::LENT_SHORT, all, CONTENTS);
+    if lent.contents < locations as usize {
+        return triple(text::LENT_SHORT, locations, CONTENTS);
     }
-    if readers < all as usize {
-        return triple(text::LENT_SHORT, all, READERS);
+    if lent.readers < locations as usize {
+        return triple(text::LENT_SHORT, locations, READERS);
     }
-    if writers < all as usize {
-        return triple(text::LENT_SHORT, all, WRITERS);
+    if lent.writers < locations as usize {
+        return triple(text::LENT_SHORT, locations, WRITERS);
     }
-    if lent < MOST_INSTRUCTIONS {
+    if lent.instructions < MOST_INSTRUCTIONS {
         return triple(text::LENT_SHORT, 256, INSTRUCTIONS);
     }
     triple(0, 0, 0)
@@ -73,7 +71,7 @@ pub fn begin(
     readers: &mut [u64],
     writers: &mut [u64],
 )
-    ensures { λ _. ⌜ ((b : Book) → check-book (now (book .entry)) ≡ good b → held (now (image .entry)) ≡ b .program → length (now (contents .entry)) ≡ L (b .program) → now (contents .exit) ≡ start b) ⌝ }
+    ensures { λ _. ⌜ now (contents .exit) ≡ started (held (now (image .entry))) (now (book .entry)) (now (contents .entry)) ⌝ }
     ensures { λ _. ⌜ (now (readers .exit) ≡ replicate (length (now (readers .entry))) 0) × (now (writers .exit) ≡ replicate (length (now (writers .entry))) 0) ⌝ }
 {
     start::write_start(book, image, contents);
@@ -81,11 +79,11 @@ pub fn begin(
     clear(writers);
 }
 
-// 17.
-pub fn check_order(readers: &[u64], writers: &[u64], rows: &[u64; 64], moves: u32) -> Answer
-    ensures { λ r. ⌜ ((B : Program) (g : Log) (s : Run) (c : List ℕ) → moves ≡ length (g .moves) → RowsOf g (now (rows .entry)) → Holds B s c (now (readers .entry)) (now (writers .entry)) → r ≡ order-checked B s (touching B g (s .fired)) .answer) ⌝ }
+// 17: of so many moves, by the order's table and the marks.
+pub fn check_order(readers: &[u64], writers: &[u64], order: &Order, moves: u32) -> Answer
+    ensures { λ r. ⌜ r ≡ touch-answer (least-two (unordered-marked (now (order .entry)) (now (readers .entry)) (now (writers .entry)) (clipped (now (readers .entry)) (now (writers .entry)) (length (now (readers .entry))))) moves) ⌝ }
 {
-    let pair = touch::touching(readers, writers, rows, moves, readers.len());
+    let pair = touch::touching(readers, writers, order, moves, readers.len());
     if !pair.found {
         return triple(0, 0, 0);
     }

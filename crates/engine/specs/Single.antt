@@ -21,11 +21,14 @@ over new old = new ++ drop (length new) old
 unfoldable pub check-agent : Program → ℕ → Checked (Unit {0})
 check-agent B k = must (ltb k (length (B .agents))) log-line 0 0
 
--- 2: contents c and n instruction records are lent
-unfoldable pub check-lent-step : Program → List ℕ → ℕ → Checked (Unit {0})
-check-lent-step B c n = do
-  must (leb (L B) (length c)) lent-short (L B) contents-table
+-- 2, where there are so many locations: contents c and n instruction records are lent
+abbrev pub check-step-lengths : ℕ → List ℕ → ℕ → Checked (Unit {0})
+check-step-lengths locations c n = do
+  must (leb locations (length c)) lent-short locations contents-table
   must (leb most-instructions n) lent-short most-instructions instructions-table
+
+unfoldable pub check-lent-step : Program → List ℕ → ℕ → Checked (Unit {0})
+check-lent-step B c n = check-step-lengths (L B) c n
 
 -- 8 of a lent table: the least location at fault
 unfoldable pub check-contents : Program → List ℕ → Checked (Unit {0})

@@ -1,15 +1,25 @@
 -- A move is settled by its clash, then by whether it is idle. Assumes nothing.
 use mathlib.Core.Path.{_≡_, sym, ap, _∙_}
-use mathlib.Core.Bool.{true, false}
+use mathlib.Core.Bool.{Bool, true, false, not}
 use mathlib.Core.List.{List}
-use Prim.Native.Nat.{ℕ}
+use Prim.Native.Nat.{ℕ, _<_, _≤_}
+use native.Mathlib.Omega.{arith}
+use Rattle.book.specs.Book.{Program, L}
+use Rattle.book.specs.Image.{held}
+use Rattle.engine.specs.declared.Instruction.{Instruction}
+use Rattle.records.specs.Code.{items}
+use Rattle.traces.specs.Traces.{any}
+use Rattle.against.specs.Steps.{best}
+use Rattle.against.proofs.Best.{best-least, best-none}
 use Rattle.text.specs.declared.Found.the-variants.{Nowhere, Here}
 use Rattle.text.specs.Refusals.{clash, idle-move}
 use Rattle.engine.specs.Move.{fires, stopped, fire, idle, judged}
 use Rattle.engine.specs.Move as move
 use Rattle.firing.specs.declared.Outcome.the-variants.{Fired, Clash, Idle}
 use Rattle.clash.specs.Clash.{updates-by, clash-by}
-use Rattle.firing.specs.Outcome.{move-by, marked, contents-after, marks-after, Settled}
+use Rattle.firing.specs.Outcome.{move-by, marked, contents-after, marks-after, OffRoll, Settled}
+use Rattle.firing.specs.Steps.{change}
+use Rattle.firing.proofs.Idle.{idle-is}
 
 module _ (image c list : List ℕ) (n : ℕ) (ls : List ℕ) (bit : ℕ) (ms : List ℕ) where
   abbrev f : move.Fired
@@ -38,3 +48,25 @@ module _ (image c list : List ℕ) (n : ℕ) (ls : List ℕ) (bit : ℕ) (ms : L
     where
       q : judged c f ≡ fires f
       q = rw (e, i)
+
+-- ---- what the code finds
+
+module _ (image c list : List ℕ) (n : ℕ) where
+  abbrev B : Program
+  B = held image
+
+  abbrev is : List Instruction
+  is = items list n
+
+  pub first-of : (r k : ℕ) → r ≡ best B c is is k → k ≡ L B → r ≡ best B c is is (L B)
+  first-of r k e t = e ∙ ap (best B c is is) t
+
+  pub clash-at : (r : ℕ) → r ≡ best B c is is (L B) → r < L B → clash-by image c list n ≡ Here r
+  clash-at r q h = sym (best-least B c is (omega (arith, q, h))) ∙ ap Here (sym q)
+
+  pub clash-none : (r : ℕ) → r ≡ best B c is is (L B) → L B ≤ r → clash-by image c list n ≡ Nowhere
+  clash-none r q h = sym (best-none B c is (omega (arith, q, h)))
+
+  -- no instruction changes its own location
+  pub idle-of : (x : Bool) (k : ℕ) → OffRoll B c is → k ≡ L B → x ≡ any (change k c) is → not x ≡ idle c (updates-by image c list n)
+  idle-of x k h t e = ap not (e ∙ ap (λ (j : ℕ). any (change j c) is) t) ∙ idle-is B c is h

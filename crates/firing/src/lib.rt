@@ -13,12 +13,12 @@ ghost use Rattle.text.specs.declared.Found.the-variants.{Nowhere};
 ghost use Rattle.book.specs.Book.{L};
 ghost use Rattle.book.specs.Image.{held};
 ghost use Rattle.pages.specs.Part.{put-in};
-ghost use Rattle.engine.specs.Move.{idle, fire};
+ghost use Rattle.engine.specs.Move.{fire};
 ghost use Rattle.records.specs.Code.{items};
 ghost use Rattle.traces.specs.Traces.{any};
 ghost use Rattle.clash.specs.Clash.{updates-by, clash-by};
 ghost use Rattle.sweep.specs.Marks.{mark};
-ghost use Rattle.firing.specs.Outcome.{move-by, marked, OffRoll, Ready, Settled};
+ghost use Rattle.firing.specs.Outcome.{move-by, marked, Ready, Settled};
 ghost use Rattle.firing.specs.Steps.{change, part-after, puts, put-marks};
 
 // What becomes of a move.
@@ -52,13 +52,6 @@ fn has_change(n: u32, contents: &[Value], list: &[u64], len: usize) -> bool
         j = j + 1;
     }
     false
-}
-
-// No location would change. A release always changes Reserve at its label, so only the instructions' own locations matter.
-pub fn is_idle(image: &Image, contents: &[Value], list: &[u64], len: usize) -> bool
-    ensures { λ r. ⌜ (OffRoll (held (now (image .entry))) (now (contents .entry)) (items (now (list .entry)) len) → r ≡ idle (now (contents .entry)) (updates-by (now (image .entry)) (now (contents .entry)) (now (list .entry)) len)) ⌝ }
-{
-    !has_change(pages::total(image), contents, list, len)
 }
 
 // ---- firing
@@ -147,7 +140,7 @@ fn put_all(
 }
 
 // The contents and the writer marks after a move that does not clash: traces of released labels go first, then each update is put.
-pub fn fire(
+fn fire(
     image: &Image,
     contents: &mut [Value],
     writers: &mut [u64],
@@ -164,7 +157,11 @@ pub fn fire(
 
 // ---- the move
 
-// 15, then 16, else it fires. A refused move leaves contents and marks as they were.
+// What a location's number can be, and more than any book has.
+const MOST_LOCATIONS: usize = 4294967295;
+
+// 15, then 16, else it fires. A refused move leaves contents and marks as they were. A release always changes Reserve at its label, so whether a location
+// would change is seen at the instructions' own ones.
 pub fn settle(
     image: &Image,
     contents: &mut [Value],
@@ -175,9 +172,9 @@ pub fn settle(
 ) -> Outcome
     ensures { λ r. ⌜ (Ready (held (now (image .entry))) (now (contents .entry)) (items (now (list .entry)) len) → (ls : List ℕ) → Settled (move-by (now (image .entry)) (now (contents .entry)) (now (list .entry)) len ls) bit (now (contents .entry)) (now (writers .entry)) r (now (contents .exit)) (now (writers .exit))) ⌝ }
 {
-    let all = pages::total(image);
+    let all = numbers::smaller(contents.len(), MOST_LOCATIONS) as u32;
     let at = clash::first_clash(image, contents, list, len, all);
-    let idle = is_idle(image, contents, list, len);
+    let idle = !has_change(all, contents, list, len);
     if at < all {
         return Outcome::Clash { location: at };
     }

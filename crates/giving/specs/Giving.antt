@@ -1,22 +1,17 @@
 -- How far a walk is, with the list of instructions as numbers; and the steps that give an instruction or are refused.
 use mathlib.Core.Bool.{_&&_, not}
 use mathlib.Core.List.{List}
-use Prim.Native.Nat.{ℕ, _≤_}
+use Prim.Native.Nat.{ℕ}
 use lib.Dec.{eqb, ltb}
-use lib.ListN.{length}
 use Rattle.text.specs.Words.{if_then_else_}
 use Rattle.text.specs.Refusals.{non-boolean, not-releasable, no-label-left}
 use Rattle.book.specs.Book.{true-element, false-element, boolean, relation, Program, function-at, location, reserve}
 use Rattle.engine.specs.declared.Instruction.the-variants.{Update, Release}
-use Rattle.engine.specs.Rule.{Walk, Walked, going, met, _then_, most-instructions, give, take-label, refuse-if, not-free}
+use Rattle.engine.specs.Rule.{Walk, Walked, going, met, _then_, give, take-label, refuse-if, not-free}
 use Rattle.records.specs.Code.{items}
 use Rattle.giving.specs.declared.Pace.{Pace}
 
 -- ---- a pace and the list that goes with it
-
--- the list has room for all instructions of a move
-abbrev pub Room : List ℕ → Type 0
-Room l = most-instructions ≤ length l
 
 abbrev pub walk-from : Pace → List ℕ → Walk
 walk-from s l = record { made = items l (s .len); next = s .label }

@@ -6,11 +6,12 @@ ghost use mathlib.Core.Bool.{_||_};
 ghost use mathlib.Core.List.{List};
 ghost use Prim.Native.Nat.{ℕ, _<_};
 ghost use lib.Dec.{eqb};
+ghost use lib.ListN.{length};
 ghost use Rattle.book.specs.Book.{node-at};
 ghost use Rattle.engine.specs.Term.{term-at, function-of};
-ghost use Rattle.engine.specs.Rule.{_then_, give};
+ghost use Rattle.engine.specs.Rule.{_then_, most-instructions, give};
 ghost use Rattle.book.specs.Image.{held};
-ghost use Rattle.giving.specs.Giving.{Room, walk-from, reached, refused-by, setting, freeing, taking, enrolling};
+ghost use Rattle.giving.specs.Giving.{reached, refused-by, setting, freeing, taking, enrolling};
 
 // How far a walk is: how many instructions it has given, the label from which the next import looks,
 // its refusal (0 for none) and the refusal's node. Eight bytes go from node to node in a register.
@@ -39,14 +40,14 @@ fn refuse(s: Pace, number: u32, n: u16) -> Pace
 
 // One more instruction, which node n gives; 14 if it does not fit.
 fn give(list: &mut [u64], s: Pace, i: Instruction, n: u16) -> Pace
-    ensures { λ r. ⌜ (Room (now (list .entry)) → reached r (now (list .exit)) ≡ (reached s (now (list .entry)) then give n i)) ⌝ }
+    requires { ⌜ length (now list) ≡ most-instructions ⌝ }
+    ensures { λ r. ⌜ reached r (now (list .exit)) ≡ (reached s (now (list .entry)) then give n i) ⌝ }
 {
     if s.refused != 0 {
         return s;
     }
     let at = s.len as usize;
-    let room = numbers::smaller(256, list.len());
-    if at < room {
+    if at < 256 {
         list[at] = records::code(i);
         Pace {
             len: s.len + 1,
@@ -88,8 +89,16 @@ pub fn named(image: &Image, depth: usize, n: u16) -> u16
 }
 
 // Sets a location of function f to x; 11 if f is a relation and x not Boolean.
-pub fn update(image: &Image, list: &mut [u64], s: Pace, n: u16, f: u16, at: u32, x: u16) -> Pace
-    ensures { λ r. ⌜ (Room (now (list .entry)) → reached r (now (list .exit)) ≡ (reached s (now (list .entry)) then setting (held (now (image .entry))) f at x n)) ⌝ }
+pub fn update(
+    image: &Image,
+    list: &mut [u64; 256],
+    s: Pace,
+    n: u16,
+    f: u16,
+    at: u32,
+    x: u16,
+) -> Pace
+    ensures { λ r. ⌜ reached r (now (list .exit)) ≡ (reached s (now (list .entry)) then setting (held (now (image .entry))) f at x n) ⌝ }
 {
     let run = pages::function(image, f);
     if relation(run.kind) {
@@ -120,15 +129,15 @@ pub fn update(image: &Image, list: &mut [u64], s: Pace, n: u16, f: u16, at: u32,
 }
 
 // The two updates by which an import at node n takes label x into universe u.
-fn take(image: &Image, list: &mut [u64], s: Pace, n: u16, u: u16, x: u16) -> Pace
+fn take(image: &Image, list: &mut [u64; 256], s: Pace, n: u16, u: u16, x: u16) -> Pace
     requires { ⌜ x < 65535 ⌝ }
-    ensures { λ r. ⌜ (Room (now (list .entry)) → reached r (now (list .exit)) ≡ taking (held (now (image .entry))) u x n (walk-from s (now (list .entry)))) ⌝ }
+    ensures { λ r. ⌜ reached r (now (list .exit)) ≡ (reached s (now (list .entry)) then taking (held (now (image .entry))) u x n) ⌝ }
 {
     let r = Pace {
         len: s.len,
         label: x + 1,
-        refused: 0,
-        node: 0,
+        refused: s.refused,
+        node: s.node,
     };
     let t = give(
         list,
@@ -152,8 +161,8 @@ fn take(image: &Image, list: &mut [u64], s: Pace, n: u16, u: u16, x: u16) -> Pac
 }
 
 // The same if x is an element; 13 if not, as no label is left.
-pub fn enroll(image: &Image, list: &mut [u64], s: Pace, n: u16, u: u16, x: u16) -> Pace
-    ensures { λ r. ⌜ (s .refused ≡ 0 → Room (now (list .entry)) → reached r (now (list .exit)) ≡ enrolling (held (now (image .entry))) u x n (walk-from s (now (list .entry)))) ⌝ }
+pub fn enroll(image: &Image, list: &mut [u64; 256], s: Pace, n: u16, u: u16, x: u16) -> Pace
+    ensures { λ r. ⌜ reached r (now (list .exit)) ≡ (reached s (now (list .entry)) then enrolling (held (now (image .entry))) u x n) ⌝ }
 {
     if x < pages::elements(image) {
         take(image, list, s, n, u, x)
@@ -163,8 +172,8 @@ pub fn enroll(image: &Image, list: &mut [u64], s: Pace, n: u16, u: u16, x: u16) 
 }
 
 // Releases x, Reserve there being v; 12 if x is no label or in Reserve.
-pub fn free(image: &Image, list: &mut [u64], s: Pace, n: u16, x: u16, v: u16) -> Pace
-    ensures { λ r. ⌜ (Room (now (list .entry)) → reached r (now (list .exit)) ≡ (reached s (now (list .entry)) then freeing (held (now (image .entry))) x v n)) ⌝ }
+pub fn free(image: &Image, list: &mut [u64; 256], s: Pace, n: u16, x: u16, v: u16) -> Pace
+    ensures { λ r. ⌜ reached r (now (list .exit)) ≡ (reached s (now (list .entry)) then freeing (held (now (image .entry))) x v n) ⌝ }
 {
     if x < pages::permanent(image) {
         return refuse(s, text::NOT_RELEASABLE, n);

@@ -11,8 +11,7 @@ use Rattle.engine.specs.declared.Instruction.{Instruction}
 use Rattle.engine.specs.Move.{Input, Moved, fires, stopped, walked, made-by, move}
 use Rattle.engine.specs.Single.{Stepped, stepped, step-move}
 use Rattle.engine.proofs.Moves.{fire-length}
-use Rattle.moves.specs.declared.Verdict.{Verdict}
-use Rattle.moves.specs.Effect.{Tables, tables, left, number-of, q-of, Fit, Effect}
+use Rattle.moves.specs.Effect.{Tables, tables, left, move-answer, Fit, Effect}
 use Rattle.halves.specs.Stages.{Ready}
 
 -- with no marks, and the first bit
@@ -25,20 +24,17 @@ fit B c k r = record {
   unmarked = λ l. omega arith;
 }
 
-abbrev pub answer-by : Verdict → Answer
-answer-by v = record { number = v .number; p = 0; q = v .q }
-
 -- on the first j records of the table c, all that the book has
-pub moved-step : (B : Program) (c : List ℕ) (k j : ℕ) → j ≡ L B → j ≤ length c → (v : Verdict) (d rs ws : List ℕ)
-    → Effect B k 1 (tables (take j c) [] []) v (tables d rs ws)
-    → (answer-by v ≡ step-move B c k .answer) × (d ++ drop j c ≡ step-move B c k .contents)
-moved-step B c k j e h v d rs ws f =
+pub moved-step : (B : Program) (c : List ℕ) (k j : ℕ) → j ≡ L B → j ≤ length c → (r : Answer) (d rs ws : List ℕ)
+    → Effect B k 1 0 (tables (take j c) [] []) r (tables d rs ws)
+    → (r ≡ step-move B c k .answer) × (d ++ drop j c ≡ step-move B c k .contents)
+moved-step B c k j e h r d rs ws f =
     let i : Input = record { agent = k } in
     let s : ℕ → Stepped = λ n. stepped c (take n c) (made-by (walked B (take n c) i)) (move B (take n c) i) in
-    subst (λ (n : ℕ). (answer-by v ≡ s n .answer) × (d ++ drop j c ≡ s n .contents)) e
-    (go (made-by (walked B (take j c) i)) (move B (take j c) i) (f .number) (f .q) (ap (λ (t : Tables). t .contents ++ drop j c) (f .tables)))
+    subst (λ (n : ℕ). (r ≡ s n .answer) × (d ++ drop j c ≡ s n .contents)) e
+    (go (made-by (walked B (take j c) i)) (move B (take j c) i) (f .answer) (ap (λ (t : Tables). t .contents ++ drop j c) (f .tables)))
   where
-    go : (is : List Instruction) (m : Moved) → v .number ≡ number-of m → v .q ≡ q-of m → d ++ drop j c ≡ left 1 (tables (take j c) [] []) m .contents ++ drop j c
-        → (answer-by v ≡ stepped c (take j c) is m .answer) × (d ++ drop j c ≡ stepped c (take j c) is m .contents)
-    go is (fires f) n q t = (rw (n, q), t ∙ rw (fire-length (f .updates) (take j c), length-take-le j c h))
-    go is (stopped m x) n q t = (rw (n, q), t ∙ take-append-drop j c)
+    go : (is : List Instruction) (m : Moved) → r ≡ move-answer 0 m → d ++ drop j c ≡ left 1 (tables (take j c) [] []) m .contents ++ drop j c
+        → (r ≡ stepped c (take j c) is m .answer) × (d ++ drop j c ≡ stepped c (take j c) is m .contents)
+    go is (fires f) a t = (a, t ∙ rw (fire-length (f .updates) (take j c), length-take-le j c h))
+    go is (stopped m x) a t = (a, t ∙ take-append-drop j c)

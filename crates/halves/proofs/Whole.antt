@@ -9,15 +9,17 @@ use Rattle.text.specs.declared.Answer.{Answer}
 use Rattle.text.specs.Words.{Checked, good, refused, _>>=_, _>>_, answer-of}
 use Rattle.book.specs.Book.{Program, Book, L}
 use Rattle.book.specs.Check.{check-book}
-use Rattle.book.specs.Image.{held}
+use Rattle.book.specs.Image.{word, held}
 use Rattle.book.specs.Sound.{Lawful}
 use Rattle.book.proofs.Accepted.{accepted}
 use Rattle.book.proofs.Claims.{accepted-table}
-use Rattle.engine.specs.Single.{check-agent, check-lent-step, check-contents, check-step, step-move, step-answer, step-call}
+use Rattle.engine.specs.Single.{check-agent, check-step-lengths, check-contents, check-step, step-move, step-answer, step-call}
 use Rattle.calls.specs.Call.{check-call}
 use Rattle.halves.specs.Stages.{Ready, Tells}
+use Rattle.book_check.specs.Opened.{Opened}
+use Rattle.book_check.proofs.Fits.{held-is}
 use Rattle.calls.proofs.Numbered.{book-numbered, call-numbered, accepts}
-use Rattle.calls.proofs.Checks.{Passed, call-passed}
+use Rattle.calls.proofs.Checks.{lengths-are, Passed, call-passed}
 
 -- a refusal before the move: no instruction, and the contents as they were
 module _ (c l : List ℕ) (k : ℕ) where
@@ -38,6 +40,7 @@ module _ (c l : List ℕ) (k : ℕ) where
 -- what a call has passed before its move, whose image is m, and that the move is all that is left of it
 pub record Cleared (text c : List ℕ) (k n : ℕ) (m : List ℕ) : Type 0 where
   pub passed : Passed (held m) c k n
+  pub locations : word m 6 ≡ L (held m)
   pub ready : Ready (held m) (take (L (held m)) c) k
   pub moved : step-move (held m) c k ≡ step-call text c k n
 
@@ -56,16 +59,16 @@ module _ (text c l : List ℕ) (k n : ℕ) where
 
   -- ---- the book is accepted, and m is its image
 
-  step-good : (b : Book) → check-book text ≡ good b → step-call text c k n ≡ step-answer c k (check-call (b .program) c k n >> good (b .program))
+  step-good : (b : Book) → check-book text ≡ good b → (i : ℕ) → i ≡ L (b .program)
+      → step-call text c k n ≡ step-answer c k (check-call (b .program) i c k n >> good (b .program))
   unfolding step-call check-step check-call _>>=_
-  step-good b e =
+  step-good b e i same =
       let B = b .program in
-      rw e
-      (ap (step-answer c k) (joined (check-agent B k) (check-lent-step B c n) (check-contents B (take (L B) c)) (good B)))
+      rw (e, ← lengths-are B i c n same, ← same)
+      (ap (step-answer c k) (joined (check-agent B k) (check-step-lengths i c n) (check-contents B (take i c)) (good B)))
 
-  module _ (m : List ℕ) (holds : (b : Book) → check-book text ≡ good b → held m ≡ b .program)
-      (a : Answer) (told : a ≡ answer-of (check-book text)) (zero-a : a .number ≡ 0)
-      (b : Answer) (call : b ≡ answer-of (check-call (held m) c k n)) where
+  module _ (m : List ℕ) (opened : Opened m (check-book text)) (a : Answer) (told : a ≡ answer-of (check-book text)) (zero-a : a .number ≡ 0)
+      (b : Answer) (call : b ≡ answer-of (check-call (held m) (word m 6) c k n)) where
     accepted-as : (b : Book) × (check-book text ≡ good b)
     accepted-as = accepts (check-book text) (book-numbered text) (sym (ap (λ (r : Answer). r .number) told) ∙ zero-a)
 
@@ -73,22 +76,31 @@ module _ (text c l : List ℕ) (k n : ℕ) where
     B = accepted-as .0 .program
 
     is-held : held m ≡ B
-    is-held = holds (accepted-as .0) (accepted-as .1)
+    is-held = held-is text m opened (accepted-as .0) (accepted-as .1)
 
-    call-held : check-call (held m) c k n ≡ check-call B c k n
-    call-held = ap (λ (A : Program). check-call A c k n) is-held
+    located : word m 6 ≡ L B
+    located = opened (accepted-as .0) (accepted-as .1) .1
+
+    whole : step-call text c k n ≡ step-answer c k (check-call B (word m 6) c k n >> good B)
+    whole = step-good (accepted-as .0) (accepted-as .1) (word m 6) located
+
+    call-held : check-call (held m) (word m 6) c k n ≡ check-call B (word m 6) c k n
+    call-held = ap (λ (A : Program). check-call A (word m 6) c k n) is-held
 
     pub refused-call : b .number ≢ 0 → Tells b 0 l c (step-call text c k n)
     refused-call h =
-        let e : b ≡ answer-of (check-call B c k n) = call ∙ ap (λ (x : Checked (Unit {0})). answer-of x) call-held in
-        rw (e, step-good (accepted-as .0) (accepted-as .1)) (call-stops c l k (check-call B c k n) B (λ z. h (ap (λ (r : Answer). r .number) e ∙ z)))
+        let e : b ≡ answer-of (check-call B (word m 6) c k n) = call ∙ ap (λ (x : Checked (Unit {0})). answer-of x) call-held in
+        rw (e, whole) (call-stops c l k (check-call B (word m 6) c k n) B (λ z. h (ap (λ (r : Answer). r .number) e ∙ z)))
 
     module _ (zero-b : b .number ≡ 0) where
-      goes : (u : Unit {0}) × (check-call (held m) c k n ≡ good u)
-      goes = accepts (check-call (held m) c k n) (call-numbered (held m) c k n) (sym (ap (λ (r : Answer). r .number) call) ∙ zero-b)
+      goes : (u : Unit {0}) × (check-call (held m) (word m 6) c k n ≡ good u)
+      goes = accepts (check-call (held m) (word m 6) c k n) (call-numbered (held m) (word m 6) c k n) (sym (ap (λ (r : Answer). r .number) call) ∙ zero-b)
+
+      locations : word m 6 ≡ L (held m)
+      locations = located ∙ ap L (sym is-held)
 
       shown : Passed (held m) c k n
-      shown = call-passed (held m) c k n (goes .0) (goes .1)
+      shown = call-passed (held m) (word m 6) c k n locations (goes .0) (goes .1)
 
       lawful : Lawful (held m)
       lawful = subst Lawful (sym is-held) (accepted text (accepted-as .0) (accepted-as .1))
@@ -103,8 +115,8 @@ module _ (text c l : List ℕ) (k n : ℕ) where
       moved : step-move (held m) c k ≡ step-call text c k n
       moved =
           ap (λ (A : Program). step-move A c k) is-held
-          ∙ sym (call-goes c l k (check-call B c k n) (goes .0) B (sym call-held ∙ goes .1))
-          ∙ sym (step-good (accepted-as .0) (accepted-as .1))
+          ∙ sym (call-goes c l k (check-call B (word m 6) c k n) (goes .0) B (sym call-held ∙ goes .1))
+          ∙ sym whole
 
       pub cleared : Cleared text c k n m
-      cleared = record { passed = shown; ready = ready; moved = moved }
+      cleared = record { passed = shown; locations = locations; ready = ready; moved = moved }

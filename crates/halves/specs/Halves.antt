@@ -5,28 +5,32 @@ use mathlib.Core.List.{List, []}
 use Prim.Native.Nat.{ℕ, _≤_}
 use lib.ListN.{length, take}
 use Rattle.book.specs.Book.{Program, L}
-use Rattle.book.specs.Image.{held}
+use Rattle.book.specs.Image.{word, held}
 use Rattle.engine.specs.Rule.{most-instructions}
 use Rattle.engine.specs.Single.{step-move, step-call}
-use Rattle.walk.specs.declared.State.{State}
+use Rattle.walk.specs.Walk.{outcome}
+use Rattle.walk.specs.Gather.{Gathered}
+use Rattle.moves.specs.declared.Begun.{Begun}
 use Rattle.moves.specs.Count.{given-of}
-use Rattle.moves.specs.Effect.{tables, After}
 use Rattle.halves.specs.declared.Paused.{Paused}
-use Rattle.halves.specs.Stages.{Tells}
+use Rattle.halves.specs.Stages.{Ready, Tells}
 
--- agent k's walk in the first records of the table c came to the state s with the list l, which has room for every instruction
-pub record On (B : Program) (c : List ℕ) (k : ℕ) (l : List ℕ) (s : State) : Type 0 where
-  pub long : L B ≤ length c
+-- agent k's move is begun in the contents c, with no marks: its walk came to s, with its instructions in the list l
+pub record Walked (B : Program) (c : List ℕ) (k : ℕ) (l : List ℕ) (s : Begun) : Type 0 where
+  pub walk : Gathered B c 1 k (outcome (s .walk) l) [] []
+  pub count : s .count ≡ given-of (s .walk)
   pub room : length l ≡ most-instructions
-  pub after : After B k 1 (tables (take (L B) c) [] []) s l (tables (take (L B) c) [] [])
 
 -- the call that was not refused before its move, whose image is m
-pub record Walks (text c : List ℕ) (k n : ℕ) (m l : List ℕ) (s : State) : Type 0 where
+pub record Moves (text c : List ℕ) (k n : ℕ) (m l : List ℕ) (s : Begun) : Type 0 where
   pub lent : most-instructions ≤ n
-  pub on : On (held m) c k l s
+  pub locations : word m 6 ≡ L (held m)
+  pub long : L (held m) ≤ length c
+  pub ready : Ready (held m) (take (L (held m)) c) k
+  pub walked : Walked (held m) (take (L (held m)) c) k l s
   pub whole : step-move (held m) c k ≡ step-call text c k n
 
 -- a call up to the list
 pub record Halfway (text c : List ℕ) (k n : ℕ) (m l : List ℕ) (p : Paused) : Type 0 where
-  pub stops : p .answer .number ≢ 0 → (p .count ≡ 0) × Tells (p .answer) 0 l c (step-call text c k n)
-  pub walks : p .answer .number ≡ 0 → (p .count ≡ given-of (p .walk)) × Walks text c k n m l (p .walk)
+  pub stops : p .answer .number ≢ 0 → (p .begun .count ≡ 0) × Tells (p .answer) 0 l c (step-call text c k n)
+  pub moves : p .answer .number ≡ 0 → Moves text c k n m l (p .begun)

@@ -1,67 +1,56 @@
-// A single move's call in two halves, between which its instructions may go through a lent list: the checks and
-// the walk, then the firing.
+// A single move's call in stages: the checks and the move begun, then the move finished. In between its instructions may go
+// through a lent list.
 use book::Image;
+use moves::Begun;
 use numbers::Value;
 use text::Answer;
 use walk::State;
 ghost use mathlib.Core.Path.{_≡_};
 ghost use mathlib.Core.List.{List};
-ghost use Prim.Native.Nat.{ℕ, _≤_};
-ghost use lib.ListN.{length, take};
-ghost use Rattle.book.specs.Book.{L};
-ghost use Rattle.book.specs.Image.{held};
+ghost use Prim.Native.Nat.{ℕ};
+ghost use lib.ListN.{take};
+ghost use Rattle.book.specs.Image.{word, held};
 ghost use Rattle.engine.specs.Single.{step-call};
-ghost use Rattle.moves.specs.Count.{given-of};
-ghost use Rattle.halves.specs.Halves.{On, Halfway};
-ghost use Rattle.halves.specs.Stages.{Ready, Tells};
+ghost use Rattle.halves.specs.Halves.{Walked, Halfway};
+ghost use Rattle.halves.specs.Stages.{Tells};
 
-// A call up to the list: its answer if it is refused before the move, else how the move's walk
-// ended; and how many instructions there are.
+// A call up to the list: the answer of its checks, and its move begun if they pass.
 pub struct Paused {
     pub answer: Answer,
-    pub walk: State,
-    pub count: usize,
+    pub begun: Begun,
 }
 
-fn held_back(a: Answer) -> Paused
-    ensures { λ r. ⌜ (r .answer ≡ a) × (r .count ≡ 0) ⌝ }
+// No move is begun.
+fn refused(answer: Answer) -> Paused
+    ensures { λ r. ⌜ (r .answer ≡ answer) × (r .begun .count ≡ 0) ⌝ }
 {
-    let none = State {
+    let walk = State {
         len: 0,
         label: 0,
         refused: 0,
         node: 0,
     };
-    Paused {
-        answer: a,
-        walk: none,
+    let begun = Begun {
+        walk: walk,
         count: 0,
-    }
-}
-
-// The walk of the move, on the first L records of a lent table.
-fn walk_first(image: &Image, contents: &[Value], agent: u32, work: &mut [u64; 256]) -> Paused
-    requires { ⌜ (L (held (now image)) ≤ length (now contents)) × (Ready (held (now image)) (take (L (held (now image))) (now contents)) agent) ⌝ }
-    ensures { λ r. ⌜ (r .answer .number ≡ 0) × (r .count ≡ given-of (r .walk)) ⌝ }
-    ensures { λ r. ⌜ On (held (now (image .entry))) (now (contents .entry)) agent (now (work .exit)) (r .walk) ⌝ }
-{
-    let all = pages::total(image) as usize;
-    let mut readers = [0u64; 1];
-    let s = walk::gather(image, &contents[..all], &mut readers[..0], 1, work, agent);
-    let none = Answer {
-        number: 0,
-        p: 0,
-        q: 0,
     };
-    let count = moves::given(s);
     Paused {
-        answer: none,
-        walk: s,
-        count: count,
+        answer: answer,
+        begun: begun,
     }
 }
 
-// The checks, and the walk of the move.
+// The move is begun, on the records of a lent table that the book has locations for.
+fn begin(image: &Image, contents: &[Value], agent: u32, work: &mut [u64; 256]) -> Begun
+    ensures { λ r. ⌜ Walked (held (now (image .entry))) (take (word (now (image .entry)) 6) (now (contents .entry))) agent (now (work .exit)) r ⌝ }
+{
+    let all = pages::locations(image) as usize;
+    let n = numbers::smaller(all, contents.len());
+    let mut readers = [0u64; 1];
+    moves::begin(image, &contents[..n], &mut readers[..0], 1, work, agent)
+}
+
+// The checks, and the move begun.
 pub fn first_half(
     book: &[u8],
     contents: &[Value],
@@ -72,42 +61,43 @@ pub fn first_half(
 ) -> Paused
     ensures { λ r. ⌜ Halfway (now (book .entry)) (now (contents .entry)) agent lent (now (image .exit)) (now (work .exit)) r ⌝ }
 {
-    let a = book_check::check_into(book, image);
-    if a.number != 0 {
-        return held_back(a);
+    let opened = book_check::check_into(book, image);
+    if opened.number != 0 {
+        return refused(opened);
     }
-    let b = calls::check_call(image, contents, agent, lent);
-    if b.number != 0 {
-        return held_back(b);
+    let checked = calls::check_call(image, contents, agent, lent);
+    if checked.number != 0 {
+        return refused(checked);
     }
-    walk_first(image, contents, agent as u32, work)
+    let begun = begin(image, contents, agent as u32, work);
+    Paused {
+        answer: checked,
+        begun: begun,
+    }
 }
 
-// The rest of the move, by the instructions that came back from the list.
+// The move is finished, by the instructions that came back from the list.
 pub fn second_half(contents: &mut [Value], image: &Image, work: &[u64; 256], p: Paused) -> Answer
-    ensures { λ r. ⌜ ((text : List ℕ) (k n : ℕ) → Halfway text (now (contents .entry)) k n (now (image .entry)) (now (work .entry)) p → Tells r (p .count) (now (work .entry)) (now (contents .exit)) (step-call text (now (contents .entry)) k n)) ⌝ }
+    ensures { λ r. ⌜ ((text : List ℕ) (k n : ℕ) → Halfway text (now (contents .entry)) k n (now (image .entry)) (now (work .entry)) p → Tells r (p .begun .count) (now (work .entry)) (now (contents .exit)) (step-call text (now (contents .entry)) k n)) ⌝ }
 {
-    let a = p.answer;
-    if a.number != 0 {
-        return a;
+    let answer = p.answer;
+    if answer.number != 0 {
+        return answer;
     }
-    let all = pages::total(image) as usize;
+    let begun = p.begun;
+    let walk = begun.walk;
+    let all = pages::locations(image) as usize;
     let n = numbers::smaller(all, contents.len());
-    let s = p.walk;
     let mut readers = [0u64; 1];
     let mut writers = [0u64; 1];
-    let v = moves::settle_move(
+    moves::finish(
         image,
         &mut contents[..n],
         &mut readers[..0],
         &mut writers[..0],
         1,
         work,
-        s,
-    );
-    Answer {
-        number: v.number,
-        p: 0,
-        q: v.q,
-    }
+        walk,
+        0,
+    )
 }

@@ -1,11 +1,12 @@
-// 3 and 4: the fields of a book's header and its functions' lines, judged.
+// 3 and 4: the fields of a book's header and the rows of its functions' lines, judged.
 use text::Found;
 use text::Line;
 ghost use mathlib.Core.Path.{_≡_};
 ghost use Prim.Native.Nat.{_+_};
+ghost use lib.ListN.{length};
 ghost use Rattle.text.specs.Words.{least};
-ghost use Rattle.text.specs.Text.{line};
-ghost use Rattle.book.specs.Lines.{bad-field, bad-function};
+ghost use Rattle.book.specs.Lines.{first-function, bad-field, bad-function};
+ghost use Rattle.book.specs.Image.{row-in, program-in};
 
 // Field i of the header, whose lines are k and l, is outside its bounds.
 fn bad_field(k: Line, l: Line, i: u32) -> bool
@@ -42,13 +43,14 @@ fn bad_function(l: Line, f: u32) -> bool
     !((l.a <= 2) & (l.b <= 3) & (l.c == 0) & (l.d == 0) & (!(f == 0) | ((l.a == 1) & (l.b == 3))))
 }
 
-// 4: the least of n functions that is at fault.
-pub fn bad_functions(text: &[u8], n: u32) -> Found
-    ensures { λ r. ⌜ r ≡ least (λ f. bad-function (line (now (text .entry)) (2 + f)) f) n ⌝ }
+// 4: the least function at fault, on the rows of the functions' lines as they stand.
+pub fn bad_functions(image: &[u32]) -> Found
+    ensures { λ r. ⌜ r ≡ least (λ f. bad-function (row-in (now (image .entry)) (first-function + f)) f) (length (program-in (now (image .entry)) .functions)) ⌝ }
 {
+    let n = image::functions(image);
     let mut i: u32 = 0;
     while i < n {
-        let l = text::read_line(text, 2, i);
+        let l = image::row(image, image::FUNCTION_ROWS + i);
         if bad_function(l, i) {
             return Found::Here(i);
         }

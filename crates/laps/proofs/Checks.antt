@@ -1,143 +1,263 @@
--- The checks before the first move: what passing them shows, and the call where one of them refuses.
+-- The checks before the first move: what passing them shows, and the answer where one of them refuses.
 use mathlib.Core.Path.{_≡_, refl, sym, ap, subst, _∙_}
 use mathlib.Core.Logic.{_≢_}
-use mathlib.Core.Bool.{false, _&&_}
 use mathlib.Core.List.{List, []}
-use Prim.Native.Nat.{ℕ, _+_, _<_}
+use Prim.Native.Nat.{ℕ, _≤_, _<_}
 use native.Mathlib.Omega.{arith}
-use borrow.Author.Tests.{ltb-true, not-false}
-use lib.Dec.{eqb, ltb}
 use lib.ListN.{length}
 use Rattle.text.specs.declared.Answer.{Answer}
-use Rattle.text.specs.declared.Line.{Line}
-use Rattle.text.specs.Text.{line}
-use Rattle.text.specs.Words.{Checked, good, refused, _>>=_, _>>_, least, none-at, answer-of}
-use Rattle.text.specs.Refusals.{log-line}
-use Rattle.text.proofs.Words.{and-cases, least-none, getD-table, length-table-from, bind-good, then-good, found-good, good-same}
-use Rattle.book.specs.Book.{Program, Book, start}
+use Rattle.text.specs.Words.{Checked, good, refused, _>>=_, _>>_, answer-of}
+use Rattle.text.proofs.Words.{bind-good, then-good, good-same}
+use Rattle.text.proofs.Checks.{bind-stops, then-stops}
+use Rattle.book.specs.Book.{Program, Book, L, start}
 use Rattle.book.specs.Check.{check-book}
-use Rattle.order.specs.Log.{Log, no-input, move-at, bad-move, bad-pair, input-of, log-of, check-agents, check-log-header, check-log-text, check-log-lines, check-log}
+use Rattle.book.specs.Image.{word, narrow, held}
+use Rattle.book.proofs.Claims.{accepted-book}
+use Rattle.book.proofs.Image.{agents-most}
+use Rattle.order.specs.declared.Lengths.{Lengths}
+use Rattle.order.specs.Log.{Log, check-agents, read-log, check-log}
+use Rattle.order.specs.Call.{Tables, lengths, check-lengths, check-lent, check-all, left-in, log-answer, log-call}
 use Rattle.order.specs.Run.{run-log}
-use Rattle.order.specs.Call.{Tables, lengths, check-lent, check-all, left-in, log-answer, log-call}
-use Rattle.order.specs.Lists.{lists-from, lists-of, call-lists}
+use Rattle.order.specs.Lists.{lists-of, call-lists}
+use Rattle.order.specs.Table.{Ordered}
+use Rattle.order.proofs.Log.{log-read, passed}
 use Rattle.order.proofs.Numbers.{Early, off, all-early}
-use Rattle.laps.specs.Turns.{answered}
+use Rattle.log.specs.declared.LogRead.{LogRead}
+use Rattle.log.specs.Read.{LogReads}
+use Rattle.log.specs.Agents.{check-agents-in}
+use Rattle.log.proofs.Agents.{log-checked}
+use Rattle.ends.proofs.Ends.{Enough, lengths-good}
+use Rattle.book_check.specs.Opened as image
+use Rattle.book_check.proofs.Fits.{held-is}
+use Rattle.laps.specs.declared.Opening.{Opening}
+use Rattle.laps.specs.Turns.{Runnable, answered}
+use Rattle.laps.specs.Checked.{Holds, Opened, run-lists}
 
--- ---- the agents of a log's moves
+-- ---- the checks, one after the other
 
-agent-low : (A : ℕ) (l : Line) → bad-move A l ≡ false → l .a < A
-agent-low A l e =
-    let t = not-false (ltb (l .a) A && eqb (l .b) 0 && eqb (l .c) 0 && eqb (l .d) 0) e in
-    let t2 = and-cases (ltb (l .a) A && eqb (l .b) 0 && eqb (l .c) 0) (eqb (l .d) 0) t .0 in
-    let t1 = and-cases (ltb (l .a) A && eqb (l .b) 0) (eqb (l .c) 0) t2 .0 in
-    ltb-true (l .a) A (and-cases (ltb (l .a) A) (eqb (l .b) 0) t1 .0)
+module _ (book log : List ℕ) (n : Lengths) where
+  abbrev all : Checked (Book × Log)
+  all = check-all book log n
 
-lines-low : (B : Program) (h : Line) (text : List ℕ) (u : Unit {0}) → check-log-lines B h text ≡ good u
-    → (i : ℕ) → i < h .a → move-at (log-of h text) i .agent < length (B .agents)
-unfolding check-log-lines log-of
-lines-low B h text u e i k =
-    let A = length (B .agents) in
-    let pairs = least (λ i. bad-pair (h .a) (line text (h .a + i)) (line text (1 + h .a + i)) i) (h .b) in
-    let f = found-good log-line 1 0 (least (λ i. bad-move A (line text (1 + i))) (h .a)) (none-at log-line (1 + h .a) 0 pairs) u e in
-    rw (getD-table (λ i. input-of (line text (1 + i))) (h .a) i no-input k)
-    (agent-low A (line text (1 + i)) (least-none (λ i. bad-move A (line text (1 + i))) (h .a) (f .0) i k))
-
-pub agents-low : (B : Program) (text : List ℕ) (g : Log) → check-log B text ≡ good g → (i : ℕ) → i < length (g .moves) → move-at g i .agent < length (B .agents)
-unfolding check-log log-of
-agents-low B text g e =
-    let r = bind-good (check-log-header text) _ g e in
-    let h = r .0 in
-    let t = then-good (check-log-text h text) _ g (r .2) in
-    let u = then-good (check-log-lines B h text) _ g (t .2) in
-    let v = then-good (check-agents (log-of h text)) (good (log-of h text)) g (u .2) in
-    let m : length (log-of h text .moves) ≡ h .a = length-table-from (λ i. input-of (line text (1 + i))) 0 (h .a) in
-    subst (λ (x : Log). (i : ℕ) → i < length (x .moves) → move-at x i .agent < length (B .agents)) (good-same (log-of h text) g (v .2))
-    (λ i k. lines-low B h text (u .0) (u .1) i (omega (arith, m)))
-
--- ---- the call: it is refused at the first check that refuses, with the tables as they were
-
-module _ (book log : List ℕ) (t : Tables) (n : ℕ) where
-  -- the checks go on from here
+  -- they go on from here
   abbrev rest : Book → Log → Checked (Book × Log)
-  rest B g = check-lent (B .program) (lengths t n) >> good (B, g)
+  rest B g = check-lent (B .program) n >> good (B, g)
 
-  after-book : (B : Book) → check-book book ≡ good B → check-all book log (lengths t n) ≡ (check-log (B .program) log >>= rest B)
+  after-book : (B : Book) → check-book book ≡ good B → all ≡ (check-log (B .program) log >>= rest B)
   unfolding check-all _>>=_
   after-book B e = rw e
 
-  after-log : (B : Book) (g : Log) → check-book book ≡ good B → check-log (B .program) log ≡ good g → check-all book log (lengths t n) ≡ rest B g
+  after-log : (B : Book) (g : Log) → check-book book ≡ good B → check-log (B .program) log ≡ good g → all ≡ rest B g
   unfolding _>>=_
   after-log B g e f = after-book B e ∙ rw f
 
-  -- none of the checks gives 0
-  not-zero : (p q : ℕ) → check-all book log (lengths t n) ≡ refused 0 p q → ⊥
-  not-zero p q e = go (subst Early e (all-early book log (lengths t n)))
+  -- none of them gives 0
+  not-zero : (p q : ℕ) → all ≡ refused 0 p q → ⊥
+  not-zero p q e = go (subst Early e (all-early book log n))
     where
       go : Early (refused 0 p q) → ⊥
       go (off h) = omega arith
 
-  module _ (a : Answer) where
-    abbrev Stops : Checked (Book × Log) → Type 0
-    Stops o = (answered a (t .contents) (t .readers) (t .writers) ≡ log-answer t o) × (lists-of o ≡ [])
+  pub all-parts : (B : Book) (g : Log) → all ≡ good (B, g) → (check-book book ≡ good B) × (check-log (B .program) log ≡ good g) × (check-lent (B .program) n ≡ good tt)
+  unfolding check-all
+  all-parts B g e =
+      let r = bind-good (check-book book) _ (B, g) e in
+      let s = bind-good (check-log (r .0 .program) log) _ (B, g) (r .2) in
+      let t = then-good (check-lent (r .0 .program) n) (good (r .0, s .0)) (B, g) (s .2) in
+      let q = good-same (r .0, s .0) (B, g) (t .2) in
+      let b : r .0 ≡ B = ap (λ (x : Book × Log). x .0) q in
+      let h : s .0 ≡ g = ap (λ (x : Book × Log). x .1) q in (
+        r .1 ∙ ap (λ (x : Book). good x) b,
+        subst (λ (x : Book). check-log (x .program) log ≡ good g) b (s .1 ∙ ap (λ (x : Log). good x) h),
+        subst (λ (x : Book). check-lent (x .program) n ≡ good tt) b (t .1),
+      )
 
-    stops : (m p q : ℕ) → a ≡ record { number = m; p = p; q = q } → Stops (refused m p q)
-    stops m p q e = (rw e, refl)
+  pub all-good : answer-of all .number ≡ 0 → (x : Book × Log) × (all ≡ good x)
+  all-good z = go all refl z
+    where
+      go : (o : Checked (Book × Log)) → all ≡ o → answer-of o .number ≡ 0 → (x : Book × Log) × (all ≡ good x)
+      go (good x) e z = (x, e)
+      go (refused m p q) e z = absurd (not-zero p q (e ∙ ap (λ (k : ℕ). refused k p q) z))
 
-    -- the call is refused so, and gives no list
-    abbrev pub Stopped : Type 0
-    Stopped = (answered a (t .contents) (t .readers) (t .writers) ≡ log-call book log t n) × (call-lists book log t n ≡ [])
+  good-zero : (x : Book × Log) → all ≡ good x → answer-of all .number ≡ 0
+  good-zero x e = ap (λ (o : Checked (Book × Log)). answer-of o .number) e
 
-    pub book-stops : a ≡ answer-of (check-book book) → a .number ≢ 0 → Stopped
-    unfolding log-call call-lists check-all _>>=_
-    book-stops e z = go (check-book book) e
+  -- ---- where one refuses
+
+  book-stops : answer-of (check-book book) .number ≢ 0 → answer-of (check-book book) ≡ answer-of all
+  unfolding check-all _>>=_
+  book-stops z = go (check-book book) z
+    where
+      go : (o : Checked Book) → answer-of o .number ≢ 0 → answer-of o ≡ answer-of (o >>= (λ B. check-log (B .program) log >>= rest B))
+      go (good B) z = absurd (z refl)
+      go (refused m p q) z = refl
+
+  book-good : answer-of (check-book book) .number ≡ 0 → (B : Book) × (check-book book ≡ good B)
+  unfolding check-all _>>=_
+  book-good z = go (check-book book) refl z
+    where
+      go : (o : Checked Book) → check-book book ≡ o → answer-of o .number ≡ 0 → (B : Book) × (check-book book ≡ good B)
+      go (good B) w z = (B, w)
+      go (refused m p q) w z = absurd (not-zero p q (rw (w, z)))
+
+  module _ (B : Book) (is : check-book book ≡ good B) where
+    abbrev A : ℕ
+    A = length (B .program .agents)
+
+    log-stops : answer-of (check-log (B .program) log) .number ≢ 0 → answer-of (check-log (B .program) log) ≡ answer-of all
+    log-stops z = sym (ap answer-of (after-book B is) ∙ bind-stops (check-log (B .program) log) (rest B) z)
+
+    read-stops : answer-of (read-log A log) .number ≢ 0 → answer-of (read-log A log) ≡ answer-of all
+    unfolding check-log
+    read-stops z =
+        let e = bind-stops (read-log A log) (λ g. check-agents g >> good g) z in
+        sym e ∙ log-stops (λ y. z (ap (λ (a : Answer). a .number) (sym e) ∙ y))
+
+    read-good : answer-of (read-log A log) .number ≡ 0 → (g : Log) × (read-log A log ≡ good g)
+    unfolding check-log _>>=_
+    read-good z = go (read-log A log) refl z
       where
-        go : (o : Checked Book) → a ≡ answer-of o → Stops (o >>= (λ B. check-log (B .program) log >>= rest B))
-        go (good B) e = absurd (z (ap (λ (x : Answer). x .number) e))
-        go (refused m p q) e = stops m p q e
+        go : (o : Checked Log) → read-log A log ≡ o → answer-of o .number ≡ 0 → (g : Log) × (read-log A log ≡ good g)
+        go (good g) w z = (g, w)
+        go (refused m p q) w z = absurd (not-zero p q (after-book B is ∙ rw (w, z)))
 
-    pub book-good : a ≡ answer-of (check-book book) → a .number ≡ 0 → (B : Book) × (check-book book ≡ good B)
-    unfolding check-all _>>=_
-    book-good e z = go (check-book book) refl e
+    -- 10, by the table t of the log g, which passed 1 and 9
+    module _ (g : Log) (says : read-log A log ≡ good g) (t : List ℕ) (ordered : Ordered g t) (few : A ≤ 16) where
+      abbrev ten : Checked (Unit {0})
+      ten = check-agents-in t (length (g .moves))
+
+      is-log : check-log (B .program) log ≡ (ten >> good g)
+      is-log = log-checked (B .program) log g t few says ordered
+
+      ten-stops : answer-of ten .number ≢ 0 → answer-of ten ≡ answer-of all
+      ten-stops z =
+          let e : answer-of (check-log (B .program) log) ≡ answer-of ten = ap answer-of is-log ∙ then-stops ten (good g) z in
+          sym e ∙ log-stops (λ y. z (ap (λ (a : Answer). a .number) (sym e) ∙ y))
+
+      ten-good : answer-of ten .number ≡ 0 → check-log (B .program) log ≡ good g
+      unfolding _>>_ _>>=_
+      ten-good z = go ten refl z
+        where
+          go : (o : Checked (Unit {0})) → ten ≡ o → answer-of o .number ≡ 0 → check-log (B .program) log ≡ good g
+          go (good u) w z = is-log ∙ rw w
+          go (refused m p q) w z = absurd (not-zero p q (after-book B is ∙ rw (is-log, w, z)))
+
+    lent-last : (g : Log) → check-log (B .program) log ≡ good g → answer-of (check-lent (B .program) n) ≡ answer-of all
+    unfolding _>>_
+    lent-last g says = rw (after-log B g is says) (go (check-lent (B .program) n))
       where
-        go : (o : Checked Book) → check-book book ≡ o → a ≡ answer-of o → (B : Book) × (check-book book ≡ good B)
-        go (good B) w e = (B, w)
-        go (refused m p q) w e =
-            let k : m ≡ 0 = sym (ap (λ (x : Answer). x .number) e) ∙ z in absurd (not-zero p q (rw (w, k)))
+        go : (o : Checked (Unit {0})) → answer-of o ≡ answer-of {A = Book × Log} (o >> good (B, g))
+        go (good u) = refl
+        go (refused m p q) = refl
 
-    module _ (B : Book) (is : check-book book ≡ good B) where
-      pub log-stops : a ≡ answer-of (check-log (B .program) log) → a .number ≢ 0 → Stopped
-      unfolding log-call call-lists _>>=_
-      log-stops e z = rw (after-book B is) (go (check-log (B .program) log) e)
-        where
-          go : (o : Checked Log) → a ≡ answer-of o → Stops (o >>= rest B)
-          go (good g) e = absurd (z (ap (λ (x : Answer). x .number) e))
-          go (refused m p q) e = stops m p q e
+  -- ---- what the code leaves
 
-      pub log-good : a ≡ answer-of (check-log (B .program) log) → a .number ≡ 0 → (g : Log) × (check-log (B .program) log ≡ good g)
-      unfolding _>>=_
-      log-good e z = go (check-log (B .program) log) refl e
-        where
-          go : (o : Checked Log) → check-log (B .program) log ≡ o → a ≡ answer-of o → (g : Log) × (check-log (B .program) log ≡ good g)
-          go (good g) w e = (g, w)
-          go (refused m p q) w e =
-              let k : m ≡ 0 = sym (ap (λ (x : Answer). x .number) e) ∙ z in absurd (not-zero p q (after-book B is ∙ rw (w, k)))
+  -- refused
+  opened-off : (r : Opening) (m o : List ℕ) → image.Opened m (check-book book) → r .answer ≡ answer-of all → answer-of all .number ≢ 0 → Opened book log n r m o
+  opened-off r m o i e z = record { answer = e; held = λ b g f. absurd (z (good-zero (b, g) f)); image = i }
 
-      module _ (g : Log) (says : check-log (B .program) log ≡ good g) where
-        pub lent-stops : a ≡ answer-of (check-lent (B .program) (lengths t n)) → a .number ≢ 0 → Stopped
-        unfolding log-call call-lists _>>_
-        lent-stops e z = rw (after-log B g is says) (go (check-lent (B .program) (lengths t n)) e)
-          where
-            go : (o : Checked (Unit {0})) → a ≡ answer-of o → Stops (o >> good (B, g))
-            go (good u) e = absurd (z (ap (λ (x : Answer). x .number) e))
-            go (refused m p q) e = stops m p q e
+  module _ (m : List ℕ) (a : Answer) (ea : a ≡ answer-of (check-book book)) (opened : image.Opened m (check-book book)) where
+    pub off-book : (r : Opening) (o : List ℕ) → r .answer ≡ a → a .number ≢ 0 → Opened book log n r m o
+    off-book r o e z =
+        let y : answer-of (check-book book) .number ≢ 0 = λ q. z (ap (λ (x : Answer). x .number) ea ∙ q) in
+        let s = book-stops y in
+        opened-off r m o opened (e ∙ ea ∙ s) (λ q. y (ap (λ (x : Answer). x .number) s ∙ q))
 
-        pub lent-passes : a ≡ answer-of (check-lent (B .program) (lengths t n)) → a .number ≡ 0
-            → (left-in t (run-log B g) ≡ log-call book log t n) × (lists-from (B .program) g (start B) (length (g .moves)) 0 ≡ call-lists book log t n)
-        unfolding log-call call-lists _>>_
-        lent-passes e z = rw (after-log B g is says) (go (check-lent (B .program) (lengths t n)) refl e)
-          where
-            go : (o : Checked (Unit {0})) → check-lent (B .program) (lengths t n) ≡ o → a ≡ answer-of o
-                → (left-in t (run-log B g) ≡ log-answer t (o >> good (B, g))) × (lists-from (B .program) g (start B) (length (g .moves)) 0 ≡ lists-of (o >> good (B, g)))
-            go (good u) w e = (refl, refl)
-            go (refused m p q) w e =
-                let k : m ≡ 0 = sym (ap (λ (x : Answer). x .number) e) ∙ z in absurd (not-zero p q (after-log B g is says ∙ rw (w, k)))
+    module _ (z : a .number ≡ 0) (agents : ℕ) (ek : agents ≡ length (held m .agents)) (o : List ℕ) (c : LogRead) (read : LogReads agents log o c) where
+      book-is : (B : Book) × (check-book book ≡ good B)
+      book-is = book-good (ap (λ (x : Answer). x .number) (sym ea) ∙ z)
+
+      abbrev B : Book
+      B = book-is .0
+
+      agents-same : (b : Book) → check-book book ≡ good b → agents ≡ length (b .program .agents)
+      agents-same b e = ek ∙ ap (λ (y : Program). length (y .agents)) (held-is book m opened b e)
+
+      reads : (b : Book) → check-book book ≡ good b → LogReads (length (b .program .agents)) log o c
+      reads b e = subst (λ (k : ℕ). LogReads k log o c) (agents-same b e) read
+
+      few : (b : Book) → check-book book ≡ good b → length (b .program .agents) ≤ 16
+      few b e = omega (arith, ek, agents-same b e, agents-most (narrow m))
+
+      answers : c .answer ≡ answer-of (read-log (length (B .program .agents)) log)
+      answers = reads B (book-is .1) .answer
+
+      pub off-log : (r : Opening) → r .answer ≡ c .answer → c .answer .number ≢ 0 → Opened book log n r m o
+      off-log r e y =
+          let w : answer-of (read-log (length (B .program .agents)) log) .number ≢ 0 = λ q. y (ap (λ (x : Answer). x .number) answers ∙ q) in
+          let s = read-stops B (book-is .1) w in
+          opened-off r m o opened (e ∙ answers ∙ s) (λ q. w (ap (λ (x : Answer). x .number) s ∙ q))
+
+      module _ (y : c .answer .number ≡ 0) (ten : Answer) (et : ten ≡ answer-of (check-agents-in o (c .moves))) where
+        log-is : (g : Log) × (read-log (length (B .program .agents)) log ≡ good g)
+        log-is = read-good B (book-is .1) (ap (λ (x : Answer). x .number) (sym answers) ∙ y)
+
+        abbrev g : Log
+        g = log-is .0
+
+        ordered : Ordered g o
+        ordered = reads B (book-is .1) .order g (log-is .1)
+
+        told : ten ≡ answer-of (check-agents-in o (length (g .moves)))
+        told = et ∙ ap (λ (k : ℕ). answer-of (check-agents-in o k)) (reads B (book-is .1) .moves g (log-is .1))
+
+        pub off-agents : (r : Opening) → r .answer ≡ ten → ten .number ≢ 0 → Opened book log n r m o
+        off-agents r e x =
+            let w : answer-of (check-agents-in o (length (g .moves))) .number ≢ 0 = λ q. x (ap (λ (a : Answer). a .number) told ∙ q) in
+            let s = ten-stops B (book-is .1) g (log-is .1) o ordered (few B (book-is .1)) w in
+            opened-off r m o opened (e ∙ told ∙ s) (λ q. w (ap (λ (a : Answer). a .number) s ∙ q))
+
+        -- all have answered
+        pub opened-last : ten .number ≡ 0 → (locations : ℕ) → locations ≡ word m 6 → (short : Answer) → short ≡ answer-of (check-lengths locations n)
+            → Opened book log n (record { answer = short; moves = c .moves; locations = locations }) m o
+        opened-last x locations el short lent =
+            let says = ten-good B (book-is .1) g (log-is .1) o ordered (few B (book-is .1)) (ap (λ (a : Answer). a .number) (sym told) ∙ x) in
+            record {
+              answer = lent ∙ ap (λ (k : ℕ). answer-of (check-lengths k n)) (el ∙ opened B (book-is .1) .1) ∙ lent-last B (book-is .1) g says;
+              held = λ b h e.
+                  let p = all-parts b h e in
+                  let k = reads b (p .0) in
+                  let f = log-read (b .program) log h (p .1) in
+                  record { image = held-is book m opened b (p .0); locations = (el, opened b (p .0) .1); moves = k .moves h f; order = k .order h f };
+              image = opened;
+            }
+
+-- ---- the call
+
+module _ (book log : List ℕ) (t : Tables) (n : ℕ) where
+  -- refused before its first move
+  pub call-off : (a : Answer) → a ≡ answer-of (check-all book log (lengths t n)) → a .number ≢ 0
+      → (call-lists book log t n ≡ []) × (answered a (t .contents) (t .readers) (t .writers) ≡ log-call book log t n)
+  unfolding log-call call-lists
+  call-off a e z = go (check-all book log (lengths t n)) e
+    where
+      go : (o : Checked (Book × Log)) → a ≡ answer-of o → (lists-of o ≡ []) × (answered a (t .contents) (t .readers) (t .writers) ≡ log-answer t o)
+      go (good x) e = absurd (z (ap (λ (y : Answer). y .number) e))
+      go (refused m p q) e = (refl, rw e)
+
+  module _ (b : Book) (g : Log) (e : check-all book log (lengths t n) ≡ good (b, g)) where
+    pub call-on : left-in t (run-log b g) ≡ log-call book log t n
+    unfolding log-call
+    call-on = rw e
+
+    pub lists-all : call-lists book log t n ≡ run-lists b g
+    unfolding call-lists
+    lists-all = rw e
+
+-- ---- what passing shows
+
+module _ (book log : List ℕ) (lent : Lengths) (b : Book) (g : Log) (e : check-all book log lent ≡ good (b, g)) where
+  pub enough : Enough lent (L (b .program))
+  enough = lengths-good lent (L (b .program)) tt (all-parts book log lent b g e .2)
+
+  pub runnable : (m o : List ℕ) → held m ≡ b .program → Ordered g o → Runnable m o g (start b)
+  runnable m o is ordered =
+      let p = all-parts book log lent b g e in
+      let ok = accepted-book book b (p .0) in
+      record {
+        lawful = rw is (ok .0);
+        sound = rw is (ok .1);
+        order = ordered;
+        few = passed (b .program) log g (p .1) .few;
+        agents = λ i h. rw is (passed (b .program) log g (p .1) .agents i h);
+      }

@@ -1,4 +1,4 @@
--- A run move by move: a walk, a move that fires, a move that is refused, and the end.
+-- A log's run on tables of just the records needed: the next move, one that is begun, one that is finished, and the end.
 use mathlib.Core.Path.{_≡_, refl, sym, ap, subst, _∙_}
 use mathlib.Core.Logic.{_≢_}
 use mathlib.Core.Bool.{true, false, true≢false, false≢true}
@@ -6,33 +6,31 @@ use mathlib.Core.List.{List, [], _∷_}
 use Prim.Native.Nat.{ℕ, zero, suc, _+_, _-_, _^_, _≤_, _<_}
 use native.Mathlib.Numerals.{add-one}
 use native.Mathlib.Omega.{arith}
-use lib.ListN.{length}
+use lib.ListN.{length, replicate}
 use Rattle.text.specs.declared.Answer.{Answer}
-use Rattle.text.specs.Text.{line}
-use Rattle.text.proofs.Words.{length-table-from}
-use Rattle.book.specs.Book.{Program, Book, start}
+use Rattle.book.specs.Book.{Program, Book, L, start}
 use Rattle.book.specs.Image.{held}
-use Rattle.book.specs.Sound.{Lawful}
 use Rattle.engine.specs.declared.Instruction.{Instruction}
 use Rattle.engine.specs.Move.{walked, made-by}
 use Rattle.records.specs.Code.{items}
-use Rattle.walk.specs.declared.State.{State}
 use Rattle.walk.specs.Walk.{outcome}
 use Rattle.walk.specs.Gather.{Gathered}
-use Rattle.moves.specs.declared.Verdict.{Verdict}
+use Rattle.moves.specs.declared.Begun.{Begun}
 use Rattle.moves.specs.Effect.{Tables, tables, Fit, Effect, After}
-use Rattle.order.specs.Log.{Log, move-at, input-of, log-of}
-use Rattle.order.specs.Run.{Run, ran, halted, run, touching, order-checked}
-use Rattle.order.specs.Lists.{lists-from}
-use Rattle.log.proofs.Pass.{agent-at}
 use Rattle.moves.specs.Count.{given-of}
 use Rattle.moves.proofs.Count.{made-of}
+use Rattle.order.specs.Pairs.{TwoFound, no-two, two, least-two}
+use Rattle.order.specs.Log.{Log, move-at}
+use Rattle.order.specs.Run.{Run, ran, halted, run, touching, order-checked, finish, run-from}
+use Rattle.order.specs.Lists.{lists-from}
+use Rattle.order.specs.Table.{agent-in}
+use Rattle.touch.specs.Marked.{unordered-marked, clipped}
+use Rattle.ends.specs.Ends.{Holds, touch-answer}
+use Rattle.ends.proofs.Ends.{order-answer}
 use Rattle.laps.specs.declared.Turn.{Turn}
-use Rattle.ends.specs.Ends.{Holds}
-use Rattle.laps.specs.Turns.{log-in, answered}
-use Rattle.laps.specs.Laps.{Before, Walking, Stage}
-use Rattle.laps.proofs.Turns.{halts, going-fit, going-on, going-off}
-use Rattle.laps.proofs.Ends.{lawful-in, moves-in, agents-in, ends-halted, ends-ran}
+use Rattle.laps.specs.Turns.{Startable, answered}
+use Rattle.laps.specs.Laps.{Before, Next, Stage, Walked}
+use Rattle.laps.proofs.Turns.{going-start, halts, going-fit, going-on, going-off}
 
 -- ---- the lists
 
@@ -41,134 +39,182 @@ module _ (B : Program) (g : Log) (c : List ℕ) where
   unfolding lists-from
   lists-on n i s e = rw e
 
-  pub lists-off : (n i a p q : ℕ) (s : Run) → run B g c i ≡ halted a p q s → lists-from B g c n i ≡ []
+  lists-off : (n i a p q : ℕ) (s : Run) → run B g c i ≡ halted a p q s → lists-from B g c n i ≡ []
   unfolding lists-from
   lists-off zero i a p q s e = refl
   lists-off (suc n) i a p q s e = rw e
 
-  pub lists-end : (n i : ℕ) → n ≡ 0 → lists-from B g c n i ≡ []
+  lists-end : (n i : ℕ) → n ≡ 0 → lists-from B g c n i ≡ []
   unfolding lists-from
   lists-end zero i e = refl
   lists-end (suc n) i e = absurd (omega (arith, e))
 
-module _ (b l m : List ℕ) (B : Book) (g : Log) where
+  -- ---- the end
+
+  module _ (s : Run) (d rs ws : List ℕ) (h : Holds B s d rs ws) where
+    -- a move was refused
+    ends-halted : (a : Answer) → run B g c (length (g .moves)) ≡ halted (a .number) (a .p) (a .q) s → answered a d rs ws ≡ run-from B g c
+    unfolding run-from finish
+    ends-halted a e = rw (e, h .contents, h .readers, h .writers)
+
+    -- all fired
+    ends-ran : run B g c (length (g .moves)) ≡ ran s → (a : Answer) → a ≡ order-checked B s (touching B g (s .fired)) .answer → answered a d rs ws ≡ run-from B g c
+    unfolding run-from finish
+    ends-ran e a f = rw e (go (touching B g (s .fired)) f)
+      where
+        go : (o : TwoFound) → a ≡ order-checked B s o .answer → answered a d rs ws ≡ order-checked B s o
+        go no-two y = rw (y, h .contents, h .readers, h .writers)
+        go (two i j) y = rw (y, h .contents, h .readers, h .writers)
+
+-- ---- turns
+
+abbrev pub over-with : Answer → Turn
+over-with a = record { more = false; at = 0; moves = 0; answer = a }
+
+module _ (m o : List ℕ) (g : Log) (c : List ℕ) where
   abbrev A : Program
   A = held m
 
-  abbrev h : Log
-  h = log-in l
+  module _ (n i : ℕ) (en : n ≡ length (g .moves)) (d rs ws : List ℕ) (to : Before m o g c i d rs ws) where
+    pub turn-on : i < n → (a : Answer) → Stage m o g c (lists-from A g c (n - i) i) (record { more = true; at = i; moves = n; answer = a }) d rs ws
+    turn-on below a = record {
+      over = λ y. absurd (true≢false y);
+      next = λ _. record { before = to; at = omega (arith, below, en); moves = en };
+      lists = λ _. refl;
+    }
 
-  module _ (n : ℕ) (order : List ℕ) (i : ℕ) (d rs ws : List ℕ) (to : Before b l m B g n order i d rs ws) where
-    -- all moves have fired
-    pub lap-ends : n ≤ i → (a : Answer) → ((s : Run) (c : List ℕ) → Holds (B .program) s c rs ws → a ≡ order-checked (B .program) s (touching (B .program) g (s .fired)) .answer)
-        → (t : Turn) → t .more ≡ false → t .answer ≡ a → (x : List ℕ) → Stage b l m B g (lists-from A h (start B) (n - i) i) t x d rs ws
-    lap-ends k a f t z e x =
-        let q : i ≡ n = omega (arith, k, to .most) in
-        let e′ = subst (λ (j : ℕ). run A h (start B) j ≡ ran (to .going .state)) q (to .going .goes) in
+    pub turn-over : n ≤ i → (a : Answer) → a ≡ touch-answer (least-two (unordered-marked o rs ws (clipped rs ws (length rs))) n)
+        → Stage m o g c (lists-from A g c (n - i) i) (over-with a) d rs ws
+    turn-over past a e =
+        let s = to .going .state in
+        let q : i ≡ length (g .moves) = omega (arith, past, to .most, en) in
+        let all : run A g c (length (g .moves)) ≡ ran s = subst (λ (j : ℕ). run A g c j ≡ ran s) q (to .going .goes) in
         record {
           over = λ _. (
-            lists-end A h (start B) (n - i) i (omega (arith, q)),
-            ap (λ (y : Answer). answered y d rs ws) e ∙ ends-ran b l m n order B g (to .passed) (to .going .state) d rs ws (to .going .tables) e′ a f,
+            lists-end A g c (n - i) i (omega (arith, past)),
+            ends-ran A g c s d rs ws (to .going .tables) all a (e ∙ order-answer A g s d rs ws o n en (to .runs .order) (to .going .tables)),
           );
-          walking = λ y. absurd (false≢true (sym z ∙ y));
-          lists = λ y. absurd (false≢true (sym z ∙ y));
+          next = λ y. absurd (false≢true y);
+          lists = λ y. absurd (false≢true y);
         }
 
-    module _ (below : i < n) where
-      is : line l (1 + i) .a ≡ move-at h i .agent
-      unfolding log-of
-      is = agent-at (line l 0) l i (omega (arith, below, moves-in b l m n order B g (to .passed) ∙ length-table-from (λ j. input-of (line l (1 + j))) 0 (line l 0 .a)))
+  -- ---- the next move
 
-      fit : Fit A (line l (1 + i) .a) (2 ^ i) (tables d rs ws)
-      fit = going-fit A h (start B) (lawful-in b l m n order B g (to .passed)) i (line l (1 + i) .a) d rs ws (to .going) (omega (arith, below, to .few)) (rw is (agents-in b l m n order B g (to .passed) i below))
-
-      -- its walk is made
-      pub lap-walks : (k bit : ℕ) → k ≡ line l (1 + i) .a → bit ≡ 2 ^ i → (s : State) (x rs′ : List ℕ) → Gathered A d bit k (outcome s x) rs rs′ → length x ≡ 256
-          → (count : ℕ) → count ≡ given-of s → (a : Answer)
-          → Stage b l m B g (lists-from A h (start B) (n - i) i) (record { more = true; count = count; answer = a; walk = s; at = i; moves = n; rows = order }) x d rs′ ws
-      lap-walks k bit ek eb s x rs′ gathered room count ec a = record {
-        over = λ y. absurd (true≢false y);
-        walking = λ _. record {
-          old = tables d rs ws;
-          before = to;
-          at = below;
-          after = record { fit = fit; contents = refl; readers = rw (← ek, ← eb) gathered; writers = refl };
-          room = room;
-          count = ec;
-        };
-        lists = λ _. refl;
-      }
-
-  module _ (t : Turn) (x d rs ws : List ℕ) (w : Walking b l m B g t x d rs ws) where
+  module _ (t : Turn) (d rs ws : List ℕ) (to : Next m o g c t d rs ws) where
     abbrev i : ℕ
     i = t .at
 
     abbrev k : ℕ
-    k = line l (1 + i) .a
+    k = agent-in o i
 
-    abbrev now : Before b l m B g (t .moves) (t .rows) i (w .old .contents) (w .old .readers) (w .old .writers)
-    now = w .before
-
-    as-listed : walked A (w .old .contents) (record { agent = k }) ≡ walked A (now .going .state .contents) (move-at h i)
-    as-listed =
-        ap (λ (c : List ℕ). walked A c (record { agent = k })) (now .going .tables .contents)
-        ∙ ap (λ (j : ℕ). walked A (now .going .state .contents) (record { agent = j })) (is (t .moves) (t .rows) i (w .old .contents) (w .old .readers) (w .old .writers) now (w .at))
-
-    -- what it gives
-    pub walking-lists : lists-from A h (start B) (t .moves - i) i ≡ items x (t .count) ∷ lists-from A h (start B) (t .moves - suc i) (suc i)
-    walking-lists =
-        let c : t .moves - i ≡ suc (t .moves - suc i) = omega (arith, w .at) in
-        ap (λ (j : ℕ). lists-from A h (start B) j i) c
-        ∙ lists-on A h (start B) (t .moves - suc i) i (now .going .state) (now .going .goes)
-        ∙ ap (λ (is : List Instruction). is ∷ lists-from A h (start B) (t .moves - suc i) (suc i))
-        (sym (ap (items x) (w .count) ∙ made-of (t .walk) x (w .room) ∙ ap made-by (w .after .readers .outcome ∙ as-listed)))
+    is : k ≡ move-at g i .agent
+    is = to .before .runs .order .agents i (to .at)
 
     pub low : i < 64
-    low = omega (arith, w .at, now .few)
+    low = omega (arith, to .at, to .before .runs .few)
 
-    module _ (v : Verdict) (d′ rs′ ws′ : List ℕ) (bit : ℕ) (eb : bit ≡ 2 ^ i)
-        (settles : (j : ℕ) (u : Tables) → After A j bit u (t .walk) x (tables d rs ws) → Effect A j bit u v (tables d′ rs′ ws′))
+    pub agent-low : k < length (A .agents)
+    agent-low = rw is (to .before .runs .agents i (to .at))
+
+    fit : Fit A k (2 ^ i) (tables d rs ws)
+    fit = going-fit A g c (to .before .runs .lawful) i k d rs ws (to .before .going) low agent-low
+
+    -- it is begun
+    pub begins : (bit agent : ℕ) → bit ≡ 2 ^ i → agent ≡ k → (s : Begun) (x rs′ : List ℕ) → Gathered A d bit agent (outcome (s .walk) x) rs rs′ → s .count ≡ given-of (s .walk) → length x ≡ 256
+        → Walked m o g c t s x d rs′ ws
+    begins bit agent eb ek s x rs′ gathered ec room = record {
+      old = tables d rs ws;
+      next = to;
+      after = record { fit = fit; contents = refl; readers = rw (← ek, ← eb) gathered; writers = refl };
+      room = room;
+      count = ec;
+    }
+
+    -- it gives something
+    pub lists-some : (is : List Instruction) × (rest : List (List Instruction)) × (lists-from A g c (t .moves - i) i ≡ is ∷ rest)
+    lists-some =
+        let e : t .moves - i ≡ suc (t .moves - suc i) = omega (arith, to .at, to .moves) in (
+          made-by (walked A (to .before .going .state .contents) (move-at g i)),
+          lists-from A g c (t .moves - suc i) (suc i),
+          ap (λ (n : ℕ). lists-from A g c n i) e ∙ lists-on A g c (t .moves - suc i) i (to .before .going .state) (to .before .going .goes),
+        )
+
+  -- ---- a move that is begun
+
+  module _ (t : Turn) (s : Begun) (x d rs ws : List ℕ) (w : Walked m o g c t s x d rs ws) where
+    abbrev now : Next m o g c t (w .old .contents) (w .old .readers) (w .old .writers)
+    now = w .next
+
+    as-listed : walked A (w .old .contents) (record { agent = agent-in o (t .at) }) ≡ walked A (now .before .going .state .contents) (move-at g (t .at))
+    as-listed =
+        ap (λ (e : List ℕ). walked A e (record { agent = agent-in o (t .at) })) (now .before .going .tables .contents)
+        ∙ ap (λ (j : ℕ). walked A (now .before .going .state .contents) (record { agent = j })) (is t (w .old .contents) (w .old .readers) (w .old .writers) now)
+
+    -- what it gives
+    pub walked-lists : lists-from A g c (t .moves - t .at) (t .at) ≡ items x (s .count) ∷ lists-from A g c (t .moves - (t .at + 1)) (t .at + 1)
+    walked-lists =
+        let j = t .moves - (t .at + 1) in
+        let e : t .moves - t .at ≡ suc j = omega (arith, now .at, now .moves) in
+        let f : suc (t .at) ≡ t .at + 1 = sym (add-one (t .at)) in
+        ap (λ (n : ℕ). lists-from A g c n (t .at)) e
+        ∙ lists-on A g c j (t .at) (now .before .going .state) (now .before .going .goes)
+        ∙ ap (λ (is : List Instruction). is ∷ lists-from A g c j (suc (t .at))) (sym (ap (items x) (w .count) ∙ made-of (s .walk) x (w .room) ∙ ap made-by (w .after .readers .outcome ∙ as-listed)))
+        ∙ ap (λ (n : ℕ). items x (s .count) ∷ lists-from A g c j n) f
+
+    module _ (a : Answer) (d′ rs′ ws′ : List ℕ) (bit : ℕ) (eb : bit ≡ 2 ^ t .at)
+        (does : (j : ℕ) (u : Tables) → After A j bit u (s .walk) x (tables d rs ws) → Effect A j bit (t .at) u a (tables d′ rs′ ws′))
       where
-        does : Effect A k (2 ^ i) (w .old) v (tables d′ rs′ ws′)
-        does = subst (λ (z : ℕ). After A k z (w .old) (t .walk) x (tables d rs ws) → Effect A k z (w .old) v (tables d′ rs′ ws′)) eb (settles k (w .old)) (w .after)
+        effect : Effect A (agent-in o (t .at)) (2 ^ t .at) (t .at) (w .old) a (tables d′ rs′ ws′)
+        effect =
+            subst (λ (z : ℕ). After A (agent-in o (t .at)) z (w .old) (s .walk) x (tables d rs ws) → Effect A (agent-in o (t .at)) z (t .at) (w .old) a (tables d′ rs′ ws′)) eb
+            (does (agent-in o (t .at)) (w .old)) (w .after)
 
-        lawful : Lawful A
-        lawful = lawful-in b l m (t .moves) (t .rows) B g (now .passed)
-
-        here : k ≡ move-at h i .agent
-        here = is (t .moves) (t .rows) i (w .old .contents) (w .old .readers) (w .old .writers) now (w .at)
+        here : agent-in o (t .at) ≡ move-at g (t .at) .agent
+        here = is t (w .old .contents) (w .old .readers) (w .old .writers) now
 
         -- it fired
-        pub lap-fires : v .number ≡ 0 → Before b l m B g (t .moves) (t .rows) (i + 1) d′ rs′ ws′
-        lap-fires z = record {
-          passed = now .passed;
-          few = now .few;
-          most = omega (arith, w .at);
-          going = going-on A h (start B) lawful i k (w .old .contents) (w .old .readers) (w .old .writers) (now .going) here v d′ rs′ ws′ does z;
+        fires : a .number ≡ 0 → Before m o g c (t .at + 1) d′ rs′ ws′
+        fires z = record {
+          runs = now .before .runs;
+          most = omega (arith, now .at);
+          going = going-on A g c (now .before .runs .lawful) (t .at) (agent-in o (t .at)) (w .old .contents) (w .old .readers) (w .old .writers) (now .before .going) here a d′ rs′ ws′ effect z;
         }
 
+        pub finish-on : a .number ≡ 0 → (r : Turn) (j : ℕ) → j ≡ t .at + 1
+            → (t .moves ≡ length (g .moves) → Before m o g c j d′ rs′ ws′ → Stage m o g c (lists-from A g c (t .moves - j) j) r d′ rs′ ws′)
+            → Stage m o g c (lists-from A g c (t .moves - (t .at + 1)) (t .at + 1)) r d′ rs′ ws′
+        finish-on z r j e next =
+            subst (λ (q : ℕ). Before m o g c q d′ rs′ ws′ → Stage m o g c (lists-from A g c (t .moves - q) q) r d′ rs′ ws′) e (next (now .moves)) (fires z)
+
         -- it was refused
-        pub lap-stops : v .number ≢ 0 → (r : Answer) → r ≡ record { number = v .number; p = i; q = v .q } → (u : Turn) → u .more ≡ false → u .answer ≡ r
-            → (y : List ℕ) → Stage b l m B g (lists-from A h (start B) (t .moves - suc i) (suc i)) u y d′ rs′ ws′
-        lap-stops z r e u more says y =
-            let s = now .going .state in
-            let o = going-off A h (start B) lawful i k (w .old .contents) (w .old .readers) (w .old .writers) (now .going) here v d′ rs′ ws′ does z in
-            let j = t .moves - suc i in
-            let to-n : j + suc i ≡ t .moves = omega (arith, w .at) in
-            let all : run A h (start B) (t .moves) ≡ halted (v .number) i (v .q) s = subst (λ (q : ℕ). run A h (start B) q ≡ halted (v .number) i (v .q) s) to-n (halts A h (start B) (suc i) j (v .number) i (v .q) s (o .0)) in
+        pub finish-off : a .number ≢ 0 → Stage m o g c (lists-from A g c (t .moves - (t .at + 1)) (t .at + 1)) (over-with a) d′ rs′ ws′
+        finish-off z =
+            let u = now .before .going .state in
+            let off = going-off A g c (now .before .runs .lawful) (t .at) (agent-in o (t .at)) (w .old .contents) (w .old .readers) (w .old .writers) (now .before .going) here a d′ rs′ ws′ effect z in
+            let j = length (g .moves) - suc (t .at) in
+            let to-n : j + suc (t .at) ≡ length (g .moves) = omega (arith, now .at) in
+            let all = subst (λ (q : ℕ). run A g c q ≡ halted (a .number) (a .p) (a .q) u) to-n (halts A g c (suc (t .at)) j (a .number) (a .p) (a .q) u (off .0)) in
+            let last = subst (λ (q : ℕ). run A g c q ≡ halted (a .number) (a .p) (a .q) u) (sym (add-one (t .at))) (off .0) in
             record {
               over = λ _. (
-                lists-off A h (start B) j (suc i) (v .number) i (v .q) s (o .0),
-                ap (λ (f : Answer). answered f d′ rs′ ws′) (says ∙ e) ∙ ends-halted b l m (t .moves) (t .rows) B g (now .passed) s d′ rs′ ws′ (o .1) (v .number) i (v .q) all,
+                lists-off A g c (t .moves - (t .at + 1)) (t .at + 1) (a .number) (a .p) (a .q) u last,
+                ends-halted A g c u d′ rs′ ws′ (off .1) a all,
               );
-              walking = λ q. absurd (false≢true (sym more ∙ q));
-              lists = λ q. absurd (false≢true (sym more ∙ q));
+              next = λ q. absurd (false≢true q);
+              lists = λ q. absurd (false≢true q);
             }
 
-        -- and the next one is on
-        pub lap-goes : v .number ≡ 0 → (r : Turn) (y rs″ : List ℕ) (j : ℕ) → j ≡ i + 1
-            → (Before b l m B g (t .moves) (t .rows) j d′ rs′ ws′ → Stage b l m B g (lists-from A h (start B) (t .moves - j) j) r y d′ rs″ ws′)
-            → Stage b l m B g (lists-from A h (start B) (t .moves - suc i) (suc i)) r y d′ rs″ ws′
-        lap-goes z r y rs″ j e next =
-            let s = subst (λ (q : ℕ). Before b l m B g (t .moves) (t .rows) q d′ rs′ ws′ → Stage b l m B g (lists-from A h (start B) (t .moves - q) q) r y d′ rs″ ws′) e next (lap-fires z) in
-            subst (λ (q : ℕ). Stage b l m B g (lists-from A h (start B) (t .moves - q) q) r y d′ rs″ ws′) (add-one i) s
+-- ---- the start
+
+pub starts-run : (book m o : List ℕ) (b : Book) (g : Log) (n : ℕ) (d rs ws : List ℕ) → Startable book m o b g n d rs ws → (d′ rs′ ws′ : List ℕ) → d′ ≡ start b
+    → rs′ ≡ replicate (length rs) 0 → ws′ ≡ replicate (length ws) 0 → Before m o g (start b) 0 d′ rs′ ws′
+starts-run book m o b g n d rs ws s d′ rs′ ws′ ed er ew = record {
+  runs = s .runs;
+  most = omega arith;
+  going = rw ed (going-start (held m) g (start b) rs′ ws′ (s .runs .sound) (er ∙ ap (λ (x : ℕ). replicate x 0) (s .readers)) (ew ∙ ap (λ (x : ℕ). replicate x 0) (s .writers)));
+}
+
+-- counted from the first move
+pub from-none : (m o : List ℕ) (b : Book) (g : Log) (n : ℕ) (t : Turn) (d rs ws : List ℕ) → Stage m o g (start b) (lists-from (held m) g (start b) (n - 0) 0) t d rs ws
+    → Stage m o g (start b) (lists-from (held m) g (start b) n 0) t d rs ws
+from-none m o b g n t d rs ws s = subst (λ (j : ℕ). Stage m o g (start b) (lists-from (held m) g (start b) j 0) t d rs ws) {x = n - 0} {y = n} (omega arith) s

@@ -1,5 +1,5 @@
 pub mod Turns
-pub mod Checks
-pub mod Ends
 pub mod Laps
 pub mod Calls
+pub mod Checks
+pub mod Opens

@@ -11,8 +11,8 @@ use Rattle.book.specs.Sound.{Lawful, Sound}
 use Rattle.engine.specs.Move.{Moved, fires, stopped, move, fire}
 use Rattle.engine.proofs.Claims.{moves-leave}
 use Rattle.engine.proofs.Numbers.{move-number}
-use Rattle.moves.specs.declared.Verdict.{Verdict}
-use Rattle.moves.specs.Effect.{Tables, left, number-of, q-of, Fit, Effect, tables}
+use Rattle.text.specs.declared.Answer.{Answer}
+use Rattle.moves.specs.Effect.{Tables, left, move-answer, Fit, Effect, tables}
 use Rattle.order.specs.Log.{Log, move-at}
 use Rattle.order.specs.Run.{Run, halted, moved, run, readers}
 use Rattle.order.proofs.Marks.{run-left}
@@ -47,7 +47,7 @@ module _ (B : Program) (g : Log) (c : List ℕ) where
           rw (to .tables .readers) (subst (λ (y : ℕ). getD (readers (L B) (to .state .fired)) x 0 < 2 ^ y) (run-left B g c i (to .state) (to .goes) .long) (readers-below (L B) (to .state .fired) x));
     }
 
-    module _ (is : k ≡ move-at g i .agent) (v : Verdict) (d′ rs′ ws′ : List ℕ) (ends : Effect B k (2 ^ i) (tables d rs ws) v (tables d′ rs′ ws′)) where
+    module _ (is : k ≡ move-at g i .agent) (v : Answer) (d′ rs′ ws′ : List ℕ) (ends : Effect B k (2 ^ i) i (tables d rs ws) v (tables d′ rs′ ws′)) where
       abbrev o : Moved
       o = move B d (record { agent = k })
 
@@ -60,10 +60,10 @@ module _ (B : Program) (g : Log) (c : List ℕ) where
 
       -- it fired
       pub going-on : v .number ≡ 0 → Going B g c (i + 1) d′ rs′ ws′
-      going-on z = go o refl (ends .number) (ends .tables)
+      going-on z = go o refl (ends .answer) (ends .tables)
         where
-          go : (x : Moved) → o ≡ x → v .number ≡ number-of x → tables d′ rs′ ws′ ≡ left (2 ^ i) (tables d rs ws) x → Going B g c (i + 1) d′ rs′ ws′
-          go (stopped n q) e y u = absurd (omega (arith, y, z, move-number B d (record { agent = k }) n q e .0))
+          go : (x : Moved) → o ≡ x → v ≡ move-answer i x → tables d′ rs′ ws′ ≡ left (2 ^ i) (tables d rs ws) x → Going B g c (i + 1) d′ rs′ ws′
+          go (stopped n q) e y u = absurd (omega (arith, ap (λ (a : Answer). a .number) y, z, move-number B d (record { agent = k }) n q e .0))
           go (fires f) e y u =
               let long : length (to .state .fired) ≡ i = run-left B g c i (to .state) (to .goes) .long in
               let leaves = moves-leave B lawful d (to .sound) (record { agent = k }) f e in
@@ -79,14 +79,14 @@ module _ (B : Program) (g : Log) (c : List ℕ) where
               }
 
       -- it was refused
-      pub going-off : v .number ≢ 0 → (run B g c (suc i) ≡ halted (v .number) i (v .q) (to .state)) × Holds B (to .state) d′ rs′ ws′
-      going-off z = go o refl (ends .number) (ends .q) (ends .tables)
+      pub going-off : v .number ≢ 0 → (run B g c (suc i) ≡ halted (v .number) (v .p) (v .q) (to .state)) × Holds B (to .state) d′ rs′ ws′
+      going-off z = go o refl (ends .answer) (ends .tables)
         where
-          go : (x : Moved) → o ≡ x → v .number ≡ number-of x → v .q ≡ q-of x → tables d′ rs′ ws′ ≡ left (2 ^ i) (tables d rs ws) x
-              → (run B g c (suc i) ≡ halted (v .number) i (v .q) (to .state)) × Holds B (to .state) d′ rs′ ws′
-          go (fires f) e y w u = absurd (z y)
-          go (stopped m q) e y w u = (
-            next-run ∙ rw (e, y, w),
+          go : (x : Moved) → o ≡ x → v ≡ move-answer i x → tables d′ rs′ ws′ ≡ left (2 ^ i) (tables d rs ws) x
+              → (run B g c (suc i) ≡ halted (v .number) (v .p) (v .q) (to .state)) × Holds B (to .state) d′ rs′ ws′
+          go (fires f) e y u = absurd (z (ap (λ (a : Answer). a .number) y))
+          go (stopped m q) e y u = (
+            next-run ∙ rw (e, y),
             record {
               contents = ap (λ (t : Tables). t .contents) u ∙ to .tables .contents;
               readers = ap (λ (t : Tables). t .readers) u ∙ to .tables .readers;

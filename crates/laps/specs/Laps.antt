@@ -1,64 +1,87 @@
--- A run move by move: what holds before a move, when its walk has given its instructions, and when all is over.
+-- A log's run move by move: what holds before a move, when it is begun, and when all is over.
 use mathlib.Core.Path.{_≡_}
 use mathlib.Core.Bool.{true, false}
-use mathlib.Core.List.{List, []}
+use mathlib.Core.List.{List, [], _∷_}
 use lib.ListN.{length, take, drop}
-use Prim.Native.Nat.{ℕ, _+_, _-_, _^_, _≤_, _<_}
-use Rattle.text.specs.Text.{line}
-use Rattle.book.specs.Book.{Book, L, start}
-use Rattle.book.specs.Image.{held}
+use Prim.Native.Nat.{ℕ, suc, _+_, _-_, _^_, _≤_, _<_}
+use Rattle.text.specs.Words.{if_then_else_}
+use Rattle.book.specs.Book.{L}
+use Rattle.book.specs.Image.{word, held}
 use Rattle.engine.specs.declared.Instruction.{Instruction}
 use Rattle.engine.specs.Rule.{most-instructions}
+use Rattle.records.specs.Code.{items}
 use Rattle.moves.specs.Effect as effect
-use Rattle.order.specs.Log.{Log}
-use Rattle.order.specs.Run.{run-log}
-use Rattle.order.specs.Lists.{lists-from}
-use Rattle.order.specs.Call.{Tables, left-in, log-call}
+use Rattle.moves.specs.declared.Begun.{Begun}
 use Rattle.moves.specs.Count.{given-of}
+use Rattle.order.specs.Log.{Log}
+use Rattle.order.specs.Run.{LogAnswer, run-from}
+use Rattle.order.specs.Lists.{lists-from}
+use Rattle.order.specs.Call.{Tables, left-in}
+use Rattle.order.specs.Table.{agent-in}
 use Rattle.laps.specs.declared.Turn.{Turn}
-use Rattle.laps.specs.Turns.{log-in, Going, Passed, answered}
+use Rattle.laps.specs.Turns.{Runnable, Going, answered}
 
--- how many moves are not over, with the one that is on
-abbrev pub moves-left : Turn → ℕ
-moves-left t = t .moves - t .at
+-- no more turns than this are left: a log has at most 64 moves
+abbrev pub turns-left : Turn → ℕ
+turns-left t = if t .more then suc (64 - t .at) else 0
 
--- the texts b and l passed their checks, m is the image, and the first i moves have fired and left these tables
-pub record Before (b l m : List ℕ) (B : Book) (g : Log) (n : ℕ) (rows : List ℕ) (i : ℕ) (d rs ws : List ℕ) : Type 0 where
-  pub passed : Passed b l m n rows B g
-  pub few : n ≤ 64
-  pub most : i ≤ n
-  pub going : Going (held m) (log-in l) (start B) i d rs ws
+-- ---- on tables of just the records needed
 
--- and the walk of move t.at has come to its end or been refused, with the list x
-pub record Walking (b l m : List ℕ) (B : Book) (g : Log) (t : Turn) (x d rs ws : List ℕ) : Type 0 where
+-- the first i moves have fired and left these tables
+pub record Before (m o : List ℕ) (g : Log) (c : List ℕ) (i : ℕ) (d rs ws : List ℕ) : Type 0 where
+  pub runs : Runnable m o g c
+  pub most : i ≤ length (g .moves)
+  pub going : Going (held m) g c i d rs ws
+
+-- move t.at is next
+pub record Next (m o : List ℕ) (g : Log) (c : List ℕ) (t : Turn) (d rs ws : List ℕ) : Type 0 where
+  pub before : Before m o g c (t .at) d rs ws
+  pub at : t .at < length (g .moves)
+  pub moves : t .moves ≡ length (g .moves)
+
+-- a move is next, or the run is over; rest is what the moves from here on give
+pub record Stage (m o : List ℕ) (g : Log) (c : List ℕ) (rest : List (List Instruction)) (t : Turn) (d rs ws : List ℕ) : Type 0 where
+  pub over : t .more ≡ false → (rest ≡ []) × (answered (t .answer) d rs ws ≡ run-from (held m) g c)
+  pub next : t .more ≡ true → Next m o g c t d rs ws
+  pub lists : t .more ≡ true → rest ≡ lists-from (held m) g c (t .moves - t .at) (t .at)
+
+-- move t.at was begun on the tables `old`: its walk came to s, with its instructions in x
+pub record Walked (m o : List ℕ) (g : Log) (c : List ℕ) (t : Turn) (s : Begun) (x d rs ws : List ℕ) : Type 0 where
   pub old : effect.Tables
-  pub before : Before b l m B g (t .moves) (t .rows) (t .at) (old .contents) (old .readers) (old .writers)
-  pub at : t .at < t .moves
-  pub after : effect.After (held m) (line l (1 + t .at) .a) (2 ^ t .at) old (t .walk) x (effect.tables d rs ws)
-  pub room : length x ≡ 256
-  pub count : t .count ≡ given-of (t .walk)
+  pub next : Next m o g c t (old .contents) (old .readers) (old .writers)
+  pub after : effect.After (held m) (agent-in o (t .at)) (2 ^ t .at) old (s .walk) x (effect.tables d rs ws)
+  pub room : length x ≡ most-instructions
+  pub count : s .count ≡ given-of (s .walk)
 
--- it is so, or the run is over; rest is what the moves from here on give
-pub record Stage (b l m : List ℕ) (B : Book) (g : Log) (rest : List (List Instruction)) (t : Turn) (x d rs ws : List ℕ) : Type 0 where
-  pub over : t .more ≡ false → (rest ≡ []) × (answered (t .answer) d rs ws ≡ run-log B g)
-  pub walking : t .more ≡ true → Walking b l m B g t x d rs ws
-  pub lists : t .more ≡ true → rest ≡ lists-from (held m) (log-in l) (start B) (moves-left t) (t .at)
+-- ---- on tables of any length, of which those are the first records
 
--- ---- the call, on tables of any length
-
--- of a call that was not refused before its first move: the tables are those lent but for their first records
-pub record Kept (b l : List ℕ) (lent : Tables) (n : ℕ) (m : List ℕ) (rest : List (List Instruction)) (t : Turn) (x c rs ws : List ℕ) : Type 0 where
-  pub B : Book
-  pub g : Log
-  pub stage : Stage b l m B g rest t x (take (L (held m)) c) (take (L (held m)) rs) (take (L (held m)) ws)
+-- the tables are those lent but for their first records, and the run from c of what is on gives the whole call's answer
+pub record Kept (lent : Tables) (n : ℕ) (whole : LogAnswer) (m : List ℕ) (g : Log) (c : List ℕ) (d rs ws : List ℕ) : Type 0 where
   pub records : most-instructions ≤ n
-  pub contents : (L (held m) ≤ length c) × (drop (L (held m)) c ≡ drop (L (held m)) (lent .contents))
+  pub locations : word m 6 ≡ L (held m)
+  pub contents : (L (held m) ≤ length d) × (drop (L (held m)) d ≡ drop (L (held m)) (lent .contents))
   pub readers : (L (held m) ≤ length rs) × (drop (L (held m)) rs ≡ drop (L (held m)) (lent .readers))
   pub writers : (L (held m) ≤ length ws) × (drop (L (held m)) ws ≡ drop (L (held m)) (lent .writers))
-  pub same : L (held m) ≡ L (B .program)
-  pub call : left-in lent (run-log B g) ≡ log-call b l lent n
+  pub call : left-in lent (run-from (held m) g c) ≡ whole
 
--- how far a call is; rest is what the moves from here on give
-pub record Lap (b l : List ℕ) (lent : Tables) (n : ℕ) (m : List ℕ) (rest : List (List Instruction)) (t : Turn) (x c rs ws : List ℕ) : Type 0 where
-  pub over : t .more ≡ false → (rest ≡ []) × (answered (t .answer) c rs ws ≡ log-call b l lent n)
-  pub on : t .more ≡ true → Kept b l lent n m rest t x c rs ws
+-- a move of a call is next
+pub record On (lent : Tables) (n : ℕ) (whole : LogAnswer) (m o : List ℕ) (rest : List (List Instruction)) (t : Turn) (d rs ws : List ℕ) : Type 0 where
+  pub g : Log
+  pub c : List ℕ
+  pub kept : Kept lent n whole m g c d rs ws
+  pub next : Next m o g c t (take (L (held m)) d) (take (L (held m)) rs) (take (L (held m)) ws)
+  pub lists : rest ≡ lists-from (held m) g c (t .moves - t .at) (t .at)
+
+-- how far a call is: a move is next, or all is over. n records are lent, and `whole` is what the call is to answer; rest is what the moves from here on give
+pub record Lap (lent : Tables) (n : ℕ) (whole : LogAnswer) (m o : List ℕ) (rest : List (List Instruction)) (t : Turn) (d rs ws : List ℕ) : Type 0 where
+  pub over : t .more ≡ false → (rest ≡ []) × (answered (t .answer) d rs ws ≡ whole)
+  pub on : t .more ≡ true → On lent n whole m o rest t d rs ws
+
+-- its move t.at is begun, and gives `is`
+pub record Midway (lent : Tables) (n : ℕ) (whole : LogAnswer) (m o : List ℕ) (is : List Instruction) (rest : List (List Instruction)) (t : Turn) (s : Begun) (x d rs ws : List ℕ) : Type 0 where
+  pub g : Log
+  pub c : List ℕ
+  pub kept : Kept lent n whole m g c d rs ws
+  pub walked : Walked m o g c t s x (take (L (held m)) d) (take (L (held m)) rs) (take (L (held m)) ws)
+  pub gives : is ≡ items x (s .count)
+  pub lists : is ∷ rest ≡ lists-from (held m) g c (t .moves - t .at) (t .at)

@@ -1,50 +1,98 @@
-// A log's run move by move: the checks, the start, each move's walk and firing, and 17.
+// A log's run in stages: the checks, the start, each move begun and finished, and 17 after the last.
 use book::Image;
+use moves::Begun;
 use numbers::Value;
+use order::Lengths;
+use order::Order;
 use text::Answer;
-use walk::State;
 ghost use mathlib.Core.Path.{_≡_};
 ghost use mathlib.Core.Bool.{false};
 ghost use mathlib.Core.List.{List, _∷_};
-ghost use Prim.Native.Nat.{ℕ, suc, _+_, _-_, _^_, _<_, _≤_};
+ghost use Prim.Native.Nat.{ℕ, _+_, _-_, _^_, _<_, _≤_};
+ghost use lib.ListN.{length};
 ghost use Rattle.book.specs.Book.{Book, start};
 ghost use Rattle.book.specs.Image.{held};
 ghost use Rattle.engine.specs.declared.Instruction.{Instruction};
 ghost use Rattle.order.specs.Log.{Log};
-ghost use Rattle.order.specs.Call.{Tables};
+ghost use Rattle.order.specs.Run.{LogAnswer, run-log};
 ghost use Rattle.order.specs.Lists.{lists-from, call-lists};
-ghost use Rattle.laps.specs.Turns.{log-in, Passed, Long, tables};
-ghost use Rattle.laps.specs.Laps.{Before, Walking, Stage, Lap, moves-left};
+ghost use Rattle.order.specs.Call.{Tables, left-in, log-call};
+ghost use Rattle.laps.specs.Turns.{tables, Startable};
+ghost use Rattle.laps.specs.Laps.{turns-left, Before, Stage, Walked, Lap, Midway};
+ghost use Rattle.laps.specs.Checked.{Opened, Passed, run-lists};
 
-// How far a run is: a move's walk has given its instructions, or all is over, with its answer.
+// Moves in a log, at most.
+const MOST_MOVES: usize = 64;
+
+// How far a run is: move `at` of so many is next, or all is over, with its answer.
 pub struct Turn {
     pub more: bool,
-    pub count: usize,
-    pub answer: Answer,
-    pub walk: State,
     pub at: u32,
     pub moves: u32,
-    pub rows: [u64; 64],
+    pub answer: Answer,
 }
 
-fn ended(answer: Answer) -> Turn
-    ensures { λ r. ⌜ (r .more ≡ false) × (r .answer ≡ answer) × (moves-left r ≡ 0) ⌝ }
+// The answer of the checks before the first move; when they pass, how many moves and locations there are.
+pub struct Opening {
+    pub answer: Answer,
+    pub moves: u32,
+    pub locations: u32,
+}
+
+// ---- the checks
+
+fn refused(answer: Answer) -> Opening
+    ensures { λ r. ⌜ r .answer ≡ answer ⌝ }
 {
-    let none = State {
-        len: 0,
-        label: 0,
-        refused: 0,
-        node: 0,
-    };
-    let rows = [0u64; 64];
+    Opening {
+        answer: answer,
+        moves: 0,
+        locations: 0,
+    }
+}
+
+// The book, the log, one agent's moves, the lengths lent: all checks before the first move, in 01's order.
+pub fn check_all(
+    book: &[u8],
+    log: &[u8],
+    lent: Lengths,
+    image: &mut Image,
+    order: &mut Order,
+) -> Opening
+    ensures { λ r. ⌜ Opened (now (book .entry)) (now (log .entry)) lent r (now (image .exit)) (now (order .exit)) ⌝ }
+{
+    let opened = book_check::check_into(book, image);
+    if opened.number != 0 {
+        return refused(opened);
+    }
+    let read = log::read_log(log, pages::agents(image) as u32, order);
+    let listed = read.answer;
+    if listed.number != 0 {
+        return refused(listed);
+    }
+    let unordered = log::check_agents(order, read.moves);
+    if unordered.number != 0 {
+        return refused(unordered);
+    }
+    let locations = pages::locations(image);
+    let short = ends::check_lent(locations, lent);
+    Opening {
+        answer: short,
+        moves: read.moves,
+        locations: locations,
+    }
+}
+
+// ---- turns
+
+fn ended(answer: Answer) -> Turn
+    ensures { λ r. ⌜ r ≡ record { more = false; at = 0; moves = 0; answer = answer } ⌝ }
+{
     Turn {
         more: false,
-        count: 0,
-        answer: answer,
-        walk: none,
         at: 0,
         moves: 0,
-        rows: rows,
+        answer: answer,
     }
 }
 
@@ -58,108 +106,79 @@ fn bit_of(i: u32) -> u64
     0
 }
 
-// The walk of move i, if there is one; else the order is checked.
-fn walk_on(
-    log: &[u8],
-    contents: &[Value],
-    readers: &mut [u64],
-    writers: &[u64],
-    image: &Image,
-    work: &mut [u64; 256],
-    rows: [u64; 64],
-    moves: u32,
-    i: u32,
-) -> Turn
-    ensures { λ r. ⌜ ((b : List ℕ) (B : Book) (g : Log) → Before b (now (log .entry)) (now (image .entry)) B g moves rows i (now (contents .entry)) (now (readers .entry)) (now (writers .entry)) → Stage b (now (log .entry)) (now (image .entry)) B g (lists-from (held (now (image .entry))) (log-in (now (log .entry))) (start B) (moves - i) i) r (now (work .exit)) (now (contents .entry)) (now (readers .exit)) (now (writers .entry))) ⌝ }
-    ensures { λ r. ⌜ (r .more ≡ false → now (work .exit) ≡ now (work .entry)) ⌝ }
-    ensures { λ r. ⌜ moves-left r ≤ moves - i ⌝ }
-{
-    if i < moves {
-        let agent = log::agent_of(log, i);
-        let bit = bit_of(i);
-        let s = walk::gather(image, contents, readers, bit, work, agent);
-        let count = moves::given(s);
-        let none = ends::triple(0, 0, 0);
-        return Turn {
-            more: true,
-            count: count,
-            answer: none,
-            walk: s,
-            at: i,
-            moves: moves,
-            rows: rows,
-        };
-    }
-    let answer = ends::check_order(readers, writers, &rows, moves);
-    ended(answer)
-}
-
-// The rest of the move that is on, on tables of just the records needed; then the next one's walk.
-fn turn_on(
-    log: &[u8],
-    contents: &mut [Value],
-    readers: &mut [u64],
-    writers: &mut [u64],
-    image: &Image,
-    work: &mut [u64; 256],
-    t: Turn,
-) -> Turn
-    ensures { λ r. ⌜ ((b : List ℕ) (B : Book) (g : Log) → Walking b (now (log .entry)) (now (image .entry)) B g t (now (work .entry)) (now (contents .entry)) (now (readers .entry)) (now (writers .entry)) → Stage b (now (log .entry)) (now (image .entry)) B g (lists-from (held (now (image .entry))) (log-in (now (log .entry))) (start B) (t .moves - suc (t .at)) (suc (t .at))) r (now (work .exit)) (now (contents .exit)) (now (readers .exit)) (now (writers .exit))) ⌝ }
-    ensures { λ r. ⌜ (r .more ≡ false → now (work .exit) ≡ now (work .entry)) ⌝ }
-    ensures { λ r. ⌜ (t .at < 64 → t .at < t .moves → moves-left r < moves-left t) ⌝ }
-{
-    let i = t.at;
-    let bit = bit_of(i);
-    let s = t.walk;
-    let v = moves::settle_move(image, contents, readers, writers, bit, work, s);
-    if v.number != 0 {
-        return ended(ends::triple(v.number, i, v.q));
-    }
-    let rows = t.rows;
-    let next = following(i);
-    walk_on(
-        log,
-        contents,
-        readers,
-        writers,
-        image,
-        work,
-        rows,
-        t.moves,
-        next,
-    )
-}
-
-// The number after i.
+// The number after i; of a move that no log has, one that no log has.
 fn following(i: u32) -> u32
-    ensures { λ r. ⌜ (i < 64 → r ≡ i + 1) ⌝ }
+    ensures { λ r. ⌜ (i < 64 → r ≡ i + 1) × (65 - r ≤ 64 - i) ⌝ }
 {
     if i < 64 {
         return i + 1;
     }
-    i
+    65
 }
 
-// The start, and the first move's walk, on tables of just the records needed.
+// Move i is next if there is one; else the order is checked.
+fn turn_to(readers: &[u64], writers: &[u64], order: &Order, moves: u32, i: u32) -> Turn
+    ensures { λ r. ⌜ ((m c d : List ℕ) (g : Log) → moves ≡ length (g .moves) → Before m (now (order .entry)) g c i d (now (readers .entry)) (now (writers .entry)) → Stage m (now (order .entry)) g c (lists-from (held m) g c (moves - i) i) r d (now (readers .entry)) (now (writers .entry))) ⌝ }
+    ensures { λ r. ⌜ turns-left r ≤ 65 - i ⌝ }
+{
+    if (i as usize) < numbers::smaller(moves as usize, MOST_MOVES) {
+        let none = ends::triple(0, 0, 0);
+        return Turn {
+            more: true,
+            at: i,
+            moves: moves,
+            answer: none,
+        };
+    }
+    ended(ends::check_order(readers, writers, order, moves))
+}
+
+// The start is written, and move 0 is next; on tables of just the records needed.
 fn start_on(
     book: &[u8],
-    log: &[u8],
+    image: &Image,
+    order: &Order,
+    contents: &mut [Value],
+    readers: &mut [u64],
+    writers: &mut [u64],
+    moves: u32,
+) -> Turn
+    ensures { λ r. ⌜ ((b : Book) (g : Log) → Startable (now (book .entry)) (now (image .entry)) (now (order .entry)) b g moves (now (contents .entry)) (now (readers .entry)) (now (writers .entry)) → Stage (now (image .entry)) (now (order .entry)) g (start b) (lists-from (held (now (image .entry))) g (start b) moves 0) r (now (contents .exit)) (now (readers .exit)) (now (writers .exit))) ⌝ }
+{
+    ends::begin(book, image, contents, readers, writers);
+    turn_to(readers, writers, order, moves, 0)
+}
+
+// ---- a call, on tables of any length
+
+// The start of a call that passed its checks: its contents written and its marks cleared; move 0 is next.
+pub fn start(
+    book: &[u8],
     contents: &mut [Value],
     readers: &mut [u64],
     writers: &mut [u64],
     image: &Image,
-    work: &mut [u64; 256],
-    rows: [u64; 64],
-    moves: u32,
+    order: &Order,
+    checked: Opening,
 ) -> Turn
-    ensures { λ r. ⌜ ((B : Book) (g : Log) → moves ≤ 64 → Passed (now (book .entry)) (now (log .entry)) (now (image .entry)) moves rows B g → Long (B .program) (now (contents .entry)) (now (readers .entry)) (now (writers .entry)) → Stage (now (book .entry)) (now (log .entry)) (now (image .entry)) B g (lists-from (held (now (image .entry))) (log-in (now (log .entry))) (start B) moves 0) r (now (work .exit)) (now (contents .exit)) (now (readers .exit)) (now (writers .exit))) ⌝ }
+    ensures { λ r. ⌜ ((b : Book) (g : Log) (n : ℕ) → Passed (now (book .entry)) b g checked (now (image .entry)) (now (order .entry)) (tables (now (contents .entry)) (now (readers .entry)) (now (writers .entry))) n → Lap (tables (now (contents .entry)) (now (readers .entry)) (now (writers .entry))) n (left-in (tables (now (contents .entry)) (now (readers .entry)) (now (writers .entry))) (run-log b g)) (now (image .entry)) (now (order .entry)) (run-lists b g) r (now (contents .exit)) (now (readers .exit)) (now (writers .exit))) ⌝ }
 {
-    ends::begin(book, image, contents, readers, writers);
-    walk_on(log, contents, readers, writers, image, work, rows, moves, 0)
+    let all = checked.locations as usize;
+    let two = numbers::smaller(readers.len(), writers.len());
+    let n = numbers::smaller(all, numbers::smaller(contents.len(), two));
+    start_on(
+        book,
+        image,
+        order,
+        &mut contents[..n],
+        &mut readers[..n],
+        &mut writers[..n],
+        checked.moves,
+    )
 }
 
-// The checks, the start, and the first move's walk.
-pub fn first_lap(
+// A log's run up to its first move: the checks, and the start.
+pub fn prepare(
     book: &[u8],
     log: &[u8],
     contents: &mut [Value],
@@ -167,61 +186,92 @@ pub fn first_lap(
     writers: &mut [u64],
     lent: usize,
     image: &mut Image,
-    work: &mut [u64; 256],
+    order: &mut Order,
 ) -> Turn
-    ensures { λ r. ⌜ Lap (now (book .entry)) (now (log .entry)) (tables (now (contents .entry)) (now (readers .entry)) (now (writers .entry))) lent (now (image .exit)) (call-lists (now (book .entry)) (now (log .entry)) (tables (now (contents .entry)) (now (readers .entry)) (now (writers .entry))) lent) r (now (work .exit)) (now (contents .exit)) (now (readers .exit)) (now (writers .exit)) ⌝ }
+    ensures { λ r. ⌜ Lap (tables (now (contents .entry)) (now (readers .entry)) (now (writers .entry))) lent (log-call (now (book .entry)) (now (log .entry)) (tables (now (contents .entry)) (now (readers .entry)) (now (writers .entry))) lent) (now (image .exit)) (now (order .exit)) (call-lists (now (book .entry)) (now (log .entry)) (tables (now (contents .entry)) (now (readers .entry)) (now (writers .entry))) lent) r (now (contents .exit)) (now (readers .exit)) (now (writers .exit)) ⌝ }
 {
-    let opened = book_check::check_into(book, image);
-    if opened.number != 0 {
-        return ended(opened);
+    let lengths = Lengths {
+        contents: contents.len(),
+        readers: readers.len(),
+        writers: writers.len(),
+        instructions: lent,
+    };
+    let checked = check_all(book, log, lengths, image, order);
+    let answer = checked.answer;
+    if answer.number != 0 {
+        return ended(answer);
     }
-    let checked = log::check_log(log, pages::agents(image) as u32);
-    let listed = checked.answer;
-    if listed.number != 0 {
-        return ended(listed);
-    }
-    let all = pages::total(image);
-    let short = ends::check_lent(all, contents.len(), readers.len(), writers.len(), lent);
-    if short.number != 0 {
-        return ended(short);
-    }
-    let n = all as usize;
-    let rows = checked.rows;
-    start_on(
-        book,
-        log,
-        &mut contents[..n],
-        &mut readers[..n],
-        &mut writers[..n],
-        image,
-        work,
-        rows,
-        checked.moves,
-    )
+    start(book, contents, readers, writers, image, order, checked)
 }
 
-// The rest of the move that is on, and the next one's walk.
-pub fn next_lap(
-    log: &[u8],
+// The move that is next is begun.
+pub fn begin(
+    contents: &[Value],
+    readers: &mut [u64],
+    image: &Image,
+    order: &Order,
+    list: &mut [u64; 256],
+    t: Turn,
+) -> Begun
+    ensures { λ r. ⌜ ((lent : Tables) (n : ℕ) (whole : LogAnswer) (ws : List ℕ) (is : List Instruction) (rest : List (List Instruction)) → Lap lent n whole (now (image .entry)) (now (order .entry)) (is ∷ rest) t (now (contents .entry)) (now (readers .entry)) ws → Midway lent n whole (now (image .entry)) (now (order .entry)) is rest t r (now (list .exit)) (now (contents .entry)) (now (readers .exit)) ws) ⌝ }
+{
+    let i = t.at;
+    let bit = bit_of(i);
+    let agent = log::agent_at(order, i);
+    let all = pages::locations(image) as usize;
+    let n = numbers::smaller(all, numbers::smaller(contents.len(), readers.len()));
+    moves::begin(image, &contents[..n], &mut readers[..n], bit, list, agent)
+}
+
+// The move that is begun is finished, on tables of just the records needed; then the next one's turn.
+fn finish_on(
     contents: &mut [Value],
     readers: &mut [u64],
     writers: &mut [u64],
     image: &Image,
-    work: &mut [u64; 256],
+    order: &Order,
+    list: &[u64; 256],
     t: Turn,
+    s: Begun,
 ) -> Turn
-    ensures { λ r. ⌜ ((b : List ℕ) (lent : Tables) (n : ℕ) (is : List Instruction) (rest : List (List Instruction)) → Lap b (now (log .entry)) lent n (now (image .entry)) (is ∷ rest) t (now (work .entry)) (now (contents .entry)) (now (readers .entry)) (now (writers .entry)) → Lap b (now (log .entry)) lent n (now (image .entry)) rest r (now (work .exit)) (now (contents .exit)) (now (readers .exit)) (now (writers .exit))) × (r .more ≡ false → now (work .exit) ≡ now (work .entry)) × (t .at < 64 → t .at < t .moves → moves-left r < moves-left t) ⌝ }
+    ensures { λ r. ⌜ ((g : Log) (c : List ℕ) → Walked (now (image .entry)) (now (order .entry)) g c t s (now (list .entry)) (now (contents .entry)) (now (readers .entry)) (now (writers .entry)) → Stage (now (image .entry)) (now (order .entry)) g c (lists-from (held (now (image .entry))) g c (t .moves - (t .at + 1)) (t .at + 1)) r (now (contents .exit)) (now (readers .exit)) (now (writers .exit))) ⌝ }
+    ensures { λ r. ⌜ turns-left r ≤ 64 - t .at ⌝ }
 {
-    let all = pages::total(image) as usize;
+    let i = t.at;
+    let bit = bit_of(i);
+    let walk = s.walk;
+    let answer = moves::finish(image, contents, readers, writers, bit, list, walk, i);
+    if answer.number != 0 {
+        return ended(answer);
+    }
+    let next = following(i);
+    turn_to(readers, writers, order, t.moves, next)
+}
+
+// The move that is begun is finished; then the next one's turn.
+pub fn finish(
+    contents: &mut [Value],
+    readers: &mut [u64],
+    writers: &mut [u64],
+    image: &Image,
+    order: &Order,
+    list: &[u64; 256],
+    t: Turn,
+    s: Begun,
+) -> Turn
+    ensures { λ r. ⌜ ((lent : Tables) (n : ℕ) (whole : LogAnswer) (is : List Instruction) (rest : List (List Instruction)) → Midway lent n whole (now (image .entry)) (now (order .entry)) is rest t s (now (list .entry)) (now (contents .entry)) (now (readers .entry)) (now (writers .entry)) → Lap lent n whole (now (image .entry)) (now (order .entry)) rest r (now (contents .exit)) (now (readers .exit)) (now (writers .exit))) × (turns-left r ≤ 64 - t .at) ⌝ }
+{
+    let all = pages::locations(image) as usize;
     let two = numbers::smaller(readers.len(), writers.len());
     let n = numbers::smaller(all, numbers::smaller(contents.len(), two));
-    turn_on(
-        log,
+    finish_on(
         &mut contents[..n],
         &mut readers[..n],
         &mut writers[..n],
         image,
-        work,
+        order,
+        list,
         t,
+        s,
     )
 }

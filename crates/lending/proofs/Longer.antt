@@ -4,7 +4,7 @@ use mathlib.Core.List.{List}
 use Prim.Native.Nat.{ℕ, _≤_, min}
 use lib.ListN.{take}
 use native.Mathlib.Nat.{min-eq-left, min-eq-right}
-use native.Mathlib.Omega.{min-cases}
+use native.Mathlib.Omega.{arith, min-cases}
 use lib.Dec.{leb}
 use borrow.Author.Tests.{le-leb}
 use Rattle.text.specs.Words.{Checked, good, must, _>>_, _>>=_}
@@ -12,16 +12,42 @@ use Rattle.book.specs.Book.{Program, L}
 use Rattle.book.specs.Check.{check-book}
 use Rattle.engine.specs.Rule.{most-instructions}
 use Rattle.engine.specs.Single.{check-agent, check-lent-step, check-contents, check-step, step-answer, step-call}
+use Rattle.engine.specs.declared.Instruction.{Instruction}
+use Rattle.order.specs.Run.{LogAnswer}
 use Rattle.order.specs.Log.{Log, check-log}
-use Rattle.order.specs.Call.{Tables, lengths, check-lent, check-all, log-answer, log-call}
+use Rattle.order.specs.Call.{Tables, lengths, check-lengths, check-lent, check-all, log-answer, log-call}
+use Rattle.laps.specs.declared.Turn.{Turn}
+use Rattle.laps.specs.Laps.{Lap}
 
 -- what 2 tests of the list
 enough : (n : ℕ) → leb most-instructions (min n 256) ≡ leb most-instructions n
 enough n = min-cases n 256 (leb most-instructions (min n 256) ≡ leb most-instructions n) (λ h e. rw e refl) (λ h e. rw e rw (le-leb 256 n h) refl)
 
+-- a call that is so far with n records is so far with 256 of them
+pub lap-shorter : (t : Tables) (n : ℕ) (whole : LogAnswer) (m o : List ℕ) (rest : List (List Instruction)) (u : Turn) (c rs ws : List ℕ) → Lap t n whole m o rest u c rs ws → Lap t (min n 256) whole m o rest u c rs ws
+lap-shorter t n whole m o rest u c rs ws h = record {
+  over = h .over;
+  on = λ y.
+      let k = h .on y in
+      record {
+        g = k .g;
+        c = k .c;
+        kept = record {
+          records = omega (arith, k .kept .records);
+          locations = k .kept .locations;
+          contents = k .kept .contents;
+          readers = k .kept .readers;
+          writers = k .kept .writers;
+          call = k .kept .call;
+        };
+        next = k .next;
+        lists = k .lists;
+      };
+}
+
 module _ (book log : List ℕ) (t : Tables) (n : ℕ) where
   lent-longer : (B : Program) → check-lent B (lengths t (min n 256)) ≡ check-lent B (lengths t n)
-  unfolding check-lent
+  unfolding check-lengths
   lent-longer B = rw (enough n)
 
   pub call-longer : log-call book log t (min n 256) ≡ log-call book log t n

@@ -1,14 +1,15 @@
 -- What filling and scanning the lent list leave, record by record.
-use mathlib.Core.Path.{_≡_, refl, sym, _∙_, ap}
+use mathlib.Core.Path.{_≡_, refl, sym, _∙_, ap, subst}
 use mathlib.Core.List.{List, [], _∷_, map}
 use Prim.Native.Nat.{ℕ, zero, suc, _<_, _≤_, suc-le-suc}
 use native.Mathlib.Nat.{not-suc-le-zero, le-of-suc-le-suc, zero-lt-suc}
+use native.Mathlib.Omega.{arith}
 use lib.ListN.{length, getD, set, take}
 use Rattle.engine.specs.declared.Instruction.{Instruction}
 use Rattle.engine.specs.declared.Instruction.the-variants.{Update}
 use Rattle.engine.specs.declared.Record.{Record}
 use Rattle.records.specs.Code.{decode-of, items}
-use Rattle.lent.specs.Written.{what-of, written}
+use Rattle.lent.specs.Written.{what-of, written, through}
 
 -- what a list is read as past its end
 abbrev pub blank : Record
@@ -82,3 +83,14 @@ read-back zero xs ys hx hy = refl
 read-back (suc n) [] ys hx hy = absurd (not-suc-le-zero hx)
 read-back (suc n) (x ∷ xs) [] hx hy = absurd (not-suc-le-zero hy)
 read-back (suc n) (x ∷ xs) (y ∷ ys) hx hy = ap (λ (ks : List Instruction). decode-of x ∷ ks) (read-back n xs ys (le-of-suc-le-suc hx) (le-of-suc-le-suc hy))
+
+-- the same of n numbers, as many as there is room for
+pub through-back : (n : ℕ) (xs : List ℕ) (ys : List Record) → map what-of (take (through n ys xs) (written (items xs n) ys)) ≡ items xs (through n ys xs)
+through-back n xs ys =
+    ap (λ (zs : List Record). map what-of (take (through n ys xs) zs)) (sym (all-written (through n ys xs) n xs ys (omega arith) (λ a b c. omega arith)))
+    ∙ read-back (through n ys xs) xs ys (omega arith) (omega arith)
+
+-- all n of them, where there is room for all
+pub all-through : (n : ℕ) (xs : List ℕ) (ys : List Record) (us : List ℕ) → items us (through n ys xs) ≡ items xs (through n ys xs)
+    → n ≤ length ys → n ≤ length xs → items us n ≡ items xs n
+all-through n xs ys us e h k = subst (λ (j : ℕ). items us j ≡ items xs j) {x = through n ys xs} {y = n} (omega arith) e

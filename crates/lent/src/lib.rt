@@ -3,13 +3,13 @@
 use engine::Record;
 ghost use mathlib.Core.Path.{_≡_};
 ghost use mathlib.Core.List.{map};
-ghost use Prim.Native.Nat.{_≤_, min};
-ghost use lib.ListN.{length, take};
+ghost use Prim.Native.Nat.{min};
+ghost use lib.ListN.{take};
 ghost use Rattle.records.specs.Code.{decode-of, items};
-ghost use Rattle.lent.specs.Written.{what-of, written};
+ghost use Rattle.lent.specs.Written.{what-of, written, through, Passed};
 
 // The record that a number stands for, and a number that stands for a record.
-pub fn record_of(c: u64) -> Record
+fn record_of(c: u64) -> Record
     ensures { λ r. ⌜ r ≡ record { what = decode-of c } ⌝ }
 {
     Record {
@@ -17,7 +17,7 @@ pub fn record_of(c: u64) -> Record
     }
 }
 
-pub fn number_of(r: Record) -> u64
+fn number_of(r: Record) -> u64
     ensures { λ c. ⌜ decode-of c ≡ r .what ⌝ }
 {
     let what = r.what;
@@ -25,7 +25,7 @@ pub fn number_of(r: Record) -> u64
 }
 
 // The least of three.
-pub fn least(a: usize, b: usize, c: usize) -> usize
+fn least(a: usize, b: usize, c: usize) -> usize
     ensures { λ r. ⌜ r ≡ min a (min b c) ⌝ }
 {
     numbers::smaller(a, numbers::smaller(b, c))
@@ -33,7 +33,7 @@ pub fn least(a: usize, b: usize, c: usize) -> usize
 
 // The first n records of the list are those that the first n numbers stand for; every other is as
 // it was.
-pub fn fill(list: &mut [Record], from: &[u64], n: usize)
+fn fill(list: &mut [Record], from: &[u64], n: usize)
     ensures { λ _. ⌜ now (list .exit) ≡ written (items (now (from .entry)) n) (now (list .entry)) ⌝ }
 {
     let m = least(n, list.len(), from.len());
@@ -44,9 +44,9 @@ pub fn fill(list: &mut [Record], from: &[u64], n: usize)
     }
 }
 
-// The first n numbers stand for the first n records of the list.
-pub fn load(list: &[Record], to: &mut [u64], n: usize)
-    ensures { λ _. ⌜ (n ≤ length (now (list .entry)) → n ≤ length (now (to .entry)) → items (now (to .exit)) n ≡ map what-of (take n (now (list .entry)))) ⌝ }
+// The first n numbers stand for the first n records of the list, as far as both go.
+fn load(list: &[Record], to: &mut [u64], n: usize)
+    ensures { λ _. ⌜ items (now (to .exit)) (through n (now (list .entry)) (now (to .entry))) ≡ map what-of (take (through n (now (list .entry)) (now (to .entry))) (now (list .entry))) ⌝ }
 {
     let m = least(n, list.len(), to.len());
     let mut i: usize = 0;
@@ -58,7 +58,7 @@ pub fn load(list: &[Record], to: &mut [u64], n: usize)
 
 // The first n numbers go through the list: they are filled in, and scanned again.
 pub fn pass(list: &mut [Record], work: &mut [u64], n: usize)
-    ensures { λ _. ⌜ (now (list .exit) ≡ written (items (now (work .entry)) n) (now (list .entry))) × (n ≤ length (now (list .entry)) → n ≤ length (now (work .entry)) → items (now (work .exit)) n ≡ items (now (work .entry)) n) ⌝ }
+    ensures { λ _. ⌜ Passed n (now (list .entry)) (now (work .entry)) (now (list .exit)) (now (work .exit)) ⌝ }
 {
     fill(list, work, n);
     load(list, work, n);

@@ -21,7 +21,7 @@ pub fn step(
     let mut image = [0u32; 4296];
     let mut work = [0u64; 256];
     let p = halves::first_half(book, contents, agent, lent, &mut image, &mut work);
-    let count = p.count;
+    let count = p.begun.count;
     lent::pass(instructions, &mut work, count);
     halves::second_half(contents, &image, &work, p)
 }

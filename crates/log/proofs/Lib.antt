@@ -1,3 +1,5 @@
-pub mod Close
-pub mod Pass
-pub mod Stages
+pub mod Chaining
+pub mod Parts
+pub mod Turns
+pub mod Answers
+pub mod Agents

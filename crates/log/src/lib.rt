@@ -1,143 +1,252 @@
-// The log's check: 1 and 9, the order that follows from its pairs, and 10.
+// The log: its text read once into the table of its order, with 1 and 9, and 10 by sets of moves.
+use order::Order;
 use text::Answer;
 use text::Found;
+use text::Line;
+use text::Parsed;
 ghost use mathlib.Core.Path.{_≡_};
-ghost use Prim.Native.Nat.{ℕ, _+_, _-_, _<_, _≤_};
-ghost use lib.ListN.{getD};
-ghost use Rattle.text.specs.Words.{table, least-from, least, answer-of};
-ghost use Rattle.text.specs.Refusals.{agent-unordered};
-ghost use Rattle.text.specs.Text.{line};
-ghost use Rattle.order.specs.Pairs.{rows, least-two, none-two};
-ghost use Rattle.order.specs.Log.{move-at, log-of};
-ghost use Rattle.lines.specs.Checks.{bad-pair-at};
-ghost use Rattle.log.specs.Checks.{pair-at, loose-by, LogChecked};
+ghost use mathlib.Core.Bool.{false};
+ghost use Prim.Native.Nat.{_+_, _%_, _^_, _<_, _≤_};
+ghost use lib.ListN.{length, getD};
+ghost use Rattle.text.specs.Words.{if_then_else_, answer-of};
+ghost use Rattle.order.specs.Log.{log-header-ok, bad-move, bad-pair};
+ghost use Rattle.order.specs.Table.{agent-in};
+ghost use Rattle.log.specs.Read.{first-of, header-judged, judged, join, MovesRead, PairsRead, LogReads};
+ghost use Rattle.log.specs.Agents.{Nearest, check-agents-in};
+// Bounds of the header's m and k, and how many agents there may be.
+pub const MOST_MOVES: u32 = 64;
 
-// The check's answer; when accepted, how many moves and pairs there are, and for each move the
-// set of those before it.
-pub struct LogCheck {
+pub const MOST_PAIRS: u32 = 2016;
+
+const MOST_AGENTS: u64 = 16;
+
+// The log, in the place of a 1.
+const LOG_TEXT: u32 = 1;
+
+// The answer; when accepted, how many moves there are.
+pub struct LogRead {
     pub answer: Answer,
     pub moves: u32,
-    pub pairs: u32,
-    pub rows: [u64; 64],
 }
 
-// The agent of move i.
-pub fn agent_of(log: &[u8], i: u32) -> u32
-    ensures { λ r. ⌜ r ≡ line (now (log .entry)) (1 + i) .a ⌝ }
-    ensures { λ r. ⌜ (i < line (now (log .entry)) 0 .a → r ≡ move-at (log-of (line (now (log .entry)) 0) (now (log .entry))) i .agent) ⌝ }
-{
-    let l = text::read_line(log, 1, i);
-    l.a
+// Of the lines of one kind the least that is out of form, and the least at fault.
+pub struct Judged {
+    pub ill: Found,
+    pub fault: Found,
 }
 
-// For each of m moves the set of those before it, by chaining. The n pairs ascend by their earlier
-// move, so that its row is complete when it is used: one pass is enough.
-fn rows_of(log: &[u8], m: u32, n: u32) -> [u64; 64]
-    requires { ⌜ m ≤ 64 ⌝ }
-    requires { ⌜ least (bad-pair-at m (now log)) n ≡ Found.Nowhere ⌝ }
-    ensures { λ r. ⌜ ((j : ℕ) → getD r j 0 ≡ getD (rows (table (pair-at m (now (log .entry))) n) m) j 0) ⌝ }
+// The header is within its bounds.
+fn header_fits(h: Line) -> bool
+    ensures { λ r. ⌜ r ≡ log-header-ok h ⌝ }
 {
-    let mut rows: [u64; 64] = [0; 64];
-    let mut i: u32 = 0;
-    while i < n {
-        let pair = text::read_line(log, 1 + m, i);
-        let a = pair.a as usize;
-        let b = pair.b as usize;
-        let behind = rows[a] | (1u64 << a);
-        rows[b] = rows[b] | behind;
-        i += 1;
+    (h.a <= MOST_MOVES) & (h.b <= MOST_PAIRS) & (h.c == 0) & (h.d == 0)
+}
+
+// A move line is at fault.
+fn move_fault(l: Line, agents: u32) -> bool
+    ensures { λ r. ⌜ r ≡ bad-move agents l ⌝ }
+{
+    !((l.a < agents) & (l.b == 0) & (l.c == 0) & (l.d == 0))
+}
+
+// Pair line i, of m moves, is at fault; k is the line before it.
+fn pair_fault(m: u32, k: Line, l: Line, i: u32) -> bool
+    ensures { λ r. ⌜ r ≡ bad-pair m k l i ⌝ }
+{
+    let ascends = (k.a < l.a) | ((k.a == l.a) & (k.b < l.b));
+    !((l.a < l.b) & (l.b < m) & ((i == 0) | ascends) & (l.c == 0) & (l.d == 0))
+}
+
+// The first place, if there is one, or else the second.
+fn first_of(a: Found, b: Found) -> Found
+    ensures { λ r. ⌜ r ≡ first-of a b ⌝ }
+{
+    match a {
+        Found::Nowhere => b,
+        Found::Here(p) => Found::Here(p),
     }
-    rows
 }
 
-// The agents of the m moves.
-fn agents_of(log: &[u8], m: u32) -> [u32; 64]
-    requires { ⌜ m ≤ 64 ⌝ }
-    ensures { λ r. ⌜ ((i : ℕ) → i < m → getD r i 0 ≡ line (now (log .entry)) (1 + i) .a) ⌝ }
+// The place found before, or else p if it is at fault.
+fn or_here(found: Found, bad: bool, p: u32) -> Found
+    ensures { λ r. ⌜ r ≡ first-of found (if bad then Found.Here p else Found.Nowhere) ⌝ }
 {
-    let mut agents: [u32; 64] = [0; 64];
-    let mut i: u32 = 0;
-    while i < m {
-        agents[i as usize] = agent_of(log, i);
-        i += 1;
+    if bad {
+        return first_of(found, Found::Here(p));
     }
-    agents
+    first_of(found, Found::Nowhere)
 }
 
-// Moves i and j are of one agent and unordered.
-fn loose(agents: &[u32; 64], rows: &[u64; 64], i: usize, j: usize) -> bool
-    requires { ⌜ (i < 64) × (j < 64) ⌝ }
-    ensures { λ r. ⌜ r ≡ loose-by (now (agents .entry)) (now (rows .entry)) i j ⌝ }
+// The m move lines. Each move's row is cleared, and its agent stored.
+fn read_moves(log: &[u8], agents: u32, m: u32, order: &mut [u64]) -> Judged
+    requires { ⌜ (m ≤ 64) × (length (now order) ≡ 128) ⌝ }
+    ensures { λ r. ⌜ MovesRead agents (now (log .entry)) m (now (order .exit)) r ⌝ }
 {
-    (agents[i] == agents[j]) & ((rows[j] >> i) & 1 == 0)
-}
-
-// The least move after i that is of its agent and not ordered with it.
-fn loose_after(agents: &[u32; 64], rows: &[u64; 64], i: u32, m: u32) -> Found
-    requires { ⌜ (i < m) × (m ≤ 64) ⌝ }
-    ensures { λ r. ⌜ r ≡ least-from (loose-by (now (agents .entry)) (now (rows .entry)) i) (m - (i + 1)) (i + 1) ⌝ }
-{
-    let mut j = i + 1;
-    while j < m {
-        if loose(agents, rows, i as usize, j as usize) {
-            return Found::Here(j);
-        }
-        j += 1;
-    }
-    Found::Nowhere
-}
-
-// 10: one agent's moves are ordered.
-fn check_agents(agents: &[u32; 64], rows: &[u64; 64], m: u32) -> Answer
-    requires { ⌜ m ≤ 64 ⌝ }
-    ensures { λ r. ⌜ r ≡ answer-of (none-two agent-unordered (least-two (loose-by (now (agents .entry)) (now (rows .entry))) m)) ⌝ }
-{
+    let mut fault = Found::Nowhere;
     let mut i: u32 = 0;
     while i < m {
-        if let Found::Here(j) = loose_after(agents, rows, i, m) {
-            return Answer {
-                number: text::AGENT_UNORDERED,
-                p: i,
-                q: j,
+        let read = text::parse(log, 1 + i);
+        let l = read.line;
+        if !read.ok {
+            return Judged {
+                ill: Found::Here(1 + i),
+                fault: fault,
             };
         }
+        fault = or_here(fault, move_fault(l, agents), 1 + i);
+        order[i as usize] = 0;
+        order[64 + i as usize] = l.a as u64;
         i += 1;
     }
-    Answer {
-        number: 0,
-        p: 0,
-        q: 0,
+    Judged {
+        ill: Found::Nowhere,
+        fault: fault,
     }
 }
 
-// The answer to a log that is refused before its order is known.
-fn refusal(answer: Answer) -> LogCheck
-    ensures { λ r. ⌜ r .answer ≡ answer ⌝ }
+// A pair that is not at fault put in: to the moves before its later one come those before its earlier one, and that one.
+fn chain(order: &mut Order, l: Line, bad: bool)
+    requires { ⌜ (bad ≡ false → (l .a < 64) × (l .b < 64)) ⌝ }
+    ensures { λ _. ⌜ now (order .exit) ≡ (if bad then now (order .entry) else join (now (order .entry)) (l .a) (l .b)) ⌝ }
 {
-    LogCheck {
+    if !bad {
+        let a = l.a as usize;
+        let b = l.b as usize;
+        let behind = order[a] | (1u64 << a);
+        order[b] = order[b] | behind;
+    }
+}
+
+// The n pair lines of m moves. They ascend by their earlier move, so that its row is complete when it is used: one pass is
+// enough.
+fn read_pairs(log: &[u8], m: u32, n: u32, order: &mut Order) -> Judged
+    requires { ⌜ (m ≤ 64) × (n ≤ 2016) ⌝ }
+    ensures { λ r. ⌜ PairsRead (now (log .entry)) m n (now (order .entry)) (now (order .exit)) r ⌝ }
+{
+    let mut before = Line {
+        a: 0,
+        b: 0,
+        c: 0,
+        d: 0,
+    };
+    let mut fault = Found::Nowhere;
+    let mut i: u32 = 0;
+    while i < n {
+        let read = text::parse(log, 1 + m + i);
+        let l = read.line;
+        if !read.ok {
+            return Judged {
+                ill: Found::Here(1 + m + i),
+                fault: fault,
+            };
+        }
+        let bad = pair_fault(m, before, l, i);
+        fault = or_here(fault, bad, 1 + m + i);
+        chain(order, l, bad);
+        before = l;
+        i += 1;
+    }
+    Judged {
+        ill: Found::Nowhere,
+        fault: fault,
+    }
+}
+
+// 1 then 9 on the header.
+fn check_header(head: Parsed) -> Answer
+    ensures { λ r. ⌜ r ≡ answer-of (header-judged head) ⌝ }
+{
+    let form = text::must(head.ok, text::ILL_FORMED, 0, LOG_TEXT);
+    if form.number != 0 {
+        return form;
+    }
+    let h = head.line;
+    text::must(header_fits(h), text::LOG_LINE, 0, 0)
+}
+
+// 1 and 9 on a log of so many bytes and lines.
+fn judge(size: usize, lines: u32, ill: Found, fault: Found) -> Answer
+    ensures { λ r. ⌜ r ≡ answer-of (judged size lines ill fault) ⌝ }
+{
+    let form = text::none_at(text::ILL_FORMED, LOG_TEXT, ill);
+    if form.number != 0 {
+        return form;
+    }
+    let whole = size <= text::LINE * lines as usize;
+    let surplus = text::must(whole, text::ILL_FORMED, lines, LOG_TEXT);
+    if surplus.number != 0 {
+        return surplus;
+    }
+    text::none_at(text::LOG_LINE, 0, fault)
+}
+
+// 1 and 9, for a book of so many agents: the log's order is left in the table. Each line is read once.
+pub fn read_log(log: &[u8], agents: u32, order: &mut Order) -> LogRead
+    ensures { λ r. ⌜ LogReads agents (now (log .entry)) (now (order .exit)) r ⌝ }
+{
+    let head = text::parse(log, 0);
+    let first = check_header(head);
+    if first.number != 0 {
+        return LogRead {
+            answer: first,
+            moves: 0,
+        };
+    }
+    let h = head.line;
+    let moves = read_moves(log, agents, h.a, order);
+    let pairs = read_pairs(log, h.a, h.b, order);
+    let ill_move = moves.ill;
+    let ill_pair = pairs.ill;
+    let ill = first_of(ill_move, ill_pair);
+    let bad_move = moves.fault;
+    let bad_pair = pairs.fault;
+    let fault = first_of(bad_move, bad_pair);
+    let answer = judge(log.len(), 1 + h.a + h.b, ill, fault);
+    LogRead {
         answer: answer,
-        moves: 0,
-        pairs: 0,
-        rows: [0; 64],
+        moves: h.a,
     }
 }
 
-// The log's check: 1, 9 and 10, for a book of so many agents.
-pub fn check_log(log: &[u8], agents: u32) -> LogCheck
-    ensures { λ r. ⌜ LogChecked agents (now (log .entry)) r ⌝ }
+// The least move of the set `own` that is not in `row`; 64 for none.
+fn nearest(own: u64, row: u64) -> u32
+    ensures { λ r. ⌜ Nearest own row r ⌝ }
 {
-    let lines = lines::check_whole(log, agents);
-    if lines.number != 0 {
-        return refusal(lines);
+    u64::trailing_zeros(own & !row)
+}
+
+// 10: the least pair of the first `moves` moves that are of one agent and unordered. own has each agent's moves so far.
+pub fn check_agents(order: &Order, moves: u32) -> Answer
+    ensures { λ r. ⌜ r ≡ answer-of (check-agents-in (now (order .entry)) moves) ⌝ }
+{
+    let m = numbers::smaller(moves as usize, 64);
+    let mut own: [u64; 16] = [0; 16];
+    let mut first: u32 = 64;
+    let mut second: usize = 0;
+    let mut j: usize = 0;
+    while j < m {
+        let a = (order[64 + j] % MOST_AGENTS) as usize;
+        let i = nearest(own[a], order[j]);
+        if i < first {
+            first = i;
+            second = j;
+        }
+        own[a] = own[a] | (1u64 << j);
+        j += 1;
     }
-    let h = text::read_line(log, 0, 0);
-    let rows = rows_of(log, h.a, h.b);
-    let moves = agents_of(log, h.a);
-    let order = check_agents(&moves, &rows, h.a);
-    LogCheck {
-        answer: order,
-        moves: h.a,
-        pairs: h.b,
-        rows: rows,
-    }
+    text::must(first >= 64, text::AGENT_UNORDERED, first, second as u32)
+}
+
+// The number at an index, 0 past the end.
+fn fetch(s: &[u64], i: usize) -> u64
+    ensures { λ r. ⌜ r ≡ getD (now (s .entry)) i 0 ⌝ }
+{
+    if i < s.len() { s[i] } else { 0 }
+}
+
+// The agent of move i, 0 past the table.
+pub fn agent_at(order: &Order, i: u32) -> u32
+    ensures { λ r. ⌜ r ≡ agent-in (now (order .entry)) i % 2 ^ 32 ⌝ }
+{
+    (fetch(order, 64 + i as usize) % 4294967296) as u32
 }

@@ -7,16 +7,17 @@ use native.Mathlib.Numerals.{add-one}
 use native.Mathlib.Omega.{arith}
 use lib.Dec.{eqb}
 use lib.ListN.{getD}
-use borrow.Author.Tests.{eq-eqb, ne-eqb, lt-ltb, le-ltb}
+use borrow.Author.Tests.{eq-eqb, ne-eqb, eqb-true, eqb-false, lt-ltb, le-ltb}
 use Rattle.text.specs.Words.{if_then_else_, table-from, table}
-use Rattle.book.specs.Book.{Program, location, dynamic-at}
+use Rattle.book.specs.declared.Function.{Function}
+use Rattle.book.specs.Book.{Program, function-at, location, dynamic-at}
 use Rattle.engine.specs.Look.{done, gives, seen, _>>=_}
 use Rattle.engine.specs.Move.{dynamic-among}
 use Rattle.engine.specs.Rule.{members}
 use Rattle.engine.proofs.Look.{gives-bind, seen-bind}
 use Rattle.term.specs.Marks.{mark-one, marked, Placed}
-use Rattle.term.proofs.Leaves.{one-kind}
-use Rattle.marking.specs.Marking.{members-from, first-and-rest}
+use Rattle.term.proofs.Leaves.{one-kind, dynamic-placed}
+use Rattle.marking.specs.Marking.{universe-marked, member, next, members-from, first-and-rest}
 
 -- ---- its marks
 
@@ -43,14 +44,14 @@ dynamic-run B p u x (suc k) h = rw (one-kind B p u x (omega arith)) (go (dynamic
     go true e = ap (λ (s : List ℕ). location B u x 0 ∷ s) e
     go false e = e
 
--- what is marked for it
-pub universe-marks : (B : Program) → Placed B → (c : List ℕ) (u bit : ℕ) (m : List ℕ) (b : Bool) → dynamic-at B (location B u 0 0) ≡ b
-    → marked bit (dynamic-among B (seen c (members B u 0 (B .E)))) m ≡ (if b then marked bit (table (λ y. location B u y 0) (B .E)) m else m)
+-- where the locations are placed, what is marked for it is what a look at its members sees
+pub universe-placed : (B : Program) → Placed B → (c : List ℕ) (u bit : ℕ) (m : List ℕ)
+    → universe-marked B bit u m ≡ marked bit (dynamic-among B (seen c (members B u 0 (B .E)))) m
 unfolding marked
-universe-marks B p c u bit m b e =
-    rw (seen-members B c u 0 (B .E), dynamic-run B p u 0 (B .E) (omega arith), e) (go b)
+universe-placed B p c u bit m =
+    rw (dynamic-placed B u 0 0 p, seen-members B c u 0 (B .E), dynamic-run B p u 0 (B .E) (omega arith)) (go (dynamic-at B (location B u 0 0)))
   where
-    go : (b : Bool) → marked bit (if b then table (λ y. location B u y 0) (B .E) else []) m ≡ (if b then marked bit (table (λ y. location B u y 0) (B .E)) m else m)
+    go : (b : Bool) → (if b then marked bit (table (λ y. location B u y 0) (B .E)) m else m) ≡ marked bit (if b then table (λ y. location B u y 0) (B .E) else []) m
     go true = refl
     go false = refl
 
@@ -91,3 +92,34 @@ module _ (B : Program) (c : List ℕ) (u y : ℕ) where
   pub no-member : B .E ≤ y → members-from B c u y ≡ first-and-rest B c u y
   unfolding members gives
   no-member h = let q : B .E - y ≡ 0 = omega arith in rw (le-ltb y (B .E) h, q)
+
+-- ---- the least number from y on that passes a test
+
+module _ (t : ℕ → Bool) (e y : ℕ) where
+  pub next-here : y < e → t y ≡ true → next t y (e - y) ≡ y
+  unfolding next
+  next-here h g = let q : e - y ≡ suc (e - suc y) = omega arith in rw (q, g)
+
+  pub next-pass : y < e → t y ≡ false → next t y (e - y) ≡ next t (y + 1) (e - (y + 1))
+  unfolding next
+  next-pass h g = let q : e - y ≡ suc (e - suc y) = omega arith in rw (add-one y, q, g)
+
+  pub next-end : e ≤ y → next t y (e - y) ≡ y
+  unfolding next
+  next-end h = let q : e - y ≡ 0 = omega arith in rw q
+
+-- a program's members, the least of them first
+module _ (B : Program) (c : List ℕ) (u : ℕ) where
+  next-is : (k x : ℕ) → k ≡ B .E - x → members-from B c u x ≡ first-and-rest B c u (next (member c (function-at B u) (B .E)) x k)
+  unfolding next
+  next-is zero x e = no-member B c u x (omega arith)
+  next-is (suc k) x e = go (member c (function-at B u) (B .E) x) refl (next-is k (suc x) (omega arith))
+    where
+      go : (b : Bool) → member c (function-at B u) (B .E) x ≡ b
+          → members-from B c u (suc x) ≡ first-and-rest B c u (next (member c (function-at B u) (B .E)) (suc x) k)
+          → members-from B c u x ≡ first-and-rest B c u (if b then x else next (member c (function-at B u) (B .E)) (suc x) k)
+      go true q r = member-here B c u x (omega arith) (eqb-true (getD c (location B u x 0) 0) 2 q)
+      go false q r = member-not B c u x (omega arith) (eqb-false (getD c (location B u x 0) 0) 2 q) ∙ rw (add-one x) r
+
+  pub members-next : (f : Function) (e x r : ℕ) → f ≡ function-at B u → e ≡ B .E → r ≡ next (member c f e) x (e - x) → members-from B c u x ≡ first-and-rest B c u r
+  members-next f e x r p q n = rw (n, p, q) (next-is (B .E - x) x refl)

@@ -3,19 +3,18 @@ use book::Image;
 use numbers::Value;
 use pages::Run;
 ghost use mathlib.Core.Path.{_≡_};
-ghost use mathlib.Core.List.{List, map};
-ghost use Prim.Native.Nat.{ℕ, _+_, _-_, _≤_};
+ghost use mathlib.Core.List.{map};
+ghost use Prim.Native.Nat.{_+_, _-_, _≤_};
 ghost use lib.Bits.{bitOr, bitAnd};
 ghost use lib.Dec.{leb};
 ghost use Rattle.text.specs.Words.{if_then_else_, table, table-from};
-ghost use Rattle.book.specs.Book.{Program, function-at, offset, reserve, dynamic-at};
-ghost use Rattle.engine.specs.Look.{read, seen};
-ghost use Rattle.engine.specs.Move.{dynamic-among};
-ghost use Rattle.engine.specs.Rule.{members, lowest};
+ghost use Rattle.book.specs.Book.{offset, reserve, dynamic-at};
+ghost use Rattle.engine.specs.Look.{read};
+ghost use Rattle.engine.specs.Rule.{lowest};
 ghost use Rattle.pages.specs.Rows.{function-run};
 ghost use Rattle.book.specs.Image.{held};
 ghost use Rattle.term.specs.Marks.{noted, marked, Placed, Runs};
-ghost use Rattle.marking.specs.Marking.{found-below, members-from, first-and-rest};
+ghost use Rattle.marking.specs.Marking.{found-below, universe-marked, member, next};
 
 // ---- parts
 
@@ -132,20 +131,21 @@ fn mark_run(readers: &mut [u64], bit: u64, run: Run, e: u16)
 
 // Marks the universe u at all elements if it is dynamic.
 pub fn universe(image: &Image, readers: &mut [u64], bit: u64, u: u16)
-    ensures { λ _. ⌜ ((c : List ℕ) → Placed (held (now (image .entry))) → now (readers .exit) ≡ marked bit (dynamic-among (held (now (image .entry))) (seen c (members (held (now (image .entry))) u 0 (held (now (image .entry)) .E)))) (now (readers .entry))) ⌝ }
+    ensures { λ _. ⌜ now (readers .exit) ≡ universe-marked (held (now (image .entry))) bit u (now (readers .entry)) ⌝ }
 {
-    let e = pages::elements(image);
-    let run = pages::function(image, u);
-    let at = term::locate(run, e, 0, 0);
-    if term::dynamic(image, u, 0, 0, at) {
-        mark_run(readers, bit, run, e);
+    if term::dynamic(image, u, 0, 0) {
+        mark_run(
+            readers,
+            bit,
+            pages::function(image, u),
+            pages::elements(image),
+        );
     }
 }
 
 // The least member of a universe from `from` on, or e; run is the universe's.
 pub fn next_member(contents: &[Value], run: Run, e: u16, from: u16) -> u16
-    ensures { λ r. ⌜ from ≤ r ⌝ }
-    ensures { λ r. ⌜ ((B : Program) (u : ℕ) → function-run run ≡ function-at B u → e ≡ B .E → members-from B (now (contents .entry)) u from ≡ first-and-rest B (now (contents .entry)) u r) ⌝ }
+    ensures { λ r. ⌜ (from ≤ r) × (r ≡ next (member (now (contents .entry)) (function-run run) e) from (e - from)) ⌝ }
 {
     let mut y = from;
     while y < e {

@@ -4,6 +4,7 @@ use mathlib.Core.Bool.{Bool}
 use mathlib.Core.List.{List}
 use Prim.Native.Nat.{ℕ, _^_, _<_}
 use lib.ListN.{length, getD}
+use Rattle.text.specs.declared.Answer.{Answer}
 use Rattle.text.specs.Words.{has}
 use Rattle.book.specs.Book.{Program}
 use Rattle.book.specs.Sound.{Lawful, Sound}
@@ -12,7 +13,6 @@ use Rattle.sweep.specs.Marks.{each, mark}
 use Rattle.walk.specs.declared.State.{State}
 use Rattle.walk.specs.Walk.{outcome}
 use Rattle.walk.specs.Gather.{Gathered}
-use Rattle.moves.specs.declared.Verdict.{Verdict}
 
 -- the contents, and the reader and writer marks of each location
 pub record Tables : Type 0 where
@@ -34,14 +34,10 @@ left bit t (fires f) =
     }
 left bit t (stopped n q) = t
 
--- 01's number, 0 for a move that fires, and its q
-abbrev pub number-of : Moved → ℕ
-number-of (fires f) = 0
-number-of (stopped n q) = n
-
-abbrev pub q-of : Moved → ℕ
-q-of (fires f) = 0
-q-of (stopped n q) = q
+-- the paper's triple for move i: 0 0 0 if it fires
+abbrev pub move-answer : ℕ → Moved → Answer
+move-answer i (fires f) = record { number = 0; p = 0; q = 0 }
+move-answer i (stopped n q) = record { number = n; p = i; q = q }
 
 -- What a call is made on: an accepted book, sound contents, one of its agents, and a bit above all marks so far: the moves before have lower ones
 pub record Fit (B : Program) (k bit : ℕ) (t : Tables) : Type 0 where
@@ -51,10 +47,9 @@ pub record Fit (B : Program) (k bit : ℕ) (t : Tables) : Type 0 where
   pub power : (i : ℕ) × (bit ≡ 2 ^ i) × (i < 64)
   pub unmarked : (l : ℕ) → getD (t .readers) l 0 < bit
 
--- what agent k's move, marked as `bit`, gives and leaves of the tables t: its verdict r, and the tables u
-pub record Effect (B : Program) (k bit : ℕ) (t : Tables) (r : Verdict) (u : Tables) : Type 0 where
-  pub number : r .number ≡ number-of (move B (t .contents) (record { agent = k }))
-  pub q : r .q ≡ q-of (move B (t .contents) (record { agent = k }))
+-- what agent k's move, number i and marked as `bit`, gives and leaves of the tables t: its answer r, and the tables u
+pub record Effect (B : Program) (k bit i : ℕ) (t : Tables) (r : Answer) (u : Tables) : Type 0 where
+  pub answer : r ≡ move-answer i (move B (t .contents) (record { agent = k }))
   pub tables : u ≡ left bit t (move B (t .contents) (record { agent = k }))
 
 abbrev pub tables : List ℕ → List ℕ → List ℕ → Tables

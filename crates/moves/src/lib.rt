@@ -1,33 +1,36 @@
-// One move: fired and marked, or refused.
+// One move: begun, which is its walk, and finished: fired and marked, or refused.
 use book::Image;
 use engine::Instruction;
 use firing::Outcome;
 use numbers::Value;
+use text::Answer;
 use walk::State;
 ghost use mathlib.Core.Path.{_≡_};
 ghost use mathlib.Core.List.{List, []};
 ghost use Prim.Native.Nat.{ℕ};
+ghost use lib.ListN.{length};
 ghost use Rattle.book.specs.Image.{held};
 ghost use Rattle.engine.specs.Move.{label-of, released, is-some, if-releasing};
 ghost use Rattle.records.specs.Code.{items};
 ghost use Rattle.firing.specs.Outcome.{Ready, move-by};
 ghost use Rattle.term.specs.Marks.{marked};
-ghost use Rattle.walk.specs.Gather.{cleared};
+ghost use Rattle.walk.specs.Gather.{cleared, Gathered};
+ghost use Rattle.walk.specs.Walk.{outcome};
 ghost use Rattle.moves.specs.Effect.{Effect, Tables, tables, After};
-ghost use Rattle.moves.specs.Close.{told, verdict-of, closed, Finished};
+ghost use Rattle.moves.specs.Close.{told, outcome-answer, closed, Finished};
 ghost use Rattle.moves.specs.Count.{given-of};
 
 // Instructions of a move, at most.
 const MOST_INSTRUCTIONS: usize = 256;
 
-// A move's number, 0 if it fired, and its q.
-pub struct Verdict {
-    pub number: u32,
-    pub q: u32,
+// A move that is begun: how its walk ended, and how many instructions it gave.
+pub struct Begun {
+    pub walk: State,
+    pub count: usize,
 }
 
 // How many instructions a walk gave: none if it was refused.
-pub fn given(s: State) -> usize
+fn given(s: State) -> usize
     ensures { λ r. ⌜ r ≡ given-of s ⌝ }
 {
     if s.refused != 0 {
@@ -37,6 +40,25 @@ pub fn given(s: State) -> usize
         return s.len;
     }
     MOST_INSTRUCTIONS
+}
+
+// An agent's move is begun: its rule is walked, and what it reads is marked.
+pub fn begin(
+    image: &Image,
+    contents: &[Value],
+    readers: &mut [u64],
+    bit: u64,
+    list: &mut [u64; 256],
+    agent: u32,
+) -> Begun
+    ensures { λ r. ⌜ Gathered (held (now (image .entry))) (now (contents .entry)) bit agent (outcome (r .walk) (now (list .exit))) (now (readers .entry)) (now (readers .exit)) × (r .count ≡ given-of (r .walk)) × (length (now (list .exit)) ≡ 256) ⌝ }
+{
+    let walk = walk::gather(image, contents, readers, bit, list, agent);
+    let count = given(walk);
+    Begun {
+        walk: walk,
+        count: count,
+    }
 }
 
 fn is_release(what: Instruction) -> bool
@@ -76,42 +98,48 @@ fn mark_rest(image: &Image, readers: &mut [u64], bit: u64, list: &[u64], len: us
     }
 }
 
-// A refused move's answer; its reader marks are taken back.
-fn refuse(readers: &mut [u64], bit: u64, number: u32, q: u32) -> Verdict
-    ensures { λ r. ⌜ r ≡ told number q ⌝ }
+// The answer to move `at` where it is refused; its reader marks are taken back.
+fn refuse(readers: &mut [u64], bit: u64, number: u32, at: u32, q: u32) -> Answer
+    ensures { λ r. ⌜ r ≡ told number at q ⌝ }
     ensures { λ _. ⌜ now (readers .exit) ≡ cleared bit (now (readers .entry)) ⌝ }
 {
     walk::clear(readers, bit);
-    Verdict {
+    Answer {
         number: number,
+        p: at,
         q: q,
     }
 }
 
-// A settled move's answer, and its reader marks: all that it reads, or none.
+// The answer to move `at`, which is settled, and its reader marks: all that it reads, or none.
 fn close(
     image: &Image,
     readers: &mut [u64],
     bit: u64,
     list: &[u64],
     len: usize,
+    at: u32,
     what: Outcome,
-) -> Verdict
-    ensures { λ r. ⌜ r ≡ verdict-of what ⌝ }
+) -> Answer
+    ensures { λ r. ⌜ r ≡ outcome-answer at what ⌝ }
     ensures { λ _. ⌜ now (readers .exit) ≡ closed (held (now (image .entry))) bit (items (now (list .entry)) len) what (now (readers .entry)) ⌝ }
 {
     match what {
         Outcome::Fired => {
             mark_rest(image, readers, bit, list, len);
-            Verdict { number: 0, q: 0 }
+            Answer {
+                number: 0,
+                p: 0,
+                q: 0,
+            }
         }
-        Outcome::Clash { location } => refuse(readers, bit, text::CLASH, location),
-        Outcome::Idle => refuse(readers, bit, text::IDLE_MOVE, 0),
+        Outcome::Clash { location } => refuse(readers, bit, text::CLASH, at, location),
+        Outcome::Idle => refuse(readers, bit, text::IDLE_MOVE, at, 0),
     }
 }
 
-// What is left of a move whose walk gave the first len of the list.
-fn finish(
+// What is left of move `at`, whose walk gave the first len of the list.
+fn settle_listed(
     image: &Image,
     contents: &mut [Value],
     readers: &mut [u64],
@@ -119,15 +147,16 @@ fn finish(
     bit: u64,
     list: &[u64; 256],
     len: usize,
-) -> Verdict
-    ensures { λ r. ⌜ (Ready (held (now (image .entry))) (now (contents .entry)) (items (now (list .entry)) len) → (ls : List ℕ) → Finished (held (now (image .entry))) (items (now (list .entry)) len) (move-by (now (image .entry)) (now (contents .entry)) (now (list .entry)) len ls) bit (now (contents .entry)) (now (readers .entry)) (now (writers .entry)) r (now (contents .exit)) (now (readers .exit)) (now (writers .exit))) ⌝ }
+    at: u32,
+) -> Answer
+    ensures { λ r. ⌜ (Ready (held (now (image .entry))) (now (contents .entry)) (items (now (list .entry)) len) → (ls : List ℕ) → Finished (held (now (image .entry))) (items (now (list .entry)) len) (move-by (now (image .entry)) (now (contents .entry)) (now (list .entry)) len ls) bit at (now (contents .entry)) (now (readers .entry)) (now (writers .entry)) r (now (contents .exit)) (now (readers .exit)) (now (writers .exit))) ⌝ }
 {
     let what = firing::settle(image, contents, writers, list, len, bit);
-    close(image, readers, bit, list, len, what)
+    close(image, readers, bit, list, len, at, what)
 }
 
-// The rest of a move whose walk came to the state s: refused as the walk was, or settled by the first s.len of the list.
-pub fn settle_move(
+// The rest of move `at`, whose walk came to the state s: refused as the walk was, or settled by the first s.len of the list.
+pub fn finish(
     image: &Image,
     contents: &mut [Value],
     readers: &mut [u64],
@@ -135,14 +164,16 @@ pub fn settle_move(
     bit: u64,
     list: &[u64; 256],
     s: State,
-) -> Verdict
-    ensures { λ r. ⌜ ((k : ℕ) (t : Tables) → After (held (now (image .entry))) k bit t s (now (list .entry)) (tables (now (contents .entry)) (now (readers .entry)) (now (writers .entry))) → Effect (held (now (image .entry))) k bit t r (tables (now (contents .exit)) (now (readers .exit)) (now (writers .exit)))) ⌝ }
+    at: u32,
+) -> Answer
+    ensures { λ r. ⌜ ((k : ℕ) (t : Tables) → After (held (now (image .entry))) k bit t s (now (list .entry)) (tables (now (contents .entry)) (now (readers .entry)) (now (writers .entry))) → Effect (held (now (image .entry))) k bit at t r (tables (now (contents .exit)) (now (readers .exit)) (now (writers .exit)))) ⌝ }
 {
     if s.refused != 0 {
-        return Verdict {
+        return Answer {
             number: s.refused,
+            p: at,
             q: s.node as u32,
         };
     }
-    finish(image, contents, readers, writers, bit, list, s.len)
+    settle_listed(image, contents, readers, writers, bit, list, s.len, at)
 }

@@ -1,15 +1,19 @@
 -- What fits a sort is what the definition says of that sort alone. Assumes nothing.
-use mathlib.Core.Path.{_≡_, refl}
+use mathlib.Core.Path.{_≡_, refl, _∙_}
+use mathlib.Core.List.{List}
 use mathlib.Core.Bool.{or-false}
 use mathlib.Core.Logic.{_≢_}
-use Prim.Native.Nat.{ℕ, _<_, _≤_}
+use Prim.Native.Nat.{ℕ, _+_, _*_, _<_, _≤_}
+use native.Mathlib.Decide.{decLt}
 use native.Mathlib.Omega.{arith}
-use borrow.Author.Tests.{ne-eqb}
+use borrow.Author.Tests.{ne-eqb, lt-ltb, le-ltb}
 use lib.Dec.{eqb}
-use lib.ListN.{length}
+use lib.ListN.{length, getD, List·getD-eq-default}
 use Rattle.book.specs.Book.{Program, function-at, node-at}
+use Rattle.book.specs.Kinds.{sort, sort-table}
 use Rattle.book.specs.Lines.{fits}
-use Rattle.nodes.specs.Fits.{fits-plain, fits-function, fits-node, fits-target}
+use Rattle.nodes.specs.declared.OperandSorts.{OperandSorts}
+use Rattle.nodes.specs.Fits.{sorts-in, sorts-of, fits-plain, fits-function, fits-node, fits-target}
 
 module _ (B : Program) (n s x : ℕ) where
   pub unused : s ≡ 1 → fits B n s x ≡ eqb x 0
@@ -76,3 +80,17 @@ module _ (B : Program) (n s x : ℕ) where
         ne-eqb s 9 (λ e. omega arith),
         ne-eqb s 10 (λ e. omega arith),
       )
+
+-- ---- a table that is lent
+
+pub lent-sorts : (t : List ℕ) (kind : ℕ) (r : OperandSorts) → r ≡ sorts-in t kind → t ≡ sort-table → r ≡ sorts-of kind
+unfolding sort
+lent-sorts t kind r e q = e ∙ rw q (go (decLt kind 28))
+  where
+    past : (i : ℕ) → 84 ≤ i → getD sort-table i 0 ≡ 0
+    past i g = List·getD-eq-default sort-table 0 {n = i} g
+
+    go : Dec (kind < 28) → sorts-in sort-table kind ≡ sorts-of kind
+    go (yes l) = let z : kind * 3 + 0 ≡ kind * 3 = omega arith in rw (lt-ltb kind 28 l, z)
+    go (no l) =
+        rw (le-ltb kind 28 (omega arith), past (kind * 3 + 0) (omega arith), past (kind * 3 + 1) (omega arith), past (kind * 3 + 2) (omega arith))

@@ -1,13 +1,22 @@
 -- Whether an operand fits its sort, by what the code has loaded for that sort.
 use mathlib.Core.Bool.{Bool, _&&_, _||_}
-use Prim.Native.Nat.{ℕ}
+use mathlib.Core.List.{List}
+use Prim.Native.Nat.{ℕ, _+_, _*_}
 use lib.Dec.{eqb, ltb, leb}
+use lib.ListN.{getD}
+use Rattle.text.specs.Words.{if_then_else_}
 use Rattle.book.specs.declared.Function.{Function}
 use Rattle.book.specs.Book.{relation, dynamic, dynamic-relation}
 use Rattle.book.specs.Kinds.{is-term, is-rule, names-location, variables, sort, permanent, variable, function0, function1, function2, universe, dynamic-universe, term, rule, target}
 use Rattle.nodes.specs.declared.OperandSorts.{OperandSorts}
 
--- the sorts of the three operands of a node kind
+-- the sorts that a table gives the three operands of a node kind, 0 to 27; of another kind there are none
+abbrev pub sorts-in : List ℕ → ℕ → OperandSorts
+sorts-in table kind =
+    if ltb kind 28 then record { a = getD table (kind * 3) 0; b = getD table (kind * 3 + 1) 0; c = getD table (kind * 3 + 2) 0 }
+    else record { a = 0; b = 0; c = 0 }
+
+-- and those that they have
 abbrev pub sorts-of : ℕ → OperandSorts
 sorts-of kind = record { a = sort kind 0; b = sort kind 1; c = sort kind 2 }
 

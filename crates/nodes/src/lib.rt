@@ -5,12 +5,12 @@ use text::Line;
 ghost use mathlib.Core.Path.{_≡_};
 ghost use mathlib.Core.Logic.{_≢_};
 ghost use Prim.Native.Nat.{_+_, _-_, _≤_};
+ghost use lib.ListN.{length};
 ghost use Rattle.text.specs.Words.{least};
-ghost use Rattle.text.specs.Text.{line};
 ghost use Rattle.book.specs.Kinds.{sort-table, is-term, is-rule};
 ghost use Rattle.book.specs.Lines.{fits, bad-node, bad-agent};
-ghost use Rattle.book.specs.Image.{program-in};
-ghost use Rattle.nodes.specs.Fits.{sorts-of, fits-plain, fits-function, fits-node, fits-target};
+ghost use Rattle.book.specs.Image.{row-in, program-in};
+ghost use Rattle.nodes.specs.Fits.{sorts-in, fits-plain, fits-function, fits-node, fits-target};
 
 // The three operand sorts of each node kind from 0 to 27: 0 no such kind, 1 unused, 2 permanent element, 3 variable,
 // 4 to 6 function of arity 0 to 2, 7 universe, 8 dynamic universe, 9 term, 10 rule, 11 a term that names a dynamic location.
@@ -110,7 +110,7 @@ pub struct OperandSorts {
 
 // The operand sorts of a node kind. The table is lent: a pass over the nodes lays it out once.
 pub fn sorts_of(table: &[u8; 84], kind: u32) -> OperandSorts
-    ensures { λ r. ⌜ (now (table .entry) ≡ sort-table → r ≡ sorts-of kind) ⌝ }
+    ensures { λ r. ⌜ r ≡ sorts-in (now (table .entry)) kind ⌝ }
 {
     if kind < 28 {
         let i = kind as usize * 3;
@@ -124,7 +124,7 @@ pub fn sorts_of(table: &[u8; 84], kind: u32) -> OperandSorts
     }
 }
 
-pub fn is_term(kind: u32) -> bool
+fn is_term(kind: u32) -> bool
     ensures { λ r. ⌜ r ≡ is-term kind ⌝ }
 {
     match kind {
@@ -133,7 +133,7 @@ pub fn is_term(kind: u32) -> bool
     }
 }
 
-pub fn is_rule(kind: u32) -> bool
+fn is_rule(kind: u32) -> bool
     ensures { λ r. ⌜ r ≡ is-rule kind ⌝ }
 {
     match kind {
@@ -219,11 +219,12 @@ fn bad_node(image: &[u32], table: &[u8; 84], n: u32) -> bool
     !(a & b & c)
 }
 
-// 5: the least of the first n nodes that is at fault.
-pub fn bad_nodes(image: &[u32], n: u32) -> Found
-    ensures { λ r. ⌜ r ≡ least (bad-node (program-in (now (image .entry)))) n ⌝ }
+// 5: the least node at fault.
+pub fn bad_nodes(image: &[u32]) -> Found
+    ensures { λ r. ⌜ r ≡ least (bad-node (program-in (now (image .entry)))) (length (program-in (now (image .entry)) .nodes)) ⌝ }
 {
     let table = SORTS;
+    let n = image::nodes(image);
     let mut i: u32 = 0;
     while i < n {
         if bad_node(image, &table, i) {
@@ -257,13 +258,14 @@ fn bad_agent(image: &[u32], l: Line, i: u32) -> bool
         & (l.d == 0))
 }
 
-// 7: the least of the first n agents that is at fault; their lines start at line `first`.
-pub fn bad_agents<'a>(text: &'a [u8], image: &'a [u32], first: u32, n: u32) -> Found
-    ensures { λ r. ⌜ r ≡ least (λ i. bad-agent (program-in (now (image .entry))) (line (now (text .entry)) (first + i)) i) n ⌝ }
+// 7: the least agent at fault, on the rows of the agents' lines.
+pub fn bad_agents(image: &[u32]) -> Found
+    ensures { λ r. ⌜ r ≡ least (λ i. bad-agent (program-in (now (image .entry))) (row-in (now (image .entry)) (34 + i)) i) (length (program-in (now (image .entry)) .agents)) ⌝ }
 {
+    let n = image::agents(image);
     let mut i: u32 = 0;
     while i < n {
-        let l = text::read_line(text, first, i);
+        let l = image::row(image, image::AGENT_ROWS + i);
         if bad_agent(image, l, i) {
             return Found::Here(i);
         }

@@ -16,9 +16,10 @@ use Rattle.engine.specs.Move.{Fired, fires, move}
 use Rattle.engine.specs.Single.{over}
 use Rattle.engine.proofs.Moves.{fired-length}
 use Rattle.order.specs.Pairs.{rows, ordered-by, TwoFound, no-two, two, least-two}
+use Rattle.order.specs.declared.Lengths.{Lengths}
 use Rattle.order.specs.Log.{Log, move-at, check-log}
 use Rattle.order.specs.Run.{Run, Ran, ran, halted, run, touch, fired-at, unordered-touching, LogAnswer, order-checked, finish, run-from, run-log}
-use Rattle.order.specs.Call.{Tables, Lengths, lengths, check-lent, check-all, left-in, log-answer, log-call}
+use Rattle.order.specs.Call.{Tables, lengths, check-lent, check-all, left-in, log-answer, log-call}
 use Rattle.order.specs.Orders.{Moves, listed, one, more, from, Keeps, Agrees, LeastPair}
 use Rattle.order.specs.Demand.{PairOf, moves-of, count, Ordered, Does, AllFire, UnorderedTouch, Passes, Demand3}
 use Rattle.order.proofs.Listed.{agrees}
@@ -44,7 +45,7 @@ module _ (B : Program) (g : Log) (c : List ℕ) where
 
   -- ---- an accepted log
 
-  module _ (lawful : Lawful B) (sound : Sound B c) (ok : Passed g) where
+  module _ (lawful : Lawful B) (sound : Sound B c) (ok : Passed (length (B .agents)) g) where
     up : (a b : ℕ) → PairOf (g .pairs) a b → a < b
     up a b p = ok .up a b p .0
 
@@ -180,7 +181,7 @@ module _ (B : Program) (g : Log) (c : List ℕ) where
 
 -- ---- the call
 
-all-passed : (book log : List ℕ) (n : Lengths) (b : Book) (g : Log) → check-all book log n ≡ good (b, g) → Lawful (b .program) × Sound (b .program) (start b) × Passed g
+all-passed : (book log : List ℕ) (n : Lengths) (b : Book) (g : Log) → check-all book log n ≡ good (b, g) → Lawful (b .program) × Sound (b .program) (start b) × Passed (length (b .program .agents)) g
 unfolding check-all
 all-passed book log n b g e =
     let r = bind-good (check-book book) _ (b, g) e in
@@ -189,7 +190,7 @@ all-passed book log n b g e =
     let p = good-same (r .0, t .0) (b, g) (u .2) in
     let k : Lawful (r .0 .program) × Sound (r .0 .program) (start (r .0)) = accepted-book book (r .0) (r .1) in
     let k′ = subst (λ (x : Book). Lawful (x .program) × Sound (x .program) (start x)) (ap (λ (x : Book × Log). x .0) p) k in
-    (k′ .0, k′ .1, subst Passed (ap (λ (x : Book × Log). x .1) p) (passed (r .0 .program) log (t .0) (t .1)))
+    (k′ .0, k′ .1, subst (λ (x : Book × Log). Passed (length (x .0 .program .agents)) (x .1)) p (passed (r .0 .program) log (t .0) (t .1)))
 
 module _ (book log : List ℕ) (t : Tables) (n : ℕ) where
   abbrev checks : Checked (Book × Log)

@@ -13,3 +13,4 @@ pub mod Claim
 pub mod Claims
 pub mod Masks
 pub mod Search
+pub mod Best

@@ -5,6 +5,7 @@ use mathlib.Core.Bool.{Bool}
 use mathlib.Core.List.{List}
 use Prim.Native.Nat.{ℕ, _+_, _≤_, _<_}
 use native.Mathlib.Omega.{arith}
+use lib.ListN.{length}
 use Rattle.text.specs.declared.Line.{Line}
 use Rattle.text.specs.Words.{Checked, good, refused}
 use Rattle.text.specs.Text.{bad-line, line}
@@ -14,13 +15,14 @@ use Rattle.text.proofs.Checks.{Ends, Any, also, bind-ends, then-ends, none-ends
 use Rattle.book.specs.Book.{Program, Book, L, start}
 use Rattle.book.proofs.Refusals.{Fits, book-before}
 use Rattle.order.specs.Pairs.{TwoFound, no-two, two, least-two, none-two}
-use Rattle.order.specs.Log.{Log, log-lines, input-of, log-of, check-agents, check-log-header, check-log-text, check-log-lines, check-log}
+use Rattle.order.specs.declared.Lengths.{Lengths}
+use Rattle.order.specs.Log.{Log, log-lines, input-of, log-of, check-agents, check-log-header, check-log-text, check-log-lines, read-log, check-log}
 use Rattle.order.specs.Run.{Run, Ran, ran, halted, run, touching, order-checked, finish, run-from}
-use Rattle.order.specs.Call.{Tables, Lengths, lengths, check-lent, check-all, log-answer, log-call}
+use Rattle.order.specs.Call.{Tables, lengths, check-lengths, check-lent, check-all, log-answer, log-call}
 use Rattle.order.specs.Demand.{count}
 use Rattle.order.proofs.Pairs.{two-least}
 use Rattle.order.proofs.Marks.{run-halted, halted-number}
-use Rattle.order.proofs.Log.{header-few, passed}
+use Rattle.order.proofs.Log.{header-few}
 
 -- a pair of moves that is found is of the m moves
 found-pair : (f : ℕ → ℕ → Bool) (m i j : ℕ) → least-two f m ≡ two i j → (i < m) × (j < m)
@@ -43,9 +45,9 @@ unfolding check-log-text
 log-text-ends h text b =
     then-ends (none-ends Before 1 0 1 (bad-line text) (log-lines h) (λ p k. omega arith)) (must-ends Before _ 1 (log-lines h) 1 (omega arith))
 
-log-lines-ends : (B : Program) (h : Line) (text : List ℕ) → LogBounded h → Ends Any Before (check-log-lines B h text)
+log-lines-ends : (A : ℕ) (h : Line) (text : List ℕ) → LogBounded h → Ends Any Before (check-log-lines A h text)
 unfolding check-log-lines
-log-lines-ends B h text b =
+log-lines-ends A h text b =
     then-ends (none-ends Before 9 1 0 _ (h .a) (λ p k. omega arith)) (none-ends Before 9 (1 + h .a) 0 _ (h .b) (λ p k. omega arith))
 
 agents-ends : (g : Log) → count g ≤ 64 → Ends Any Before (check-agents g)
@@ -59,18 +61,21 @@ agents-ends g few = go _ (count g) few
         one no-two e = on tt
         one (two i j) e = let r : Before 10 i j = omega (arith, found-pair f m i j e) in off r
 
-log-ends : (B : Program) (text : List ℕ) → Ends (λ g. count g ≤ 64) Before (check-log B text)
-unfolding check-log log-of
-log-ends B text =
-    also {S = Before} (bind-ends {H = Any} (log-header-ends text) (λ h b.
+pub read-ends : (A : ℕ) (text : List ℕ) → Ends (λ g. count g ≤ 64) Before (read-log A text)
+unfolding read-log log-of
+read-ends A text =
+    bind-ends (log-header-ends text) (λ h b.
     let few : count (log-of h text) ≤ 64 = omega (arith, length-table-from (λ i. input-of (line text (1 + i))) 0 (h .a)) in
-    then-ends (log-text-ends h text b) (then-ends (log-lines-ends B h text b) (then-ends (agents-ends (log-of h text) few) (on tt)))))
-    (λ g e. passed B text g e .few) (λ n p q r. r)
+    then-ends (log-text-ends h text b) (then-ends (log-lines-ends A h text b) (on few)))
+
+log-ends : (B : Program) (text : List ℕ) → Ends (λ g. count g ≤ 64) Before (check-log B text)
+unfolding check-log
+log-ends B text = bind-ends (read-ends (length (B .agents)) text) (λ g few. then-ends (agents-ends g few) (on few))
 
 -- ---- the lent tables, and all checks
 
 lent-ends : (B : Program) (n : Lengths) → Fits B → Ends Any Before (check-lent B n)
-unfolding check-lent
+unfolding check-lengths
 lent-ends B n fits =
     then-ends (must-ends Before _ 2 (L B) 0 (omega arith)) (then-ends (must-ends Before _ 2 (L B) 1 (omega arith))
     (then-ends (must-ends Before _ 2 (L B) 2 (omega arith)) (must-ends Before _ 2 256 3 (omega arith))))

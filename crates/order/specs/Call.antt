@@ -9,23 +9,20 @@ use Rattle.book.specs.Book.{Program, Book, L}
 use Rattle.book.specs.Check.{check-book}
 use Rattle.engine.specs.Rule.{most-instructions}
 use Rattle.engine.specs.Single.{over}
+use Rattle.order.specs.declared.Lengths.{Lengths}
 use Rattle.order.specs.Log.{Log, check-log}
 use Rattle.order.specs.Run.{LogAnswer, run-log}
 
--- how many records of each table are lent
-pub record Lengths : Type 0 where
-  pub contents : ℕ
-  pub readers : ℕ
-  pub writers : ℕ
-  pub instructions : ℕ
-
--- 2, lowest table first
-unfoldable pub check-lent : Program → Lengths → Checked (Unit {0})
-check-lent B n = do
-  must (leb (L B) (n .contents)) lent-short (L B) contents-table
-  must (leb (L B) (n .readers)) lent-short (L B) readers-table
-  must (leb (L B) (n .writers)) lent-short (L B) writers-table
+-- 2, lowest table first, where there are so many locations
+unfoldable pub check-lengths : ℕ → Lengths → Checked (Unit {0})
+check-lengths locations n = do
+  must (leb locations (n .contents)) lent-short locations contents-table
+  must (leb locations (n .readers)) lent-short locations readers-table
+  must (leb locations (n .writers)) lent-short locations writers-table
   must (leb most-instructions (n .instructions)) lent-short most-instructions instructions-table
+
+abbrev pub check-lent : Program → Lengths → Checked (Unit {0})
+check-lent B n = check-lengths (L B) n
 
 -- all checks before the first move
 unfoldable pub check-all : List ℕ → List ℕ → Lengths → Checked (Book × Log)

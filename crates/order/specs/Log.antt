@@ -89,16 +89,30 @@ check-log-text h text = do
   none-at ill-formed 0 log-text (least (bad-line text) (log-lines h))
   must (leb (length text) (line-length * log-lines h)) ill-formed (log-lines h) log-text
 
+-- move line i is at fault, A being how many agents there are
+abbrev pub bad-move-at : ℕ → List ℕ → ℕ → Bool
+bad-move-at A text i = bad-move A (line text (1 + i))
+
+-- pair line i, of m moves, is at fault
+abbrev pub bad-pair-at : ℕ → List ℕ → ℕ → Bool
+bad-pair-at m text i = bad-pair m (line text (m + i)) (line text (1 + m + i)) i
+
 -- 9
-unfoldable pub check-log-lines : Program → Line → List ℕ → Checked (Unit {0})
-check-log-lines B h text = do
-  none-at log-line 1 0 (least (λ i. bad-move (length (B .agents)) (line text (1 + i))) (h .a))
-  none-at log-line (1 + h .a) 0 (least (λ i. bad-pair (h .a) (line text (h .a + i)) (line text (1 + h .a + i)) i) (h .b))
+unfoldable pub check-log-lines : ℕ → Line → List ℕ → Checked (Unit {0})
+check-log-lines A h text = do
+  none-at log-line 1 0 (least (bad-move-at A text) (h .a))
+  none-at log-line (1 + h .a) 0 (least (bad-pair-at (h .a) text) (h .b))
+
+-- 1 and 9: the log that a text says. Of the book only the number of agents matters
+unfoldable pub read-log : ℕ → List ℕ → Checked Log
+read-log A text = do
+  h ← check-log-header text
+  check-log-text h text
+  check-log-lines A h text
+  good (log-of h text)
 
 unfoldable pub check-log : Program → List ℕ → Checked Log
 check-log B text = do
-  h ← check-log-header text
-  check-log-text h text
-  check-log-lines B h text
-  check-agents (log-of h text)
-  good (log-of h text)
+  g ← read-log (length (B .agents)) text
+  check-agents g
+  good g

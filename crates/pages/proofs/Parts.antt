@@ -14,8 +14,9 @@ use Rattle.book.specs.Book.{Program, L, size, total, offset, location, function
 use Rattle.book.specs.Sound.{Lawful}
 use Rattle.book.proofs.Places.{spot}
 use Rattle.pages.specs.declared.Part.{Part}
-use Rattle.pages.specs.Part.{between, put-in, part-from, part-of}
-use Rattle.pages.proofs.Places.{functions-from}
+use Rattle.pages.specs.declared.Owner.{Owner}
+use Rattle.pages.specs.Part.{between, put-in, part-from, part-of, owner-of}
+use Rattle.pages.proofs.Places.{functions-from, place-past}
 
 -- ---- the locations from a up to e
 
@@ -135,6 +136,25 @@ module _ (B : Program) (l : ℕ) where
   pub part-none : (g first : ℕ) → Sought g first → length (B .functions) ≤ g → record { first = first; end = first } ≡ part-of B l
   unfolding part-from
   part-none g first at done = sym (at ∙ rw (drop-of-length-le (B .functions) {i = g} done))
+
+-- ---- the function that a location belongs to
+
+module _ (B : Program) (l : ℕ) where
+  pub owner-is : (f : Function) (i first end : ℕ) → place B l ≡ record { function = f; index = i } → _≡_ {A = Part} (record { first = first; end = end }) (part-of B l)
+      → _≡_ {A = Owner} (record { function = f; first = first; end = end }) (owner-of B l)
+  owner-is f i first end p q = rw (p, ← q)
+
+  -- the location's number within its function, counted from the part's first; past L it is 0
+  pub owner-index : place B l .index ≡ (if ltb l (owner-of B l .end) then l - owner-of B l .first else 0)
+  owner-index = go (ltb l (L B)) refl
+    where
+      go : (b : Bool) → ltb l (L B) ≡ b → place B l .index ≡ (if ltb l (part-of B l .end) then l - part-of B l .first else 0)
+      go true e =
+          let n = part-numbered B l (ltb-true l (L B) e) in
+          rw (lt-ltb l (part-of B l .end) (n .inside)) (omega (arith, n .number))
+      go false e =
+          let h = ltb-false l (L B) e in
+          rw (part-past B l h, le-ltb l (L B) h, place-past B l h)
 
 -- ---- a part that is lent, one place of it stored, and put back
 

@@ -1,16 +1,37 @@
 -- The functions of a book one after the other: where each one's locations are. Assumes nothing.
-use mathlib.Core.Path.{_≡_, ap, _∙_}
-use mathlib.Core.List.{_∷_}
-use Prim.Native.Nat.{ℕ, _+_, _*_, _-_, _<_, _≤_}
+use mathlib.Core.Path.{_≡_, refl, ap, _∙_}
+use mathlib.Core.List.{List, [], _∷_}
+use Prim.Native.Nat.{ℕ, _+_, _*_, _-_, _^_, _<_, _≤_}
 use native.Mathlib.Numerals.{add-one}
 use native.Mathlib.Omega.{arith}
 use borrow.Author.Tests.{lt-ltb, le-ltb}
 use lib.ListN.{length, drop, drop-of-length-le}
 use lib.Seq.{drop-cons}
+use Rattle.book.specs.declared.Function.{Function}
 use Rattle.book.specs.Book.{Program, L, size, total, no-function, function-at, place-in, place}
-use Rattle.book.proofs.Image.{size-most}
+use Rattle.book.specs.Image.{narrow, held}
+use Rattle.book.proofs.Image.{size-most, elements-most, functions-most}
+
+-- past the last function's locations there is none
+no-place : (E : ℕ) (fs : List Function) (l : ℕ) → total E fs ≤ l → place-in E fs l ≡ record { function = no-function; index = 0 }
+unfolding total place-in
+no-place E [] l h = refl
+no-place E (f ∷ fs) l h = rw (le-ltb l (size E (f .arity)) (omega arith)) (no-place E fs (l - size E (f .arity)) (omega arith))
+
+-- no more locations than a word of 32 bits holds
+total-most : (E : ℕ) (fs : List Function) → E ≤ 10000 → total E fs ≤ length fs * 100000000
+unfolding total
+total-most E [] h = omega arith
+total-most E (f ∷ fs) h = omega (arith, size-most E (f .arity) h, total-most E fs h)
+
+module _ (m : List ℕ) where
+  pub locations-fit : L (held m) < 2 ^ 32
+  locations-fit = omega (arith, total-most (held m .E) (held m .functions) (elements-most (narrow m)), functions-most (narrow m))
 
 module _ (B : Program) where
+  pub place-past : (l : ℕ) → L B ≤ l → place B l ≡ record { function = no-function; index = 0 }
+  place-past l h = no-place (B .E) (B .functions) l h
+
   pub functions-from : (g : ℕ) → g < length (B .functions) → drop g (B .functions) ≡ function-at B g ∷ drop (g + 1) (B .functions)
   functions-from g more = drop-cons (B .functions) g no-function more ∙ rw add-one
 

@@ -6,8 +6,9 @@ use lib.Dec.{ltb, leb}
 use lib.ListN.{set}
 use Rattle.text.specs.Words.{if_then_else_}
 use Rattle.book.specs.declared.Function.{Function}
-use Rattle.book.specs.Book.{Program, size}
+use Rattle.book.specs.Book.{Program, size, place}
 use Rattle.pages.specs.declared.Part.{Part}
+use Rattle.pages.specs.declared.Owner.{Owner}
 
 abbrev pub between : ℕ → ℕ → ℕ → Bool
 between first end l = leb first l && ltb l end
@@ -26,3 +27,7 @@ part-from E first (f ∷ fs) l =
 
 abbrev pub part-of : Program → ℕ → Part
 part-of B l = part-from (B .E) 0 (B .functions) l
+
+-- the function that l belongs to, with that part
+abbrev pub owner-of : Program → ℕ → Owner
+owner-of B l = record { function = place B l .function; first = part-of B l .first; end = part-of B l .end }

@@ -7,7 +7,7 @@ ghost use Prim.Native.Nat.{_≤_};
 ghost use lib.ListN.{length};
 ghost use Rattle.book.specs.Book.{L, size, relation, dynamic, default, function-at, node-at, agent-at, no-node};
 ghost use Rattle.book.specs.Image.{word, capped, held, narrow};
-ghost use Rattle.pages.specs.Part.{part-of};
+ghost use Rattle.pages.specs.Part.{part-of, owner-of};
 ghost use Rattle.pages.specs.Rows.{node-row, function-run, agent-row};
 
 // The bounds of the counts in an image.
@@ -23,14 +23,21 @@ pub struct Part {
     pub end: usize,
 }
 
-pub fn word(image: &Image, i: usize) -> u16
+// A function and its part.
+pub struct Owner {
+    pub function: Function,
+    pub first: usize,
+    pub end: usize,
+}
+
+fn word(image: &Image, i: usize) -> u16
     ensures { λ r. ⌜ r ≡ word (narrow (now (image .entry))) i ⌝ }
 {
     numbers::low_at(image, i)
 }
 
 // A count, or the most that it may be.
-pub fn capped(n: u16, most: u16) -> u16
+fn capped(n: u16, most: u16) -> u16
     ensures { λ r. ⌜ (r ≡ capped n most) × (r ≤ most) ⌝ }
 {
     if n < most { n } else { most }
@@ -64,29 +71,21 @@ pub fn agents(image: &Image) -> u16
     capped(word(image, 4), MOST_AGENTS)
 }
 
-// Function f; past the last one all 0.
+// Function f in whole words; past the last one all 0.
 pub fn function_at(image: &Image, f: u16) -> Function
     ensures { λ r. ⌜ r ≡ function-at (held (now (image .entry))) f ⌝ }
 {
-    if f < functions(image) {
-        let at = (2 + f as usize) * 4;
-        Function {
-            first: word(image, at) as u32,
-            arity: word(image, at + 1) as u32,
-            kind: word(image, at + 2) as u32,
-        }
-    } else {
-        Function {
-            first: 0,
-            arity: 0,
-            kind: 0,
-        }
+    let run = function(image, f);
+    Function {
+        first: run.first as u32,
+        arity: run.arity as u32,
+        kind: run.kind as u32,
     }
 }
 
 // How many locations a function of that arity has.
 pub fn size(e: u16, arity: u32) -> u32
-    ensures { λ r. ⌜ (r ≡ size e arity) × (e ≤ 10000 → r ≤ 100000000) ⌝ }
+    ensures { λ r. ⌜ r ≡ size e arity ⌝ }
 {
     if arity == 0 {
         return 1;
@@ -97,25 +96,16 @@ pub fn size(e: u16, arity: u32) -> u32
     e as u32 * e as u32
 }
 
-// L.
-pub fn total(image: &Image) -> u32
-    ensures { λ r. ⌜ r ≡ L (held (now (image .entry))) ⌝ }
+// L, as the book check leaves it in the image.
+pub fn locations(image: &Image) -> u32
+    ensures { λ r. ⌜ r ≡ word (now (image .entry)) 6 ⌝ }
 {
-    let e = elements(image);
-    let n = functions(image);
-    let mut first: u32 = 0;
-    let mut g: u16 = 0;
-    while g < n {
-        let f = function_at(image, g);
-        first = first + size(e, f.arity);
-        g = g + 1;
-    }
-    first
+    image[6]
 }
 
-// The part that location l is in: the locations of its function. Past L it is empty.
-pub fn part_of(image: &Image, l: usize) -> Part
-    ensures { λ r. ⌜ r ≡ part-of (held (now (image .entry))) l ⌝ }
+// The function that location l belongs to, and its part of the contents table; past L there is none, and the part is empty.
+pub fn owner_of(image: &Image, l: usize) -> Owner
+    ensures { λ r. ⌜ r ≡ owner-of (held (now (image .entry))) l ⌝ }
 {
     let e = elements(image);
     let n = functions(image);
@@ -125,7 +115,8 @@ pub fn part_of(image: &Image, l: usize) -> Part
         let f = function_at(image, g);
         let end = first + size(e, f.arity) as usize;
         if l < end {
-            return Part {
+            return Owner {
+                function: f,
                 first: first,
                 end: end,
             };
@@ -133,9 +124,22 @@ pub fn part_of(image: &Image, l: usize) -> Part
         first = end;
         g = g + 1;
     }
-    Part {
+    let none = function_at(image, n);
+    Owner {
+        function: none,
         first: first,
         end: first,
+    }
+}
+
+// The part that location l is in.
+pub fn part_of(image: &Image, l: usize) -> Part
+    ensures { λ r. ⌜ r ≡ part-of (held (now (image .entry))) l ⌝ }
+{
+    let o = owner_of(image, l);
+    Part {
+        first: o.first,
+        end: o.end,
     }
 }
 

@@ -84,7 +84,7 @@ fn print_function(image: &[u32], contents: &[Value], k: u32, n: u32, out: &mut [
 }
 
 // Prints the non-default contents as lines of a book, from byte 25 on, as far as they fit. Says how many lines there are.
-pub fn print_contents(image: &[u32], contents: &[Value], out: &mut [u8]) -> u32
+fn print_contents(image: &[u32], contents: &[Value], out: &mut [u8]) -> u32
     ensures { λ r. ⌜ (r ≡ length (contents-lines (program-in (now (image .entry))) (now (contents .entry)))) × (now (out .exit) ≡ lines-put 0 (contents-lines (program-in (now (image .entry))) (now (contents .entry))) (now (out .entry))) ⌝ }
 {
     let all = image::functions(image);

@@ -13,9 +13,10 @@ use Rattle.text.proofs.Fields.{part-of-front}
 use Rattle.book.specs.declared.Header.{Header}
 use Rattle.book.specs.Book.{Book}
 use Rattle.book.specs.Lines.{first-node, first-agent, first-entry, line-count, program-of, entries-of, node-of, agent-of, entry-of, bad-function, bad-agent}
-use Rattle.book.specs.Check.{check-header, check-present, check-surplus, check-lines, check-book}
+use Rattle.book.specs.Check.{check-header, check-present, check-surplus, check-program, check-lines, check-book}
 use Rattle.order.specs.Log.{Log, check-log}
-use Rattle.order.specs.Call.{Lengths, check-lent, check-all}
+use Rattle.order.specs.declared.Lengths.{Lengths}
+use Rattle.order.specs.Call.{check-lent, check-all}
 use Rattle.report.specs.Report.{most-input, own-tables, check-input}
 
 -- ---- the first n lines of a text
@@ -75,7 +76,7 @@ module _ (text : List ℕ) (h : Header) where
       (λ i l. ap entry-of (at (first-entry h + i) (omega arith)))
 
   lines-same : check-lines h book-part ≡ check-lines h text
-  unfolding check-lines
+  unfolding check-lines check-program
   lines-same =
       let B = program-of h text in
       rw (

@@ -13,7 +13,8 @@ use Rattle.book.specs.Lines.{line-count}
 use Rattle.book.specs.Check.{check-header, check-present, check-lines}
 use Rattle.order.specs.Log.{Log, check-log}
 use Rattle.order.specs.Run.{LogAnswer, run-log}
-use Rattle.order.specs.Call.{Lengths, check-lent}
+use Rattle.order.specs.declared.Lengths.{Lengths}
+use Rattle.order.specs.Call.{check-lent}
 
 abbrev pub most-input : ℕ
 most-input = 60000

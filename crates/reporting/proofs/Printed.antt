@@ -3,31 +3,26 @@ use mathlib.Core.Path.{_≡_, refl, sym, ap, subst, _∙_}
 use mathlib.Core.Logic.{_≢_}
 use mathlib.Core.List.{List, _++_, append-nil}
 use Prim.Native.Nat.{ℕ, zero, suc, _-_, _≤_, _<_, min}
-use native.Mathlib.Nat.{min-eq-left, min-le-right}
+use native.Mathlib.Nat.{min-le-right}
 use native.Mathlib.Omega.{arith}
-use lib.Dec.{leb}
-use lib.ListN.{length, take, drop, replicate, length-replicate, length-drop}
+use lib.ListN.{length, take, drop, replicate, length-replicate, length-drop, length-append}
 use lib.Seq.{take-all, take-append-seam}
-use borrow.Author.Tests.{ne-eqb, leb-true}
+use borrow.Author.Tests.{ne-eqb}
 use Rattle.text.specs.declared.Answer.{Answer}
-use Rattle.text.specs.Words.{Checked, good, refused}
-use Rattle.text.specs.Text.{line, written}
-use Rattle.text.proofs.Words.{bind-good, then-good, found-good, test-good, good-same}
+use Rattle.text.specs.Words.{Checked, good, refused, answer-of}
+use Rattle.text.specs.Text.{written}
 use Rattle.book.specs.declared.Header.{Header}
 use Rattle.book.specs.Book.{Program, Book, L, start}
-use Rattle.book.specs.Lines.{header-of, book-of}
 use Rattle.book.specs.Check.{check-header, check-book}
-use Rattle.book.specs.Image.{word, program-in, Holds, Room}
-use Rattle.book.proofs.Accepted.{header-bounded, accepted-lines, lines-book, accepted}
+use Rattle.book.specs.Image.{word, program-in}
 use Rattle.book.proofs.Claims.{accepted-book}
 use Rattle.engine.specs.Move.{Moved, fires, stopped, move}
 use Rattle.engine.specs.Single.{over}
 use Rattle.engine.proofs.Moves.{fire-length}
-use Rattle.order.specs.Log.{Log, move-at, check-log}
+use Rattle.order.specs.Log.{Log, move-at}
 use Rattle.order.specs.Pairs.{TwoFound, no-two, two}
 use Rattle.order.specs.Run.{Run, Ran, ran, halted, moved, next, run, touching, LogAnswer, order-checked, finish, run-from, run-log}
-use Rattle.order.specs.Call.{Tables, Lengths, lengths, check-lent, check-all, log-answer, log-call}
-use Rattle.order.proofs.Numbers.{Early, off, all-early}
+use Rattle.order.specs.Call.{Tables, check-all, left-in}
 use Rattle.report.specs.Report.{most-input, own-tables, all-written, first-line, print-answer, print-checked, rental}
 use Rattle.report.proofs.Split.{input-long}
 use Rattle.write.specs.Bytes.{put-bytes}
@@ -36,7 +31,12 @@ use Rattle.print.specs.Print.{printed, most-output, Prints}
 use Rattle.print.specs.Split.{called-for, book-length}
 use Rattle.print.proofs.Split.{split-checked}
 use Rattle.print.proofs.Lines.{print-same}
+use Rattle.laps.specs.declared.Opening.{Opening}
+use Rattle.laps.specs.Turns.{answered}
+use Rattle.laps.specs.Checked.{Opened}
+use Rattle.laps.proofs.Checks.{all-parts, all-good, enough}
 use Rattle.reporting.specs.Shown.{Shown}
+use Rattle.reporting.specs.Reported.{Reported, blank-tables}
 
 -- ---- a run leaves as many contents as there are locations
 
@@ -85,101 +85,88 @@ refused-text : (B : Program) (a : Answer) (c : List ℕ) → a .number ≢ 0 →
 unfolding print-answer all-written
 refused-text B a c e = rw (ne-eqb (a .number) 0 e) (append-nil (written (first-line a 0)))
 
--- ---- the image of an accepted book
+-- ---- a call that passed its checks
 
-header-is : (text : List ℕ) (h : Header) → check-header text ≡ good h → header-of (line text 0) (line text 1) ≡ h
-unfolding check-header
-header-is text h e =
-    let e1 = found-good _ _ _ _ _ h e in
-    let e3 = found-good _ _ _ _ (good (header-of (line text 0) (line text 1))) h (e1 .1) in
-    good-same (header-of (line text 0) (line text 1)) h (e3 .1)
+module _ (book : List ℕ) (b : Book) (g : Log) (r : Opening) (m o : List ℕ) (t : Tables) (p : Reported book b g r m o t) (a : Answer) (c rs ws : List ℕ)
+    (e : answered a c rs ws ≡ left-in t (run-log b g)) (out : List ℕ) (room : most-output ≤ length out) (k : ℕ) (after : List ℕ)
+  where
+    abbrev B : Program
+    B = b .program
 
-header-room : (text : List ℕ) (h : Header) → check-header text ≡ good h → Room h
-header-room text h e =
-    let b = header-bounded text h e in
-    record { elements = b .elements .1; functions = b .functions .1; nodes = b .nodes .1; agents = b .agents .1; contents = b .contents }
+    same : a ≡ run-log b g .answer
+    same = ap (λ (y : LogAnswer). y .answer) e
 
-module _ (text : List ℕ) (b : Book) (e : check-book text ≡ good b) (h : Header) (is : h ≡ header-of (line text 0) (line text 1)) (m : List ℕ) (holds : Room h → Holds m h text) where
-  abbrev B : Program
-  B = b .program
+    accepted : check-book book ≡ good b
+    accepted = all-parts book (p .passed .log) (p .passed .lent) b g (p .passed .checks) .0
 
-  held : (program-in m ≡ B) × (word m 6 ≡ L B)
-  held =
-      let r = accepted-lines text b e in
-      let q : h ≡ r .0 = is ∙ header-is text (r .0) (r .1) in
-      let s : b ≡ book-of h text = lines-book text (r .0) b (r .2) ∙ ap (λ (x : Header). book-of x text) (sym q) in
-      let k = holds (rw q (header-room text (r .0) (r .1))) in
-      (rw s (k .program), rw s (k .locations))
+    -- accepted
+    pub run-shown : Prints (program-in m) a (take (min (word m 6) (length c)) c) out k after → Shown (print-answer B (run-log b g)) out k after
+    run-shown s =
+        let left : c ≡ over (run-log b g .contents) (t .contents) = ap (λ (y : LogAnswer). y .contents) e in
+        let d = run-log b g .contents in
+        let l : length d ≡ L B = log-length B g (start b) ∙ accepted-book book b accepted .1 .long in
+        let long : L B ≤ length c = rw left (rw (length-append d (drop (length d) (t .contents))) (omega (arith, l))) in
+        let n : min (word m 6) (length c) ≡ L B = omega (arith, p .passed .holds .locations .1, long) in
+        let x : printed (program-in m) a (take (min (word m 6) (length c)) c) ≡ print-answer B (run-log b g) =
+        rw (p .program, n, left, contents-left book b g accepted (t .contents), same) (sym (print-same B (run-log b g))) in
+        let y : L (program-in m) ≤ 2048 = rw (p .program) (p .few) in
+        (s .long ∙ ap length x, subst (λ (z : List ℕ). after ≡ z ++ drop (length z) out) x (s .whole y room))
 
-  -- n records of the contents are lent
-  pub accepted-shown :
-      (c : List ℕ) (a : Answer) (n : ℕ) (o : List ℕ) (r : ℕ) (after : List ℕ) → n ≡ min (word m 6) (length c) → L B ≤ 2048 → L B ≤ length c → most-output ≤ length o →
-      Prints (program-in m) a (take n c) o r after → Shown (printed B a (take (L B) c)) o r after
-  accepted-shown c a n o r after en few long room p =
-      let l : n ≡ L B = en ∙ rw (held .1) (min-eq-left long) in
-      let x : printed (program-in m) a (take n c) ≡ printed B a (take (L B) c) = rw (held .0, l) in
-      let y : L (program-in m) ≤ 2048 = rw (held .0) few in
-      (p .long ∙ ap length x, subst (λ (t : List ℕ). after ≡ t ++ drop (length t) o) x (p .whole y room))
+    -- refused
+    pub halt-shown : a .number ≢ 0 → Shown (written (first-line a 0)) out k after → Shown (print-answer B (run-log b g)) out k after
+    halt-shown z s =
+        let x : written (first-line a 0) ≡ print-answer B (run-log b g) = sym (print-same B (run-log b g) ∙ rw (← same) (refused-text B a (run-log b g .contents) z)) in
+        subst (λ (y : List ℕ). Shown y out k after) x s
 
 -- ---- a book and a log
 
-module _ (book log : List ℕ) where
+module _ (book log : List ℕ) (m o : List ℕ) (r : Opening) (opened : Opened book log own-tables r m o) where
+  -- passed: no more locations than the call's own tables have records
+  pub parts-few : r .answer .number ≡ 0 → r .locations ≤ 2048
+  parts-few z =
+      let both = all-good book log own-tables (ap (λ (a : Answer). a .number) (sym (opened .answer)) ∙ z) in
+      let h = opened .held (both .0 .0) (both .0 .1) (both .1) in
+      omega (arith, h .locations .0, h .locations .1, enough book log own-tables (both .0 .0) (both .0 .1) (both .1) .contents)
+
+module _ (book log : List ℕ) (m o : List ℕ) (r : Opening) (opened : Opened book log own-tables r m o) (out : List ℕ) (k : ℕ) (after : List ℕ) where
   abbrev checks : Checked (Book × Log)
   checks = check-all book log own-tables
 
-  -- what an accepted input has
-  pub record Accepted (a : Answer) (c : List ℕ) : Type 0 where
-    pub says : Book
-    pub is : check-book book ≡ good says
-    pub few : L (says .program) ≤ 2048
-    pub text : printed (says .program) a (take (L (says .program)) c) ≡ print-checked checks
-
-  all-good : (b : Book) (g : Log) → checks ≡ good (b, g) → (check-book book ≡ good b) × (L (b .program) ≤ 2048)
-  unfolding check-all check-lent
-  all-good b g e =
-      let r = bind-good (check-book book) _ (b, g) e in
-      let s = bind-good (check-log (r .0 .program) log) _ (b, g) (r .2) in
-      let t = then-good (check-lent (r .0 .program) own-tables) (good (r .0, s .0)) (b, g) (s .2) in
-      let u = test-good (leb (L (r .0 .program)) 2048) _ _ _ _ (t .0) (t .1) in
-      let same : r .0 ≡ b = ap (λ (x : Book × Log). x .0) (good-same (r .0, s .0) (b, g) (t .2)) in
-      (r .1 ∙ ap (λ (x : Book). good x) same, rw (← same) (leb-true (L (r .0 .program)) 2048 (u .0)))
-
-  module _
-      (t : Tables) (n : ℕ) (own : lengths t n ≡ own-tables) (a : Answer) (c rs ws : List ℕ)
-      (e : record { answer = a; contents = c; readers = rs; writers = ws } ≡ log-call book log t n)
+  -- refused
+  pub parts-refused : r .answer .number ≢ 0 → Shown (written (first-line (r .answer) 0)) out k after → Shown (print-checked checks) out k after
+  parts-refused z s = subst (λ (y : List ℕ). Shown y out k after) (go checks (opened .answer)) s
     where
-      called : record { answer = a; contents = c; readers = rs; writers = ws } ≡ log-answer t checks
-      unfolding log-call
-      called = e ∙ ap (λ (x : Lengths). log-answer t (check-all book log x)) own
+      go : (c : Checked (Book × Log)) → r .answer ≡ answer-of c → written (first-line (r .answer) 0) ≡ print-checked c
+      go (refused n p q) e = ap (λ (a : Answer). written (first-line a 0)) e
+      go (good x) e = absurd (z (ap (λ (a : Answer). a .number) e))
 
-      pub parts-refused : a .number ≢ 0 → written (first-line a 0) ≡ print-checked checks
-      parts-refused z = go checks called
-        where
-          go : (o : Checked (Book × Log)) → record { answer = a; contents = c; readers = rs; writers = ws } ≡ log-answer t o → written (first-line a 0) ≡ print-checked o
-          go (refused x p q) k = ap (λ (y : LogAnswer). written (first-line (y .answer) 0)) k
-          go (good (b, g)) k =
-              let same : a ≡ run-log b g .answer = ap (λ (y : LogAnswer). y .answer) k in
-              sym (print-same (b .program) (run-log b g) ∙ rw (← same) (refused-text (b .program) a (run-log b g .contents) z))
-
-      pub parts-accepted : a .number ≡ 0 → Accepted a c
-      parts-accepted z = go checks refl called
-        where
-          go : (o : Checked (Book × Log)) → checks ≡ o → record { answer = a; contents = c; readers = rs; writers = ws } ≡ log-answer t o → Accepted a c
-          go (refused x p q) w k =
-              let zero-number : x ≡ 0 = sym (ap (λ (y : LogAnswer). y .answer .number) k) ∙ z in absurd (never (subst Early w (all-early book log own-tables)) zero-number)
-            where
-              never : Early (refused x p q) → x ≡ 0 → ⊥
-              never (off h) e = omega (arith, h .0, e)
-          go (good (b, g)) w k =
-              let r = all-good b g w in
-              let same : a ≡ run-log b g .answer = ap (λ (y : LogAnswer). y .answer) k in
-              let left : c ≡ over (run-log b g .contents) (t .contents) = ap (λ (y : LogAnswer). y .contents) k in
-              record {
-                says = b;
-                is = r .0;
-                few = r .1;
-                text = rw (w, left, contents-left book b g (r .0) (t .contents), same) (sym (print-same (b .program) (run-log b g)));
-              }
+  -- passed, on tables of n records
+  pub parts-passed : r .answer .number ≡ 0 → (n : ℕ) → (r .locations ≤ n)
+      → ((b : Book) (g : Log) → Reported book b g r m o (blank-tables n) → Shown (print-answer (b .program) (run-log b g)) out k after) → Shown (print-checked checks) out k after
+  parts-passed z n few does =
+      let both = all-good book log own-tables (ap (λ (a : Answer). a .number) (sym (opened .answer)) ∙ z) in
+      let b = both .0 .0 in
+      let g = both .0 .1 in
+      let is : checks ≡ good (b, g) = both .1 in
+      let h = opened .held b g is in
+      let l : L (b .program) ≤ n = omega (arith, h .locations .0, h .locations .1, few) in
+      let long = length-replicate {A = ℕ} n 0 in
+      let parts = all-parts book log own-tables b g is in
+      let q : Reported book b g r m o (blank-tables n) = record {
+        passed = record {
+          log = log;
+          lent = own-tables;
+          checks = is;
+          holds = h;
+          contents = omega (arith, l, long);
+          readers = omega (arith, l, long);
+          writers = omega (arith, l, long);
+          records = omega arith;
+        };
+        program = opened .image b (parts .0) .0;
+        few = enough book log own-tables b g is .contents;
+      } in
+      subst (λ (y : Checked (Book × Log)). Shown (print-checked y) out k after) (sym is) (does b g q)
 
 -- ---- an input
 
@@ -208,14 +195,3 @@ module _ (text : List ℕ) where
       let all : take (length text - n) (drop n text) ≡ drop n text = take-all (length text - n) (drop n text) (rw (length-drop n text) (omega arith)) in
       let same : print-checked (check-all (take n text) (take (length text - n) (drop n text)) own-tables) ≡ rental text = rw (all, e) (rental-split h) in
       subst (λ (x : List ℕ). Shown x m r after) same p
-
-pub shown-as : (s t m : List ℕ) (r : ℕ) (after : List ℕ) → s ≡ t → Shown s m r after → Shown t m r after
-shown-as s t m r after e p = subst (λ (x : List ℕ). Shown x m r after) e p
-
--- ---- the program's own tables
-
-abbrev pub own : Tables
-own = record { contents = replicate 2048 0; readers = replicate 2048 0; writers = replicate 2048 0 }
-
-pub own-lengths : lengths own 2048 ≡ own-tables
-own-lengths = rw (length-replicate {A = ℕ} 2048 0)

@@ -1,20 +1,25 @@
 // What the program `rental` prints for any input.
-use book::Header;
+use book::Image;
+use laps::Opening;
 use numbers::Value;
+use order::Lengths;
+use order::Order;
 use text::Answer;
 use text::Line;
 ghost use mathlib.Core.Path.{_≡_};
-ghost use Prim.Native.Nat.{_≤_};
+ghost use Prim.Native.Nat.{_≤_, min};
 ghost use lib.ListN.{length, take};
-ghost use Rattle.text.specs.Words.{good};
-ghost use Rattle.text.specs.Text.{line, written};
-ghost use Rattle.book.specs.Book.{Book, L};
-ghost use Rattle.book.specs.Lines.{header-of};
-ghost use Rattle.book.specs.Check.{check-book};
+ghost use Rattle.text.specs.Text.{written};
+ghost use Rattle.book.specs.Book.{Book};
+ghost use Rattle.book.specs.Image.{word, program-in};
+ghost use Rattle.order.specs.Log.{Log};
+ghost use Rattle.order.specs.Run.{run-log};
 ghost use Rattle.order.specs.Call.{check-all};
-ghost use Rattle.report.specs.Report.{own-tables, first-line, print-checked, rental};
-ghost use Rattle.print.specs.Print.{printed, most-output};
+ghost use Rattle.report.specs.Report.{own-tables, first-line, print-answer, print-checked, rental};
+ghost use Rattle.laps.specs.Turns.{tables};
+ghost use Rattle.print.specs.Print.{Prints, most-output};
 ghost use Rattle.reporting.specs.Shown.{Shown, fitting};
+ghost use Rattle.reporting.specs.Reported.{Reported, blank-tables};
 
 // How many bytes are read.
 const MOST_INPUT: usize = 60000;
@@ -22,21 +27,8 @@ const MOST_INPUT: usize = 60000;
 // The input, as the q of a 2.
 const INPUT: u32 = 4;
 
-// The header that the first two lines say.
-fn header(book: &[u8]) -> Header
-    ensures { λ r. ⌜ r ≡ header-of (line (now (book .entry)) 0) (line (now (book .entry)) 1) ⌝ }
-{
-    let k = text::read_line(book, 0, 0);
-    let l = text::read_line(book, 0, 1);
-    Header {
-        elements: k.a,
-        permanent: k.b,
-        functions: k.c,
-        nodes: k.d,
-        agents: l.a,
-        contents: l.b,
-    }
-}
+// How many records each of its tables has.
+const RECORDS: usize = 2048;
 
 // The line of a refusal.
 fn print_refusal(answer: Answer, output: &mut [u8]) -> usize
@@ -53,32 +45,110 @@ fn print_refusal(answer: Answer, output: &mut [u8]) -> usize
     text::LINE
 }
 
-// An answer with the contents of an accepted book, which stand in front of the table.
-fn print_accepted(book: &[u8], contents: &[Value], answer: Answer, output: &mut [u8]) -> usize
-    requires { ⌜ most-output ≤ length (now output) ⌝ }
-    ensures { λ r. ⌜ ((b : Book) → check-book (now (book .entry)) ≡ good b → L (b .program) ≤ 2048 → L (b .program) ≤ length (now (contents .entry)) → Shown (printed (b .program) answer (take (L (b .program)) (now (contents .entry)))) (now (output .entry)) r (now (output .exit))) ⌝ }
+// An answer with the contents of the image's program, which stand in front of the table.
+fn print_image(image: &Image, contents: &[Value], answer: Answer, output: &mut [u8]) -> usize
+    ensures { λ r. ⌜ Prints (program-in (now (image .entry))) answer (take (min (word (now (image .entry)) 6) (length (now (contents .entry)))) (now (contents .entry))) (now (output .entry)) r (now (output .exit)) ⌝ }
 {
-    let h = header(book);
-    let mut image = [0u32; 4296];
-    image::decode(book, h, &mut image);
-    let n = numbers::smaller(image::fetch(&image, 6) as usize, contents.len());
-    print::print_answer(&image, &contents[..n], answer, output)
+    let n = numbers::smaller(image::fetch(image, 6) as usize, contents.len());
+    print::print_answer(image, &contents[..n], answer, output)
 }
 
-// The answer to a book and a log, run on tables of its own.
-fn report_parts(book: &[u8], log: &[u8], output: &mut [u8]) -> usize
+// The moves of a call that passed its checks, on these tables, and the answer printed.
+fn report_on(
+    book: &[u8],
+    contents: &mut [Value],
+    readers: &mut [u64],
+    writers: &mut [u64],
+    image: &Image,
+    order: &Order,
+    checked: Opening,
+    output: &mut [u8],
+) -> usize
     requires { ⌜ most-output ≤ length (now output) ⌝ }
-    ensures { λ r. ⌜ Shown (print-checked (check-all (now (book .entry)) (now (log .entry)) own-tables)) (now (output .entry)) r (now (output .exit)) ⌝ }
+    ensures { λ r. ⌜ ((b : Book) (g : Log) → Reported (now (book .entry)) b g checked (now (image .entry)) (now (order .entry)) (tables (now (contents .entry)) (now (readers .entry)) (now (writers .entry))) → Shown (print-answer (b .program) (run-log b g)) (now (output .entry)) r (now (output .exit))) ⌝ }
+{
+    let t = laps::start(book, contents, readers, writers, image, order, checked);
+    let answer = lending::go_on(contents, readers, writers, RECORDS, image, order, t);
+    if answer.number == 0 {
+        return print_image(image, contents, answer, output);
+    }
+    print_refusal(answer, output)
+}
+
+// On tables of 256 records. Most books have few locations, and small tables are soon cleared.
+fn report_small(
+    book: &[u8],
+    image: &Image,
+    order: &Order,
+    checked: Opening,
+    output: &mut [u8],
+) -> usize
+    requires { ⌜ most-output ≤ length (now output) ⌝ }
+    ensures { λ r. ⌜ ((b : Book) (g : Log) → Reported (now (book .entry)) b g checked (now (image .entry)) (now (order .entry)) (blank-tables 256) → Shown (print-answer (b .program) (run-log b g)) (now (output .entry)) r (now (output .exit))) ⌝ }
+{
+    let mut contents = [0u16; 256];
+    let mut readers = [0u64; 256];
+    let mut writers = [0u64; 256];
+    report_on(
+        book,
+        &mut contents,
+        &mut readers,
+        &mut writers,
+        image,
+        order,
+        checked,
+        output,
+    )
+}
+
+// On tables of 2,048 records.
+fn report_large(
+    book: &[u8],
+    image: &Image,
+    order: &Order,
+    checked: Opening,
+    output: &mut [u8],
+) -> usize
+    requires { ⌜ most-output ≤ length (now output) ⌝ }
+    ensures { λ r. ⌜ ((b : Book) (g : Log) → Reported (now (book .entry)) b g checked (now (image .entry)) (now (order .entry)) (blank-tables 2048) → Shown (print-answer (b .program) (run-log b g)) (now (output .entry)) r (now (output .exit))) ⌝ }
 {
     let mut contents = [0u16; 2048];
     let mut readers = [0u64; 2048];
     let mut writers = [0u64; 2048];
-    let answer = lending::run(book, log, &mut contents, &mut readers, &mut writers, 2048);
-    if answer.number == 0 {
-        print_accepted(book, &contents, answer, output)
-    } else {
-        print_refusal(answer, output)
+    report_on(
+        book,
+        &mut contents,
+        &mut readers,
+        &mut writers,
+        image,
+        order,
+        checked,
+        output,
+    )
+}
+
+// The answer to a book and a log, as if on tables of 2,048 records.
+fn report_parts(book: &[u8], log: &[u8], output: &mut [u8]) -> usize
+    requires { ⌜ most-output ≤ length (now output) ⌝ }
+    ensures { λ r. ⌜ Shown (print-checked (check-all (now (book .entry)) (now (log .entry)) own-tables)) (now (output .entry)) r (now (output .exit)) ⌝ }
+{
+    let mut image = [0u32; 4296];
+    let mut order = [0u64; 128];
+    let lent = Lengths {
+        contents: RECORDS,
+        readers: RECORDS,
+        writers: RECORDS,
+        instructions: RECORDS,
+    };
+    let checked = laps::check_all(book, log, lent, &mut image, &mut order);
+    let answer = checked.answer;
+    if answer.number != 0 {
+        return print_refusal(answer, output);
     }
+    if checked.locations <= 256 {
+        return report_small(book, &image, &order, checked, output);
+    }
+    report_large(book, &image, &order, checked, output)
 }
 
 // The answer to an input, split into its book and its log.

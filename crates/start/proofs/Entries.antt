@@ -1,5 +1,5 @@
 -- The contents lines of an accepted book, put one by one over the defaults, are the start of a run. Assumes nothing.
-use mathlib.Core.Path.{_≡_, refl, sym, ap, subst, _∙_}
+use mathlib.Core.Path.{_≡_, refl, sym, ap, _∙_}
 use mathlib.Core.Bool.{true, false}
 use mathlib.Core.List.{List, _++_}
 use Prim.Native.Nat.{ℕ, zero, suc, _+_, _-_, _%_, _≤_, _<_}
@@ -24,7 +24,8 @@ use Rattle.book.proofs.Accepted.{header-bounded, header-is, lines-book, book-le
 use Rattle.book.proofs.Places.{spot}
 use Rattle.book.proofs.Start.{in-bounds-is}
 use Rattle.pages.proofs.Parts.{between-inside, part-numbered, part-own}
-use Rattle.start.specs.Written.{line-put, lines-put, first-line, contents-lines}
+use Rattle.start.specs.Written.{defaults-in, line-put, lines-put, first-line, contents-lines, started}
+use Rattle.start.proofs.Defaults.{defaults-long}
 
 -- ---- the loop over the lines
 
@@ -134,20 +135,17 @@ module _ (text : List ℕ) (b : Book) (passes : check-book text ≡ good b) wher
       let k = in-bounds-is B (entry-of l) (rw e at (in-range B (b .entries) k (accepted-entries text b passes k h))) in
       record { function = k .0; first = k .1; second = k .2; value = k .3 }
 
-  pub start-is : (m c₀ mid out : List ℕ) → held m ≡ B → L B ≤ length c₀
-      → (L (held m) ≤ length c₀ → mid ≡ defaults (held m) ++ drop (L (held m)) c₀)
-      → out ≡ lines-put (held m) (contents-lines text) mid → out ≡ start b ++ drop (L B) c₀
+  -- what is written into a table that is long enough is the start of a run
+  pub start-is : (m c : List ℕ) → held m ≡ B → L B ≤ length c → started (held m) text c ≡ start b ++ drop (L B) c
   unfolding defaults start
-  start-is m c₀ mid out held long p q =
+  start-is m c held long =
       let s = said in
       let n : ℕ = length (b .entries) in
-      let rest : List ℕ = drop (L B) c₀ in
+      let rest : List ℕ = drop (L B) c in
       let at : ℕ → Line = λ i. line text (first-line text + i) in
-      let d : mid ≡ defaults B ++ rest = subst (λ (X : Program). L X ≤ length c₀ → mid ≡ defaults X ++ drop (L X) c₀) held p long in
-      q
-      ∙ ap (λ (X : Program). lines-put X (contents-lines text) mid) held
-      ∙ ap (λ (ls : List Line). lines-put B ls mid) (s .lines)
-      ∙ ap (λ (c : List ℕ). lines-put B (table at n) c) d
+      ap (λ (X : Program). started X text c) held
+      ∙ ap (λ (ls : List Line). lines-put B ls (defaults-in B c)) (s .lines)
+      ∙ ap (λ (d : List ℕ). lines-put B (table at n) d) (defaults-long B c long)
       ∙ put-all B (accepted text b passes) (s .few) rest at 0 n (defaults B) (length-table-from (default-at B) 0 (L B))
       (λ k h l. small s k (omega arith))
       ∙ ap (λ (es : List Entry). enter B es (defaults B) ++ rest) (sym (s .entries))

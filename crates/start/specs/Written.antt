@@ -1,19 +1,21 @@
--- What the code writes, step by step: one function's locations, then one line of the book after the other.
+-- What is written at the start of a run: every location's default, then one contents line of the book after the other.
 use mathlib.Core.List.{List, [], _∷_, _++_}
-use Prim.Native.Nat.{ℕ, _+_, _-_, _%_}
-use lib.Dec.{leb}
-use lib.ListN.{length, take, drop, replicate}
+use Prim.Native.Nat.{ℕ, _+_, _%_}
+use lib.ListN.{length, getD, take, drop}
 use Rattle.text.specs.declared.Line.{Line}
 use Rattle.text.specs.Words.{if_then_else_, table}
 use Rattle.text.specs.Text.{line}
 use Rattle.book.specs.declared.Function.{Function}
-use Rattle.book.specs.Book.{Program, size, location, function-at}
-use Rattle.pages.specs.Part.{put-in}
+use Rattle.book.specs.Book.{Program, L, size, location, function-at, defaults}
+use Rattle.pages.specs.Part.{between, put-in}
 
--- the places from `first` to `end` hold v, if there are as many
+-- the places from `first` to `end` hold v, the others what they held
 abbrev pub run-filled : ℕ → ℕ → ℕ → List ℕ → List ℕ
-run-filled first end v c =
-    if leb end (length c) then take first c ++ (replicate (end - first) v ++ drop (end - first) (drop first c)) else c
+run-filled first end v c = table (λ l. if between first end l then v else getD c l 0) (length c)
+
+-- each location's default, as far as the table c goes; past the last location it is as it was
+abbrev pub defaults-in : Program → List ℕ → List ℕ
+defaults-in B c = take (length c) (defaults B) ++ drop (L B) c
 
 -- location l of function g put in that function's part: it starts at the function's first location
 abbrev pub function-put : ℕ → Function → ℕ → ℕ → List ℕ → List ℕ
@@ -34,3 +36,7 @@ first-line text = 2 + line text 0 .c % 65536 + line text 0 .d % 65536 + line tex
 
 abbrev pub contents-lines : List ℕ → List Line
 contents-lines text = table (λ i. line text (first-line text + i)) (line text 1 .b)
+
+-- the start of a run written into the table c: each function's part filled with its default, then each contents line put at its location
+abbrev pub started : Program → List ℕ → List ℕ → List ℕ
+started B text c = lines-put B (contents-lines text) (defaults-in B c)

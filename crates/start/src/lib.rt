@@ -3,15 +3,12 @@ use book::Image;
 use numbers::Value;
 use text::Line;
 ghost use mathlib.Core.Path.{_≡_};
-ghost use mathlib.Core.List.{_++_};
 ghost use Prim.Native.Nat.{_+_, _≤_};
-ghost use lib.ListN.{length, set, drop, replicate};
-ghost use Rattle.text.specs.Words.{good};
-ghost use Rattle.book.specs.Book.{Book, L, offset, defaults, start};
+ghost use lib.ListN.{length, set, replicate};
+ghost use Rattle.book.specs.Book.{offset};
 ghost use Rattle.book.specs.Image.{held};
-ghost use Rattle.book.specs.Check.{check-book};
 ghost use Rattle.pages.specs.Part.{put-in};
-ghost use Rattle.start.specs.Written.{run-filled, line-put, lines-put, contents-lines};
+ghost use Rattle.start.specs.Written.{run-filled, defaults-in, line-put, lines-put, contents-lines, started};
 
 // Every place of a part gets v.
 fn fill(part: &mut [Value], v: u16)
@@ -24,19 +21,20 @@ fn fill(part: &mut [Value], v: u16)
     }
 }
 
-// The locations from `first` to `end` get v, if the table has as many.
+// The locations from `first` to `end` get v, as far as the table goes.
 fn fill_run(contents: &mut [Value], first: usize, end: usize, v: u16)
     requires { ⌜ first ≤ end ⌝ }
     ensures { λ _. ⌜ now (contents .exit) ≡ run-filled first end v (now (contents .entry)) ⌝ }
 {
-    if end <= contents.len() {
-        fill(&mut contents[first..end], v);
-    }
+    let n = contents.len();
+    let a = numbers::smaller(first, n);
+    let b = numbers::smaller(end, n);
+    fill(&mut contents[a..b], v);
 }
 
 // Every location gets its default, function by function.
 fn write_defaults(image: &Image, contents: &mut [Value])
-    ensures { λ _. ⌜ (L (held (now (image .entry))) ≤ length (now (contents .entry)) → now (contents .exit) ≡ defaults (held (now (image .entry))) ++ drop (L (held (now (image .entry)))) (now (contents .entry))) ⌝ }
+    ensures { λ _. ⌜ now (contents .exit) ≡ defaults-in (held (now (image .entry))) (now (contents .entry)) ⌝ }
 {
     let e = pages::elements(image);
     let n = pages::functions(image);
@@ -122,9 +120,9 @@ fn write_entries(book: &[u8], image: &Image, contents: &mut [Value])
     }
 }
 
-// The start of a run of an accepted book, whose image it is; nothing past the last location is touched.
+// The start of a run of the book whose image it is: every location's default, then the contents lines.
 pub fn write_start(book: &[u8], image: &Image, contents: &mut [Value])
-    ensures { λ _. ⌜ ((b : Book) → check-book (now (book .entry)) ≡ good b → held (now (image .entry)) ≡ b .program → L (b .program) ≤ length (now (contents .entry)) → now (contents .exit) ≡ start b ++ drop (L (b .program)) (now (contents .entry))) ⌝ }
+    ensures { λ _. ⌜ now (contents .exit) ≡ started (held (now (image .entry))) (now (book .entry)) (now (contents .entry)) ⌝ }
 {
     write_defaults(image, contents);
     write_entries(book, image, contents);

@@ -7,7 +7,7 @@ ghost use mathlib.Core.Path.{_≡_};
 ghost use mathlib.Core.Bool.{_&&_, _||_};
 ghost use Prim.Native.Nat.{_+_, _/_, _%_, _<_, _≤_};
 ghost use lib.Dec.{eqb, ltb};
-ghost use lib.ListN.{getD, take};
+ghost use lib.ListN.{getD};
 ghost use Rattle.text.specs.Words.{least};
 ghost use Rattle.book.specs.Book.{Program, L, true-element, size, boolean, dynamic, default, place};
 ghost use Rattle.book.specs.Image.{held};
@@ -146,8 +146,8 @@ fn bad_part(contents: &[Value], e: u16, p: u16, f: Function, first: u32) -> Foun
     Found::Nowhere
 }
 
-// The least location at fault, function after function.
-fn bad_in(image: &Image, contents: &[Value]) -> Found
+// 8 of a table: the least location at fault, function after function.
+pub fn bad_value(image: &Image, contents: &[Value]) -> Found
     ensures { λ r. ⌜ r ≡ least (bad-value (held (now (image .entry))) (now (contents .entry))) (L (held (now (image .entry)))) ⌝ }
 {
     let e = pages::elements(image);
@@ -165,15 +165,4 @@ fn bad_in(image: &Image, contents: &[Value]) -> Found
         g = g + 1;
     }
     Found::Nowhere
-}
-
-// 8 of a lent table, whose first L records are judged.
-pub fn bad_value(image: &Image, contents: &[Value]) -> Found
-    ensures { λ r. ⌜ r ≡ least (bad-value (held (now (image .entry))) (take (L (held (now (image .entry)))) (now (contents .entry)))) (L (held (now (image .entry)))) ⌝ }
-{
-    let n = pages::total(image) as usize;
-    if n <= contents.len() {
-        return bad_in(image, &contents[0..n]);
-    }
-    bad_in(image, contents)
 }

@@ -1,64 +1,51 @@
--- Laws of the book that an image holds: its rows, the scan for a location's function, and that a lawful book has its locations placed.
-use mathlib.Core.Path.{_≡_, refl, ap, _∙_}
+-- Laws of the book that an image holds: a lawful one has its locations placed; what that says of them; and the scope.
+use mathlib.Core.Path.{_≡_, refl, sym, ap, _∙_}
 use mathlib.Core.Logic.{dite}
-use mathlib.Core.Bool.{Bool, true, false}
+use mathlib.Core.Bool.{Bool, true, false, _&&_}
 use mathlib.Core.List.{List}
-use Prim.Native.Nat.{ℕ, _+_, _-_, _≤_, _<_}
-use native.Mathlib.Numerals.{add-one}
+use Prim.Native.Nat.{ℕ, _≤_, _<_}
 use native.Mathlib.Omega.{arith}
 use native.Mathlib.Decide.{decLt}
 use lib.Dec.{ltb}
-use lib.ListN.{length, getD, drop, take, length-take, List·getD-eq-default, drop-of-length-le}
-use lib.Seq.{drop-cons, getD-take}
-use borrow.Author.Tests.{ltb-true, lt-ltb, le-ltb}
+use lib.ListN.{length, getD, take, length-take, List·getD-eq-default}
+use lib.Seq.{getD-take}
+use borrow.Author.Tests.{ltb-true, lt-ltb}
 use Rattle.text.specs.Words.{if_then_else_}
-use Rattle.text.proofs.Words.{length-table-from}
-use Rattle.book.specs.declared.Function.{Function}
-use Rattle.book.specs.Book.{undef, Program, Place, dynamic, no-function, function-at, size, place-in, location, dynamic-at}
-use Rattle.book.specs.Image.{word, row-in, capped, function-of, held, program-in, narrow}
+use Rattle.book.specs.Book.{undef, Program, Place, dynamic, no-function, function-at, location, dynamic-at}
+use Rattle.book.specs.Image.{held, program-in}
 use Rattle.book.specs.Sound.{Lawful}
 use Rattle.book.proofs.Places.{spot, roll-place}
 use Rattle.term.specs.Held.{variables-of}
-use Rattle.term.specs.Marks.{Placed}
+use Rattle.term.specs.Marks.{dynamic-of, Placed}
 
-module _ (m : List ℕ) where
-  pub held-elements : capped (word (narrow m) 0) 10000 ≡ held m .E
-  unfolding program-in
-  held-elements = refl
+-- ---- a lawful book has its locations placed
 
-  pub held-permanent : word (narrow m) 1 ≡ held m .P
-  unfolding program-in
-  held-permanent = refl
+pub placed : (m : List ℕ) → Lawful (held m) → Placed (held m)
+unfolding program-in
+placed m ok =
+    record {
+      own = λ f x y h a b. ap (λ (p : Place). dynamic (p .function)) (spot (held m) ok f x y h a b .where-at);
+      roll = λ x h. ap (λ (p : Place). dynamic (p .function)) (roll-place (held m) ok x h) ∙ ap dynamic (ok .reserve);
+    }
 
-  pub held-count : capped (word (narrow m) 2) 32 ≡ length (held m .functions)
-  unfolding program-in
-  held-count = let e = length-table-from (λ f. function-of (row-in (narrow m) (2 + f))) 0 (capped (word (narrow m) 2) 32) in rw e
+-- ---- where the locations are placed, a function's kind says what its locations are
 
-  -- ---- a lawful book has its locations placed
+module _ (B : Program) (f x y : ℕ) where
+  pub dynamic-own : f < length (B .functions) → x < B .E → y < B .E → dynamic-of B f x y ≡ dynamic (function-at B f)
+  dynamic-own h i j = rw (lt-ltb f (length (B .functions)) h, lt-ltb x (B .E) i, lt-ltb y (B .E) j)
 
-  pub placed : Lawful (held m) → Placed (held m)
-  unfolding program-in
-  placed ok =
-      record {
-        own = λ f x y h a b. ap (λ (p : Place). dynamic (p .function)) (spot (held m) ok f x y h a b .where-at);
-        roll = λ x h. ap (λ (p : Place). dynamic (p .function)) (roll-place (held m) ok x h) ∙ ap dynamic (ok .reserve);
-      }
+  pub dynamic-other : (ltb f (length (B .functions)) && ltb x (B .E) && ltb y (B .E)) ≡ false → dynamic-of B f x y ≡ dynamic-at B (location B f x y)
+  dynamic-other e = rw e
 
--- ---- the scan of the functions for a location's
-
-module _ (E : ℕ) (fs : List Function) (f l : ℕ) where
-  pub scan-pass : f < length fs → size E (getD fs f no-function .arity) ≤ l
-      → place-in E (drop (f + 1) fs) (l - size E (getD fs f no-function .arity)) ≡ place-in E (drop f fs) l
-  unfolding place-in
-  scan-pass h k = rw (add-one f, drop-cons fs f no-function h, le-ltb l (size E (getD fs f no-function .arity)) k)
-
-  pub scan-stop : f < length fs → l < size E (getD fs f no-function .arity) → place-in E (drop f fs) l .function ≡ getD fs f no-function
-  unfolding place-in
-  scan-stop h k = rw (drop-cons fs f no-function h, lt-ltb l (size E (getD fs f no-function .arity)) k)
-
-  pub scan-end : length fs ≤ f → place-in E (drop f fs) l .function ≡ no-function
-  unfolding place-in
-  scan-end h = rw (drop-of-length-le fs {i = f} h)
+  pub dynamic-placed : Placed B → dynamic-of B f x y ≡ dynamic-at B (location B f x y)
+  dynamic-placed p = go (ltb f (length (B .functions))) refl (ltb x (B .E)) refl (ltb y (B .E)) refl
+    where
+      go : (s : Bool) → ltb f (length (B .functions)) ≡ s → (t : Bool) → ltb x (B .E) ≡ t → (u : Bool) → ltb y (B .E) ≡ u
+          → (if s && t && u then dynamic (function-at B f) else dynamic-at B (location B f x y)) ≡ dynamic-at B (location B f x y)
+      go true h true i true j = sym (p .own f x y (ltb-true f (length (B .functions)) h) (ltb-true x (B .E) i) (ltb-true y (B .E) j))
+      go true h true i false j = refl
+      go true h false i u j = refl
+      go false h t i u j = refl
 
 -- ---- a function's locations at the elements are all dynamic or all static
 
@@ -78,10 +65,3 @@ variable-in s a h = let e = getD-take 8 s a 0 h in cc
 
 pub variable-past : (s : List ℕ) (a : ℕ) → 8 ≤ a → 0 ≡ getD (variables-of s) a undef
 variable-past s a h = let e = List·getD-eq-default (take 8 s) 0 {n = a} (rw (length-take 8 s) (omega arith)) in cc
-
-pub capped-most : (n most : ℕ) → capped n most ≤ most
-capped-most n most = go (ltb n most) refl
-  where
-    go : (b : Bool) → ltb n most ≡ b → (if b then n else most) ≤ most
-    go true e = omega (arith, ltb-true n most e)
-    go false e = omega arith

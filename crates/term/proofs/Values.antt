@@ -6,11 +6,11 @@ use Prim.Native.Nat.{ℕ, zero, suc, _*_, _≤_, _<_}
 use native.Mathlib.Nat.{le-trans, mul-le-mul-left, mul-le-mul-right}
 use native.Mathlib.Omega.{arith}
 use lib.Dec.{eqb, ltb, leb}
-use lib.ListN.{getD, length, List·getD-eq-default}
+use lib.ListN.{getD}
 use borrow.Author.Tests.{eqb-true, ltb-true, leb-true}
 use Rattle.text.proofs.Words.{or-cases, and-cases}
 use Rattle.book.specs.Book.{undef, boolean, truth}
-use Rattle.engine.specs.Term.{Op, equal, both, either, plus, minus, less, number, apply, shapes, no-term, a-join}
+use Rattle.engine.specs.Term.{Op, equal, both, either, plus, minus, less, number, shapes, no-term, a-join}
 use Rattle.term.specs.Held.{operated}
 
 -- the product of two numbers up to m

@@ -1,9 +1,10 @@
 -- Reader marks: each location has the set of the moves that read it, a move being one bit of a number (01, "What a move does").
 use mathlib.Core.Path.{_≡_}
-use mathlib.Core.Bool.{true}
+use mathlib.Core.Bool.{Bool, true, _&&_}
 use mathlib.Core.List.{List, [], _∷_}
 use Prim.Native.Nat.{ℕ, _<_}
 use lib.Bits.{bitOr}
+use lib.Dec.{ltb}
 use lib.ListN.{length, getD, set}
 use Rattle.text.specs.Words.{if_then_else_}
 use Rattle.book.specs.Book.{Program, dynamic, dynamic-at, function-at, location}
@@ -22,6 +23,10 @@ marked bit (l ∷ ls) m = marked bit ls (mark-one bit l m)
 -- at l if it is dynamic
 abbrev pub noted : Program → ℕ → ℕ → List ℕ → List ℕ
 noted B bit l m = if dynamic-at B l then mark-one bit l m else m
+
+-- whether function f's location at x and y is dynamic; of a function's location at elements its kind says so
+abbrev pub dynamic-of : Program → ℕ → ℕ → ℕ → Bool
+dynamic-of B f x y = if ltb f (length (B .functions)) && ltb x (B .E) && ltb y (B .E) then dynamic (function-at B f) else dynamic-at B (location B f x y)
 
 -- Each function's locations lie where its row says, and the first E are Reserve's. Every lawful book has this: see `placed`.
 pub record Placed (B : Program) : Type 0 where

@@ -5,23 +5,13 @@ use pages::Run;
 ghost use mathlib.Core.Path.{_≡_};
 ghost use Prim.Native.Nat.{_+_};
 ghost use lib.ListN.{getD};
-ghost use Rattle.book.specs.Book.{undef, boolean, truth, size, offset, location, dynamic-at};
+ghost use Rattle.book.specs.Book.{undef, boolean, truth, offset, location, dynamic-at};
+ghost use Rattle.text.specs.Words.{if_then_else_};
 ghost use Rattle.engine.specs.Look.{read};
 ghost use Rattle.engine.specs.Term.{both, either, plus, minus, less, number, negate, apply, shapes, no-term};
 ghost use Rattle.term.specs.Held.{variables-of, value-at, aim-at, operated};
 ghost use Rattle.book.specs.Image.{held};
-ghost use Rattle.term.specs.Marks.{mark-one, noted, Placed, Runs};
-
-// How many locations a function of that arity has.
-pub fn size(e: u16, arity: u16) -> u32
-    ensures { λ r. ⌜ r ≡ size e arity ⌝ }
-{
-    match arity {
-        0 => 1,
-        1 => e as u32,
-        _ => e as u32 * e as u32,
-    }
-}
+ghost use Rattle.term.specs.Marks.{mark-one, dynamic-of, Runs};
 
 // The location of a function at x and y: counted from its first, the argument, or first × E + second.
 pub fn locate(run: Run, e: u16, x: u16, y: u16) -> u32
@@ -43,39 +33,27 @@ pub fn location(image: &Image, f: u16, x: u16, y: u16) -> u32
     locate(pages::function(image, f), pages::elements(image), x, y)
 }
 
-// Whether a location is dynamic, by the sizes of the functions from the first on.
+// Whether a location is dynamic.
 pub fn dynamic_at(image: &Image, l: u32) -> bool
     ensures { λ r. ⌜ r ≡ dynamic-at (held (now (image .entry))) l ⌝ }
 {
-    let e = pages::elements(image);
-    let count = pages::functions(image);
-    let mut left = l;
-    let mut f: u16 = 0;
-    while f < count {
-        let run = pages::function(image, f);
-        let many = size(e, run.arity);
-        if left < many {
-            return 2 <= run.kind;
-        }
-        left -= many;
-        f += 1;
-    }
-    false
+    let owner = pages::owner_of(image, l as usize);
+    pages::is_dynamic(owner.function)
 }
 
 // The same of function f's location at x and y, which its kind tells if they are elements.
-pub fn dynamic(image: &Image, f: u16, x: u16, y: u16, at: u32) -> bool
-    ensures { λ r. ⌜ (Placed (held (now (image .entry))) → at ≡ location (held (now (image .entry))) f x y → r ≡ dynamic-at (held (now (image .entry))) at) ⌝ }
+pub fn dynamic(image: &Image, f: u16, x: u16, y: u16) -> bool
+    ensures { λ r. ⌜ r ≡ dynamic-of (held (now (image .entry))) f x y ⌝ }
 {
     if pages::functions(image) <= f {
-        return dynamic_at(image, at);
+        return dynamic_at(image, location(image, f, x, y));
     }
     let e = pages::elements(image);
     if e <= x {
-        return dynamic_at(image, at);
+        return dynamic_at(image, location(image, f, x, y));
     }
     if e <= y {
-        return dynamic_at(image, at);
+        return dynamic_at(image, location(image, f, x, y));
     }
     let run = pages::function(image, f);
     2 <= run.kind
@@ -90,17 +68,17 @@ pub fn mark(readers: &mut [u64], bit: u64, at: usize)
     }
 }
 
-// Marks function f's location at x and y if it is dynamic.
-pub fn note(image: &Image, readers: &mut [u64], bit: u64, f: u16, x: u16, y: u16, at: u32)
-    ensures { λ _. ⌜ (Placed (held (now (image .entry))) → at ≡ location (held (now (image .entry))) f x y → now (readers .exit) ≡ noted (held (now (image .entry))) bit at (now (readers .entry))) ⌝ }
+// Marks function f's location at x and y, which is `at`, if it is dynamic.
+fn note(image: &Image, readers: &mut [u64], bit: u64, f: u16, x: u16, y: u16, at: u32)
+    ensures { λ _. ⌜ now (readers .exit) ≡ (if dynamic-of (held (now (image .entry))) f x y then mark-one bit at (now (readers .entry)) else now (readers .entry)) ⌝ }
 {
-    if dynamic(image, f, x, y, at) {
+    if dynamic(image, f, x, y) {
         mark(readers, bit, at as usize);
     }
 }
 
 // The value of function f at x and y.
-pub fn read(
+fn read(
     image: &Image,
     contents: &[Value],
     readers: &mut [u64],
@@ -116,7 +94,7 @@ pub fn read(
     numbers::fetch(contents, at as usize)
 }
 
-pub fn truth(t: bool) -> u16
+fn truth(t: bool) -> u16
     ensures { λ r. ⌜ r ≡ truth t ⌝ }
 {
     if t { 2 } else { 1 }
@@ -134,13 +112,13 @@ pub fn boolean(x: u16) -> bool
 }
 
 // Whether x is a number of the book.
-pub fn number(p: u16, x: u16) -> bool
+fn number(p: u16, x: u16) -> bool
     ensures { λ r. ⌜ r ≡ number p x ⌝ }
 {
     if 3 <= x { x < p } else { false }
 }
 
-pub fn not(x: u16) -> u16
+fn not(x: u16) -> u16
     ensures { λ r. ⌜ r ≡ negate x ⌝ }
 {
     match x {
@@ -150,7 +128,7 @@ pub fn not(x: u16) -> u16
     }
 }
 
-pub fn and(x: u16, y: u16) -> u16
+fn and(x: u16, y: u16) -> u16
     ensures { λ r. ⌜ r ≡ apply 0 both x y ⌝ }
 {
     if boolean(x) {
@@ -164,7 +142,7 @@ pub fn and(x: u16, y: u16) -> u16
     }
 }
 
-pub fn or(x: u16, y: u16) -> u16
+fn or(x: u16, y: u16) -> u16
     ensures { λ r. ⌜ r ≡ apply 0 either x y ⌝ }
 {
     if boolean(x) {
@@ -178,7 +156,7 @@ pub fn or(x: u16, y: u16) -> u16
     }
 }
 
-pub fn plus(p: u16, x: u16, y: u16) -> u16
+fn plus(p: u16, x: u16, y: u16) -> u16
     ensures { λ r. ⌜ r ≡ apply p plus x y ⌝ }
 {
     if number(p, x) {
@@ -193,7 +171,7 @@ pub fn plus(p: u16, x: u16, y: u16) -> u16
     }
 }
 
-pub fn minus(p: u16, x: u16, y: u16) -> u16
+fn minus(p: u16, x: u16, y: u16) -> u16
     ensures { λ r. ⌜ r ≡ apply p minus x y ⌝ }
 {
     if number(p, x) {
@@ -207,7 +185,7 @@ pub fn minus(p: u16, x: u16, y: u16) -> u16
     }
 }
 
-pub fn less(p: u16, x: u16, y: u16) -> u16
+fn less(p: u16, x: u16, y: u16) -> u16
     ensures { λ r. ⌜ r ≡ apply p less x y ⌝ }
 {
     if number(p, x) {
@@ -218,7 +196,7 @@ pub fn less(p: u16, x: u16, y: u16) -> u16
 }
 
 // The value of a term of two operands from theirs.
-pub fn operate(p: u16, k: u16, x: u16, y: u16) -> u16
+fn operate(p: u16, k: u16, x: u16, y: u16) -> u16
     ensures { λ r. ⌜ r ≡ operated p (getD shapes k no-term) x y ⌝ }
 {
     match k {
@@ -233,7 +211,7 @@ pub fn operate(p: u16, k: u16, x: u16, y: u16) -> u16
 }
 
 // The value of variable a; a scope has the eight variables and then the agent's element.
-pub fn variable(scope: &[u16; 9], a: u16) -> u16
+fn variable(scope: &[u16; 9], a: u16) -> u16
     ensures { λ r. ⌜ r ≡ getD (variables-of (now (scope .entry))) a undef ⌝ }
 {
     if a < 8 { scope[a as usize] } else { 0 }

@@ -1,11 +1,14 @@
 -- How checks end: with a fact of what they give, or with one of their refusal's number and place.
 use mathlib.Core.Path.{_≡_, refl}
 use mathlib.Core.Bool.{Bool, true, false}
+use mathlib.Core.Logic.{_≢_}
 use Prim.Native.Nat.{ℕ, _+_, _^_, _≤_, _<_}
+use native.Mathlib.Nat.{zero-add}
+use native.Mathlib.Omega.{arith}
 use Rattle.text.specs.declared.Answer.{Answer}
 use Rattle.text.specs.declared.Found.{Found}
 use Rattle.text.specs.declared.Found.the-variants.{Nowhere, Here}
-use Rattle.text.specs.Words.{least, Checked, good, refused, _>>=_, _>>_, none-at, must}
+use Rattle.text.specs.Words.{least, Checked, good, refused, _>>=_, _>>_, none-at, must, answer-of}
 use Rattle.text.proofs.Words.{least-here}
 
 pub data Ends {A : Type 0} (G : A → Type 0) (R : ℕ → ℕ → ℕ → Type 0) : Checked A → Type 0 where
@@ -47,6 +50,47 @@ module _ (R : ℕ → ℕ → ℕ → Type 0) where
   unfolding must
   must-ends true n p q r = on tt
   must-ends false n p q r = off r
+
+-- ---- one check after the other, by what they answer
+
+pub none-here : (n q p : ℕ) (o : Found) → o ≡ Here p → _≡_ {A = Answer} (record { number = n; p = p; q = q }) (answer-of (none-at n 0 q o))
+unfolding none-at
+none-here n q p o e = rw (e, zero-add p)
+
+-- its refusals have numbers: an answer with number 0 is no refusal
+abbrev pub Numbered : {A : Type 0} → Checked A → Type 0
+Numbered c = Ends Any (λ n p q. 1 ≤ n) c
+
+pub none-numbered : (n first q : ℕ) (o : Found) → 1 ≤ n → Numbered (none-at n first q o)
+unfolding none-at
+none-numbered n first q Nowhere h = on tt
+none-numbered n first q (Here p) h = off h
+
+pub must-numbered : (t : Bool) (n p q : ℕ) → 1 ≤ n → Numbered (must t n p q)
+unfolding must
+must-numbered true n p q h = on tt
+must-numbered false n p q h = off h
+
+pub accepted-good : {A : Type 0} {c : Checked A} → Numbered c → answer-of c .number ≡ 0 → (a : A) × (c ≡ good a)
+accepted-good (on {a} g) z = (a, refl)
+accepted-good (off r) z = absurd (omega arith)
+
+module _ {A B : Type 0} where
+  -- refused: that is the answer of the whole
+  pub bind-stops : (c : Checked A) (f : A → Checked B) → answer-of c .number ≢ 0 → answer-of (c >>= f) ≡ answer-of c
+  unfolding _>>=_
+  bind-stops (good a) f n = absurd (n refl)
+  bind-stops (refused n p q) f h = refl
+
+  pub then-stops : (c : Checked A) (d : Checked B) → answer-of c .number ≢ 0 → answer-of (c >> d) ≡ answer-of c
+  unfolding _>>_
+  then-stops (good a) d n = absurd (n refl)
+  then-stops (refused n p q) d h = refl
+
+  -- accepted: the rest decides
+  pub then-goes-on : (c : Checked A) (d : Checked B) → Numbered c → answer-of c .number ≡ 0 → (c >> d) ≡ d
+  unfolding _>>_
+  then-goes-on c d k z = rw (accepted-good k z .1)
 
 -- ---- refusals and answers that fit one number
 

@@ -1,6 +1,6 @@
 -- The columns of a field, one by one: what the scan and the pushes give is what the definitions say. Assumes nothing.
 use mathlib.Core.Path.{_≡_, refl, sym, _∙_, ap}
-use mathlib.Core.Bool.{Bool, true, false, _&&_, _||_, not, and-true, or-false}
+use mathlib.Core.Bool.{Bool, true, false, _&&_, _||_, not, and-true, and-assoc}
 use mathlib.Core.List.{List, [], _∷_, _++_}
 use Prim.Native.Nat.{ℕ, zero, suc, _+_, _-_, _*_, _<_, _≤_, min}
 use native.Mathlib.Nat.{mul-comm, min-le-right}
@@ -8,13 +8,15 @@ use native.Mathlib.Omega.{arith}
 use lib.Dec.{eqb, leb, eqb·suc-zero}
 use lib.ListN.{length, getD, take, drop, length-take, length-drop, drop-of-length-le}
 use lib.Seq.{length-take-le, take-take, drop-drop, drop-cons, getD-take, getD-drop, take-add}
-use borrow.Author.Tests.{eqb-true, ne-eqb}
+use borrow.Author.Tests.{eqb-true, ne-eqb, leb-true}
 use Rattle.text.specs.declared.Scan.{Scan}
 use Rattle.text.specs.declared.Scan.the-variants.{Blank, Zero, Digits, Bad}
 use Rattle.text.specs.Words.{if_then_else_}
-use Rattle.text.specs.Text.{blank, zero-digit, digit, digits, field-ok, value-of, line-bytes, column, well-formed, numbers-of, line}
+use Rattle.text.specs.Text.{blank, zero-digit, digit, digits, field-ok, value-of, line-bytes, column, newline, well-formed, numbers-of, line, unread, parsed}
 use Rattle.text.specs.declared.Line.{Line}
-use Rattle.text.specs.Scan.{step-of, scan, ends-well, four-blanks, two-ok}
+use Rattle.text.specs.declared.Parsed.{Parsed}
+use Rattle.text.proofs.Words.{and-cases}
+use Rattle.text.specs.Scan.{step-of, scan, ends-well, four-blanks, no-number, Read}
 
 -- ---- the form of a field
 
@@ -217,32 +219,159 @@ module _ (text : List ℕ) (at : ℕ) where
   unfolding value-of
   two-value e f b p q = sym (ap (value-of 0) (after b) ∙ value-step text at 4 1 0 e f p (sym q))
 
-  pub two-form :
-      at + 6 ≤ length text → take 4 (drop at text) ≡ four-blanks →
-      two-ok (getD text (at + 4) 0) (getD text (at + 5) 0) ≡ field-ok (take 6 (drop at text))
-  unfolding field-ok digits
-  two-form h b =
-      go (getD text (at + 4) 0) (getD text (at + 5) 0) ∙ sym (ap field-ok (after b ∙ ap (λ (l : List ℕ). four-blanks ++ l) two))
+-- ---- what the code reads of a field
+
+in-form : (cs : List ℕ) (r : ℕ) → field-ok cs ≡ true → r ≡ value-of 0 cs → r < no-number → Read cs r
+in-form cs r e v h = record { value = rw e v; form = rw (e, ne-eqb r no-number (λ z. omega arith)) }
+
+pub out-of-form : (cs : List ℕ) → field-ok cs ≡ false → Read cs no-number
+out-of-form cs e = record { value = rw e; form = rw e }
+
+-- a blank before it
+pub after-blank : {cs : List ℕ} {r : ℕ} → Read cs r → Read (blank ∷ cs) r
+unfolding field-ok value-of
+after-blank p = record { value = p .value; form = p .form }
+
+-- what the scan and the pushes give
+pub scanned-pushed : (cs : List ℕ) (t : Bool) (r : ℕ) → t ≡ field-ok cs → t ≡ true → r ≡ value-of 0 cs → r < no-number → Read cs r
+scanned-pushed cs t r e f v h = in-form cs r (sym e ∙ f) v h
+
+pub digit-bounds : (c : ℕ) → digit c ≡ true → (48 ≤ c) × (c ≤ 57)
+digit-bounds c e = let r = and-cases (leb 48 c) (leb c 57) e in (leb-true 48 c (r .0), leb-true c 57 (r .1))
+
+no-blank : (c : ℕ) → digit c ≡ true → eqb c blank ≡ false
+no-blank c e = ne-eqb c blank (λ z. omega (arith, digit-bounds c e))
+
+-- one digit
+pub one-digit : (f : ℕ) → digit f ≡ true → Read (f ∷ []) (f - 48)
+unfolding field-ok digits value-of
+one-digit f e = in-form (f ∷ []) (f - 48) (rw (no-blank f e, e)) (rw (no-blank f e) (omega arith)) (omega (arith, digit-bounds f e))
+
+pub no-digit : (f : ℕ) → digit f ≡ false → Read (f ∷ []) no-number
+unfolding field-ok digits
+no-digit f e = out-of-form (f ∷ []) (go (eqb f blank))
+  where
+    go : (b : Bool) → (if b then false else digit f && true && true) ≡ false
+    go true = refl
+    go false = rw e
+
+-- the digits of several, the first of which is not 0
+pub led : (e f : ℕ) → ((digit e && not (eqb e zero-digit)) && digit f) ≡ true → (48 ≤ e) × (e ≤ 57) × (48 ≤ f) × (f ≤ 57)
+led e f t =
+    let s = and-cases (digit e && not (eqb e zero-digit)) (digit f) t in
+    let de = digit-bounds e (and-cases (digit e) (not (eqb e zero-digit)) (s .0) .0) in
+    let df = digit-bounds f (s .1) in
+    (de .0, de .1, df .0, df .1)
+
+several : (c x : ℕ) (cs : List ℕ) → eqb c blank ≡ false → field-ok (c ∷ x ∷ cs) ≡ ((digit c && not (eqb c zero-digit)) && digits (x ∷ cs))
+unfolding field-ok
+several c x cs e = rw (e, eqb·suc-zero (length cs)) (go (digit c) (digits (x ∷ cs)) (not (eqb c zero-digit)))
+  where
+    go : (d s n : Bool) → (d && s && n) ≡ ((d && n) && s)
+    go true true true = refl
+    go true true false = refl
+    go true false n = go2 n
+      where
+        go2 : (n : Bool) → false ≡ (n && false)
+        go2 true = refl
+        go2 false = refl
+    go false s n = refl
+
+module _ (e f : ℕ) (b : eqb e blank ≡ false) where
+  pub two-digits : ((digit e && not (eqb e zero-digit)) && digit f) ≡ true → Read (e ∷ f ∷ []) (e * 10 + f - 528)
+  unfolding digits value-of
+  two-digits t =
+      let s = and-cases (digit e && not (eqb e zero-digit)) (digit f) t in
+      let w = led e f t in
+      in-form (e ∷ f ∷ []) (e * 10 + f - 528) (several e f [] b ∙ rw (s .0, s .1)) (rw (b, no-blank f (s .1)) (omega arith)) (omega arith)
+
+  pub no-digits : ((digit e && not (eqb e zero-digit)) && digit f) ≡ false → Read (e ∷ f ∷ []) no-number
+  unfolding digits
+  no-digits t = out-of-form (e ∷ f ∷ []) (several e f [] b ∙ rw (and-true (digit f)) t)
+
+module _ (d e f : ℕ) (b : eqb d blank ≡ false) where
+  pub three-digits : (((digit d && not (eqb d zero-digit)) && digit e) && digit f) ≡ true → Read (d ∷ e ∷ f ∷ []) (d * 100 + e * 10 + f - 5328)
+  unfolding digits value-of
+  three-digits t =
+      let s = and-cases ((digit d && not (eqb d zero-digit)) && digit e) (digit f) t in
+      let u = and-cases (digit d && not (eqb d zero-digit)) (digit e) (s .0) in
+      let w = led d e (s .0) in
+      let df = digit-bounds f (s .1) in
+      in-form (d ∷ e ∷ f ∷ []) (d * 100 + e * 10 + f - 5328) (several d e (f ∷ []) b ∙ rw (u .0, u .1, s .1))
+      (rw (b, no-blank e (u .1), no-blank f (s .1)) (omega arith)) (omega arith)
+
+  pub no-three : (((digit d && not (eqb d zero-digit)) && digit e) && digit f) ≡ false → Read (d ∷ e ∷ f ∷ []) no-number
+  unfolding digits
+  no-three t = out-of-form (d ∷ e ∷ f ∷ []) (several d e (f ∷ []) b ∙ rw (and-true (digit f)) (sym (and-assoc (digit d && not (eqb d zero-digit)) (digit e) (digit f)) ∙ t))
+
+-- ---- a field's columns, blanks before
+
+module _ (text : List ℕ) (at : ℕ) (h : at + 6 ≤ length text) where
+  columns-are :
+      take 6 (drop at text)
+      ≡ getD text at 0 ∷ getD text (at + 1) 0 ∷ getD text (at + 2) 0 ∷ getD text (at + 3) 0 ∷ getD text (at + 4) 0 ∷ getD text (at + 5) 0 ∷ []
+  columns-are =
+      take-add 4 2 (drop at text)
+      ∙ rw (four text at (omega arith), drop-drop 4 at text)
+      (ap (λ (l : List ℕ). getD text at 0 ∷ getD text (at + 1) 0 ∷ getD text (at + 2) 0 ∷ getD text (at + 3) 0 ∷ l)
+      (column-step text at (at + 4) 1 (at + 5) (omega arith) (omega arith)
+      ∙ ap (λ (l : List ℕ). getD text (at + 4) 0 ∷ l) (column-step text at (at + 5) 0 (at + 6) (omega arith) (omega arith))))
+
+  pub four-before : (r : ℕ) → take 4 (drop at text) ≡ four-blanks → Read (getD text (at + 4) 0 ∷ getD text (at + 5) 0 ∷ []) r → Read (take 6 (drop at text)) r
+  four-before r b p =
+      rw (columns-are, ap (λ (l : List ℕ). getD l 0 0) q, ap (λ (l : List ℕ). getD l 1 0) q, ap (λ (l : List ℕ). getD l 2 0) q, ap (λ (l : List ℕ). getD l 3 0) q)
+      (after-blank (after-blank (after-blank (after-blank p))))
     where
-      two : take 2 (drop (at + 4) text) ≡ getD text (at + 4) 0 ∷ getD text (at + 5) 0 ∷ []
-      two =
-          column-step (at + 4) 1 (at + 5) (omega arith) (omega arith)
-          ∙ ap (λ (l : List ℕ). getD text (at + 4) 0 ∷ l) (column-step (at + 5) 0 (at + 6) (omega arith) (omega arith))
+      q :
+          _≡_ {A = List ℕ} (getD text at 0 ∷ getD text (at + 1) 0 ∷ getD text (at + 2) 0 ∷ getD text (at + 3) 0 ∷ []) four-blanks
+      q = sym (four text at (omega arith)) ∙ b
 
-      -- a blank is no digit
-      no-digit : (f : ℕ) → digit f ≡ (if eqb f blank then false else digit f && true && true)
-      no-digit f = at-blank (eqb f blank) refl
-        where
-          at-blank : (b : Bool) → eqb f blank ≡ b → digit f ≡ (if b then false else digit f && true && true)
-          at-blank true e = rw (eqb-true f blank e)
-          at-blank false e = rw (and-true (digit f), and-true (digit f))
+  pub three-before :
+      (r : ℕ) → (getD text at 0 ≡ 32) × (getD text (at + 1) 0 ≡ 32) × (getD text (at + 2) 0 ≡ 32) →
+      Read (getD text (at + 3) 0 ∷ getD text (at + 4) 0 ∷ getD text (at + 5) 0 ∷ []) r → Read (take 6 (drop at text)) r
+  three-before r b p = rw (columns-are, b .0, b .1, b .2) (after-blank (after-blank (after-blank p)))
 
-      go : (e f : ℕ) → two-ok e f ≡ field-ok (e ∷ f ∷ [])
-      go e f = at-blank (eqb e blank) refl
-        where
-          at-blank :
-              (b : Bool) → eqb e blank ≡ b →
-              (b && digit f || digit e && digit f && not (eqb e zero-digit))
-              ≡ (if b then (if eqb f blank then false else digit f && true && true) else digit e && (digit f && true) && not (eqb e zero-digit))
-          at-blank true p = rw (eqb-true e blank p) (or-false (digit f) ∙ no-digit f)
-          at-blank false p = rw (and-true (digit f))
+-- ---- a line's fields
+
+module _ (text : List ℕ) (i a b c d : ℕ) (h : i * 25 + 25 ≤ length text) (ra : Read (take 6 (drop (i * 25) text)) a)
+    (rb : Read (take 6 (drop (i * 25 + 6) text)) b) (rc : Read (take 6 (drop (i * 25 + 12) text)) c)
+    (rd : Read (take 6 (drop (i * 25 + 18) text)) d) where
+  abbrev all-read : Bool
+  all-read =
+      not (eqb a no-number) && not (eqb b no-number) && not (eqb c no-number) && not (eqb d no-number)
+      && eqb (getD text (i * 25 + 24) 0) newline
+
+  form-read : well-formed (line-bytes text i) ≡ all-read
+  form-read = whole-line text i h ∙ rw (ra .form, rb .form, rc .form, rd .form)
+
+  pub line-read : all-read ≡ true → _≡_ {A = Parsed} (record { ok = true; line = record { a = a; b = b; c = c; d = d } }) (parsed text i)
+  line-read t =
+      let s4 = and-cases _ _ t in
+      let s3 = and-cases _ _ (s4 .0) in
+      let s2 = and-cases _ _ (s3 .0) in
+      let s1 = and-cases _ _ (s2 .0) in
+      rw (form-read ∙ t)
+      (ap (λ (l : Line). the-parsed l) (line-of text i a b c d (value ra (s1 .0)) (value rb (s1 .1)) (value rc (s2 .1)) (value rd (s3 .1))))
+    where
+      the-parsed : Line → Parsed
+      the-parsed l = record { ok = true; line = l }
+
+      value : {cs : List ℕ} {r : ℕ} → Read cs r → not (eqb r no-number) ≡ true → r ≡ value-of 0 cs
+      value p t = p .value ∙ rw (p .form ∙ t)
+
+  pub line-unread : all-read ≡ false → unread ≡ parsed text i
+  line-unread t = rw (form-read ∙ t)
+
+-- what a line that was read says of its form
+pub parsed-ok : (text : List ℕ) (i : ℕ) (r : Parsed) → r ≡ parsed text i → r .ok ≡ well-formed (line-bytes text i)
+parsed-ok text i r e = rw e (go (well-formed (line-bytes text i)))
+  where
+    go : (t : Bool) → (let r : Parsed = if t then record { ok = true; line = line text i } else unread in r .ok) ≡ t
+    go true = refl
+    go false = refl
+
+-- and of its numbers
+pub parsed-line : (text : List ℕ) (i : ℕ) (r : Parsed) → r ≡ parsed text i → r .ok ≡ true → r .line ≡ line text i
+parsed-line text i r e t =
+    let w : well-formed (line-bytes text i) ≡ true = sym (parsed-ok text i r e) ∙ t in
+    ap (λ (x : Parsed). x .line) e ∙ rw w

@@ -3,7 +3,7 @@ use mathlib.Core.Path.{_≡_, refl, sym, ap, _∙_}
 use mathlib.Core.Logic.{_⊎_, inl, inr, dite}
 use mathlib.Core.Bool.{Bool, true, false, not, _||_, _&&_, or-true, true≢false, false≢true}
 use Prim.Native.Nat.{ℕ, zero, suc, _+_, _-_, _≤_, _<_}
-use native.Mathlib.Nat.{zero-add}
+use native.Mathlib.Nat.{zero-add, suc-add}
 use native.Mathlib.Numerals.{add-one}
 use native.Mathlib.Omega.{arith}
 use native.Mathlib.Decide.{ℕ-discrete}
@@ -141,24 +141,49 @@ least-from-same f g (suc n) j h =
 pub least-same : (f g : ℕ → Bool) (n : ℕ) → ((i : ℕ) → i < n → f i ≡ g i) → least f n ≡ least g n
 least-same f g n h = least-from-same f g n 0 (λ i a b. h i (omega arith))
 
--- ---- a loop that looks for it
+-- in two parts
+pub least-first : (bad : ℕ → Bool) (m n i p : ℕ) → least-from bad m i ≡ Here p → least-from bad (m + n) i ≡ Here p
+unfolding least-from
+least-first bad zero n i p e = let z : _≡_ {A = ℕ} 0 1 = cc in absurd (omega arith)
+least-first bad (suc m) n i p e = rw (suc-add m n) (go (bad i) e (least-first bad m n (suc i) p))
+  where
+    go :
+        (t : Bool) → (if t then Here i else least-from bad m (suc i)) ≡ Here p →
+        (least-from bad m (suc i) ≡ Here p → least-from bad (m + n) (suc i) ≡ Here p) →
+        (if t then Here i else least-from bad (m + n) (suc i)) ≡ Here p
+    go true e r = e
+    go false e r = r e
+
+pub least-rest : (bad : ℕ → Bool) (m n i : ℕ) → least-from bad m i ≡ Nowhere → least-from bad (m + n) i ≡ least-from bad n (i + m)
+unfolding least-from
+least-rest bad zero n i e = let a : 0 + n ≡ n = omega arith in let b : i + 0 ≡ i = omega arith in rw (a, b)
+least-rest bad (suc m) n i e = rw (suc-add m n) (go (bad i) e (least-rest bad m n (suc i)))
+  where
+    go :
+        (t : Bool) → (if t then Here i else least-from bad m (suc i)) ≡ Nowhere →
+        (least-from bad m (suc i) ≡ Nowhere → least-from bad (m + n) (suc i) ≡ least-from bad n (suc i + m)) →
+        (if t then Here i else least-from bad (m + n) (suc i)) ≡ least-from bad n (i + suc m)
+    go true e r = let z : _≡_ {A = ℕ} 0 1 = cc in absurd (omega arith)
+    go false e r = let q : i + suc m ≡ suc i + m = omega arith in rw q (r e)
+
+-- ---- a loop that looks for it, up to n; t is what is looked for
 
 module _ (bad : ℕ → Bool) (n : ℕ) where
   pub least-start : least-from bad (n - 0) 0 ≡ least bad n
   least-start = let e : n - 0 ≡ n = omega arith in rw e
 
   -- a place that is not at fault is passed
-  pub least-pass : (i : ℕ) → i < n → bad i ≡ false → least-from bad (n - i) i ≡ least bad n → least-from bad (n - (i + 1)) (i + 1) ≡ least bad n
+  pub least-pass : {t : Found} (i : ℕ) → i < n → bad i ≡ false → least-from bad (n - i) i ≡ t → least-from bad (n - (i + 1)) (i + 1) ≡ t
   unfolding least-from
   least-pass i h b p = let e : n - i ≡ suc (n - suc i) = omega arith in rw (add-one i) (rw (e, b) at p)
 
   -- one that is at fault is the least
-  pub least-stop : (i : ℕ) → i < n → bad i ≡ true → least-from bad (n - i) i ≡ least bad n → Here i ≡ least bad n
+  pub least-stop : {t : Found} (i : ℕ) → i < n → bad i ≡ true → least-from bad (n - i) i ≡ t → Here i ≡ t
   unfolding least-from
   least-stop i h b p = let e : n - i ≡ suc (n - suc i) = omega arith in rw (e, b) at p
 
   -- all were passed
-  pub least-end : (i : ℕ) → n ≤ i → least-from bad (n - i) i ≡ least bad n → Nowhere ≡ least bad n
+  pub least-end : {t : Found} (i : ℕ) → n ≤ i → least-from bad (n - i) i ≡ t → Nowhere ≡ t
   unfolding least-from
   least-end i h p = let e : n - i ≡ 0 = omega arith in rw e at p
 

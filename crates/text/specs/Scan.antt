@@ -1,12 +1,13 @@
--- What the code holds while it reads a field: what the columns so far are.
-use mathlib.Core.Bool.{Bool, true, false, _&&_, _||_, not}
+-- What the code holds while it reads a field.
+use mathlib.Core.Path.{_≡_}
+use mathlib.Core.Bool.{Bool, true, false, not}
 use mathlib.Core.List.{List, [], _∷_}
 use Prim.Native.Nat.{ℕ}
 use lib.Dec.{eqb, leb}
 use Rattle.text.specs.declared.Scan.{Scan}
 use Rattle.text.specs.declared.Scan.the-variants.{Blank, Zero, Digits, Bad}
 use Rattle.text.specs.Words.{if_then_else_}
-use Rattle.text.specs.Text.{blank, zero-digit, digit}
+use Rattle.text.specs.Text.{blank, zero-digit, digit, field-ok, value-of}
 
 -- one more column, c its byte
 unfoldable pub step-of : Scan → ℕ → Scan
@@ -30,6 +31,13 @@ ends-well Bad = false
 abbrev pub four-blanks : List ℕ
 four-blanks = blank ∷ blank ∷ blank ∷ blank ∷ []
 
--- and its last two columns, e and f
-abbrev pub two-ok : ℕ → ℕ → Bool
-two-ok e f = eqb e blank && digit f || digit e && digit f && not (eqb e zero-digit)
+-- ---- what the code reads of a field
+
+-- what stands for the number of one that is not in form
+abbrev pub no-number : ℕ
+no-number = 4294967295
+
+-- the code's number r of these columns says their form and their value
+pub record Read (cs : List ℕ) (r : ℕ) : Type 0 where
+  pub value : r ≡ (if field-ok cs then value-of 0 cs else no-number)
+  pub form : field-ok cs ≡ not (eqb r no-number)

@@ -5,6 +5,7 @@ use Prim.Native.Nat.{ℕ, zero, suc, _+_, _*_, _-_, _/_, _%_, _^_}
 use lib.Dec.{eqb, ltb, leb}
 use lib.ListN.{length, getD, take, drop}
 use Rattle.text.specs.declared.Line.{Line}
+use Rattle.text.specs.declared.Parsed.{Parsed}
 use Rattle.text.specs.Words.{if_then_else_}
 
 abbrev pub blank : ℕ
@@ -73,6 +74,14 @@ line text i = numbers-of (line-bytes text i)
 
 abbrev pub no-line : Line
 no-line = record { a = 0; b = 0; c = 0; d = 0 }
+
+-- no line in form
+abbrev pub unread : Parsed
+unread = record { ok = false; line = no-line }
+
+-- line i as it is read: its form and its numbers together
+abbrev pub parsed : List ℕ → ℕ → Parsed
+parsed text i = if well-formed (line-bytes text i) then record { ok = true; line = line text i } else unread
 
 -- ---- a line as bytes
 

@@ -1,11 +1,13 @@
 // The text of books and logs: their lines, judged and read.
 ghost use mathlib.Core.Path.{_≡_};
-ghost use mathlib.Core.Bool.{true};
-ghost use Prim.Native.Nat.{_+_, _*_, _<_, _≤_};
+ghost use mathlib.Core.Bool.{true, _&&_, not};
+ghost use mathlib.Core.List.{[], _∷_};
+ghost use Prim.Native.Nat.{_+_, _-_, _*_, _<_, _≤_};
+ghost use lib.Dec.{eqb};
 ghost use lib.ListN.{length, take, drop};
-ghost use Rattle.text.specs.Words.{least};
-ghost use Rattle.text.specs.Text.{field-ok, value-of, well-formed, line-bytes, line, bad-line};
-ghost use Rattle.text.specs.Scan.{step-of, ends-well, four-blanks, two-ok};
+ghost use Rattle.text.specs.Words.{least, least-from, none-at, must, answer-of};
+ghost use Rattle.text.specs.Text.{unread, zero-digit, digit, field-ok, value-of, well-formed, line-bytes, line, bad-line, parsed};
+ghost use Rattle.text.specs.Scan.{step-of, ends-well, four-blanks, Read};
 
 // The refusals of 01's table.
 pub const ILL_FORMED: u32 = 1;
@@ -47,12 +49,21 @@ pub const LINE: usize = 25;
 
 pub const FIELD: usize = 6;
 
+// What stands for the number of a field that is not in form.
+const NO_NUMBER: u32 = 4294967295;
+
 // A line's four numbers.
 pub struct Line {
     pub a: u32,
     pub b: u32,
     pub c: u32,
     pub d: u32,
+}
+
+// A line that is read: whether it is whole and in form, and its numbers if it is.
+pub struct Parsed {
+    pub ok: bool,
+    pub line: Line,
 }
 
 // A place that is looked for.
@@ -66,6 +77,35 @@ pub struct Answer {
     pub number: u32,
     pub p: u32,
     pub q: u32,
+}
+
+// Refused with the number at the place found and q; accepted if nothing was found.
+pub fn none_at(number: u32, q: u32, found: Found) -> Answer
+    ensures { λ r. ⌜ r ≡ answer-of (none-at number 0 q found) ⌝ }
+{
+    match found {
+        Found::Nowhere => Answer {
+            number: 0,
+            p: 0,
+            q: 0,
+        },
+        Found::Here(p) => Answer { number, p, q },
+    }
+}
+
+// Refused with the number at (p, q) unless the test passes.
+pub fn must(test: bool, number: u32, p: u32, q: u32) -> Answer
+    ensures { λ r. ⌜ r ≡ answer-of (must test number p q) ⌝ }
+{
+    if test {
+        Answer {
+            number: 0,
+            p: 0,
+            q: 0,
+        }
+    } else {
+        Answer { number, p, q }
+    }
 }
 
 // What the columns of a field read so far are.
@@ -151,23 +191,130 @@ fn blanks(text: &[u8], at: usize) -> bool
     all_blank(text[at], text[at + 1], text[at + 2], text[at + 3])
 }
 
-// The last two columns of a field, after blanks: at most one blank more, then digits, the first of two not 0.
-fn two_in_form(e: u8, f: u8) -> bool
-    ensures { λ r. ⌜ r ≡ two-ok e f ⌝ }
+// The first three are.
+fn three_blank(a: u8, b: u8, c: u8) -> bool
+    ensures { λ r. ⌜ (r ≡ true → (a ≡ 32) × (b ≡ 32) × (c ≡ 32)) ⌝ }
 {
-    let last = (48 <= f) & (f <= 57);
-    ((e == 32) & last) | ((48 <= e) & (e <= 57) & last & !(e == 48))
+    a as u32 + b as u32 * 256 + c as u32 * 65536 == 2105376
 }
 
-// The six columns from `at` on are a field in form. Most fields have one digit or two.
-fn in_form(text: &[u8], at: usize) -> bool
-    requires { ⌜ at + 6 ≤ length (now text) ⌝ }
-    ensures { λ r. ⌜ r ≡ field-ok (take 6 (drop at (now (text .entry)))) ⌝ }
+fn is_digit(b: u8) -> bool
+    ensures { λ r. ⌜ r ≡ digit b ⌝ }
+{
+    (48 <= b) & (b <= 57)
+}
+
+// The first digit of several.
+fn leads(b: u8) -> bool
+    ensures { λ r. ⌜ r ≡ digit b && not (eqb b zero-digit) ⌝ }
+{
+    (48 <= b) & (b <= 57) & !(b == 48)
+}
+
+// What the last column of a field says, the others being blank.
+fn one(f: u8) -> u32
+    ensures { λ r. ⌜ Read (f ∷ []) r ⌝ }
+{
+    if is_digit(f) {
+        f as u32 - 48
+    } else {
+        NO_NUMBER
+    }
+}
+
+// What the last two say.
+fn two(e: u8, f: u8) -> u32
+    ensures { λ r. ⌜ Read (e ∷ f ∷ []) r ⌝ }
+{
+    if e == 32 {
+        one(f)
+    } else if leads(e) & is_digit(f) {
+        e as u32 * 10 + f as u32 - 528
+    } else {
+        NO_NUMBER
+    }
+}
+
+// What the last three say.
+fn three(d: u8, e: u8, f: u8) -> u32
+    ensures { λ r. ⌜ Read (d ∷ e ∷ f ∷ []) r ⌝ }
+{
+    if d == 32 {
+        two(e, f)
+    } else if leads(d) & is_digit(e) & is_digit(f) {
+        d as u32 * 100 + e as u32 * 10 + f as u32 - 5328
+    } else {
+        NO_NUMBER
+    }
+}
+
+// What the six columns from `at` on say, column by column.
+fn long(text: &[u8], at: usize) -> u32
+    requires { ⌜ (at + 6 ≤ length (now text)) × (at < 1000000000000) ⌝ }
+    ensures { λ r. ⌜ Read (take 6 (drop at (now (text .entry)))) r ⌝ }
+{
+    if scanned(text, at) {
+        columns(text, at)
+    } else {
+        NO_NUMBER
+    }
+}
+
+// What the six columns from `at` on say. Most fields have one digit, two or three.
+fn field(text: &[u8], at: usize) -> u32
+    requires { ⌜ (at + 6 ≤ length (now text)) × (at < 1000000000000) ⌝ }
+    ensures { λ r. ⌜ Read (take 6 (drop at (now (text .entry)))) r ⌝ }
 {
     if blanks(text, at) {
-        two_in_form(text[at + 4], text[at + 5])
+        two(text[at + 4], text[at + 5])
+    } else if three_blank(text[at], text[at + 1], text[at + 2]) {
+        three(text[at + 3], text[at + 4], text[at + 5])
     } else {
-        scanned(text, at)
+        long(text, at)
+    }
+}
+
+// No line in form.
+fn unread() -> Parsed
+    ensures { λ r. ⌜ r ≡ unread ⌝ }
+{
+    Parsed {
+        ok: false,
+        line: Line {
+            a: 0,
+            b: 0,
+            c: 0,
+            d: 0,
+        },
+    }
+}
+
+// Line i, its form and its numbers together.
+pub fn parse(text: &[u8], i: u32) -> Parsed
+    ensures { λ r. ⌜ r ≡ parsed (now (text .entry)) i ⌝ }
+{
+    let at = i as usize * LINE;
+    if at + LINE <= text.len() {
+        let a = field(text, at);
+        let b = field(text, at + 6);
+        let c = field(text, at + 12);
+        let d = field(text, at + 18);
+        let end = text[at + 24];
+        if !(a == NO_NUMBER)
+            & !(b == NO_NUMBER)
+            & !(c == NO_NUMBER)
+            & !(d == NO_NUMBER)
+            & (end == 10)
+        {
+            Parsed {
+                ok: true,
+                line: Line { a, b, c, d },
+            }
+        } else {
+            unread()
+        }
+    } else {
+        unread()
     }
 }
 
@@ -175,25 +322,16 @@ fn in_form(text: &[u8], at: usize) -> bool
 pub fn sound(text: &[u8], i: u32) -> bool
     ensures { λ r. ⌜ r ≡ well-formed (line-bytes (now (text .entry)) i) ⌝ }
 {
-    let at = i as usize * LINE;
-    if at + LINE <= text.len() {
-        let end = text[at + 24];
-        in_form(text, at)
-            & in_form(text, at + 6)
-            & in_form(text, at + 12)
-            & in_form(text, at + 18)
-            & (end == 10)
-    } else {
-        false
-    }
+    let l = parse(text, i);
+    l.ok
 }
 
-// 1: the least of the first n lines that is ill-formed or missing.
-pub fn bad_line(text: &[u8], n: u32) -> Found
-    ensures { λ r. ⌜ r ≡ least (bad-line (now (text .entry))) n ⌝ }
+// 1: the least of the lines from `first` up to `end` that is ill-formed or missing.
+pub fn bad_line_from(text: &[u8], first: u32, end: u32) -> Found
+    ensures { λ r. ⌜ r ≡ least-from (bad-line (now (text .entry))) (end - first) first ⌝ }
 {
-    let mut i: u32 = 0;
-    while i < n {
+    let mut i = first;
+    while i < end {
         if !sound(text, i) {
             return Found::Here(i);
         }
@@ -224,7 +362,7 @@ fn push(text: &[u8], at: usize, n: u32) -> u32
 // What the six columns from `at` on say, column by column.
 fn columns(text: &[u8], at: usize) -> u32
     requires { ⌜ at < 1000000000000 ⌝ }
-    ensures { λ r. ⌜ r ≡ value-of 0 (take 6 (drop at (now (text .entry)))) ⌝ }
+    ensures { λ r. ⌜ (r ≡ value-of 0 (take 6 (drop at (now (text .entry))))) × (r ≤ 28333305) ⌝ }
 {
     let a = push(text, at, 0);
     let b = push(text, at + 1, a);

@@ -1,11 +1,11 @@
--- The least pair, kept while the second moves go by: for each the nearest first move that is unordered with it and touches it.
+-- The nearest first move that is unordered with a second one and touches it, and the least pair of the marks.
 use mathlib.Core.Path.{_≡_, sym, ap, _∙_}
-use mathlib.Core.Logic.{_⊎_, inl, inr, dite, _≢_}
+use mathlib.Core.Logic.{dite}
 use mathlib.Core.Bool.{Bool, true, false, not, _&&_, true≢false}
 use mathlib.Core.List.{List}
 use Prim.Native.Nat.{ℕ, _+_, _-_, _*_, _%_, _^_, _≤_, _<_, min}
 use native.Mathlib.Omega.{arith}
-use native.Mathlib.Decide.{ℕ-discrete, decLt}
+use native.Mathlib.Decide.{decLt}
 use lib.Bits.{bitAnd}
 use lib.Count.{trailingZeros}
 use lib.Pow.{pow-pos}
@@ -15,7 +15,7 @@ use Rattle.order.specs.Sets.{bit}
 use Rattle.order.specs.Pairs.{least-two, ordered-by}
 use Rattle.order.proofs.Sets.{bit-empty}
 use Rattle.order.proofs.Masks.{shl-one, bit-and, bit-not, bit-below, below-bit, least-below, least-in}
-use Rattle.order.proofs.Pairs.{Passing, two-none, two-least}
+use Rattle.order.proofs.Best.{Best, best-found, best-none}
 use Rattle.order.proofs.Search.{two-alike}
 use Rattle.touch.specs.declared.Two.{Two}
 use Rattle.touch.specs.Marked.{unordered-marked, clipped, two-of, AllMet, Nearest}
@@ -50,66 +50,14 @@ module _ (met row j : ℕ) (fit : met < 2 ^ 64) (row-fit : row < 2 ^ 64) (small 
   pub near-is : Nearest met row j (trailingZeros 64 (bitAnd (bitAnd met ((2 ^ 64 - 1) - row)) ((1 * 2 ^ j) % 2 ^ 64 - 1)))
   near-is = rw (shl-one j small) (record { hit = near-hit; low = near-low })
 
--- ---- the least pair so far
-
--- of the pairs whose second move is below k the least is a, b; a is 64 for none
-pub record Best (f : ℕ → ℕ → Bool) (k a b : ℕ) : Type 0 where
-  pub top : a ≤ 64
-  pub hit : a < 64 → Passing f k a b
-  pub low : (x y : ℕ) → Passing f k x y → (a < x) ⊎ ((a ≡ x) × (b ≤ y))
+-- ---- the least pair, as the code gives it
 
 module _ (f : ℕ → ℕ → Bool) where
-  pub best-start : Best f 0 64 0
-  best-start = record { top = omega arith; hit = λ h. absurd (omega arith); low = λ x y p. absurd (omega (arith, p .1)) }
+  pub pair-found : (m a b : ℕ) → Best f m a b → a < 64 → _≡_ {A = Two} (record { found = true; first = a; second = b }) (two-of (least-two f m))
+  pair-found m a b s h = let e = best-found f m a b s h in rw e
 
-  -- one second move more: r is its nearest first
-  module _ (k a b r : ℕ) (lim : k < 64) (s : Best f k a b) (hit : r < 64 → (r < k) × (f r k ≡ true)) (low : (i : ℕ) → i < k → f i k ≡ true → r ≤ i) where
-    below : (x y : ℕ) → Passing f (k + 1) x y → y ≢ k → Passing f k x y
-    below x y p n = let h : y < k + 1 = p .1 in (p .0, omega arith, p .2)
-
-    pub best-new : r < a → Best f (k + 1) r k
-    best-new h = record { top = omega (arith, s .top); hit = λ z. let e = hit z in (e .0, omega arith, e .1); low = least }
-      where
-        least : (x y : ℕ) → Passing f (k + 1) x y → (r < x) ⊎ ((r ≡ x) × (k ≤ y))
-        least x y p = dite (ℕ-discrete y k) here (λ (n : y ≢ k). there (s .low x y (below x y p n)))
-          where
-            here : y ≡ k → (r < x) ⊎ ((r ≡ x) × (k ≤ y))
-            here q =
-                let l : x < y = p .0 in
-                let z : r ≤ x = low x (omega arith) (rw q at (p .2)) in
-                dite (decLt r x) inl (λ (n : ¬ (r < x)). inr (omega arith, omega arith))
-
-            there : (a < x) ⊎ ((a ≡ x) × (b ≤ y)) → (r < x) ⊎ ((r ≡ x) × (k ≤ y))
-            there (inl l) = inl (omega arith)
-            there (inr l) = inl (omega arith)
-
-    pub best-old : a ≤ r → Best f (k + 1) a b
-    best-old h = record { top = s .top; hit = λ z. let e = s .hit z in (e .0, omega (arith, e .1), e .2); low = least }
-      where
-        least : (x y : ℕ) → Passing f (k + 1) x y → (a < x) ⊎ ((a ≡ x) × (b ≤ y))
-        least x y p = dite (ℕ-discrete y k) here (λ (n : y ≢ k). s .low x y (below x y p n))
-          where
-            here : y ≡ k → (a < x) ⊎ ((a ≡ x) × (b ≤ y))
-            here q =
-                let l : x < y = p .0 in
-                let z : r ≤ x = low x (omega arith) (rw q at (p .2)) in
-                dite (decLt a x) inl (λ (n : ¬ (a < x)). let w : a ≡ x = omega arith in inr (w, older w))
-              where
-                older : a ≡ x → b ≤ y
-                older w = dite (decLt a 64) (λ (u : a < 64). omega (arith, s .hit u .1, q)) (λ (u : ¬ (a < 64)). absurd (omega (arith, p .0, q, lim)))
-
-  pub best-found : (m a b : ℕ) → Best f m a b → a < 64 → _≡_ {A = Two} (record { found = true; first = a; second = b }) (two-of (least-two f m))
-  best-found m a b s h = let e = two-least f m a b .1 (record { holds = s .hit h; least = s .low }) in rw e
-
-  pub best-none : (m a b : ℕ) → m ≤ 64 → Best f m a b → 64 ≤ a → _≡_ {A = Two} (record { found = false; first = 0; second = 0 }) (two-of (least-two f m))
-  best-none m a b small s h = let e = two-none f m .1 none in rw e
-    where
-      none : (i j : ℕ) → ¬ Passing f m i j
-      none i j p = go (s .low i j p)
-        where
-          go : (a < i) ⊎ ((a ≡ i) × (b ≤ j)) → ⊥
-          go (inl l) = omega (arith, p .0, p .1)
-          go (inr l) = omega (arith, p .0, p .1, l .0)
+  pub pair-none : (m a b : ℕ) → m ≤ 64 → Best f m a b → 64 ≤ a → _≡_ {A = Two} (record { found = false; first = 0; second = 0 }) (two-of (least-two f m))
+  pair-none m a b small s h = let e = best-none f m a b small s h in rw e
 
 -- ---- the marks' pairs
 

@@ -3,15 +3,15 @@ use mathlib.Core.Path.{_≡_, refl, sym, ap, _∙_}
 use mathlib.Core.Logic.{dite, _≢_}
 use mathlib.Core.Bool.{Bool, true, false, not, _||_, _&&_, and-true, or-false}
 use mathlib.Core.List.{List}
-use Prim.Native.Nat.{ℕ, _+_, _-_, _/_, _^_, _<_}
+use Prim.Native.Nat.{ℕ, zero, suc, _+_, _-_, _/_, _^_, _<_}
 use native.Mathlib.Numerals.{add-one}
 use native.Mathlib.Omega.{arith}
 use native.Mathlib.Decide.{ℕ-discrete}
 use lib.Dec.{eqb}
-use lib.Bits.{bitAnd, bitOr, and-le-l}
+use lib.Bits.{bitAnd, bitOr, and-le-l, and-le-r, or-add-and}
 use lib.Count.{trailingZeros, ones}
-use lib.ListN.{length, getD, set, length-set, replicate, length-replicate}
-use lib.Seq.{getD-set-same, getD-set-other}
+use lib.ListN.{length, getD, take, drop, set, length-set, replicate, length-replicate}
+use lib.Seq.{getD-set-same, getD-set-other, getD-take, getD-drop}
 use borrow.Author.Tests.{eq-eqb, ne-eqb}
 use Rattle.text.specs.Words.{if_then_else_, some-below}
 use Rattle.text.proofs.Words.{and-cases}
@@ -152,3 +152,18 @@ module _ (rs ws : List ℕ) where
   pub all-turn : (l : ℕ) (t u : List ℕ) → AllMet rs ws l t → Met (getD rs l 0) (getD ws l 0) t u → AllMet rs ws (l + 1) u
   unfolding some-below
   all-turn l t u a m = rw (add-one l) (record { long = m .long ∙ a .long; bits = λ j i. m .bits j i ∙ rw (a .bits j i) })
+
+  -- a part that no move writes is passed over
+  pub all-unwritten : (a n : ℕ) (t : List ℕ) → ((k : ℕ) → k < n → getD ws (a + k) 0 ≡ 0) → AllMet rs ws a t → AllMet rs ws (a + n) t
+  all-unwritten a zero t z m = let e : a + 0 ≡ a = omega arith in rw e m
+  all-unwritten a (suc n) t z m =
+      let e : a + suc n ≡ a + n + 1 = omega arith in
+      rw e (all-turn (a + n) t t (all-unwritten a n t (λ k h. z k (omega arith)) m) (met-unwritten (getD rs (a + n) 0) (getD ws (a + n) 0) t (z n (omega arith))))
+
+-- of the part that the code looks at
+pub unwritten : (ws : List ℕ) (a n k : ℕ) → k < n → getD (take (a + n - a) (drop a ws)) k 0 ≡ 0 → getD ws (a + k) 0 ≡ 0
+unwritten ws a n k h e = sym (getD-take (a + n - a) (drop a ws) k 0 (omega arith) ∙ getD-drop a ws k 0) ∙ e
+
+-- marks that are none together are none each
+pub join-none : (a b : ℕ) → bitOr a b ≡ 0 → (a ≡ 0) × (b ≡ 0)
+join-none a b e = (omega (arith, or-add-and a b, and-le-r a b), omega (arith, or-add-and a b, and-le-l a b))

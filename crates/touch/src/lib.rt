@@ -1,11 +1,15 @@
 // The order check: the least pair of unordered moves that touch, from the marks alone.
+use order::Order;
 ghost use mathlib.Core.Path.{_≡_};
 ghost use mathlib.Core.Bool.{_&&_, not};
-ghost use Prim.Native.Nat.{_<_, _≤_};
+ghost use Prim.Native.Nat.{ℕ, _<_, _≤_};
 ghost use lib.ListN.{length, getD};
 ghost use Rattle.order.specs.Sets.{bit};
 ghost use Rattle.order.specs.Pairs.{ordered-by, least-two};
 ghost use Rattle.touch.specs.Marked.{unordered-marked, clipped, two-of, Met, AllMet, Nearest};
+
+// How many locations are passed over at once.
+const BLOCK: usize = 64;
 
 // A pair of moves, if there is one: 0 0 if not.
 pub struct Two {
@@ -45,16 +49,44 @@ fn meet_written(readers: u64, writers: u64, met: &mut [u64; 64])
     }
 }
 
-// For each move those that touch it at one of the first n locations.
+// All marks of a part together: 0 only if each is.
+fn joined(part: &[u64]) -> u64
+    ensures { λ r. ⌜ (r ≡ 0 → (k : ℕ) → getD (now (part .entry)) k 0 ≡ 0) ⌝ }
+{
+    let mut all: u64 = 0;
+    let mut i: usize = 0;
+    while i < part.len() {
+        all = all | part[i];
+        i += 1;
+    }
+    all
+}
+
+// From the first a locations to the first b.
+fn meet_part(readers: &[u64], writers: &[u64], a: usize, b: usize, met: &mut [u64; 64])
+    requires { ⌜ (a ≤ b) × (b ≤ length (now readers)) × (b ≤ length (now writers)) × AllMet (now readers) (now writers) a (now met) ⌝ }
+    ensures { λ _. ⌜ AllMet (now (readers .entry)) (now (writers .entry)) b (now (met .exit)) ⌝ }
+{
+    let mut l = a;
+    while l < b {
+        meet_written(readers[l], writers[l], met);
+        l += 1;
+    }
+}
+
+// For each move those that touch it at one of the first n locations. Blocks that no move writes are passed over.
 fn met_of(readers: &[u64], writers: &[u64], n: usize) -> [u64; 64]
     requires { ⌜ (n ≤ length (now readers)) × (n ≤ length (now writers)) ⌝ }
     ensures { λ r. ⌜ AllMet (now (readers .entry)) (now (writers .entry)) n r ⌝ }
 {
     let mut met: [u64; 64] = [0; 64];
-    let mut l: usize = 0;
-    while l < n {
-        meet_written(readers[l], writers[l], &mut met);
-        l += 1;
+    let mut a: usize = 0;
+    while a < n {
+        let b = a + numbers::smaller(n - a, BLOCK);
+        if joined(&writers[a..b]) != 0 {
+            meet_part(readers, writers, a, b, &mut met);
+        }
+        a = b;
     }
     met
 }
@@ -69,15 +101,15 @@ fn nearest(met: u64, row: u64, j: usize) -> u32
 }
 
 // The least pair of the first m moves, by its first move and then its second.
-fn least_pair(met: &[u64; 64], rows: &[u64; 64], m: usize) -> Two
+fn least_pair(met: &[u64; 64], order: &Order, m: usize) -> Two
     requires { ⌜ m ≤ 64 ⌝ }
-    ensures { λ r. ⌜ r ≡ two-of (least-two (λ i j. not (ordered-by (now (rows .entry)) i j) && bit (getD (now (met .entry)) j 0) i) m) ⌝ }
+    ensures { λ r. ⌜ r ≡ two-of (least-two (λ i j. not (ordered-by (now (order .entry)) i j) && bit (getD (now (met .entry)) j 0) i) m) ⌝ }
 {
     let mut first: u32 = 64;
     let mut second: usize = 0;
     let mut j: usize = 0;
     while j < m {
-        let i = nearest(met[j], rows[j], j);
+        let i = nearest(met[j], order[j], j);
         if i < first {
             first = i;
             second = j;
@@ -99,18 +131,18 @@ fn least_pair(met: &[u64; 64], rows: &[u64; 64], m: usize) -> Two
     }
 }
 
-// 17: the least pair of the first `moves` moves that the rows leave unordered and that touch at one
+// 17: the least pair of the first `moves` moves that the order leaves unordered and that touch at one
 // of the first `locations` locations.
 pub fn touching(
     readers: &[u64],
     writers: &[u64],
-    rows: &[u64; 64],
+    order: &Order,
     moves: u32,
     locations: usize,
 ) -> Two
-    ensures { λ r. ⌜ r ≡ two-of (least-two (unordered-marked (now (rows .entry)) (now (readers .entry)) (now (writers .entry)) (clipped (now (readers .entry)) (now (writers .entry)) locations)) moves) ⌝ }
+    ensures { λ r. ⌜ r ≡ two-of (least-two (unordered-marked (now (order .entry)) (now (readers .entry)) (now (writers .entry)) (clipped (now (readers .entry)) (now (writers .entry)) locations)) moves) ⌝ }
 {
     let n = numbers::smaller(locations, numbers::smaller(readers.len(), writers.len()));
     let met = met_of(readers, writers, n);
-    least_pair(&met, rows, numbers::smaller(moves as usize, 64))
+    least_pair(&met, order, numbers::smaller(moves as usize, 64))
 }

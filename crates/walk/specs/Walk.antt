@@ -1,13 +1,13 @@
 -- What a walk came to, and the walk of the rule at a node.
 use mathlib.Core.List.{List}
-use Prim.Native.Nat.{ℕ, _≤_}
+use Prim.Native.Nat.{ℕ}
 use lib.Dec.{eqb}
-use lib.ListN.{length, set}
+use lib.ListN.{set}
 use Rattle.text.specs.Words.{if_then_else_}
 use Rattle.book.specs.declared.Node.{Node}
 use Rattle.book.specs.Book.{node-at}
 use Rattle.engine.specs.Look.{Look}
-use Rattle.engine.specs.Rule.{Rule, rule-shape, rule-tree, Walk, Walked, going, met, most-instructions, walk}
+use Rattle.engine.specs.Rule.{Rule, rule-shape, rule-tree, Walk, Walked, going, met, walk}
 use Rattle.records.specs.Code.{items}
 use Rattle.term.specs.Held.{variables-of, agent-of}
 use Rattle.book.specs.Image.{held}
@@ -17,10 +17,6 @@ use Rattle.walk.specs.declared.State.{State}
 
 abbrev pub walk-of : State → List ℕ → Walk
 walk-of s l = record { made = items l (s .len); next = s .label }
-
--- the list has room for all instructions of a move
-abbrev pub Room : List ℕ → Type 0
-Room l = most-instructions ≤ length l
 
 -- a refusal's number is not 0
 unfoldable pub outcome : State → List ℕ → Walked

@@ -4,21 +4,19 @@ use giving::Pace;
 use numbers::Value;
 use pages::Row;
 ghost use mathlib.Core.Path.{_≡_};
-ghost use mathlib.Core.List.{List};
-ghost use Prim.Native.Nat.{ℕ};
 ghost use lib.Dec.{eqb};
-ghost use lib.ListN.{set};
+ghost use lib.ListN.{length, set};
 ghost use Rattle.text.specs.Words.{if_then_else_};
 ghost use Rattle.book.specs.Book.{node-at};
 ghost use Rattle.engine.specs.Move.{all-dynamic};
 ghost use Rattle.engine.specs.Term.{term-at};
-ghost use Rattle.engine.specs.Rule.{assign, bind, for-all, import, free, after, walk};
+ghost use Rattle.engine.specs.Rule.{assign, bind, for-all, import, free, after, most-instructions, walk};
 ghost use Rattle.term.specs.Held.{variables-of, agent-of};
 ghost use Rattle.book.specs.Image.{held};
 ghost use Rattle.term.specs.Marks.{marked, Runs};
 ghost use Rattle.giving.specs.Giving.{walk-from, reached};
 ghost use Rattle.walk.specs.Gather.{cleared, Gathered};
-ghost use Rattle.walk.specs.Walk.{Room, outcome, rule-from, walk-at, body-at};
+ghost use Rattle.walk.specs.Walk.{outcome, rule-from, walk-at, body-at};
 
 // How far a walk came: how many instructions it has given, the label from which the next import looks,
 // its refusal (0 for none) and the refusal's node.
@@ -51,7 +49,7 @@ fn assign(
     contents: &[Value],
     readers: &mut [u64],
     bit: u64,
-    list: &mut [u64],
+    list: &mut [u64; 256],
     scope: &[u16; 9],
     depth: usize,
     s: Pace,
@@ -59,7 +57,7 @@ fn assign(
     row: Row,
 ) -> Pace
     requires { ⌜ s .refused ≡ 0 ⌝ }
-    ensures { λ r. ⌜ (Room (now (list .entry)) → Runs (held (now (image .entry))) (now (contents .entry)) bit (walk (held (now (image .entry))) (agent-of (now (scope .entry))) (assign n (term-at (node-at (held (now (image .entry)))) depth (row .a)) (term-at (node-at (held (now (image .entry)))) depth (row .b))) (variables-of (now (scope .entry))) (walk-from s (now (list .entry)))) (reached r (now (list .exit))) (now (readers .entry)) (now (readers .exit))) ⌝ }
+    ensures { λ r. ⌜ Runs (held (now (image .entry))) (now (contents .entry)) bit (walk (held (now (image .entry))) (agent-of (now (scope .entry))) (assign n (term-at (node-at (held (now (image .entry)))) depth (row .a)) (term-at (node-at (held (now (image .entry)))) depth (row .b))) (variables-of (now (scope .entry))) (walk-from s (now (list .entry)))) (reached r (now (list .exit))) (now (readers .entry)) (now (readers .exit)) ⌝ }
 {
     let at = term::aim(image, contents, readers, bit, scope, depth, row.a);
     let x = term::eval(image, contents, readers, bit, scope, depth, row.b);
@@ -73,7 +71,7 @@ fn release(
     contents: &[Value],
     readers: &mut [u64],
     bit: u64,
-    list: &mut [u64],
+    list: &mut [u64; 256],
     scope: &[u16; 9],
     depth: usize,
     s: Pace,
@@ -81,7 +79,7 @@ fn release(
     row: Row,
 ) -> Pace
     requires { ⌜ s .refused ≡ 0 ⌝ }
-    ensures { λ r. ⌜ (Room (now (list .entry)) → Runs (held (now (image .entry))) (now (contents .entry)) bit (walk (held (now (image .entry))) (agent-of (now (scope .entry))) (free n (term-at (node-at (held (now (image .entry)))) depth (row .a))) (variables-of (now (scope .entry))) (walk-from s (now (list .entry)))) (reached r (now (list .exit))) (now (readers .entry)) (now (readers .exit))) ⌝ }
+    ensures { λ r. ⌜ Runs (held (now (image .entry))) (now (contents .entry)) bit (walk (held (now (image .entry))) (agent-of (now (scope .entry))) (free n (term-at (node-at (held (now (image .entry)))) depth (row .a))) (variables-of (now (scope .entry))) (walk-from s (now (list .entry)))) (reached r (now (list .exit))) (now (readers .entry)) (now (readers .exit)) ⌝ }
 {
     let x = term::eval(image, contents, readers, bit, scope, depth, row.a);
     let v = marking::read_roll(image, contents, readers, bit, x);
@@ -95,13 +93,13 @@ fn walk(
     contents: &[Value],
     readers: &mut [u64],
     bit: u64,
-    list: &mut [u64],
+    list: &mut [u64; 256],
     scope: &[u16; 9],
     depth: usize,
     s: Pace,
     n: u16,
 ) -> Pace
-    ensures { λ r. ⌜ (Room (now (list .entry)) → Runs (held (now (image .entry))) (now (contents .entry)) bit (after (reached s (now (list .entry))) (walk-at (now (image .entry)) (now (scope .entry)) depth n)) (reached r (now (list .exit))) (now (readers .entry)) (now (readers .exit))) ⌝ }
+    ensures { λ r. ⌜ Runs (held (now (image .entry))) (now (contents .entry)) bit (after (reached s (now (list .entry))) (walk-at (now (image .entry)) (now (scope .entry)) depth n)) (reached r (now (list .exit))) (now (readers .entry)) (now (readers .exit)) ⌝ }
 {
     let mut left = depth;
     let mut at = n;
@@ -143,14 +141,14 @@ fn within(
     contents: &[Value],
     readers: &mut [u64],
     bit: u64,
-    list: &mut [u64],
+    list: &mut [u64; 256],
     scope: &[u16; 9],
     depth: usize,
     s: Pace,
     row: Row,
     x: u16,
 ) -> Pace
-    ensures { λ r. ⌜ (Room (now (list .entry)) → Runs (held (now (image .entry))) (now (contents .entry)) bit (after (reached s (now (list .entry))) (body-at (now (image .entry)) (now (scope .entry)) depth (row .c) (row .a) x)) (reached r (now (list .exit))) (now (readers .entry)) (now (readers .exit))) ⌝ }
+    ensures { λ r. ⌜ Runs (held (now (image .entry))) (now (contents .entry)) bit (after (reached s (now (list .entry))) (body-at (now (image .entry)) (now (scope .entry)) depth (row .c) (row .a) x)) (reached r (now (list .exit))) (now (readers .entry)) (now (readers .exit)) ⌝ }
 {
     let mut inner = *scope;
     bind(&mut inner, row.a, x);
@@ -163,14 +161,14 @@ fn let_in(
     contents: &[Value],
     readers: &mut [u64],
     bit: u64,
-    list: &mut [u64],
+    list: &mut [u64; 256],
     scope: &[u16; 9],
     depth: usize,
     s: Pace,
     row: Row,
 ) -> Pace
     requires { ⌜ s .refused ≡ 0 ⌝ }
-    ensures { λ r. ⌜ (Room (now (list .entry)) → Runs (held (now (image .entry))) (now (contents .entry)) bit (walk (held (now (image .entry))) (agent-of (now (scope .entry))) (bind (row .a) (term-at (node-at (held (now (image .entry)))) depth (row .b)) (rule-from (node-at (held (now (image .entry)))) depth (row .c))) (variables-of (now (scope .entry))) (walk-from s (now (list .entry)))) (reached r (now (list .exit))) (now (readers .entry)) (now (readers .exit))) ⌝ }
+    ensures { λ r. ⌜ Runs (held (now (image .entry))) (now (contents .entry)) bit (walk (held (now (image .entry))) (agent-of (now (scope .entry))) (bind (row .a) (term-at (node-at (held (now (image .entry)))) depth (row .b)) (rule-from (node-at (held (now (image .entry)))) depth (row .c))) (variables-of (now (scope .entry))) (walk-from s (now (list .entry)))) (reached r (now (list .exit))) (now (readers .entry)) (now (readers .exit)) ⌝ }
 {
     let x = term::eval(image, contents, readers, bit, scope, depth, row.b);
     within(image, contents, readers, bit, list, scope, depth, s, row, x)
@@ -182,14 +180,14 @@ fn each(
     contents: &[Value],
     readers: &mut [u64],
     bit: u64,
-    list: &mut [u64],
+    list: &mut [u64; 256],
     scope: &[u16; 9],
     depth: usize,
     s: Pace,
     row: Row,
 ) -> Pace
     requires { ⌜ s .refused ≡ 0 ⌝ }
-    ensures { λ r. ⌜ (Room (now (list .entry)) → Runs (held (now (image .entry))) (now (contents .entry)) bit (walk (held (now (image .entry))) (agent-of (now (scope .entry))) (for-all (row .a) (row .b) (rule-from (node-at (held (now (image .entry)))) depth (row .c))) (variables-of (now (scope .entry))) (walk-from s (now (list .entry)))) (reached r (now (list .exit))) (now (readers .entry)) (now (readers .exit))) ⌝ }
+    ensures { λ r. ⌜ Runs (held (now (image .entry))) (now (contents .entry)) bit (walk (held (now (image .entry))) (agent-of (now (scope .entry))) (for-all (row .a) (row .b) (rule-from (node-at (held (now (image .entry)))) depth (row .c))) (variables-of (now (scope .entry))) (walk-from s (now (list .entry)))) (reached r (now (list .exit))) (now (readers .entry)) (now (readers .exit)) ⌝ }
 {
     marking::universe(image, readers, bit, row.b);
     let e = pages::elements(image);
@@ -212,7 +210,7 @@ fn import(
     contents: &[Value],
     readers: &mut [u64],
     bit: u64,
-    list: &mut [u64],
+    list: &mut [u64; 256],
     scope: &[u16; 9],
     depth: usize,
     s: Pace,
@@ -220,7 +218,7 @@ fn import(
     row: Row,
 ) -> Pace
     requires { ⌜ s .refused ≡ 0 ⌝ }
-    ensures { λ r. ⌜ (Room (now (list .entry)) → Runs (held (now (image .entry))) (now (contents .entry)) bit (walk (held (now (image .entry))) (agent-of (now (scope .entry))) (import n (row .a) (row .b) (rule-from (node-at (held (now (image .entry)))) depth (row .c))) (variables-of (now (scope .entry))) (walk-from s (now (list .entry)))) (reached r (now (list .exit))) (now (readers .entry)) (now (readers .exit))) ⌝ }
+    ensures { λ r. ⌜ Runs (held (now (image .entry))) (now (contents .entry)) bit (walk (held (now (image .entry))) (agent-of (now (scope .entry))) (import n (row .a) (row .b) (rule-from (node-at (held (now (image .entry)))) depth (row .c))) (variables-of (now (scope .entry))) (walk-from s (now (list .entry)))) (reached r (now (list .exit))) (now (readers .entry)) (now (readers .exit)) ⌝ }
 {
     let x = marking::lowest(image, contents, readers, bit, s.label);
     let t = giving::enroll(image, list, s, n, row.b, x);
@@ -236,9 +234,9 @@ pub fn clear(readers: &mut [u64], bit: u64)
     }
 }
 
-// Where a walk ended, as others see it.
-fn ended(s: Pace) -> State
-    ensures { λ r. ⌜ ((l : List ℕ) → outcome r l ≡ reached s l) ⌝ }
+// Where a walk with that list ended, as others see it.
+fn ended(s: Pace, list: &[u64]) -> State
+    ensures { λ r. ⌜ outcome r (now (list .entry)) ≡ reached s (now (list .entry)) ⌝ }
 {
     State {
         len: s.len as usize,
@@ -248,16 +246,17 @@ fn ended(s: Pace) -> State
     }
 }
 
-// The walk of an agent's rule, with its marks; a refused one leaves none.
+// The walk of an agent's rule, with its marks; a refused one leaves none. The list keeps its length.
 pub fn gather(
     image: &Image,
     contents: &[Value],
     readers: &mut [u64],
     bit: u64,
-    list: &mut [u64],
+    list: &mut [u64; 256],
     agent: u32,
 ) -> State
-    ensures { λ r. ⌜ (Room (now (list .entry)) → Gathered (held (now (image .entry))) (now (contents .entry)) bit agent (outcome r (now (list .exit))) (now (readers .entry)) (now (readers .exit))) ⌝ }
+    ensures { λ r. ⌜ Gathered (held (now (image .entry))) (now (contents .entry)) bit agent (outcome r (now (list .exit))) (now (readers .entry)) (now (readers .exit)) ⌝ }
+    ensures { λ _. ⌜ length (now (list .exit)) ≡ most-instructions ⌝ }
 {
     let who = pages::agent_at(image, agent);
     let s = Pace {
@@ -269,10 +268,10 @@ pub fn gather(
     let scope = [0, 0, 0, 0, 0, 0, 0, 0, who.element];
     let r = walk(image, contents, readers, bit, list, &scope, 32, s, who.root);
     if r.refused == 0 {
-        return ended(r);
+        return ended(r, list);
     }
     clear(readers, bit);
-    ended(r)
+    ended(r, list)
 }
 
 // Marks every dynamic location, function by function: what a move with a release reads.
@@ -285,7 +284,7 @@ pub fn mark_all(image: &Image, readers: &mut [u64], bit: u64)
     let mut f: u16 = 0;
     while f < count {
         let run = pages::function(image, f);
-        let end = first + term::size(e, run.arity) as usize;
+        let end = first + pages::size(e, run.arity as u32) as usize;
         marking::mark_function(readers, bit, run.kind, first, end);
         first = end;
         f += 1;

@@ -1,3 +1,4 @@
+-- `against` meets its contract.
 use borrow.Author.Tests.{eq-eqb, ne-eqb}
 use mathlib.Core.Bool.{or-false}
 use Rattle.engine.specs.Move.{other}
@@ -5,8 +6,6 @@ use Rattle.against.specs.Steps.{gives}
 use borrow.Author.Needs.{needs}
 use Rattle.against.proofs.against.Statement.{statement}
 use Rattle.against.proofs.against.Tie as tie
-use Rattle.against.proofs.against.Reads as reads
-use Rattle.against.proofs.against.Lts as lts
 
 enum-known-what : tie.Need-enum-known-what
 enum-known-what c = search needs

@@ -1,5 +1,5 @@
+-- `better_of` meets its contract.
 use mathlib.Core.Path.{_≡_, sym, _∙_}
-use mathlib.Core.List.{[]}
 use Prim.Native.Nat.{_≤_, _<_}
 use native.Mathlib.Omega.{arith}
 use borrow.Author.Tests.{le-ltb, lt-ltb}
@@ -11,8 +11,6 @@ use Rattle.against.proofs.Laws.{other-any}
 use borrow.Author.Needs.{needs}
 use Rattle.against.proofs.better_of.Statement.{statement}
 use Rattle.against.proofs.better_of.Tie as tie
-use Rattle.against.proofs.better_of.Reads as reads
-use Rattle.against.proofs.better_of.Lts as lts
 
 own-location-requires : tie.Need-own-location-requires
 own-location-requires c κs = search needs

@@ -1,5 +1,6 @@
+-- `first_of_all` meets its contract.
 use mathlib.Core.Path.{_≡_, refl, sym, ap, _∙_}
-use mathlib.Core.List.{List, []}
+use mathlib.Core.List.{List}
 use Prim.Native.Nat.{_+_, _-_}
 use borrow.Author.Needs.{needs}
 use lib.ListN.{getD, drop}
@@ -10,8 +11,6 @@ use Rattle.against.specs.Steps.{better, best}
 use Rattle.traces.proofs.Laws.{items-cons, items-end}
 use Rattle.against.proofs.first_of_all.Statement.{statement}
 use Rattle.against.proofs.first_of_all.Tie as tie
-use Rattle.against.proofs.first_of_all.Reads as reads
-use Rattle.against.proofs.first_of_all.Lts as lts
 
 abbrev Inv-loop : tie.InvT-loop
 Inv-loop image contents list len most n least₀ j₀ least j =

@@ -1,9 +1,8 @@
+-- `is_doomed` meets its contract.
 use mathlib.Core.Path.{_∙_}
 use borrow.Author.Needs.{needs}
 use Rattle.against.proofs.is_doomed.Statement.{statement}
 use Rattle.against.proofs.is_doomed.Tie as tie
-use Rattle.against.proofs.is_doomed.Reads as reads
-use Rattle.against.proofs.is_doomed.Lts as lts
 
 enum-known-what : tie.Need-enum-known-what
 enum-known-what c = search needs

@@ -1,3 +1,4 @@
+-- `is_released` meets its contract.
 use mathlib.Core.Path.{_≡_, refl, sym, ap, _∙_}
 use mathlib.Core.Bool.{Bool}
 use mathlib.Core.List.{[]}
@@ -13,8 +14,6 @@ use Rattle.text.specs.Words.{has}
 use Rattle.against.proofs.Laws.{has-any}
 use Rattle.against.proofs.is_released.Statement.{statement}
 use Rattle.against.proofs.is_released.Tie as tie
-use Rattle.against.proofs.is_released.Reads as reads
-use Rattle.against.proofs.is_released.Lts as lts
 
 abbrev Inv-loop : tie.InvT-loop
 Inv-loop list len x n j₀ j =

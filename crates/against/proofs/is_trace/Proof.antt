@@ -1,10 +1,9 @@
+-- `is_trace` meets its contract.
 use mathlib.Core.Path.{_∙_}
 use native.Mathlib.Nat.{div-zero, mod-zero}
 use borrow.Author.Needs.{needs}
 use Rattle.against.proofs.is_trace.Statement.{statement}
 use Rattle.against.proofs.is_trace.Tie as tie
-use Rattle.against.proofs.is_trace.Reads as reads
-use Rattle.against.proofs.is_trace.Lts as lts
 
 is-trace-at-requires : tie.Need-is-trace-at-requires
 is-trace-at-requires c κs = search needs

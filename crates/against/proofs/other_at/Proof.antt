@@ -1,3 +1,4 @@
+-- `other_at` meets its contract.
 use mathlib.Core.Path.{_≡_, refl, sym, ap, _∙_}
 use mathlib.Core.Bool.{Bool}
 use Prim.Native.Nat.{_-_}
@@ -11,8 +12,6 @@ use Rattle.engine.specs.Move.{other}
 use Rattle.against.specs.Steps.{gives}
 use Rattle.against.proofs.other_at.Statement.{statement}
 use Rattle.against.proofs.other_at.Tie as tie
-use Rattle.against.proofs.other_at.Reads as reads
-use Rattle.against.proofs.other_at.Lts as lts
 
 abbrev Inv-loop : tie.InvT-loop
 Inv-loop e list len s w n j₀ j =

@@ -1,9 +1,8 @@
+-- `releases` meets its contract.
 use mathlib.Core.Bool.{or-false}
 use borrow.Author.Needs.{needs}
 use Rattle.against.proofs.releases.Statement.{statement}
 use Rattle.against.proofs.releases.Tie as tie
-use Rattle.against.proofs.releases.Reads as reads
-use Rattle.against.proofs.releases.Lts as lts
 
 enum-told : tie.Need-enum-told
 enum-told c = search needs

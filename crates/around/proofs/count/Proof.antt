@@ -1,3 +1,4 @@
+use Rattle.nodes.proofs.Classes.{lent-sorts}
 use borrow.Author.Needs.{needs}
 use Rattle.around.proofs.count.Statement.{statement}
 use Rattle.around.proofs.count.Tie as tie
@@ -28,7 +29,7 @@ same-length c = search needs
 
 -- src/lib.rt:34:1
 returns : tie.Need-returns
-returns c = rw (c .before .before .bump3 .ensures, c .before .before .before .before .before .before .before .bump2 .ensures, c .before .before .before .before .before .before .before .before .before .before .before .before .bump .ensures, c .before .before .before .before .before .before .before .before .before .before .before .before .before .before .before .sorts-of .ensures (c .before .before .before .before .before .before .before .before .before .before .before .before .before .before .before .before .before .pre))
+returns c = rw (c .before .before .bump3 .ensures, c .before .before .before .before .before .before .before .bump2 .ensures, c .before .before .before .before .before .before .before .before .before .before .before .before .bump .ensures, lent-sorts _ (c .before .before .before .before .before .before .before .before .before .before .before .before .before .before .before .before .before .args .y .kind) (c .before .before .before .before .before .before .before .before .before .before .before .before .before .before .before .sorts-of .result) (c .before .before .before .before .before .before .before .before .before .before .before .before .before .before .before .sorts-of .ensures) (c .before .before .before .before .before .before .before .before .before .before .before .before .before .before .before .before .before .pre))
 
 pub count-spec : {M : Type 1} → statement M
 count-spec =

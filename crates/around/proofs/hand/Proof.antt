@@ -1,3 +1,4 @@
+use Rattle.nodes.proofs.Classes.{lent-sorts}
 use Rattle.book.specs.Around.{hand}
 use borrow.Author.Needs.{needs}
 use Rattle.around.proofs.hand.Statement.{statement}
@@ -30,7 +31,7 @@ same-length c = search needs
 -- src/lib.rt:137:1
 returns : tie.Need-returns
 unfolding hand
-returns c = rw (c .before .before .put-if3 .ensures, c .before .before .before .before .before .before .before .put-if2 .ensures, c .before .before .before .before .before .before .before .before .before .before .before .before .put-if .ensures, c .before .before .before .before .before .before .before .before .before .before .before .before .before .before .before .sorts-of .ensures (c .before .before .before .before .before .before .before .before .before .before .before .before .before .before .before .before .before .pre))
+returns c = rw (c .before .before .put-if3 .ensures, c .before .before .before .before .before .before .before .put-if2 .ensures, c .before .before .before .before .before .before .before .before .before .before .before .before .put-if .ensures, lent-sorts _ (c .before .before .before .before .before .before .before .before .before .before .before .before .before .before .before .before .before .args .y .kind) (c .before .before .before .before .before .before .before .before .before .before .before .before .before .before .before .sorts-of .result) (c .before .before .before .before .before .before .before .before .before .before .before .before .before .before .before .sorts-of .ensures) (c .before .before .before .before .before .before .before .before .before .before .before .before .before .before .before .before .before .pre))
 
 pub hand-spec : {M : Type 1} → statement M
 hand-spec =

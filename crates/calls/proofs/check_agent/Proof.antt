@@ -2,7 +2,6 @@
 use Rattle.calls.proofs.Checks.{agent-there, agent-missing}
 use Rattle.book.specs.Image.{held}
 use native.Mathlib.Omega.{arith}
-use mathlib.Core.List.{[]}
 use mathlib.Core.Path.{_∙_}
 use borrow.Author.Needs.{needs}
 use Rattle.calls.proofs.check_agent.Statement.{statement}

@@ -1,7 +1,6 @@
 -- `check_call` meets its contract.
-use Rattle.calls.proofs.Checks.{all-three}
-use Rattle.book.specs.Image.{held}
-use mathlib.Core.List.{[]}
+use Rattle.calls.proofs.Checks.{nine-refuses, two-refuses, eight-last}
+use Rattle.book.specs.Image.{word, held}
 use borrow.Author.Needs.{needs}
 use Rattle.calls.proofs.check_call.Statement.{statement}
 use Rattle.calls.proofs.check_call.Tie as tie
@@ -9,28 +8,39 @@ use Rattle.calls.proofs.check_call.Tie as tie
 check-agent-requires : tie.Need-check-agent-requires
 check-agent-requires c κs = search needs
 
+returns : tie.Need-returns
+returns c =
+    let a = c .before .before .before .before .args in
+    let nine = c .before .before .check-agent in
+    nine-refuses (held (a .image .now)) (word (a .image .now) 6) (a .contents .now) (a .agent) (a .lent) (nine .result) (nine .ensures) (c .if1 .taken)
+
 check-lent-requires : tie.Need-check-lent-requires
 check-lent-requires c κs = search needs
+
+returns-2 : tie.Need-returns-2
+returns-2 c =
+    let a = c .before .before .before .before .before .before .before .args in
+    let nine = c .before .before .before .before .before .check-agent in
+    let two = c .before .before .check-lent in
+    two-refuses (held (a .image .now)) (word (a .image .now) 6) (a .contents .now) (a .agent) (a .lent) (nine .result) (nine .ensures) (c .before .before .before .if1 .left) (two .result) (two .ensures) (c .if2 .taken)
 
 check-contents-requires : tie.Need-check-contents-requires
 check-contents-requires c κs = search needs
 
-first-of-requires : tie.Need-first-of-requires
-first-of-requires c κs = search needs
-
-first-of-requires-2 : tie.Need-first-of-requires-2
-first-of-requires-2 c κs = search needs
-
-returns : tie.Need-returns
-returns c = let a = c .before .before .before .before .before .before .args in all-three (held (a .image .now)) (a .contents .now) (a .agent) (a .lent) _ _ _ _ _ (c .first-of2 .ensures) (c .before .first-of .ensures) (c .before .before .before .before .check-agent .ensures) (c .before .before .before .check-lent .ensures) (c .before .before .check-contents .ensures)
+returns-3 : tie.Need-returns-3
+returns-3 c =
+    let a = c .before .before .before .before .before .before .before .before .args in
+    let nine = c .before .before .before .before .before .before .check-agent in
+    let two = c .before .before .before .check-lent in
+    eight-last (held (a .image .now)) (word (a .image .now) 6) (a .contents .now) (a .agent) (a .lent) (nine .result) (nine .ensures) (c .before .before .before .before .if1 .left) (two .result) (two .ensures) (c .before .if2 .left) (c .check-contents .result) (c .check-contents .ensures)
 
 pub check-call-spec : {M : Type 1} → statement M
 check-call-spec =
     tie.close
     (tie.spec
     check-agent-requires
+    returns
     check-lent-requires
+    returns-2
     check-contents-requires
-    first-of-requires
-    first-of-requires-2
-    returns)
+    returns-3)

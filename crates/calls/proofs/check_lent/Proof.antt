@@ -1,16 +1,15 @@
 -- `check_lent` meets its contract.
 use Rattle.calls.proofs.Checks.{Refusal, contents-short, list-short, both-lent}
-use Rattle.book.specs.Image.{held}
+use Rattle.book.specs.Image.{word}
 use native.Mathlib.Omega.{arith}
 use Prim.Native.Nat.{ℕ}
-use mathlib.Core.List.{[]}
 use mathlib.Core.Path.{_∙_, ap}
 use borrow.Author.Needs.{needs}
 use Rattle.calls.proofs.check_lent.Statement.{statement}
 use Rattle.calls.proofs.check_lent.Tie as tie
 
-total-requires : tie.Need-total-requires
-total-requires c κs = search needs
+locations-requires : tie.Need-locations-requires
+locations-requires c κs = search needs
 
 cast-if1 : tie.Need-cast-if1
 cast-if1 c = search needs
@@ -19,25 +18,25 @@ answer-requires : tie.Need-answer-requires
 answer-requires c κs = search needs
 
 returns : tie.Need-returns
-returns c = let a = c .before .before .before .before .args in let t = c .before .before .total .ensures in c .answer .ensures ∙ ap (λ (x : ℕ). Refusal 2 x 0) t ∙ contents-short (held (a .image .now)) (a .contents .now) (a .lent) (omega (arith, c .before .if1 .taken, t))
+returns c = let a = c .before .before .before .before .args in let t = c .before .before .locations .ensures in c .answer .ensures ∙ ap (λ (x : ℕ). Refusal 2 x 0) t ∙ contents-short (word (a .image .now) 6) (a .contents .now) (a .lent) (omega (arith, c .before .if1 .taken, t))
 
 answer-requires-2 : tie.Need-answer-requires-2
 answer-requires-2 c κs = search needs
 
 returns-2 : tie.Need-returns-2
-returns-2 c = let a = c .before .before .before .before .before .args in let t = c .before .before .before .total .ensures in c .answer2 .ensures ∙ list-short (held (a .image .now)) (a .contents .now) (a .lent) (omega (arith, c .before .before .if1 .left, t)) (omega (arith, c .before .if2 .taken))
+returns-2 c = let a = c .before .before .before .before .before .args in let t = c .before .before .before .locations .ensures in c .answer2 .ensures ∙ list-short (word (a .image .now) 6) (a .contents .now) (a .lent) (omega (arith, c .before .before .if1 .left, t)) (omega (arith, c .before .if2 .taken))
 
 answer-requires-3 : tie.Need-answer-requires-3
 answer-requires-3 c κs = search needs
 
 returns-3 : tie.Need-returns-3
-returns-3 c = let a = c .before .before .before .before .before .args in let t = c .before .before .before .total .ensures in c .answer3 .ensures ∙ both-lent (held (a .image .now)) (a .contents .now) (a .lent) (omega (arith, c .before .before .if1 .left, t)) (omega (arith, c .before .if2 .left))
+returns-3 c = let a = c .before .before .before .before .before .args in let t = c .before .before .before .locations .ensures in c .answer3 .ensures ∙ both-lent (word (a .image .now) 6) (a .contents .now) (a .lent) (omega (arith, c .before .before .if1 .left, t)) (omega (arith, c .before .if2 .left))
 
 pub check-lent-spec : {M : Type 1} → statement M
 check-lent-spec =
     tie.close
     (tie.spec
-    total-requires
+    locations-requires
     cast-if1
     answer-requires
     returns

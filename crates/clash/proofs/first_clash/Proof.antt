@@ -1,5 +1,5 @@
+-- `first_clash` meets its contract.
 use mathlib.Core.Path.{_≡_}
-use mathlib.Core.List.{[]}
 use Prim.Native.Nat.{_-_, _<_, _≤_}
 use native.Mathlib.Omega.{arith}
 use borrow.Author.Needs.{needs}
@@ -10,8 +10,6 @@ use Rattle.traces.proofs.Laws.{take-min}
 use Rattle.clash.proofs.Rivals.{Looked, looked-start, looked-chain, held-in, looked-next, looked-best}
 use Rattle.clash.proofs.first_clash.Statement.{statement}
 use Rattle.clash.proofs.first_clash.Tie as tie
-use Rattle.clash.proofs.first_clash.Reads as reads
-use Rattle.clash.proofs.first_clash.Lts as lts
 
 abbrev Inv-loop : tie.InvT-loop
 Inv-loop image contents list len most n last₀ prior₀ least₀ j₀ last prior least j =

@@ -1,10 +1,9 @@
+-- `last_at` meets its contract.
 use native.Mathlib.Omega.{arith}
 use borrow.Author.Needs.{needs}
 use Rattle.clash.proofs.Rivals.{Down, down-start, down-here, down-next, down-less, down-end}
 use Rattle.clash.proofs.last_at.Statement.{statement}
 use Rattle.clash.proofs.last_at.Tie as tie
-use Rattle.clash.proofs.last_at.Reads as reads
-use Rattle.clash.proofs.last_at.Lts as lts
 
 abbrev Inv-loop : tie.InvT-loop
 Inv-loop list prior p code i₀ i = Down list code p i

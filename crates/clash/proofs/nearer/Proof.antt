@@ -1,9 +1,8 @@
+-- `nearer` meets its contract.
 use borrow.Author.Tests.{eq-eqb, ne-eqb}
 use borrow.Author.Needs.{needs}
 use Rattle.clash.proofs.nearer.Statement.{statement}
 use Rattle.clash.proofs.nearer.Tie as tie
-use Rattle.clash.proofs.nearer.Reads as reads
-use Rattle.clash.proofs.nearer.Lts as lts
 
 returns : tie.Need-returns
 returns c = rw (eq-eqb _ _ (c .if1 .taken))

@@ -6,6 +6,7 @@ use borrow.Author.Needs.{needs}
 use lib.ListN.{length}
 use Rattle.book.specs.Book.{size, function-at}
 use Rattle.book.specs.Image.{held}
+use Rattle.pages.proofs.Laws.{size-low}
 use Rattle.clearing.proofs.Runs.{Upto, upto-start, upto-next, upto-end}
 use Rattle.clearing.proofs.clear.Statement.{statement}
 use Rattle.clearing.proofs.clear.Tie as tie
@@ -38,7 +39,7 @@ cast-end : tie.Need-cast-end Inv-loop μ-loop
 cast-end c = search needs
 
 add-end : tie.Need-add-end Inv-loop μ-loop
-add-end c = record { fits = omega (arith, c .before .before .before .loop .inv .0 .at .low, c .size .ensures .1 (c .before .before .before .before .before .elements .ensures .1), c .before .before .loop-test .taken, c .before .before .before .before .functions .ensures .1) }
+add-end c = record { fits = omega (arith, c .before .before .before .loop .inv .0 .at .low, size-low (c .size .result) (c .before .before .before .before .before .elements .result) (c .before .function-at .result .arity) (c .size .ensures) (c .before .before .before .before .before .elements .ensures .1), c .before .before .loop-test .taken, c .before .before .before .before .functions .ensures .1) }
 
 clear-run-requires : tie.Need-clear-run-requires Inv-loop μ-loop
 clear-run-requires c κs = omega arith
@@ -50,7 +51,7 @@ loop-less : tie.Need-loop-less Inv-loop μ-loop
 loop-less c = omega (arith, c .before .before .before .before .before .before .before .before .before .loop-test .taken)
 
 loop-again : tie.Need-loop-again Inv-loop μ-loop
-loop-again c = let a = c .before .before .before .before .before .before .before .before .before .before .before .before .before .before .before .args in let B = held (a .image .now) in let l = c .before .before .before .before .before .before .before .before .before .before .loop in let m : l .g < length (B .functions) = omega (arith, c .before .before .before .before .before .before .before .before .before .loop-test .taken, c .before .before .before .before .before .before .before .before .before .before .before .functions .ensures .0) in let q : c .before .before .before .before .before .before .before .size .result ≡ size (B .E) (function-at B (l .g) .arity) = c .before .before .before .before .before .before .before .size .ensures .0 ∙ rw (c .before .before .before .before .before .before .before .before .function-at .ensures, c .before .before .before .before .before .before .before .before .before .before .before .before .elements .ensures .0) in let e : l .first + c .before .before .before .before .before .before .before .size .result ≡ l .first + size (B .E) (function-at B (l .g) .arity) = ap (λ (z : ℕ). l .first + z) q in (upto-next B (a .x) (a .bit) (a .contents .now) (a .writers .now) (l .first) (l .g) (l .first + c .before .before .before .before .before .before .before .size .result) (l .contents) (l .writers) (l .inv .0) m e (c .before .before .before .before .clear-run .last .0) (c .before .before .before .before .clear-run .last .1 .0) (omega (arith, c .before .before .before .before .before .before .before .before .before .before .before .before .elements .ensures)) (c .before .before .before .before .clear-run .ensures .0 ∙ rw (c .before .before .before .before .before .before .before .before .function-at .ensures, c .before .before .before .before .before .before .before .before .before .before .before .before .elements .ensures .0)) (c .before .before .before .before .clear-run .ensures .1 ∙ rw (c .before .before .before .before .before .before .before .before .function-at .ensures, c .before .before .before .before .before .before .before .before .before .before .before .before .elements .ensures .0)), omega (arith, c .before .before .before .before .before .before .before .before .before .loop-test .taken))
+loop-again c = let a = c .before .before .before .before .before .before .before .before .before .before .before .before .before .before .before .args in let B = held (a .image .now) in let l = c .before .before .before .before .before .before .before .before .before .before .loop in let m : l .g < length (B .functions) = omega (arith, c .before .before .before .before .before .before .before .before .before .loop-test .taken, c .before .before .before .before .before .before .before .before .before .before .before .functions .ensures .0) in let q : c .before .before .before .before .before .before .before .size .result ≡ size (B .E) (function-at B (l .g) .arity) = c .before .before .before .before .before .before .before .size .ensures ∙ rw (c .before .before .before .before .before .before .before .before .function-at .ensures, c .before .before .before .before .before .before .before .before .before .before .before .before .elements .ensures .0) in let e : l .first + c .before .before .before .before .before .before .before .size .result ≡ l .first + size (B .E) (function-at B (l .g) .arity) = ap (λ (z : ℕ). l .first + z) q in (upto-next B (a .x) (a .bit) (a .contents .now) (a .writers .now) (l .first) (l .g) (l .first + c .before .before .before .before .before .before .before .size .result) (l .contents) (l .writers) (l .inv .0) m e (c .before .before .before .before .clear-run .last .0) (c .before .before .before .before .clear-run .last .1 .0) (omega (arith, c .before .before .before .before .before .before .before .before .before .before .before .before .elements .ensures)) (c .before .before .before .before .clear-run .ensures .0 ∙ rw (c .before .before .before .before .before .before .before .before .function-at .ensures, c .before .before .before .before .before .before .before .before .before .before .before .before .elements .ensures .0)) (c .before .before .before .before .clear-run .ensures .1 ∙ rw (c .before .before .before .before .before .before .before .before .function-at .ensures, c .before .before .before .before .before .before .before .before .before .before .before .before .elements .ensures .0)), omega (arith, c .before .before .before .before .before .before .before .before .before .loop-test .taken))
 
 same-length : tie.Need-same-length Inv-loop μ-loop
 same-length c = c .before .loop .inv .0 .contents .same

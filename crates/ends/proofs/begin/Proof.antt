@@ -1,6 +1,4 @@
 -- `begin` meets its contract.
-use native.Mathlib.Omega.{arith}
-use Rattle.ends.proofs.Ends.{only-start}
 use borrow.Author.Needs.{needs}
 use Rattle.ends.proofs.begin.Statement.{statement}
 use Rattle.ends.proofs.begin.Tie as tie
@@ -24,7 +22,8 @@ same-length-3 : tie.Need-same-length-3
 same-length-3 c = c .before .before .clear2 .kept .0
 
 returns : tie.Need-returns
-returns c = let a = c .before .before .before .before .before .before .before .before .before .before .before .before .before .before .before .before .args in let w = c .before .before .before .before .before .before .before .before .before .before .write-start in (λ B e h l. only-start B (a .contents .now) (w .last .1 .1 .0) l (w .ensures B e h (omega arith)), (c .before .before .before .before .before .before .clear .ensures, c .before .before .clear2 .ensures))
+returns c =
+    (c .before .before .before .before .before .before .before .before .before .before .write-start .ensures, (c .before .before .before .before .before .before .clear .ensures, c .before .before .clear2 .ensures))
 
 pub begin-spec : {M : Type 1} → statement M
 begin-spec =

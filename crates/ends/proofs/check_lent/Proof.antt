@@ -1,8 +1,5 @@
 -- `check_lent` meets its contract.
-use mathlib.Core.Path.{_∙_, ap}
-use native.Mathlib.Omega.{arith}
-use Rattle.text.specs.declared.Answer.{Answer}
-use Rattle.order.specs.Call.{Lengths}
+use mathlib.Core.Path.{_∙_}
 use Rattle.ends.proofs.Ends.{lent-0, lent-1, lent-2, lent-3, lent-all}
 use borrow.Author.Needs.{needs}
 use Rattle.ends.proofs.check_lent.Statement.{statement}
@@ -12,31 +9,31 @@ triple-requires : tie.Need-triple-requires
 triple-requires c κs = search needs
 
 returns : tie.Need-returns
-returns c = let a = c .before .before .args in let n : Lengths = record { contents = a .contents; readers = a .readers; writers = a .writers; instructions = a .lent } in let e = c .triple .ensures in (λ B h. e ∙ lent-0 B n (a .all) h (c .before .if1 .taken), λ z. absurd (omega (arith, z, ap (λ (x : Answer). x .number) e)))
+returns c = let a = c .before .before .before .args in c .triple .ensures ∙ lent-0 (a .lent) (a .locations) (c .before .if1 .taken)
 
 triple-requires-2 : tie.Need-triple-requires-2
 triple-requires-2 c κs = search needs
 
 returns-2 : tie.Need-returns-2
-returns-2 c = let a = c .before .before .before .args in let n : Lengths = record { contents = a .contents; readers = a .readers; writers = a .writers; instructions = a .lent } in let e = c .triple2 .ensures in (λ B h. e ∙ lent-1 B n (a .all) h (c .before .before .if1 .left) (c .before .if2 .taken), λ z. absurd (omega (arith, z, ap (λ (x : Answer). x .number) e)))
+returns-2 c = let a = c .before .before .before .before .before .args in c .triple2 .ensures ∙ lent-1 (a .lent) (a .locations) (c .before .before .before .if1 .left) (c .before .if2 .taken)
 
 triple-requires-3 : tie.Need-triple-requires-3
 triple-requires-3 c κs = search needs
 
 returns-3 : tie.Need-returns-3
-returns-3 c = let a = c .before .before .before .before .args in let n : Lengths = record { contents = a .contents; readers = a .readers; writers = a .writers; instructions = a .lent } in let e = c .triple3 .ensures in (λ B h. e ∙ lent-2 B n (a .all) h (c .before .before .before .if1 .left) (c .before .before .if2 .left) (c .before .if3 .taken), λ z. absurd (omega (arith, z, ap (λ (x : Answer). x .number) e)))
+returns-3 c = let a = c .before .before .before .before .before .before .before .args in c .triple3 .ensures ∙ lent-2 (a .lent) (a .locations) (c .before .before .before .before .before .if1 .left) (c .before .before .before .if2 .left) (c .before .if3 .taken)
 
 triple-requires-4 : tie.Need-triple-requires-4
 triple-requires-4 c κs = search needs
 
 returns-4 : tie.Need-returns-4
-returns-4 c = let a = c .before .before .before .before .before .args in let n : Lengths = record { contents = a .contents; readers = a .readers; writers = a .writers; instructions = a .lent } in let e = c .triple4 .ensures in (λ B h. e ∙ lent-3 B n (a .all) h (c .before .before .before .before .if1 .left) (c .before .before .before .if2 .left) (c .before .before .if3 .left) (c .before .if4 .taken), λ z. absurd (omega (arith, z, ap (λ (x : Answer). x .number) e)))
+returns-4 c = let a = c .before .before .before .before .before .before .before .before .before .args in c .triple4 .ensures ∙ lent-3 (a .lent) (a .locations) (c .before .before .before .before .before .before .before .if1 .left) (c .before .before .before .before .before .if2 .left) (c .before .before .before .if3 .left) (c .before .if4 .taken)
 
 triple-requires-5 : tie.Need-triple-requires-5
 triple-requires-5 c κs = search needs
 
 returns-5 : tie.Need-returns-5
-returns-5 c = let a = c .before .before .before .before .before .args in let n : Lengths = record { contents = a .contents; readers = a .readers; writers = a .writers; instructions = a .lent } in let e = c .triple5 .ensures in (λ B h. e ∙ lent-all B n (a .all) h (c .before .before .before .before .if1 .left) (c .before .before .before .if2 .left) (c .before .before .if3 .left) (c .before .if4 .left), λ z. (c .before .before .before .before .if1 .left, c .before .before .before .if2 .left, c .before .before .if3 .left, c .before .if4 .left))
+returns-5 c = let a = c .before .before .before .before .before .before .before .before .before .args in c .triple5 .ensures ∙ lent-all (a .lent) (a .locations) (c .before .before .before .before .before .before .before .if1 .left) (c .before .before .before .before .before .if2 .left) (c .before .before .before .if3 .left) (c .before .if4 .left)
 
 pub check-lent-spec : {M : Type 1} → statement M
 check-lent-spec =

@@ -1,7 +1,10 @@
 -- `enroll` meets its contract.
-use mathlib.Core.Path.{_∙_}
-use borrow.Author.Tests.{lt-ltb, le-ltb}
-use Rattle.giving.proofs.Steps.{reached-going}
+use mathlib.Core.Path.{sym, _∙_}
+use Prim.Native.Nat.{_<_, _≤_}
+use native.Mathlib.Omega.{arith}
+use Rattle.book.specs.Image.{held}
+use Rattle.giving.specs.Giving.{reached}
+use Rattle.giving.proofs.Steps.{enrolling-in, enrolling-none}
 use borrow.Author.Needs.{needs}
 use Rattle.giving.proofs.enroll.Statement.{statement}
 use Rattle.giving.proofs.enroll.Tie as tie
@@ -15,18 +18,18 @@ take-requires c κs = search needs
 refuse-requires : tie.Need-refuse-requires
 refuse-requires c κs = search needs
 
-same-length : tie.Need-same-length
-same-length c = search needs
-
 returns : tie.Need-returns
-returns c = λ going room. c .before .before .take .ensures room ∙ rw (← c .before .before .before .before .before .elements .ensures .0, lt-ltb (c .before .before .before .before .before .before .before .args .x) (c .before .before .before .before .before .elements .result) (c .before .before .before .before .if1 .taken))
+returns c =
+    let a = c .before .before .before .before .args in
+    let h : a .x < held (a .image .now) .E = omega (arith, c .before .before .before .elements .ensures .0, c .before .before .if1 .taken) in
+    c .take .ensures ∙ sym (enrolling-in (held (a .image .now)) (a .u) (a .x) (a .n) h (reached (a .s) (a .list .now)))
 
 returns-2 : tie.Need-returns-2
 returns-2 c =
-    let a = c .before .before .before .before .args in
-    λ going room. c .refuse .ensures (a .list .now) ∙ rw (reached-going (a .s) (a .list .now) going, ← c .before .before .elements .ensures .0, le-ltb (a .x) (c .before .before .elements .result) (c .before .if1 .left))
+    let a = c .before .before .before .args in
+    let h : held (a .image .now) .E ≤ a .x = omega (arith, c .before .before .elements .ensures .0, c .before .if1 .left) in
+    c .refuse .ensures (a .list .now) ∙ sym (enrolling-none (held (a .image .now)) (a .u) (a .x) (a .n) h (reached (a .s) (a .list .now)))
 
 pub enroll-spec : {M : Type 1} → statement M
 enroll-spec =
-    tie.close
-    (tie.spec elements-requires take-requires refuse-requires same-length returns returns-2)
+    tie.close (tie.spec elements-requires take-requires refuse-requires returns returns-2)

@@ -18,10 +18,10 @@ refuse-requires c κs = search needs
 
 returns : tie.Need-returns
 returns c =
-    let a = c .before .before .before .before .args in
+    let a = c .before .before .before .args in
     let B = held (a .image .now) in
     let e : not-free B (a .x) (a .v) ≡ true = rw (← c .before .before .permanent .ensures, lt-ltb (a .x) (c .before .before .permanent .result) (c .before .if1 .taken)) in
-    λ room. c .refuse .ensures (a .list .now) ∙ sym (freeing-bad B (a .x) (a .v) (a .n) e (reached (a .s) (a .list .now)))
+    c .refuse .ensures (a .list .now) ∙ sym (freeing-bad B (a .x) (a .v) (a .n) e (reached (a .s) (a .list .now)))
 
 refuse-requires-2 : tie.Need-refuse-requires-2
 refuse-requires-2 c κs = search needs
@@ -31,20 +31,17 @@ give-requires c κs = search needs
 
 returns-2 : tie.Need-returns-2
 returns-2 c =
-    let a = c .before .before .before .before .before .args in
+    let a = c .before .before .before .before .args in
     let B = held (a .image .now) in
     let e : not-free B (a .x) (a .v) ≡ true = rw (← c .before .before .before .permanent .ensures, le-ltb (a .x) (c .before .before .before .permanent .result) (c .before .before .if1 .left), eq-eqb (a .v) 2 (c .before .if2 .taken)) in
-    λ room. c .refuse2 .ensures (a .list .now) ∙ sym (freeing-bad B (a .x) (a .v) (a .n) e (reached (a .s) (a .list .now)))
-
-same-length : tie.Need-same-length
-same-length c = search needs
+    c .refuse2 .ensures (a .list .now) ∙ sym (freeing-bad B (a .x) (a .v) (a .n) e (reached (a .s) (a .list .now)))
 
 returns-3 : tie.Need-returns-3
 returns-3 c =
-    let a = c .before .before .before .before .before .before .before .before .args in
+    let a = c .before .before .before .before .before .args in
     let B = held (a .image .now) in
-    let e : not-free B (a .x) (a .v) ≡ false = rw (← c .before .before .before .before .before .before .permanent .ensures, le-ltb (a .x) (c .before .before .before .before .before .before .permanent .result) (c .before .before .before .before .before .if1 .left), ne-eqb (a .v) 2 (c .before .before .before .before .if2 .left)) in
-    λ room. c .before .before .give .ensures room ∙ sym (freeing-ok B (a .x) (a .v) (a .n) e (reached (a .s) (a .list .now)))
+    let e : not-free B (a .x) (a .v) ≡ false = rw (← c .before .before .before .before .permanent .ensures, le-ltb (a .x) (c .before .before .before .before .permanent .result) (c .before .before .before .if1 .left), ne-eqb (a .v) 2 (c .before .before .if2 .left)) in
+    c .give .ensures ∙ sym (freeing-ok B (a .x) (a .v) (a .n) e (reached (a .s) (a .list .now)))
 
 pub free-spec : {M : Type 1} → statement M
 free-spec =
@@ -56,5 +53,4 @@ free-spec =
     refuse-requires-2
     give-requires
     returns-2
-    same-length
     returns-3)

@@ -1,21 +1,17 @@
 -- `give` meets its contract.
-use Prim.Native.Nat.{_+_, _<_, _≤_}
+use Prim.Native.Nat.{_+_}
 use mathlib.Core.Path.{refl, _∙_}
-use native.Mathlib.Omega.{arith}
-use lib.ListN.{length, set}
+use lib.ListN.{set}
 use Rattle.giving.proofs.Steps.{reached-going, reached-met, give-room, give-full}
 use borrow.Author.Needs.{needs}
 use Rattle.giving.proofs.give.Statement.{statement}
 use Rattle.giving.proofs.give.Tie as tie
 
 returns : tie.Need-returns
-returns c = λ room. rw (reached-met (c .before .before .before .args .s) (c .before .before .before .args .list .now) (c .if1 .taken))
+returns c = rw (reached-met (c .before .before .before .args .s) (c .before .before .before .args .list .now) (c .if1 .taken))
 
 cast-at : tie.Need-cast-at
 cast-at c = search needs
-
-smaller-requires : tie.Need-smaller-requires
-smaller-requires c κs = search needs
 
 code-requires : tie.Need-code-requires
 code-requires c κs = search needs
@@ -26,8 +22,8 @@ mul-list c = search needs
 slice-write-list : tie.Need-slice-write-list
 slice-write-list c = search needs
 
-add-t13 : tie.Need-add-t13
-add-t13 c = search needs
+add-t11 : tie.Need-add-t11
+add-t11 c = search needs
 
 refuse-requires : tie.Need-refuse-requires
 refuse-requires c κs = search needs
@@ -37,18 +33,15 @@ same-length c = search needs
 
 returns-2 : tie.Need-returns-2
 returns-2 c =
-    let a = c .before .before .before .before .before .before .before .before .args in
-    let h : a .s .len < 256 = omega (arith, c .before .before .before .smaller .ensures, c .before .before .if2 .taken) in
-    let j : a .s .len < length (a .list .now) = omega (arith, c .before .before .before .smaller .ensures, c .before .before .if2 .taken) in
-    let k = give-room (a .s) (a .list .now) (a .i) (a .n) (c .before .code .result) h j (c .before .code .ensures) in
-    λ room. reached-going (record { len = a .s .len + 1; label = a .s .label; refused = 0; node = a .s .node }) (set (a .list .now) (a .s .len) (c .before .code .result)) refl
-    ∙ rw (reached-going (a .s) (a .list .now) (c .before .before .before .before .before .if1 .left)) k
+    let a = c .before .before .before .before .before .before .before .args in
+    let k = give-room (a .s) (a .list .now) (a .i) (a .n) (c .before .before .before .before .before .before .before .pre) (c .before .code .result) (c .before .before .if2 .taken) (c .before .code .ensures) in
+    reached-going (record { len = a .s .len + 1; label = a .s .label; refused = 0; node = a .s .node }) (set (a .list .now) (a .s .len) (c .before .code .result)) refl
+    ∙ rw (reached-going (a .s) (a .list .now) (c .before .before .before .before .if1 .left)) k
 
 returns-3 : tie.Need-returns-3
 returns-3 c =
-    let a = c .before .before .before .before .before .before .before .args in
-    λ room. let h : 256 ≤ a .s .len = omega (arith, c .before .before .smaller .ensures, c .before .if2 .left) in
-    c .refuse .ensures (a .list .now) ∙ rw (reached-going (a .s) (a .list .now) (c .before .before .before .before .if1 .left)) (give-full (a .s) (a .list .now) (a .i) (a .n) room h)
+    let a = c .before .before .before .before .before .before .args in
+    c .refuse .ensures (a .list .now) ∙ rw (reached-going (a .s) (a .list .now) (c .before .before .before .if1 .left)) (give-full (a .s) (a .list .now) (a .i) (a .n) (c .before .before .before .before .before .before .pre) (c .before .if2 .left))
 
 pub give-spec : {M : Type 1} → statement M
 give-spec =
@@ -56,11 +49,10 @@ give-spec =
     (tie.spec
     returns
     cast-at
-    smaller-requires
     code-requires
     mul-list
     slice-write-list
-    add-t13
+    add-t11
     refuse-requires
     same-length
     returns-2

@@ -1,9 +1,7 @@
 -- `take` meets its contract.
-use mathlib.Core.Path.{refl, _∙_}
-use native.Mathlib.Numerals.{add-one}
-use Prim.Native.Nat.{_+_}
-use native.Mathlib.Omega.{arith}
-use Rattle.giving.proofs.Steps.{reached-going}
+use mathlib.Core.Path.{_∙_}
+use Rattle.book.specs.Image.{held}
+use Rattle.giving.proofs.Steps.{taking-from}
 use borrow.Author.Needs.{needs}
 use Rattle.giving.proofs.take.Statement.{statement}
 use Rattle.giving.proofs.take.Tie as tie
@@ -20,15 +18,10 @@ location-requires c κs = search needs
 give-requires-2 : tie.Need-give-requires-2
 give-requires-2 c κs = search needs
 
-same-length : tie.Need-same-length
-same-length c = search needs
-
 returns : tie.Need-returns
 returns c =
-    let a = c .before .before .before .before .before .before .before .before .before .before .args in
-    λ room. c .before .before .give2 .ensures (omega (arith, c .before .before .before .before .before .before .before .give .kept .0)) ∙ rw (c .before .before .before .before .before .before .before .give .ensures room, reached-going (record { len = a .s .len; label = a .x + 1; refused = 0; node = 0 }) (a .list .now) refl, c .before .before .before .before .location .ensures, add-one (a .x))
+    let a = c .before .before .before .before .before .args in
+    c .give2 .ensures ∙ rw (c .before .before .before .give .ensures, c .before .before .location .ensures) (taking-from (held (a .image .now)) (a .u) (a .x) (a .n) (a .s) (a .list .now))
 
 pub take-spec : {M : Type 1} → statement M
-take-spec =
-    tie.close
-    (tie.spec add-t10 give-requires location-requires give-requires-2 same-length returns)
+take-spec = tie.close (tie.spec add-t10 give-requires location-requires give-requires-2 returns)

@@ -27,32 +27,26 @@ refuse-requires c κs = search needs
 give-requires-2 : tie.Need-give-requires-2
 give-requires-2 c κs = search needs
 
-same-length : tie.Need-same-length
-same-length c = search needs
-
 returns : tie.Need-returns
 returns c =
-    let a = c .before .before .before .before .before .before .before .before .before .before .args in
+    let a = c .before .before .before .before .before .before .before .args in
     let B = held (a .image .now) in
-    let e : (relation (function-at B (a .f)) && not (boolean (a .x))) ≡ false = rw (← c .before .before .before .before .before .before .before .before .function .ensures, sym (c .before .before .before .before .before .before .before .relation .ensures) ∙ c .before .before .before .before .before .before .if1 .taken, sym (c .before .before .before .before .before .boolean .ensures) ∙ c .before .before .before .before .if2 .taken) in
-    λ room. c .before .before .give .ensures room ∙ sym (setting-ok B (a .f) (a .at) (a .x) (a .n) e (reached (a .s) (a .list .now)))
+    let e : (relation (function-at B (a .f)) && not (boolean (a .x))) ≡ false = rw (← c .before .before .before .before .before .before .function .ensures, sym (c .before .before .before .before .before .relation .ensures) ∙ c .before .before .before .before .if1 .taken, sym (c .before .before .before .boolean .ensures) ∙ c .before .before .if2 .taken) in
+    c .give .ensures ∙ sym (setting-ok B (a .f) (a .at) (a .x) (a .n) e (reached (a .s) (a .list .now)))
 
 returns-2 : tie.Need-returns-2
 returns-2 c =
-    let a = c .before .before .before .before .before .before .before .args in
+    let a = c .before .before .before .before .before .before .args in
     let B = held (a .image .now) in
     let e : (relation (function-at B (a .f)) && not (boolean (a .x))) ≡ true = rw (← c .before .before .before .before .before .function .ensures, sym (c .before .before .before .before .relation .ensures) ∙ c .before .before .before .if1 .taken, sym (c .before .before .boolean .ensures) ∙ c .before .if2 .left) in
-    λ room. c .refuse .ensures (a .list .now) ∙ sym (setting-bad B (a .f) (a .at) (a .x) (a .n) e (reached (a .s) (a .list .now)))
-
-same-length-2 : tie.Need-same-length-2
-same-length-2 c = search needs
+    c .refuse .ensures (a .list .now) ∙ sym (setting-bad B (a .f) (a .at) (a .x) (a .n) e (reached (a .s) (a .list .now)))
 
 returns-3 : tie.Need-returns-3
 returns-3 c =
-    let a = c .before .before .before .before .before .before .before .before .args in
+    let a = c .before .before .before .before .before .args in
     let B = held (a .image .now) in
-    let e : (relation (function-at B (a .f)) && not (boolean (a .x))) ≡ false = rw (← c .before .before .before .before .before .before .function .ensures, sym (c .before .before .before .before .before .relation .ensures) ∙ c .before .before .before .before .if1 .left) in
-    λ room. c .before .before .give2 .ensures room ∙ sym (setting-ok B (a .f) (a .at) (a .x) (a .n) e (reached (a .s) (a .list .now)))
+    let e : (relation (function-at B (a .f)) && not (boolean (a .x))) ≡ false = rw (← c .before .before .before .before .function .ensures, sym (c .before .before .before .relation .ensures) ∙ c .before .before .if1 .left) in
+    c .give2 .ensures ∙ sym (setting-ok B (a .f) (a .at) (a .x) (a .n) e (reached (a .s) (a .list .now)))
 
 pub update-spec : {M : Type 1} → statement M
 update-spec =
@@ -64,8 +58,6 @@ update-spec =
     give-requires
     refuse-requires
     give-requires-2
-    same-length
     returns
     returns-2
-    same-length-2
     returns-3)

@@ -53,9 +53,6 @@ use Rattle.engine.specs.declared.Record.{Record}
 use Rattle.engine.proofs.Record as T
 use Rattle.engine.proofs.Record.Laws as T′
 use Rattle.order.specs.Call.{Tables as Tables′, log-call}
-use Rattle.order.specs.Lists.{call-lists}
-use Rattle.order.specs.Demand.{Demand3}
-use Rattle.lent.specs.Written.{all-written}
 use Rattle.order.proofs.Claim.{demand3}
 use Rattle.lending.proofs.Longer.{call-longer}
 use Rattle.lending.proofs.Records.{is-number, first-ones, room-first, hides, falls}
@@ -64,7 +61,7 @@ use Rattle.numbers.proofs.smaller.Symbol as smaller-def
 use Rattle.numbers.proofs.smaller.Symbol.{name as #numbers·smaller}
 use Rattle.numbers.proofs.smaller.Met as smaller-thm
 use Rattle.lent.proofs.Lending.{ref-at, LentPart, lend-part, part-back}
-use Rattle.laps.specs.Turns.{answered}
+use Rattle.lent_run.specs.Ran.{Ran}
 use Rattle.lent_run.proofs.run as run′
 use Rattle.lent_run.proofs.run.Symbol as run-def
 use Rattle.lent_run.proofs.run.Symbol.{name as #lent-run·run}
@@ -138,14 +135,14 @@ module _ {M : Type 1} (𝓤 : URA M) (H : Heap 𝓤) (A : Atoms 𝓤) (W : Given
 
   -- what `run` says
   abbrev Said : List Record → Answer → List ℕ → List ℕ → List ℕ → List Record → Type 0
-  Said ys r cs rs ws zs = (answered r cs rs ws ≡ log-call (xb .now) (xg .now) lent (length ys)) × (zs ≡ all-written (call-lists (xb .now) (xg .now) lent (length ys)) ys) × Demand3 (xb .now) (xg .now) lent (length ys)
+  Said ys r cs rs ws zs = Ran (xb .now) (xg .now) lent ys r (record { contents = cs; readers = rs; writers = ws }) zs
 
   exits : (ys : List Record) (r : Answer) (w : Val) → Is N.the-row r (w ∷ []) → (cs rs ws : List ℕ) (zs : List Record) → Said ys r cs rs ws zs → length ys ≡ min n 256 → length cs ≡ length (xc .now) → length rs ≡ length (xr .now) → length ws ≡ length (xw .now)
       → ent 𝓤 (⋆ 𝓤 H A (‵ (flft κ₀ q₀) ∷ ‵ (flft κ₁ q₁) ∷ ‵ (flft κ₂ q₂) ∷ ‵ (flft κ₃ q₃) ∷ ‵ (flft κ₄ q₄) ∷ ‵ Program ∷ ‵ Log′ ∷ ‵ (finally u16 (xc .name) cs) ∷ ‵ (finally u64 (xr .name) rs) ∷ ‵ (finally u64 (xw .name) ws) ∷ [])) (Post w)
   exits ys r w is cs rs ws zs said l lc lr lw =
       qed W (‵ (flft κ₀ q₀) ∷ ‵ (flft κ₁ q₁) ∷ ‵ (flft κ₂ q₂) ∷ ‵ (flft κ₃ q₃) ∷ ‵ (flft κ₄ q₄) ∷ ‵ Program ∷ ‵ Log′ ∷ ‵ (finally u16 (xc .name) cs) ∷ ‵ (finally u64 (xr .name) rs) ∷ ‵ (finally u64 (xw .name) ws) ∷ []) ∵
       suffices ! _ (ends-at 𝓤 H A alone.ended stayed (alone.clauses 𝓤 H A mem run) W ((κs, qs, tt, a, vals), tt) w r (tt, (tt, (cs, (rs, (ws, (tt, tt)))))) (tt, (tt, (lc, (lr, (lw, (tt, tt))))))) $
-      says ! (said .0 ∙ ap (λ (m : ℕ). log-call (xb .now) (xg .now) lent m) l ∙ call-longer (xb .now) (xg .now) lent n, demand3 (xb .now) (xg .now) lent n) $
+      says ! (said .answer ∙ ap (λ (m : ℕ). log-call (xb .now) (xg .now) lent m) l ∙ call-longer (xb .now) (xg .now) lent n, demand3 (xb .now) (xg .now) lent n) $
       nothing ! $ move ! (5 ∷ 0 ∷ []) $ join ! $ move ! (4 ∷ 0 ∷ []) $ join ! $ move ! (3 ∷ 0 ∷ []) $ join ! $ move ! (2 ∷ 0 ∷ []) $ join ! $ move ! (1 ∷ 0 ∷ []) $ join ! $ frame ! $
       -- [book; log; the last contents, readers and writers]
       nothing ! $ owned ! usize (Is usize) (uint-makes 𝓤 H A W w64) n _ (refl, n-fits) $ fjoin ! $ move ! (5 ∷ 0 ∷ []) $ fjoin ! $ move ! (4 ∷ 0 ∷ []) $ fjoin ! $ move ! (3 ∷ 0 ∷ []) $ fjoin ! $ move ! (2 ∷ 0 ∷ []) $ fjoin ! $ move ! (1 ∷ 0 ∷ []) $ fjoin ! $ frame ! $

@@ -54,13 +54,16 @@ use Rattle.engine.specs.declared.Record.{Record}
 use Rattle.engine.specs.Single.{step-call}
 use Rattle.engine.proofs.Record as T
 use Rattle.records.specs.Code.{items}
-use Rattle.lent.specs.Written.{written}
+use Rattle.lent.specs.Written.{written, through}
 use Rattle.lent.proofs.Lending.{ref-at, LentMut, LentShr, lend-mut, lend-shr, mut-back, shr-back}
 use Rattle.lent.proofs.Arrays.{array-at, LentArray, fresh-typed, begins, over, parted, whole-again, lend-array, array-back, share-array}
+use Rattle.lent.proofs.Laws.{all-through}
 use Rattle.lent.proofs.pass as pass
 use Rattle.lent.proofs.pass.Symbol as pass-def
 use Rattle.lent.proofs.pass.Symbol.{name as #lent·pass}
 use Rattle.lent.proofs.pass.Met as pass-thm
+use Rattle.moves.proofs.Begun as B
+use Rattle.moves.proofs.Begun.Laws as B′
 use Rattle.halves.specs.declared.Paused.{Paused}
 use Rattle.halves.specs.Stages.{Tells}
 use Rattle.halves.specs.Halves.{Halfway}
@@ -141,8 +144,8 @@ module _ {M : Type 1} (𝓤 : URA M) (H : Heap 𝓤) (A : Atoms 𝓤) (W : Given
 
   module _ (p : Paused) (mi us us′ : List ℕ) (zs : List Record) (ds : List ℕ) (r : Answer) (w : Val) (is-r : Is N.the-row r (w ∷ []))
       (e₁ : Halfway (xb .now) cs k n mi us p)
-      (e₂ : (zs ≡ written (items us (p .count)) (xl .now)) × (p .count ≤ n → p .count ≤ length us → items us′ (p .count) ≡ items us (p .count)))
-      (e₃ : (text : List ℕ) (j i : ℕ) → Halfway text cs j i mi us′ p → Tells r (p .count) us′ ds (step-call text cs j i))
+      (e₂ : (zs ≡ written (items us (p .begun .count)) (xl .now)) × (p .begun .count ≤ n → p .begun .count ≤ length us → items us′ (p .begun .count) ≡ items us (p .begun .count)))
+      (e₃ : (text : List ℕ) (j i : ℕ) → Halfway text cs j i mi us′ p → Tells r (p .begun .count) us′ ds (step-call text cs j i))
       (l256 : length us ≡ 256) (lw : length us′ ≡ length us) (ll : length zs ≡ n) (lc : length ds ≡ length cs)
     where
       passed : Halfway (xb .now) cs k n mi us′ p
@@ -190,10 +193,10 @@ module _ {M : Type 1} (𝓤 : URA M) (H : Heap 𝓤) (A : Atoms 𝓤) (W : Given
   PassArg = RefT (List Record) × (RefT (List ℕ) × (ℕ × Unit {0}))
 
   abbrev pass-a : GName → ℕ → Paused → List ℕ → PassArg
-  pass-a γ j p us = (xl, (ref-at u64 j 0 γ us, (p .count, tt)))
+  pass-a γ j p us = (xl, (ref-at u64 j 0 γ us, (p .begun .count, tt)))
 
   abbrev pass-vals : ℕ → Paused → List Val × (List Val × (List Val × Unit {0}))
-  pass-vals j p = (sl ∷ [], (sliceVal (j, 0) 256 ∷ [], (vint w64 (p .count) ∷ [], tt)))
+  pass-vals j p = (sl ∷ [], (sliceVal (j, 0) 256 ∷ [], (vint w64 (p .begun .count) ∷ [], tt)))
 
   abbrev to-pass : ℕ → GName → ℕ → Paused → List ℕ → Pass 𝓤 H A mem run .Ghost
   to-pass ν γ j p us = (((κ₂, ((ν ∷ []), tt)), (q₂, (fullShare, tt)), tt, pass-a γ j p us, pass-vals j p), tt)
@@ -258,12 +261,13 @@ module _ {M : Type 1} (𝓤 : URA M) (H : Heap 𝓤) (A : Atoms 𝓤) (W : Given
         move ! (2 ∷ []) $ split ! $ move ! (1 ∷ []) $ peeks ! P.the-row (Is P.the-row) (shows 𝓤 H A P.the-row) p (w₁ ∷ []) (λ is.
         let is-p = subst (λ (vs : List Val). Is P.the-row p vs) (LL.tells P.the-type P′.the-laws p _ is) is in
         let fields = LL.owed P.the-type P′.the-laws p _ is-p in
+        let counts = LL.owed B.the-type B′.the-laws (p .begun) _ (fields .1 .0) in
         land ! (from ! (stop !)) (init ! 41 refl (LL.lawful P.the-type P′.the-laws 𝓤 H A W .typed p _ is .0)) $ rewrite ! 41 (λ (u : Val). ‵ (fat fullShare P′.mir l₈ 0 u)) (ap only (LL.tells P.the-type P′.the-laws p _ is)) refl $
         drop ! $ split ! $ move ! (1 ∷ []) $ split ! $ move ! (1 ∷ []) $ split ! $ move ! (1 ∷ []) $ split ! $ move ! (1 ∷ []) $ drop ! $
         move ! (2 ∷ []) $ lft-end ! tt $ move ! (0 ∷ 9 ∷ []) $ use2 W (later (‵ (row u16 fullShare cs bc oc))) (shr-back u16 bc oc 𝓤 H A W (ν₁ ∷ []) cs) $ await ! tt $
         move ! (2 ∷ []) $ lft-end ! tt $ move ! (0 ∷ 8 ∷ 5 ∷ []) $ use3 W (later (‵ (partAt (Array (UInt w32) 4296) fullShare (zs .1 .1 .1 .1 .0) l₆ 0))) (array-back 𝓤 H A W w32 4296 l₆ (ν₂ ∷ []) γ₂ (zs .1 .1 .1 .1 .0)) $ await ! tt $
         move ! (2 ∷ []) $ lft-end ! tt $ move ! (0 ∷ 6 ∷ 4 ∷ []) $ use3 W (later (‵ (partAt (Array (UInt w64) 256) fullShare (zs .1 .1 .1 .1 .1 .0) l₇ 0))) (array-back 𝓤 H A W w64 256 l₇ (ν₃ ∷ []) γ₃ (zs .1 .1 .1 .1 .1 .0)) $ await ! tt $
-        assigns ! (of-opd ! (load ! (from ! (fld ! refl (stop !))) (look-in ! 38 (sub ! 2 refl (whole !))))) (from ! (stop !)) (init ! 36 refl (tt, record { fits = fields .1 .1 .0 .1 })) $
+        assigns ! (of-opd ! (load ! (from ! (fld ! refl (fld ! refl (stop !)))) (look-in ! 38 (sub ! 1 refl (sub ! 1 refl (whole !)))))) (from ! (stop !)) (init ! 36 refl (tt, record { fits = counts .1 .0 .1 })) $
         assigns ! (addr ! (from ! (fld ! refl (hop ! (look-in ! 44 (sub ! 0 refl (whole !))) (stop !))))) (from ! (stop !)) (init ! 24 refl (tt, tt)) $
         assigns ! (agg ! (and-then ! (load ! (from ! (stop !)) (look ! 24 refl)) (and-then ! (load ! (from ! (fld ! refl (stop !))) (look-in ! 44 (sub ! 1 refl (whole !)))) (no-more !)))) (from ! (stop !)) (init ! 22 refl (tt, (tt, (record { fits = room-l .0 }, tt)))) $
         assigns ! (addr ! (from ! (stop !))) (from ! (stop !)) (init ! 20 refl (tt, tt)) $
@@ -272,11 +276,11 @@ module _ {M : Type 1} (𝓤 : URA M) (H : Heap 𝓤) (A : Atoms 𝓤) (W : Given
         use1 W (‵ (feq ℕ (length (zs .1 .1 .1 .1 .1 .0)) 256) ⊛ ‵ (row (UInt w64) fullShare (zs .1 .1 .1 .1 .1 .0) l₇ 0)) (parted 𝓤 H A W w64 256 l₇ (zs .1 .1 .1 .1 .1 .0)) $ split ! $ feqL ! (λ l256.
         lft-new ! tt (λ ν₄. move ! (1 ∷ []) $ use1 W (later (some (λ (γ₄ : GName). ‵ (MutSlice (named 1) (ν₄ ∷ []) u64 .own (ref-at u64 l₇ 0 γ₄ (zs .1 .1 .1 .1 .1 .0)) (sliceVal (l₇, 0) (length (zs .1 .1 .1 .1 .1 .0)) ∷ [])) ⊛ ‵ (LentMut u64 l₇ 0 (ν₄ ∷ []) (length (zs .1 .1 .1 .1 .1 .0)) γ₄)))) (lend-mut u64 l₇ 0 𝓤 H A W (ν₄ ∷ []) (zs .1 .1 .1 .1 .1 .0) (named 1) (room-256 (zs .1 .1 .1 .1 .1 .0) l256)) $ await ! tt $ pick ! (λ γ₄. split ! $
         rewrite ! 0 (λ (k : ℕ). ‵ (MutSlice (named 1) (ν₄ ∷ []) u64 .own (ref-at u64 l₇ 0 γ₄ (zs .1 .1 .1 .1 .1 .0)) (sliceVal (l₇, 0) k ∷ []))) l256 refl $
-        nothing ! $ move ! (3 ∷ 0 ∷ []) $ join ! $ move ! (11 ∷ 0 ∷ []) $ join ! $ nothing ! $ owned ! usize (Is usize) (uint-makes 𝓤 H A W w64) (p .count) _ (refl, fields .1 .1 .0 .1) $ fjoin ! $ move ! (2 ∷ 0 ∷ []) $ fjoin ! $ move ! (10 ∷ 0 ∷ []) $ fjoin ! $
+        nothing ! $ move ! (3 ∷ 0 ∷ []) $ join ! $ move ! (11 ∷ 0 ∷ []) $ join ! $ nothing ! $ owned ! usize (Is usize) (uint-makes 𝓤 H A W w64) (p .begun .count) _ (refl, counts .1 .0 .1) $ fjoin ! $ move ! (2 ∷ 0 ∷ []) $ fjoin ! $ move ! (10 ∷ 0 ∷ []) $ fjoin ! $
         move ! (1 ∷ 0 ∷ []) $ use2 W (raw (Pass 𝓤 H A mem run .pre (to-pass ν₄ γ₄ l₇ p (zs .1 .1 .1 .1 .1 .0)))) (asked-pass ν₄ γ₄ l₇ p (zs .1 .1 .1 .1 .1 .0)) $
         calls-at ! fm (Pass 𝓤 H A mem run) known-pass (to-pass ν₄ γ₄ l₇ p (zs .1 .1 .1 .1 .1 .0)) (and-then ! (load ! (from ! (stop !)) (look ! 21 refl)) (and-then ! (load ! (from ! (stop !)) (look ! 17 refl)) (and-then ! (load ! (from ! (stop !)) (look ! 35 refl)) (no-more !)))) (λ w₂.
         use1 W (later (some (λ (u₂ : Unit {0}). ((‵ (flft κ₂ q₂) ⊛ ‵ (flft (ν₄ ∷ []) fullShare) ⊛ ‵ ftrue) ⊛ ‵ (Nothing .own u₂ (w₂ ∷ []))) ⊛ raw (ensured 𝓤 H A pass.ended (pass.clauses 𝓤 H A mem run) (κ₂, ((ν₄ ∷ []), tt)) (pass-a γ₄ l₇ p (zs .1 .1 .1 .1 .1 .0)) tt u₂)))) (id⊢ 𝓤 _) $ await ! tt $ pick ! (λ u₂. split ! $ move ! (1 ∷ []) $
-        use1 W (some (λ (ls : List Record × (List ℕ × (Unit {0} × Unit {0}))). ‵ (lasts pass.ended (κ₂, ((ν₄ ∷ []), tt)) (pass-a γ₄ l₇ p (zs .1 .1 .1 .1 .1 .0)) ls) ⊛ raw (fact 𝓤 ((ls .0 ≡ written (items (zs .1 .1 .1 .1 .1 .0) (p .count)) (xl .now)) × (p .count ≤ n → p .count ≤ length (zs .1 .1 .1 .1 .1 .0) → items (ls .1 .0) (p .count) ≡ items (zs .1 .1 .1 .1 .1 .0) (p .count)))))) (id⊢ 𝓤 _) $ pick ! (λ ls. split ! $ move ! (1 ∷ []) $ heard ! ((ls .0 ≡ written (items (zs .1 .1 .1 .1 .1 .0) (p .count)) (xl .now)) × (p .count ≤ n → p .count ≤ length (zs .1 .1 .1 .1 .1 .0) → items (ls .1 .0) (p .count) ≡ items (zs .1 .1 .1 .1 .1 .0) (p .count))) (λ e₂.
+        use1 W (some (λ (ls : List Record × (List ℕ × (Unit {0} × Unit {0}))). ‵ (lasts pass.ended (κ₂, ((ν₄ ∷ []), tt)) (pass-a γ₄ l₇ p (zs .1 .1 .1 .1 .1 .0)) ls) ⊛ raw (fact 𝓤 ((ls .0 ≡ written (items (zs .1 .1 .1 .1 .1 .0) (p .begun .count)) (xl .now)) × (items (ls .1 .0) (through (p .begun .count) (xl .now) (zs .1 .1 .1 .1 .1 .0)) ≡ items (zs .1 .1 .1 .1 .1 .0) (through (p .begun .count) (xl .now) (zs .1 .1 .1 .1 .1 .0))))))) (id⊢ 𝓤 _) $ pick ! (λ ls. split ! $ move ! (1 ∷ []) $ heard ! ((ls .0 ≡ written (items (zs .1 .1 .1 .1 .1 .0) (p .begun .count)) (xl .now)) × (items (ls .1 .0) (through (p .begun .count) (xl .now) (zs .1 .1 .1 .1 .1 .0)) ≡ items (zs .1 .1 .1 .1 .1 .0) (through (p .begun .count) (xl .now) (zs .1 .1 .1 .1 .1 .0)))) (λ e₂.
         fsplit ! $ fsplit ! $ move ! (1 ∷ []) $ feqL ! (λ ll. move ! (1 ∷ []) $ fsplit ! $ fsplit ! $ move ! (1 ∷ []) $ feqL ! (λ lw. move ! (1 ∷ []) $ fsplit ! $ drop ! $ drop ! $
         move ! (2 ∷ []) $ split ! $ move ! (1 ∷ []) $ feqL ! (λ v₂. land ! (from ! (stop !)) (init ! 27 refl (is-unit w₂ v₂)) $
         split ! $ move ! (1 ∷ []) $ split ! $ move ! (1 ∷ []) $ drop ! $ lft-end ! tt $ move ! (0 ∷ 4 ∷ 2 ∷ []) $ use3 W (later (‵ (row u64 fullShare (ls .1 .0) l₇ 0))) (mut-back u64 l₇ 0 𝓤 H A W (ν₄ ∷ []) (ls .1 .0) (length (zs .1 .1 .1 .1 .1 .0)) γ₄) $ await ! tt $
@@ -293,7 +297,7 @@ module _ {M : Type 1} (𝓤 : URA M) (H : Heap 𝓤) (A : Atoms 𝓤) (W : Given
         move ! (1 ∷ 0 ∷ []) $ use2 W (raw (Second 𝓤 H A mem run .pre (to-second ν₅ ν₆ ν₇ γ₅ γ₆ γ₇ l₆ l₇ (zs .1 .1 .1 .1 .0) (ls .1 .0) p))) (asked-second ν₅ ν₆ ν₇ γ₅ γ₆ γ₇ l₆ l₇ (zs .1 .1 .1 .1 .0) (ls .1 .0) p) $
         calls-at ! fm (Second 𝓤 H A mem run) known-second (to-second ν₅ ν₆ ν₇ γ₅ γ₆ γ₇ l₆ l₇ (zs .1 .1 .1 .1 .0) (ls .1 .0) p) (and-then ! (load ! (from ! (stop !)) (look ! 15 refl)) (and-then ! (load ! (from ! (stop !)) (look ! 13 refl)) (and-then ! (load ! (from ! (stop !)) (look ! 11 refl)) (and-then ! (load ! (from ! (stop !)) (look ! 39 refl)) (no-more !))))) (λ w₃.
         use1 W (later (some (λ (r : Answer). ((‵ (flft (ν₅ ∷ []) fullShare) ⊛ ‵ (flft (ν₆ ∷ []) fullShare) ⊛ ‵ (flft (ν₇ ∷ []) fullShare) ⊛ ‵ ftrue) ⊛ ‵ (N.the-row .own r (w₃ ∷ []))) ⊛ raw (ensured 𝓤 H A second.ended (second.clauses 𝓤 H A mem run) ((ν₅ ∷ []), ((ν₆ ∷ []), ((ν₇ ∷ []), tt))) (second-a γ₅ γ₆ γ₇ l₆ l₇ (zs .1 .1 .1 .1 .0) (ls .1 .0) p) tt r)))) (id⊢ 𝓤 _) $ await ! tt $ pick ! (λ r. split ! $ move ! (1 ∷ []) $
-        use1 W (some (λ (ds : List ℕ × (Unit {0} × (Unit {0} × (Unit {0} × Unit {0})))). ‵ (lasts second.ended ((ν₅ ∷ []), ((ν₆ ∷ []), ((ν₇ ∷ []), tt))) (second-a γ₅ γ₆ γ₇ l₆ l₇ (zs .1 .1 .1 .1 .0) (ls .1 .0) p) ds) ⊛ raw (fact 𝓤 ((text : List ℕ) (j i : ℕ) → Halfway text cs j i (zs .1 .1 .1 .1 .0) (ls .1 .0) p → Tells r (p .count) (ls .1 .0) (ds .0) (step-call text cs j i))))) (id⊢ 𝓤 _) $ pick ! (λ ds. split ! $ move ! (1 ∷ []) $ heard ! ((text : List ℕ) (j i : ℕ) → Halfway text cs j i (zs .1 .1 .1 .1 .0) (ls .1 .0) p → Tells r (p .count) (ls .1 .0) (ds .0) (step-call text cs j i)) (λ e₃.
+        use1 W (some (λ (ds : List ℕ × (Unit {0} × (Unit {0} × (Unit {0} × Unit {0})))). ‵ (lasts second.ended ((ν₅ ∷ []), ((ν₆ ∷ []), ((ν₇ ∷ []), tt))) (second-a γ₅ γ₆ γ₇ l₆ l₇ (zs .1 .1 .1 .1 .0) (ls .1 .0) p) ds) ⊛ raw (fact 𝓤 ((text : List ℕ) (j i : ℕ) → Halfway text cs j i (zs .1 .1 .1 .1 .0) (ls .1 .0) p → Tells r (p .begun .count) (ls .1 .0) (ds .0) (step-call text cs j i))))) (id⊢ 𝓤 _) $ pick ! (λ ds. split ! $ move ! (1 ∷ []) $ heard ! ((text : List ℕ) (j i : ℕ) → Halfway text cs j i (zs .1 .1 .1 .1 .0) (ls .1 .0) p → Tells r (p .begun .count) (ls .1 .0) (ds .0) (step-call text cs j i)) (λ e₃.
         fsplit ! $ fsplit ! $ move ! (1 ∷ []) $ feqL ! (λ lc. move ! (1 ∷ []) $ fsplit ! $ drop ! $ fsplit ! $ drop ! $ fsplit ! $ drop ! $ drop ! $
         move ! (1 ∷ []) $ split ! $ move ! (1 ∷ []) $ peeks ! N.the-row (Is N.the-row) (shows 𝓤 H A N.the-row) r (w₃ ∷ []) (λ is-r.
         land ! (from ! (stop !)) (init ! 55 refl (LL.lawful N.the-type N′.the-laws 𝓤 H A W .typed r _ is-r .0)) $
@@ -306,7 +310,7 @@ module _ {M : Type 1} (𝓤 : URA M) (H : Heap 𝓤) (A : Atoms 𝓤) (W : Given
         move ! (4 ∷ []) $ use1 W (‵ (froom (tyArray (tyInt w64) 256) l₇ 0)) (over 𝓤 H A W w64 256 l₇ (ls .1 .0)) $
         returns ! (look ! 51 refl) $ forget ! 51 refl $ forget ! 49 refl $ forget ! 47 refl $ forget ! 45 refl $ forget ! 43 refl $ forget ! 41 refl $ forget ! 37 refl $ forget ! 35 refl $ forget ! 33 refl $ forget ! 31 refl $ forget ! 29 refl $ forget ! 27 refl $ forget ! 25 refl $ forget ! 23 refl $ forget ! 21 refl $ forget ! 19 refl $ forget ! 17 refl $ forget ! 15 refl $ forget ! 13 refl $ forget ! 11 refl $ forget ! 9 refl $
         move ! (51 ∷ 52 ∷ []) $ free1 ! $ move ! (49 ∷ 50 ∷ []) $ free1 ! $ move ! (47 ∷ 48 ∷ []) $ free1 ! $ move ! (45 ∷ 46 ∷ []) $ free1 ! $ move ! (43 ∷ 44 ∷ []) $ free1 ! $ move ! (41 ∷ 42 ∷ []) $ free1 ! $ move ! (1 ∷ 40 ∷ []) $ free1 ! $ move ! (0 ∷ 38 ∷ []) $ free1 ! $ move ! (35 ∷ 36 ∷ []) $ free1 ! $ move ! (33 ∷ 34 ∷ []) $ free1 ! $ move ! (31 ∷ 32 ∷ []) $ free1 ! $ move ! (29 ∷ 30 ∷ []) $ free1 ! $ move ! (27 ∷ 28 ∷ []) $ free1 ! $ move ! (25 ∷ 26 ∷ []) $ free1 ! $ move ! (23 ∷ 24 ∷ []) $ free1 ! $ move ! (21 ∷ 22 ∷ []) $ free1 ! $ move ! (19 ∷ 20 ∷ []) $ free1 ! $ move ! (17 ∷ 18 ∷ []) $ free1 ! $ move ! (15 ∷ 16 ∷ []) $ free1 ! $ move ! (13 ∷ 14 ∷ []) $ free1 ! $ move ! (11 ∷ 12 ∷ []) $ free1 ! $ move ! (9 ∷ 10 ∷ []) $ free1 ! $ move ! (7 ∷ 8 ∷ []) $ free1 ! $ free0 ! $
-        keep ! (5 ∷ 2 ∷ 3 ∷ 6 ∷ 0 ∷ 1 ∷ 4 ∷ []) $ by ! (exits p (zs .1 .1 .1 .1 .0) (zs .1 .1 .1 .1 .1 .0) (ls .1 .0) (ls .0) (ds .0) r w₃ is-r e₁ e₂ e₃ l256 lw ll lc)))))))))))))))))))))))))))))))))))))))))))))))))))))))))
+        keep ! (5 ∷ 2 ∷ 3 ∷ 6 ∷ 0 ∷ 1 ∷ 4 ∷ []) $ by ! (exits p (zs .1 .1 .1 .1 .0) (zs .1 .1 .1 .1 .1 .0) (ls .1 .0) (ls .0) (ds .0) r w₃ is-r e₁ (e₂ .0, all-through (p .begun .count) (zs .1 .1 .1 .1 .1 .0) (xl .now) (ls .1 .0) (e₂ .1)) e₃ l256 lw ll lc)))))))))))))))))))))))))))))))))))))))))))))))))))))))))
 
 module _ {M : Type 1} (𝓤 : URA M) (H : Heap 𝓤) (A : Atoms 𝓤) (W : Given 𝓤 H A) (mem : Memory → SProp 𝓤) (run : Routine → Fun 𝓤) where
   step-walks : (C : Calls 𝓤 H) (Λ : Loops 𝓤 H) → FmC 𝓤 H (W .laws) C → Triple 𝓤 (C #halves·first-half) (First 𝓤 H A mem run) → Triple 𝓤 (C #lent·pass) (Pass 𝓤 H A mem run) → Triple 𝓤 (C #halves·second-half) (Second 𝓤 H A mem run)

@@ -1,3 +1,4 @@
+use Rattle.nodes.proofs.Classes.{lent-sorts}
 use Rattle.book.specs.Lines.{bad-node}
 use borrow.Author.Needs.{needs}
 use Rattle.nodes.proofs.bad_node.Statement.{statement}
@@ -31,7 +32,7 @@ fits-requires-3 c κs = search needs
 -- src/lib.rt:199:1
 returns : tie.Need-returns
 unfolding bad-node
-returns c = rw (c .fits4 .ensures, c .before .fits3 .ensures, c .before .before .fits2 .ensures, c .before .before .before .sorts-of .ensures (c .before .before .before .before .before .before .pre), c .before .before .before .before .node-at .ensures)
+returns c = rw (c .fits4 .ensures, c .before .fits3 .ensures, c .before .before .fits2 .ensures, lent-sorts _ (c .before .before .before .before .node-at .result .kind) (c .before .before .before .sorts-of .result) (c .before .before .before .sorts-of .ensures) (c .before .before .before .before .before .before .pre), c .before .before .before .before .node-at .ensures)
 
 pub bad-node-spec : {M : Type 1} → statement M
 bad-node-spec =

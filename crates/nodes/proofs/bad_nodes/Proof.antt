@@ -1,50 +1,55 @@
+use native.Mathlib.Omega.{arith}
+use borrow.Author.Needs.{needs}
+use Rattle.book.specs.Image.{program-in}
+use Rattle.book.specs.Lines.{bad-node}
 use Rattle.text.proofs.Words.{least-start, least-pass, least-stop, least-end}
 use Rattle.text.specs.Words.{least-from, least}
-use Rattle.book.specs.Lines.{bad-node}
-use Rattle.book.specs.Image.{program-in}
-use mathlib.Core.List.{[]}
-use mathlib.Core.Path.{_≡_, refl}
-use Prim.Native.Nat.{_≤_, _-_}
-use borrow.Author.Needs.{needs}
+use Prim.Native.Nat.{_≤_, _-_, _+_}
+use mathlib.Core.Path.{_≡_, ap, _∙_}
 use Rattle.nodes.proofs.bad_nodes.Statement.{statement}
 use Rattle.nodes.proofs.bad_nodes.Tie as tie
 use Rattle.nodes.proofs.bad_nodes.Reads as reads
 use Rattle.nodes.proofs.bad_nodes.Lts as lts
+use Rattle.image.proofs.nodes.Reads as nodes-reads
 use Rattle.nodes.proofs.bad_node.Reads as bad-node-reads
 
 abbrev Inv-loop : tie.InvT-loop
-Inv-loop image n table i₀ i = (i ≤ n) × (least-from (bad-node (program-in image)) (n - i) i ≡ least (bad-node (program-in image)) n)
+Inv-loop image table n i₀ i = (i ≤ n) × (least-from (bad-node (program-in image)) (n - i) i ≡ least (bad-node (program-in image)) n)
 
 abbrev μ-loop : tie.MeasureT-loop
-μ-loop image n table i₀ i = n - i
+μ-loop image table n i₀ i = n - i
 
--- src/lib.rt:217:5
+-- src/lib.rt:227:9
+nodes-requires : tie.Need-nodes-requires Inv-loop μ-loop
+nodes-requires c κs = search needs
+
+-- src/lib.rt:229:5
 loop-holds : tie.Need-loop-holds Inv-loop μ-loop
 loop-holds c = (search needs, least-start _ _)
 
--- src/lib.rt:218:12
+-- src/lib.rt:230:12
 bad-node-requires : tie.Need-bad-node-requires Inv-loop μ-loop
-bad-node-requires c κs = refl
+bad-node-requires c κs = search needs
 
--- src/lib.rt:219:13
+-- src/lib.rt:231:13
 returns : tie.Need-returns Inv-loop μ-loop
-returns c = let a = c .before .before .before .before .before .before .args in let l = c .before .before .before .before .loop in least-stop (bad-node (program-in (a .image .now))) (a .n) (l .i) (c .before .before .before .loop-test .taken) (cc) (l .inv .1)
+returns c = let a = c .before .before .before .before .before .before .before .args in let l = c .before .before .before .before .loop in least-stop (bad-node (program-in (a .image .now))) _ (l .i) (c .before .before .before .loop-test .taken) (cc) (l .inv .1) ∙ ap (least (bad-node (program-in (a .image .now)))) (c .before .before .before .before .before .nodes .ensures)
 
--- src/lib.rt:221:9
+-- src/lib.rt:233:9
 add-i : tie.Need-add-i Inv-loop μ-loop
 add-i c = search needs
 
--- src/lib.rt:217:5
+-- src/lib.rt:229:5
 loop-less : tie.Need-loop-less Inv-loop μ-loop
 loop-less c = search needs
 
--- src/lib.rt:217:5
+-- src/lib.rt:229:5
 loop-again : tie.Need-loop-again Inv-loop μ-loop
-loop-again c = let a = c .before .before .before .before .before .before .args in let l = c .before .before .before .before .loop in (search needs, least-pass (bad-node (program-in (a .image .now))) (a .n) (l .i) (c .before .before .before .loop-test .taken) (cc) (l .inv .1))
+loop-again c = let a = c .before .before .before .before .before .before .before .args in let l = c .before .before .before .before .loop in (search needs, least-pass (bad-node (program-in (a .image .now))) _ (l .i) (c .before .before .before .loop-test .taken) (cc) (l .inv .1))
 
--- src/lib.rt:212:1
+-- src/lib.rt:223:1
 returns-2 : tie.Need-returns-2 Inv-loop μ-loop
-returns-2 c = let a = c .before .before .before .args in let l = c .before .loop in least-end (bad-node (program-in (a .image .now))) (a .n) (l .i) (c .loop-test .left) (l .inv .1)
+returns-2 c = let a = c .before .before .before .before .args in let l = c .before .loop in least-end (bad-node (program-in (a .image .now))) _ (l .i) (c .loop-test .left) (l .inv .1) ∙ ap (least (bad-node (program-in (a .image .now)))) (c .before .before .nodes .ensures)
 
 pub bad-nodes-spec : {M : Type 1} → statement M
 bad-nodes-spec =
@@ -52,6 +57,7 @@ bad-nodes-spec =
     (tie.spec
     Inv-loop
     μ-loop
+    nodes-requires
     loop-holds
     bad-node-requires
     returns

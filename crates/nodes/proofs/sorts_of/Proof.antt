@@ -1,9 +1,5 @@
 -- `sorts_of` meets its contract.
-use mathlib.Core.Path.{_≡_, refl}
-use Prim.Native.Nat.{ℕ, _+_, _*_, _≤_}
-use lib.ListN.{getD, List·getD-eq-default}
-use native.Mathlib.Omega.{arith}
-use Rattle.book.specs.Kinds.{sort, sort-table}
+use borrow.Author.Tests.{lt-ltb, le-ltb}
 use borrow.Author.Needs.{needs}
 use Rattle.nodes.proofs.sorts_of.Statement.{statement}
 use Rattle.nodes.proofs.sorts_of.Tie as tie
@@ -27,12 +23,10 @@ element-copy-out-t16 : tie.Need-element-copy-out-t16
 element-copy-out-t16 c = search needs
 
 returns : tie.Need-returns
-unfolding sort
-returns c = λ lent. let k = c .before .before .before .before .args .kind in let e : k * 3 + 0 ≡ k * 3 = omega arith in rw (lent, e)
+returns c = rw (lt-ltb _ _ (c .before .before .before .if1 .taken))
 
 returns-2 : tie.Need-returns-2
-unfolding sort
-returns-2 c = λ lent. let none : (i : ℕ) → 84 ≤ i → getD sort-table i 0 ≡ 0 = λ i h. List·getD-eq-default sort-table 0 {n = i} h in let k = c .before .args .kind in rw (none (k * 3 + 0) (omega arith), none (k * 3 + 1) (omega arith), none (k * 3 + 2) (omega arith))
+returns-2 c = rw (le-ltb _ _ (c .if1 .left))
 
 pub sorts-of-spec : {M : Type 1} → statement M
 sorts-of-spec =

@@ -1,15 +1,12 @@
+-- `capped` meets its contract.
 use native.Mathlib.Omega.{arith}
 use borrow.Author.Tests.{lt-ltb, le-ltb}
 use Rattle.pages.proofs.capped.Statement.{statement}
 use Rattle.pages.proofs.capped.Tie as tie
-use Rattle.pages.proofs.capped.Reads as reads
-use Rattle.pages.proofs.capped.Lts as lts
 
--- src/lib.rt:30:1
 returns : tie.Need-returns
 returns c = (rw (lt-ltb _ _ (c .if1 .taken)), omega arith)
 
--- src/lib.rt:30:1
 returns-2 : tie.Need-returns-2
 returns-2 c = (rw (le-ltb _ _ (c .if1 .left)), omega arith)
 

@@ -1,20 +1,14 @@
-use mathlib.Core.Path.{sym, _∙_}
+-- `default_of` meets its contract.
 use borrow.Author.Needs.{needs}
 use Rattle.pages.proofs.default_of.Statement.{statement}
 use Rattle.pages.proofs.default_of.Tie as tie
-use Rattle.pages.proofs.default_of.Reads as reads
-use Rattle.pages.proofs.default_of.Lts as lts
-use Rattle.pages.proofs.is_relation.Reads as is-relation-reads
 
--- src/lib.rt:130:8
 is-relation-requires : tie.Need-is-relation-requires
 is-relation-requires c κs = search needs
 
--- src/lib.rt:127:1
 returns : tie.Need-returns
 returns c = rw (← (c .before .is-relation .ensures), c .if1 .taken)
 
--- src/lib.rt:127:1
 returns-2 : tie.Need-returns-2
 returns-2 c = rw (← (c .before .is-relation .ensures), c .if1 .left)
 

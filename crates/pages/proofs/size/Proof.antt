@@ -1,27 +1,20 @@
+-- `size` meets its contract.
 use Rattle.book.proofs.Image.{below}
-use Rattle.pages.proofs.Laws.{square-low}
-use native.Mathlib.Omega.{arith}
 use borrow.Author.Tests.{eq-eqb, ne-eqb}
 use Rattle.pages.proofs.size.Statement.{statement}
 use Rattle.pages.proofs.size.Tie as tie
-use Rattle.pages.proofs.size.Reads as reads
-use Rattle.pages.proofs.size.Lts as lts
 
--- src/lib.rt:82:9
 returns : tie.Need-returns
-returns c = (rw (eq-eqb _ _ (c .if1 .taken)), λ h. omega arith)
+returns c = rw (eq-eqb _ _ (c .if1 .taken))
 
--- src/lib.rt:85:9
 returns-2 : tie.Need-returns-2
-returns-2 c = (rw (ne-eqb _ _ (c .before .if1 .left), eq-eqb _ _ (c .if2 .taken)), λ h. omega arith)
+returns-2 c = rw (ne-eqb _ _ (c .before .if1 .left), eq-eqb _ _ (c .if2 .taken))
 
--- src/lib.rt:87:5
 mul-result : tie.Need-mul-result
 mul-result c = let a = c .before .before .fits in record { fits = below 16 (a .e .fits) (a .e .fits) }
 
--- src/lib.rt:78:1
 returns-3 : tie.Need-returns-3
-returns-3 c = (rw (ne-eqb _ _ (c .before .if1 .left), ne-eqb _ _ (c .if2 .left)), square-low (c .before .before .args .e))
+returns-3 c = rw (ne-eqb _ _ (c .before .if1 .left), ne-eqb _ _ (c .if2 .left))
 
 pub size-spec : {M : Type 1} → statement M
 size-spec = tie.close (tie.spec returns returns-2 mul-result returns-3)

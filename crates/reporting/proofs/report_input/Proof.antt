@@ -1,8 +1,11 @@
 -- `report_input` meets its contract.
-use mathlib.Core.Path.{_≡_, sym}
+use mathlib.Core.Path.{_≡_, sym, subst}
+use mathlib.Core.List.{List}
+use Prim.Native.Nat.{ℕ}
 use native.Mathlib.Omega.{arith}
 use lib.Seq.{length-take-le}
-use Rattle.reporting.proofs.Printed.{book-within, rental-long, split-shown, shown-as}
+use Rattle.reporting.specs.Shown.{Shown}
+use Rattle.reporting.proofs.Printed.{book-within, rental-long, split-shown}
 use borrow.Author.Needs.{needs}
 use Rattle.reporting.proofs.report_input.Statement.{statement}
 use Rattle.reporting.proofs.report_input.Tie as tie
@@ -19,7 +22,8 @@ same-length : tie.Need-same-length
 same-length c = search needs
 
 returns : tie.Need-returns
-returns c = let a = c .before .before .before .before .before .before .before .args in let p = c .before .before .print-refusal in shown-as _ _ (a .output .now) (p .result) (p .last .1 .0) (sym (rental-long (a .input .now) (omega arith))) (p .ensures)
+returns c = let a = c .before .before .before .before .before .before .before .args in let p = c .before .before .print-refusal in
+    subst (λ (y : List ℕ). Shown y (a .output .now) (p .result) (p .last .1 .0)) (sym (rental-long (a .input .now) (omega arith))) (p .ensures)
 
 book-bytes-requires : tie.Need-book-bytes-requires
 book-bytes-requires c κs = search needs

@@ -1,3 +1,4 @@
+-- `fill` meets its contract.
 use mathlib.Core.Path.{_≡_, refl, _∙_}
 use Prim.Native.Nat.{_-_, _≤_}
 use native.Mathlib.Omega.{arith}
@@ -6,8 +7,6 @@ use lib.ListN.{length, take, replicate, length-set}
 use Rattle.start.proofs.Defaults.{fill-next, fill-end}
 use Rattle.start.proofs.fill.Statement.{statement}
 use Rattle.start.proofs.fill.Tie as tie
-use Rattle.start.proofs.fill.Reads as reads
-use Rattle.start.proofs.fill.Lts as lts
 
 abbrev Inv-loop : tie.InvT-loop
 Inv-loop part₀ v i₀ part i = (i ≤ length part₀) × (length part ≡ length part₀) × (take i part ≡ replicate i v)
@@ -15,27 +14,21 @@ Inv-loop part₀ v i₀ part i = (i ≤ length part₀) × (length part ≡ leng
 abbrev μ-loop : tie.MeasureT-loop
 μ-loop part₀ v i₀ part i = length part₀ - i
 
--- src/lib.rt:18:5
 loop-holds : tie.Need-loop-holds Inv-loop μ-loop
 loop-holds c = (omega arith, refl, refl)
 
--- src/lib.rt:19:9
 mul-part : tie.Need-mul-part Inv-loop μ-loop
 mul-part c = search needs
 
--- src/lib.rt:19:9
 slice-write-part : tie.Need-slice-write-part Inv-loop μ-loop
 slice-write-part c = search needs
 
--- src/lib.rt:20:9
 add-i : tie.Need-add-i Inv-loop μ-loop
 add-i c = search needs
 
--- src/lib.rt:18:5
 loop-less : tie.Need-loop-less Inv-loop μ-loop
 loop-less c = omega (arith, c .loop-test .taken, c .before .loop .inv .1)
 
--- src/lib.rt:18:5
 loop-again : tie.Need-loop-again Inv-loop μ-loop
 loop-again c =
     let v = c .before .before .args .v in
@@ -45,11 +38,9 @@ loop-again c =
       fill-next v (l .part) (l .i) (c .loop-test .taken) (l .inv .2),
     )
 
--- src/lib.rt:14:1
 same-length : tie.Need-same-length Inv-loop μ-loop
 same-length c = c .before .loop .inv .1
 
--- src/lib.rt:14:1
 returns : tie.Need-returns Inv-loop μ-loop
 returns c =
     let a = c .before .before .args in

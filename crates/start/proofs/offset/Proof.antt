@@ -1,16 +1,13 @@
+-- `offset` meets its contract.
 use native.Mathlib.Omega.{arith}
 use borrow.Author.Tests.{eq-eqb, ne-eqb}
 use Rattle.book.proofs.Image.{below}
 use Rattle.start.proofs.offset.Statement.{statement}
 use Rattle.start.proofs.offset.Tie as tie
-use Rattle.start.proofs.offset.Reads as reads
-use Rattle.start.proofs.offset.Lts as lts
 
--- src/lib.rt:60:9
 mul-result : tie.Need-mul-result
 mul-result c = let a = c .before .before .fits in record { fits = omega (arith, below 16 (a .x .fits) (a .e .fits)) }
 
--- src/lib.rt:60:9
 add-result : tie.Need-add-result
 add-result c = let a = c .before .before .fits in record { fits = omega (arith, below 16 (a .x .fits) (a .e .fits), a .y .fits) }
 

@@ -1,28 +1,22 @@
+-- `put` meets its contract.
 use mathlib.Core.Path.{sym}
 use lib.Seq.{set-out}
 use borrow.Author.Needs.{needs}
 use Rattle.start.proofs.put.Statement.{statement}
 use Rattle.start.proofs.put.Tie as tie
-use Rattle.start.proofs.put.Reads as reads
-use Rattle.start.proofs.put.Lts as lts
 
--- src/lib.rt:78:9
 mul-part : tie.Need-mul-part
 mul-part c = search needs
 
--- src/lib.rt:78:9
 slice-write-part : tie.Need-slice-write-part
 slice-write-part c = search needs
 
--- src/lib.rt:74:1
 same-length : tie.Need-same-length
 same-length c = search needs
 
--- src/lib.rt:74:1
 returns : tie.Need-returns
 returns c = search needs
 
--- src/lib.rt:74:1
 returns-2 : tie.Need-returns-2
 returns-2 c = let a = c .before .args in sym (set-out (a .part .now) (a .i) (a .v) (c .if1 .left))
 

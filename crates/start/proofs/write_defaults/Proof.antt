@@ -1,54 +1,40 @@
+-- `write_defaults` meets its contract.
 use mathlib.Core.Path.{_≡_, ap, _∙_}
-use mathlib.Core.List.{[]}
 use Prim.Native.Nat.{ℕ, _+_, _-_, _<_, _≤_}
 use native.Mathlib.Omega.{arith}
 use borrow.Author.Needs.{needs}
 use lib.ListN.{length}
 use Rattle.book.specs.Book.{size, function-at}
 use Rattle.book.specs.Image.{held}
-use Rattle.start.proofs.Defaults.{Painted, painted-start, painted-next, painted-end}
+use Rattle.pages.proofs.Laws.{size-low}
+use Rattle.start.proofs.Defaults.{Filled, filled-none, filled-function, filled-all}
 use Rattle.start.proofs.write_defaults.Statement.{statement}
 use Rattle.start.proofs.write_defaults.Tie as tie
-use Rattle.start.proofs.write_defaults.Reads as reads
-use Rattle.start.proofs.write_defaults.Lts as lts
-use Rattle.start.proofs.fill_run.Reads as fill-run-reads
-use Rattle.pages.proofs.default_of.Reads as default-of-reads
-use Rattle.pages.proofs.elements.Reads as elements-reads
-use Rattle.pages.proofs.function_at.Reads as function-at-reads
-use Rattle.pages.proofs.functions.Reads as functions-reads
-use Rattle.pages.proofs.size.Reads as size-reads
 
 abbrev Inv-loop : tie.InvT-loop
-Inv-loop image contents₀ e n first₀ f₀ contents first f = Painted (held image) contents₀ first f contents × (f ≤ n)
+Inv-loop image contents₀ e n first₀ f₀ contents first f = Filled (held image) contents₀ first f contents × (f ≤ n)
 
 abbrev μ-loop : tie.MeasureT-loop
 μ-loop image contents₀ e n first₀ f₀ contents first f = n - f
 
--- src/lib.rt:38:9
 elements-requires : tie.Need-elements-requires Inv-loop μ-loop
 elements-requires c κs = search needs
 
--- src/lib.rt:39:9
 functions-requires : tie.Need-functions-requires Inv-loop μ-loop
 functions-requires c κs = search needs
 
--- src/lib.rt:42:5
 loop-holds : tie.Need-loop-holds Inv-loop μ-loop
-loop-holds c = let a = c .before .before .before .args in (painted-start (held (a .image .now)) (a .contents .now), omega arith)
+loop-holds c = let a = c .before .before .before .args in (filled-none (held (a .image .now)) (a .contents .now), omega arith)
 
--- src/lib.rt:43:13
 function-at-requires : tie.Need-function-at-requires Inv-loop μ-loop
 function-at-requires c κs = search needs
 
--- src/lib.rt:44:27
 size-requires : tie.Need-size-requires Inv-loop μ-loop
 size-requires c κs = search needs
 
--- src/lib.rt:44:27
 cast-end : tie.Need-cast-end Inv-loop μ-loop
 cast-end c = search needs
 
--- src/lib.rt:44:19
 add-end : tie.Need-add-end Inv-loop μ-loop
 add-end c =
     record {
@@ -56,29 +42,24 @@ add-end c =
           omega (
             arith,
             c .before .before .before .loop .inv .0 .at .low,
-            c .size .ensures .1 (c .before .before .before .before .before .elements .ensures .1),
+            size-low (c .size .result) (c .before .before .before .before .before .elements .result) (c .before .function-at .result .arity) (c .size .ensures) (c .before .before .before .before .before .elements .ensures .1),
             c .before .before .loop-test .taken,
             c .before .before .before .before .functions .ensures .1,
           );
     }
 
--- src/lib.rt:45:40
 default-of-requires : tie.Need-default-of-requires Inv-loop μ-loop
 default-of-requires c κs = search needs
 
--- src/lib.rt:45:9
 fill-run-requires : tie.Need-fill-run-requires Inv-loop μ-loop
 fill-run-requires c κs = omega arith
 
--- src/lib.rt:47:9
 add-f : tie.Need-add-f Inv-loop μ-loop
 add-f c = omega (arith, c .before .before .before .before .before .before .before .loop-test .taken, c .before .before .before .before .before .before .before .before .before .functions .ensures .1)
 
--- src/lib.rt:42:5
 loop-less : tie.Need-loop-less Inv-loop μ-loop
 loop-less c = omega (arith, c .before .before .before .before .before .before .before .loop-test .taken)
 
--- src/lib.rt:42:5
 loop-again : tie.Need-loop-again Inv-loop μ-loop
 loop-again c =
     let a = c .before .before .before .before .before .before .before .before .before .before .before .before .args in
@@ -88,23 +69,21 @@ loop-again c =
     let elements = c .before .before .before .before .before .before .before .before .before .before .elements .ensures in
     let function = c .before .before .before .before .before .before .function-at .ensures in
     let more : l .f < length (B .functions) = omega (arith, c .before .before .before .before .before .before .before .loop-test .taken, c .before .before .before .before .before .before .before .before .before .functions .ensures .0) in
-    let q : s ≡ size (B .E) (function-at B (l .f) .arity) = c .before .before .before .before .before .size .ensures .0 ∙ rw (function, elements .0) in
+    let q : s ≡ size (B .E) (function-at B (l .f) .arity) = c .before .before .before .before .before .size .ensures ∙ rw (function, elements .0) in
     let ends : l .first + s ≡ l .first + size (B .E) (function-at B (l .f) .arity) = ap (λ (z : ℕ). l .first + z) q in (
-      painted-next B (a .contents .now) (l .first) (l .f) (l .first + s) (l .contents) _ (l .inv .0) more ends (omega (arith, elements .0, elements .1))
+      filled-function B (a .contents .now) (l .first) (l .f) (l .first + s) (l .contents) _ (l .inv .0) more ends (omega (arith, elements .0, elements .1))
           (c .before .before .fill-run .ensures ∙ rw (c .before .before .before .default-of .ensures, function)),
       omega (arith, c .before .before .before .before .before .before .before .loop-test .taken),
     )
 
--- src/lib.rt:35:1
 same-length : tie.Need-same-length Inv-loop μ-loop
 same-length c = c .before .loop .inv .0 .same
 
--- src/lib.rt:35:1
 returns : tie.Need-returns Inv-loop μ-loop
 returns c =
     let a = c .before .before .before .before .before .args in
     let l = c .before .loop in
-    painted-end (held (a .image .now)) (a .contents .now) (l .first) (l .f) (l .contents) (l .inv .0)
+    filled-all (held (a .image .now)) (a .contents .now) (l .first) (l .f) (l .contents) (l .inv .0)
     (omega (arith, c .loop-test .left, c .before .before .functions .ensures .0))
 
 pub write-defaults-spec : {M : Type 1} → statement M

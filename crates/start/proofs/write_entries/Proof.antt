@@ -1,5 +1,5 @@
+-- `write_entries` meets its contract.
 use mathlib.Core.Path.{_≡_, refl, sym, ap, _∙_}
-use mathlib.Core.List.{[]}
 use Prim.Native.Nat.{_+_, _-_}
 use borrow.Author.Needs.{needs}
 use lib.ListN.{length}
@@ -11,11 +11,6 @@ use Rattle.start.specs.Written.{line-put, lines-put, first-line, content
 use Rattle.start.proofs.Entries.{lines-first, lines-next, lines-last}
 use Rattle.start.proofs.write_entries.Statement.{statement}
 use Rattle.start.proofs.write_entries.Tie as tie
-use Rattle.start.proofs.write_entries.Reads as reads
-use Rattle.start.proofs.write_entries.Lts as lts
-use Rattle.numbers.proofs.low.Reads as low-reads
-use Rattle.start.proofs.write_line.Reads as write-line-reads
-use Rattle.text.proofs.read_line.Reads as read-line-reads
 
 abbrev Inv-loop : tie.InvT-loop
 Inv-loop book image contents₀ f n a first count i₀ contents i =
@@ -26,74 +21,57 @@ Inv-loop book image contents₀ f n a first count i₀ contents i =
 abbrev μ-loop : tie.MeasureT-loop
 μ-loop book image contents₀ f n a first count i₀ contents i = count - i
 
--- src/lib.rt:97:9
 read-line-requires : tie.Need-read-line-requires Inv-loop μ-loop
 read-line-requires c κs = search needs
 
--- src/lib.rt:98:9
 read-line-requires-2 : tie.Need-read-line-requires-2 Inv-loop μ-loop
 read-line-requires-2 c κs = search needs
 
--- src/lib.rt:99:9
 low-requires : tie.Need-low-requires Inv-loop μ-loop
 low-requires c κs = search needs
 
--- src/lib.rt:100:9
 low-requires-2 : tie.Need-low-requires-2 Inv-loop μ-loop
 low-requires-2 c κs = search needs
 
--- src/lib.rt:101:9
 low-requires-3 : tie.Need-low-requires-3 Inv-loop μ-loop
 low-requires-3 c κs = search needs
 
--- src/lib.rt:102:21
 cast-first : tie.Need-cast-first Inv-loop μ-loop
 cast-first c = search needs
 
--- src/lib.rt:102:17
 add-first : tie.Need-add-first Inv-loop μ-loop
 add-first c = search needs
 
--- src/lib.rt:102:32
 cast-first-2 : tie.Need-cast-first-2 Inv-loop μ-loop
 cast-first-2 c = search needs
 
--- src/lib.rt:102:17
 add-first-2 : tie.Need-add-first-2 Inv-loop μ-loop
 add-first-2 c = search needs
 
--- src/lib.rt:102:43
 cast-first-3 : tie.Need-cast-first-3 Inv-loop μ-loop
 cast-first-3 c = search needs
 
--- src/lib.rt:102:17
 add-first-3 : tie.Need-add-first-3 Inv-loop μ-loop
 add-first-3 c = search needs
 
--- src/lib.rt:105:5
 loop-holds : tie.Need-loop-holds Inv-loop μ-loop
 loop-holds c =
     let a = c .before .before .before .before .before .before .before .args in
     let t = a .book .now in
     (refl, rw (c .before .before .before .read-line2 .ensures) (lines-first (held (a .image .now)) (λ k. line t (first-line t + k)) (line t 1 .b) (a .contents .now)))
 
--- src/lib.rt:106:13
 read-line-requires-3 : tie.Need-read-line-requires-3 Inv-loop μ-loop
 read-line-requires-3 c κs = search needs
 
--- src/lib.rt:107:9
 write-line-requires : tie.Need-write-line-requires Inv-loop μ-loop
 write-line-requires c κs = search needs
 
--- src/lib.rt:108:9
 add-i : tie.Need-add-i Inv-loop μ-loop
 add-i c = search needs
 
--- src/lib.rt:105:5
 loop-less : tie.Need-loop-less Inv-loop μ-loop
 loop-less c = search needs
 
--- src/lib.rt:105:5
 loop-again : tie.Need-loop-again Inv-loop μ-loop
 loop-again c =
     let a = c .before .before .before .before .before .before .before .before .before .before .before .before .before .before .args in
@@ -114,11 +92,9 @@ loop-again c =
       lines-next B (λ k. line t (first-line t + k)) (c .before .before .before .before .before .before .before .before .before .before .read-line2 .result .b) (l .i) (l .contents) _ (c .before .before .before .before .before .loop-test .taken) e ∙ l .inv .1,
     )
 
--- src/lib.rt:94:1
 same-length : tie.Need-same-length Inv-loop μ-loop
 same-length c = c .before .loop .inv .0
 
--- src/lib.rt:94:1
 returns : tie.Need-returns Inv-loop μ-loop
 returns c =
     let a = c .before .before .before .before .before .before .before .before .before .args in

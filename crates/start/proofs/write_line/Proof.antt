@@ -1,75 +1,54 @@
+-- `write_line` meets its contract.
 use mathlib.Core.Path.{_∙_}
 use borrow.Author.Needs.{needs}
 use Rattle.start.proofs.write_line.Statement.{statement}
 use Rattle.start.proofs.write_line.Tie as tie
-use Rattle.start.proofs.write_line.Reads as reads
-use Rattle.start.proofs.write_line.Lts as lts
-use Rattle.numbers.proofs.low.Reads as low-reads
-use Rattle.pages.proofs.elements.Reads as elements-reads
-use Rattle.pages.proofs.function_at.Reads as function-at-reads
-use Rattle.pages.proofs.size.Reads as size-reads
-use Rattle.start.proofs.offset.Reads as offset-reads
-use Rattle.start.proofs.put_in.Reads as put-in-reads
 
--- src/lib.rt:89:9
 low-requires : tie.Need-low-requires
 low-requires c κs = search needs
 
--- src/lib.rt:90:9
 low-requires-2 : tie.Need-low-requires-2
 low-requires-2 c κs = search needs
 
--- src/lib.rt:91:9
 elements-requires : tie.Need-elements-requires
 elements-requires c κs = search needs
 
--- src/lib.rt:92:39
 low-requires-3 : tie.Need-low-requires-3
 low-requires-3 c κs = search needs
 
--- src/lib.rt:92:9
 function-at-requires : tie.Need-function-at-requires
 function-at-requires c κs = search needs
 
--- src/lib.rt:93:17
 cast-first : tie.Need-cast-first
 cast-first c = search needs
 
--- src/lib.rt:94:23
 size-requires : tie.Need-size-requires
 size-requires c κs = search needs
 
--- src/lib.rt:94:23
 cast-end : tie.Need-cast-end
 cast-end c = search needs
 
--- src/lib.rt:94:15
 add-end : tie.Need-add-end
 add-end c = search needs
 
--- src/lib.rt:99:9
 offset-requires : tie.Need-offset-requires
 offset-requires c κs = search needs
 
--- src/lib.rt:100:9
 low-requires-4 : tie.Need-low-requires-4
 low-requires-4 c κs = search needs
 
--- src/lib.rt:95:5
 put-in-requires : tie.Need-put-in-requires
 put-in-requires c κs = search needs
 
--- src/lib.rt:86:1
 same-length : tie.Need-same-length
 same-length c = search needs
 
--- src/lib.rt:86:1
 returns : tie.Need-returns
 returns c =
     c .before .before .put-in .ensures
     ∙ rw (
       c .before .before .before .before .offset .ensures,
-      c .before .before .before .before .before .before .size .ensures .0,
+      c .before .before .before .before .before .before .size .ensures,
       c .before .before .before .before .before .before .before .before .function-at .ensures,
       c .before .before .before .before .before .before .before .before .before .before .elements .ensures .0,
       c .before .before .before .low4 .ensures,

@@ -1,25 +1,21 @@
+-- `all_permanent` meets its contract.
 use Rattle.table.proofs.Laws.{and-one}
 use Rattle.book.specs.Contents.{all-permanent}
 use borrow.Author.Tests.{eq-eqb, ne-eqb}
 use lib.Dec.{ltb}
-use mathlib.Core.Bool.{Bool, true, false, _&&_}
-use mathlib.Core.Path.{_≡_, refl, sym, _∙_, ap}
+use mathlib.Core.Bool.{Bool, _&&_}
+use mathlib.Core.Path.{sym, ap}
 use Rattle.table.proofs.all_permanent.Statement.{statement}
 use Rattle.table.proofs.all_permanent.Tie as tie
-use Rattle.table.proofs.all_permanent.Reads as reads
-use Rattle.table.proofs.all_permanent.Lts as lts
 
--- src/lib.rt:162:9
 returns : tie.Need-returns
 unfolding all-permanent
 returns c = rw (eq-eqb _ _ (c .if1 .taken))
 
--- src/lib.rt:165:9
 returns-2 : tie.Need-returns-2
 unfolding all-permanent
 returns-2 c = rw (ne-eqb _ _ (c .before .if1 .left), eq-eqb _ _ (c .if2 .taken)) (sym (and-one _))
 
--- src/lib.rt:158:1
 returns-3 : tie.Need-returns-3
 unfolding all-permanent
 returns-3 c = rw (ne-eqb _ _ (c .before .if1 .left), ne-eqb _ _ (c .if2 .left)) (let a = c .before .before .args in ap (λ (b : Bool). ltb (a .row) (a .p) && b) (sym (and-one (ltb (a .col) (a .p)))))

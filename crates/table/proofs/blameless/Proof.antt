@@ -1,6 +1,7 @@
-use mathlib.Core.Path.{_≡_, sym, _∙_}
+-- `blameless` meets its contract.
+use mathlib.Core.Path.{_≡_, _∙_}
 use mathlib.Core.Bool.{not}
-use Prim.Native.Nat.{ℕ, _<_}
+use Prim.Native.Nat.{_<_}
 use native.Mathlib.Omega.{arith}
 use borrow.Author.Needs.{needs}
 use borrow.Author.Tests.{ltb-true, eqb-false, not-true}
@@ -11,28 +12,19 @@ use Rattle.book.specs.Book.{default}
 use Rattle.table.proofs.Faults.{at-rest}
 use Rattle.table.proofs.blameless.Statement.{statement}
 use Rattle.table.proofs.blameless.Tie as tie
-use Rattle.table.proofs.blameless.Reads as reads
-use Rattle.table.proofs.blameless.Lts as lts
-use Rattle.pages.proofs.default_of.Reads as default-of-reads
-use Rattle.numbers.proofs.fetch.Reads as fetch-reads
 
--- src/lib.rt:204:9
 default-of-requires : tie.Need-default-of-requires
 default-of-requires c κs = search needs
 
--- src/lib.rt:205:35
 cast-fetch : tie.Need-cast-fetch
 cast-fetch c = search needs
 
--- src/lib.rt:205:19
 fetch-requires : tie.Need-fetch-requires
 fetch-requires c κs = search needs
 
--- src/lib.rt:206:16
 cast-result : tie.Need-cast-result
 cast-result c = search needs
 
--- src/lib.rt:206:9
 returns : tie.Need-returns
 returns c =
     λ B l e q h.
@@ -44,7 +36,6 @@ returns c =
     let off : getD (a .contents .now) (default (a .f)) 0 ≡ 2 → ⊥ = rw (← d .ensures, ← w .ensures) (eqb-false (w .result) 2 (not-true (eqb (w .result) 2) (t .1))) in
     at-rest B (a .contents .now) l (a .f) q (h ∙ d .ensures) low off
 
--- src/lib.rt:201:1
 returns-2 : tie.Need-returns-2
 returns-2 c = λ B l e q h. absurd (omega (arith, h, c .before .before .before .shared-slice-known .given l))
 

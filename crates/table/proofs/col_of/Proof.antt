@@ -1,3 +1,4 @@
+-- `col_of` meets its contract.
 use borrow.Author.Needs.{needs}
 use Rattle.table.proofs.Laws.{no-col, some-elements}
 use Rattle.table.proofs.col_of.Statement.{statement}

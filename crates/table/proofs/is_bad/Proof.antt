@@ -1,26 +1,12 @@
+-- `is_bad` meets its contract.
 use Rattle.table.proofs.Faults.{own-cell, far-cell}
 use Rattle.table.proofs.Laws.{arguments-are}
-use lib.Dec.{ltb}
-use Prim.Native.Nat.{ℕ, _/_, _%_, _<_, _≤_}
 use Rattle.book.specs.Book.{arguments}
-use Rattle.book.specs.Contents.{bad-value}
 use Rattle.table.specs.Part.{arguments-by}
-use borrow.Author.Tests.{lt-ltb, le-ltb}
-use mathlib.Core.Path.{_≡_, _∙_, sym, refl, ap}
+use mathlib.Core.Path.{_≡_, _∙_}
 use borrow.Author.Needs.{needs}
 use Rattle.table.proofs.is_bad.Statement.{statement}
 use Rattle.table.proofs.is_bad.Tie as tie
-use Rattle.table.proofs.is_bad.Reads as reads
-use Rattle.table.proofs.is_bad.Lts as lts
-use Rattle.table.proofs.col_of.Reads as col-of-reads
-use Rattle.pages.proofs.default_of.Reads as default-of-reads
-use Rattle.numbers.proofs.fetch.Reads as fetch-reads
-use Rattle.table.proofs.is_boolean.Reads as is-boolean-reads
-use Rattle.pages.proofs.is_relation.Reads as is-relation-reads
-use Rattle.table.proofs.is_static_fine.Reads as is-static-fine-reads
-use Rattle.table.proofs.on_roll.Reads as on-roll-reads
-use Rattle.table.proofs.row_of.Reads as row-of-reads
-use Rattle.table.proofs.some_on_roll.Reads as some-on-roll-reads
 
 row-of-requires : tie.Need-row-of-requires
 row-of-requires c κs = search needs

@@ -1,4 +1,4 @@
-use mathlib.Core.Path.{_≡_, sym, _∙_}
+-- `is_static_fine` meets its contract.
 use borrow.Author.Needs.{needs}
 use Rattle.table.proofs.is_static_fine.Statement.{statement}
 use Rattle.table.proofs.is_static_fine.Tie as tie

@@ -1,3 +1,4 @@
+-- `row_of` meets its contract.
 use borrow.Author.Needs.{needs}
 use Rattle.table.proofs.Laws.{no-row, some-elements}
 use Rattle.table.proofs.row_of.Statement.{statement}

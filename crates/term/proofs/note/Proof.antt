@@ -14,10 +14,10 @@ same-length : tie.Need-same-length
 same-length c = search needs
 
 returns : tie.Need-returns
-returns c = λ p e. c .before .before .mark .ensures ∙ rw (sym (c .before .before .before .before .before .dynamic .ensures p e) ∙ c .before .before .before .before .if1 .taken)
+returns c = c .before .before .mark .ensures ∙ rw (sym (c .before .before .before .before .before .dynamic .ensures) ∙ c .before .before .before .before .if1 .taken)
 
 returns-2 : tie.Need-returns-2
-returns-2 c = λ p e. rw (sym (c .before .dynamic .ensures p e) ∙ c .if1 .left)
+returns-2 c = rw (sym (c .before .dynamic .ensures) ∙ c .if1 .left)
 
 pub note-spec : {M : Type 1} → statement M
 note-spec = tie.close (tie.spec dynamic-requires mark-requires same-length returns returns-2)

@@ -2,6 +2,7 @@
 use mathlib.Core.Path.{_∙_}
 use Rattle.book.specs.Book.{location}
 use Rattle.book.specs.Image.{held}
+use Rattle.term.proofs.Leaves.{dynamic-placed}
 use Rattle.term.proofs.Marking.{runs-read}
 use borrow.Author.Needs.{needs}
 use Rattle.term.proofs.read.Statement.{statement}
@@ -27,7 +28,7 @@ returns c =
     let a = c .before .before .before .before .before .before .before .before .args in
     let m = a .image .now in
     runs-read (held m) (a .contents .now) (a .bit) (location (held m) (a .f) (a .x) (a .y)) (c .fetch .result) _ _
-    (c .fetch .ensures ∙ rw (c .before .before .before .before .before .location .ensures)) (λ p. c .before .before .before .note .ensures p (c .before .before .before .before .before .location .ensures) ∙ rw (c .before .before .before .before .before .location .ensures))
+    (c .fetch .ensures ∙ rw (c .before .before .before .before .before .location .ensures)) (λ p. c .before .before .before .note .ensures ∙ rw (dynamic-placed (held m) (a .f) (a .x) (a .y) p, c .before .before .before .before .before .location .ensures))
 
 pub read-spec : {M : Type 1} → statement M
 read-spec =

@@ -52,7 +52,7 @@ push-requires-6 c κs = search needs
 
 -- src/lib.rt:168:1
 returns : tie.Need-returns
-returns c = let a = c .before .before .before .before .before .before .before .args in six (a .text .now) (a .at) _ _ _ _ _ _ (c .before .before .before .before .before .push .ensures .0) (c .before .before .before .before .push2 .ensures .0) (c .before .before .before .push3 .ensures .0) (c .before .before .push4 .ensures .0) (c .before .push5 .ensures .0) (c .push6 .ensures .0)
+returns c = let a = c .before .before .before .before .before .before .before .args in (six (a .text .now) (a .at) _ _ _ _ _ _ (c .before .before .before .before .before .push .ensures .0) (c .before .before .before .before .push2 .ensures .0) (c .before .before .before .push3 .ensures .0) (c .before .before .push4 .ensures .0) (c .before .push5 .ensures .0) (c .push6 .ensures .0), search needs)
 
 pub columns-spec : {M : Type 1} → statement M
 columns-spec =

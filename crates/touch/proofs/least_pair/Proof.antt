@@ -1,4 +1,5 @@
-use Rattle.touch.proofs.Best.{Best, best-start, best-new, best-old, best-found, best-none}
+use Rattle.order.proofs.Best.{Best, best-start, best-new, best-old}
+use Rattle.touch.proofs.Best.{pair-found, pair-none}
 use Rattle.order.specs.Pairs.{ordered-by}
 use Rattle.order.specs.Sets.{bit}
 use lib.ListN.{getD}
@@ -17,13 +18,13 @@ use Rattle.touch.proofs.nearest.Reads as nearest-reads
 
 -- moves i < j are unordered, and i is among those that touch j
 abbrev pairs : List ℕ → List ℕ → ℕ → ℕ → Bool
-pairs rows met i j = not (ordered-by rows i j) && bit (getD met j 0) i
+pairs order met i j = not (ordered-by order i j) && bit (getD met j 0) i
 
 abbrev Inv-loop : tie.InvT-loop
-Inv-loop met rows m first₀ second₀ j₀ first second j = (j ≤ m) × (second ≤ 64) × Best (pairs rows met) j first second
+Inv-loop met order m first₀ second₀ j₀ first second j = (j ≤ m) × (second ≤ 64) × Best (pairs order met) j first second
 
 abbrev μ-loop : tie.MeasureT-loop
-μ-loop met rows m first₀ second₀ j₀ first second j = m - j
+μ-loop met order m first₀ second₀ j₀ first second j = m - j
 
 -- src/lib.rt:74:5
 loop-holds : tie.Need-loop-holds Inv-loop μ-loop
@@ -59,7 +60,7 @@ loop-less c = search needs
 
 -- src/lib.rt:74:5
 loop-again : tie.Need-loop-again Inv-loop μ-loop
-loop-again c = let a = c .before .before .before .before .before .before .args in let l = c .before .before .before .before .before .loop in let n = c .before .nearest in let lim : l .j < 64 = omega arith in ⊎-elim (λ y. rw (y .1, y .2) (omega arith, omega arith, best-new (pairs (a .rows .now) (a .met .now)) (l .j) (l .first) (l .second) (n .result) lim (l .inv .2) (n .ensures .hit) (n .ensures .low) (y .0 .taken))) (λ y. rw (y .1, y .2) (omega arith, l .inv .1, best-old (pairs (a .rows .now) (a .met .now)) (l .j) (l .first) (l .second) (n .result) lim (l .inv .2) (n .ensures .hit) (n .ensures .low) (y .0 .left))) (c .if1 .came)
+loop-again c = let a = c .before .before .before .before .before .before .args in let l = c .before .before .before .before .before .loop in let n = c .before .nearest in let lim : l .j < 64 = omega arith in ⊎-elim (λ y. rw (y .1, y .2) (omega arith, omega arith, best-new (pairs (a .order .now) (a .met .now)) (l .j) (l .first) (l .second) (n .result) lim (l .inv .2) (n .ensures .hit) (n .ensures .low) (y .0 .taken))) (λ y. rw (y .1, y .2) (omega arith, l .inv .1, best-old (pairs (a .order .now) (a .met .now)) (l .j) (l .first) (l .second) (n .result) lim (l .inv .2) (n .ensures .hit) (n .ensures .low) (y .0 .left))) (c .if1 .came)
 
 -- src/lib.rt:86:21
 cast-t19 : tie.Need-cast-t19 Inv-loop μ-loop
@@ -67,11 +68,11 @@ cast-t19 c = search needs
 
 -- src/lib.rt:67:1
 returns : tie.Need-returns Inv-loop μ-loop
-returns c = let a = c .before .before .before .args in let l = c .before .before .loop in let e : l .j ≡ a .m = omega arith in best-found (pairs (a .rows .now) (a .met .now)) (a .m) (l .first) (l .second) (rw e at (l .inv .2)) (c .if2 .taken)
+returns c = let a = c .before .before .before .args in let l = c .before .before .loop in let e : l .j ≡ a .m = omega arith in pair-found (pairs (a .order .now) (a .met .now)) (a .m) (l .first) (l .second) (rw e at (l .inv .2)) (c .if2 .taken)
 
 -- src/lib.rt:67:1
 returns-2 : tie.Need-returns-2 Inv-loop μ-loop
-returns-2 c = let a = c .before .before .before .args in let l = c .before .before .loop in let e : l .j ≡ a .m = omega arith in best-none (pairs (a .rows .now) (a .met .now)) (a .m) (l .first) (l .second) (c .before .before .before .pre) (rw e at (l .inv .2)) (c .if2 .left)
+returns-2 c = let a = c .before .before .before .args in let l = c .before .before .loop in let e : l .j ≡ a .m = omega arith in pair-none (pairs (a .order .now) (a .met .now)) (a .m) (l .first) (l .second) (c .before .before .before .pre) (rw e at (l .inv .2)) (c .if2 .left)
 
 pub least-pair-spec : {M : Type 1} → statement M
 least-pair-spec =

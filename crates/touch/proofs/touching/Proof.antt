@@ -32,7 +32,7 @@ least-pair-requires c κs = search needs
 
 -- src/lib.rt:99:1
 returns : tie.Need-returns
-returns c = let a = c .before .before .before .before .before .before .before .before .args in all-found (a .rows .now) (a .readers .now) (a .writers .now) (c .before .before .before .met-of .result) (c .before .before .before .before .smaller2 .result) (a .locations) (c .before .smaller3 .result) (a .moves) (c .least-pair .result) (c .before .before .before .before .smaller2 .ensures ∙ ap (λ (x : ℕ). min (a .locations) x) (c .before .before .before .before .before .smaller .ensures)) (c .before .before .before .met-of .ensures) (c .before .smaller3 .ensures) (c .least-pair .ensures)
+returns c = let a = c .before .before .before .before .before .before .before .before .args in all-found (a .order .now) (a .readers .now) (a .writers .now) (c .before .before .before .met-of .result) (c .before .before .before .before .smaller2 .result) (a .locations) (c .before .smaller3 .result) (a .moves) (c .least-pair .result) (c .before .before .before .before .smaller2 .ensures ∙ ap (λ (x : ℕ). min (a .locations) x) (c .before .before .before .before .before .smaller .ensures)) (c .before .before .before .met-of .ensures) (c .before .smaller3 .ensures) (c .least-pair .ensures)
 
 pub touching-spec : {M : Type 1} → statement M
 touching-spec =

@@ -1,9 +1,8 @@
+-- `has_argument` meets its contract.
 use borrow.Author.Tests.{eq-eqb, ne-eqb}
 use mathlib.Core.Bool.{or-false}
 use Rattle.traces.proofs.has_argument.Statement.{statement}
 use Rattle.traces.proofs.has_argument.Tie as tie
-use Rattle.traces.proofs.has_argument.Reads as reads
-use Rattle.traces.proofs.has_argument.Lts as lts
 
 returns : tie.Need-returns
 returns c = rw (eq-eqb _ _ (c .if1 .taken))

@@ -1,8 +1,7 @@
+-- `is_trace_at` meets its contract.
 use borrow.Author.Needs.{needs}
 use Rattle.traces.proofs.is_trace_at.Statement.{statement}
 use Rattle.traces.proofs.is_trace_at.Tie as tie
-use Rattle.traces.proofs.is_trace_at.Reads as reads
-use Rattle.traces.proofs.is_trace_at.Lts as lts
 
 is-dynamic-requires : tie.Need-is-dynamic-requires
 is-dynamic-requires c κs = search needs

@@ -10,13 +10,14 @@ use Rattle.engine.specs.Look.{Look}
 use Rattle.engine.specs.Rule.{Walk, Walked, after, lowest, import-of, each as for-each, walk as walked}
 use Rattle.engine.proofs.Steps.{rule-last, rule-assign, rule-bind, rule-for-all, rule-import, rule-free, no-rule-at}
 use Rattle.term.specs.Held.{variables-of, agent-of, value-at}
-use Rattle.pages.specs.Rows.{node-row}
+use Rattle.pages.specs.Rows.{node-row, function-run}
 use Rattle.book.specs.Image.{held}
 use Rattle.term.specs.Marks.{Runs}
 use Rattle.term.proofs.Marking.{runs-bind, runs-as}
-use Rattle.giving.specs.Giving.{Room, walk-from, reached}
-use Rattle.giving.proofs.Steps.{reached-met}
+use Rattle.giving.specs.Giving.{walk-from, reached, enrolling}
+use Rattle.giving.proofs.Steps.{reached-going, reached-met}
 use Rattle.marking.specs.Marking.{found-below, members-from, first-and-rest}
+use Rattle.marking.proofs.Members.{universe-placed, members-next}
 use Rattle.walk.specs.Walk.{rule-from, body-at, walk-at as node-walk}
 use Rattle.walk.proofs.Steps.{runs-scope, runs-from, runs-met, runs-rule, runs-skip, runs-pair, runs-test, import-as, rule-none}
 use Rattle.walk.proofs.Sweep.{sweep-as, sweep-more, sweep-end, runs-for-all}
@@ -115,7 +116,7 @@ claims-within t = (bind-reads.Asked, bind-reads.Learnt, walk-below t, walk.Post)
 
 abbrev each-Inv-loop : each-lts.InvT-loop
 each-Inv-loop image contents readers₀ bit list₀ scope depth row e run r₀ y₀ readers list r y =
-    (length readers ≡ length readers₀) × (length list ≡ length list₀) × (Room list₀ → (z : Walked) (n : List ℕ)
+    (length readers ≡ length readers₀) × ((z : Walked) (n : List ℕ)
     → Runs (held image) contents bit (after (reached r list) (for-each (body-at image scope depth (row .c) (row .a)) (first-and-rest (held image) contents (row .b) y))) z readers n
     → Runs (held image) contents bit (after (reached r₀ list₀) (for-each (body-at image scope depth (row .c) (row .a)) (members-from (held image) contents (row .b) 0))) z readers₀ n)
 
@@ -136,12 +137,11 @@ each-next-member-requires t c κs = search needs
 
 each-loop-holds : (t : ℕ) → each-lts.Need-loop-holds (claims-each t) (each-at t) each.Post each-Inv-loop each-μ-loop
 each-loop-holds t c =
-    let a = c .before .before .before .before .before .before .before .before .before .before .args in
+    let a = c .before .before .before .before .before .before .before .before .before .args in
     let B = held (a .image .now) in
     let f : ℕ → Walk → Look Walked = body-at (a .image .now) (a .scope .now) (a .depth) (a .row .c) (a .row .a) in (
       refl,
-      refl,
-      λ room z n h. sweep-as B (a .contents .now) (a .bit) (a .row .b) f _ _ (reached (a .s) (a .list .now)) z _ n (c .next-member .ensures .1 B (a .row .b) (c .before .function .ensures) (c .before .before .elements .ensures .0)) h,
+      λ z n h. sweep-as B (a .contents .now) (a .bit) (a .row .b) f _ _ (reached (a .s) (a .list .now)) z _ n (members-next B (a .contents .now) (a .row .b) (function-run (c .before .function .result)) (c .before .before .elements .result) 0 (c .next-member .result) (c .before .function .ensures) (c .before .before .elements .ensures .0) (c .next-member .ensures .1)) h,
     )
 
 each-within-requires : (t : ℕ) → each-lts.Need-within-requires (claims-each t) (each-at t) each.Post each-Inv-loop each-μ-loop
@@ -150,20 +150,17 @@ each-within-requires t c κs = search needs
 each-same-length : (t : ℕ) → each-lts.Need-same-length (claims-each t) (each-at t) each.Post each-Inv-loop each-μ-loop
 each-same-length t c = search needs
 
-each-same-length-2 : (t : ℕ) → each-lts.Need-same-length-2 (claims-each t) (each-at t) each.Post each-Inv-loop each-μ-loop
-each-same-length-2 t c = search needs
-
 each-returns : (t : ℕ) → each-lts.Need-returns (claims-each t) (each-at t) each.Post each-Inv-loop each-μ-loop
 each-returns t c =
-    let a = c .before .before .before .before .before .before .before .before .before .before .before .before .before .before .before .before .before .before .before .before .before .args in
+    let a = c .before .before .before .before .before .before .before .before .before .before .before .before .before .before .before .before .before .before .args in
     let B = held (a .image .now) in
     let f : ℕ → Walk → Look Walked = body-at (a .image .now) (a .scope .now) (a .depth) (a .row .c) (a .row .a) in
-    let l = c .before .before .before .before .before .before .before .before .before .before .loop in
-    let k = c .before .before .before .before .before .before .within in
-    let h : l .y < B .E = rw (← c .before .before .before .before .before .before .before .before .before .before .before .before .before .elements .ensures .0) (c .before .before .before .before .before .before .before .before .before .loop-test .taken) in
-    λ room. runs-for-all B (a .contents .now) (a .bit) (agent-of (a .scope .now)) (variables-of (a .scope .now)) (a .row .a) (a .row .b) (rule-from (node-at B) (a .depth) (a .row .c)) (a .s) (a .list .now) _ _ _ _ (c .before .before .before .before .before .before .before .before .before .before .before .before .before .before .before .before .before .before .before .before .before .pre .1) (c .before .before .before .before .before .before .before .before .before .before .before .before .before .before .before .before .universe .ensures (a .contents .now))
-    (l .inv .2 room _ _
-    (sweep-more B (a .contents .now) (a .bit) (a .row .b) f (l .y) (reached (l .r) (l .list)) _ _ _ _ _ h (k .ensures (omega (arith, l .inv .1)))
+    let l = c .before .before .before .before .before .before .before .before .loop in
+    let k = c .before .before .before .before .within in
+    let h : l .y < B .E = rw (← c .before .before .before .before .before .before .before .before .before .before .before .elements .ensures .0) (c .before .before .before .before .before .before .before .loop-test .taken) in
+    runs-for-all B (a .contents .now) (a .bit) (agent-of (a .scope .now)) (variables-of (a .scope .now)) (a .row .a) (a .row .b) (rule-from (node-at B) (a .depth) (a .row .c)) (a .s) (a .list .now) _ _ _ _ (c .before .before .before .before .before .before .before .before .before .before .before .before .before .before .before .before .before .before .pre .1) (λ p. c .before .before .before .before .before .before .before .before .before .before .before .before .before .before .universe .ensures ∙ universe-placed B p (a .contents .now) (a .row .b) (a .bit) (a .readers .now))
+    (l .inv .1 _ _
+    (sweep-more B (a .contents .now) (a .bit) (a .row .b) f (l .y) (reached (l .r) (l .list)) _ _ _ _ _ h (k .ensures)
     (runs-met B (a .contents .now) (a .bit) _ _ _ _ _ (reached-met (k .result) _ (c .if1 .taken)))))
 
 each-add-next-member : (t : ℕ) → each-lts.Need-add-next-member (claims-each t) (each-at t) each.Post each-Inv-loop each-μ-loop
@@ -177,34 +174,30 @@ each-loop-less t c = search needs
 
 each-loop-again : (t : ℕ) → each-lts.Need-loop-again (claims-each t) (each-at t) each.Post each-Inv-loop each-μ-loop
 each-loop-again t c =
-    let a = c .before .before .before .before .before .before .before .before .before .before .before .before .before .before .before .before .before .before .before .before .before .before .args in
+    let a = c .before .before .before .before .before .before .before .before .before .before .before .before .before .before .before .before .before .before .before .args in
     let B = held (a .image .now) in
     let f : ℕ → Walk → Look Walked = body-at (a .image .now) (a .scope .now) (a .depth) (a .row .c) (a .row .a) in
-    let l = c .before .before .before .before .before .before .before .before .before .before .before .loop in
-    let k = c .before .before .before .before .before .before .before .within in
-    let h : l .y < B .E = rw (← c .before .before .before .before .before .before .before .before .before .before .before .before .before .before .elements .ensures .0) (c .before .before .before .before .before .before .before .before .before .before .loop-test .taken) in (
+    let l = c .before .before .before .before .before .before .before .before .before .loop in
+    let k = c .before .before .before .before .before .within in
+    let h : l .y < B .E = rw (← c .before .before .before .before .before .before .before .before .before .before .before .before .elements .ensures .0) (c .before .before .before .before .before .before .before .before .loop-test .taken) in (
       k .kept .1 .1 .0 ∙ l .inv .0,
-      k .kept .1 .1 .1 .1 .0 ∙ l .inv .1,
-      λ room z n t. l .inv .2 room z n
-          (sweep-more B (a .contents .now) (a .bit) (a .row .b) f (l .y) (reached (l .r) (l .list)) _ z _ _ n h (k .ensures (omega (arith, l .inv .1)))
-          (sweep-as B (a .contents .now) (a .bit) (a .row .b) f _ _ (reached (k .result) (k .last .1 .1 .1 .1 .0)) z _ n (c .next-member2 .ensures .1 B (a .row .b) (c .before .before .before .before .before .before .before .before .before .before .before .before .before .function .ensures) (c .before .before .before .before .before .before .before .before .before .before .before .before .before .before .elements .ensures .0)) t)),
+      λ z n t. l .inv .1 z n
+          (sweep-more B (a .contents .now) (a .bit) (a .row .b) f (l .y) (reached (l .r) (l .list)) _ z _ _ n h (k .ensures)
+          (sweep-as B (a .contents .now) (a .bit) (a .row .b) f _ _ (reached (k .result) (k .last .1 .1 .1 .1 .0)) z _ n (members-next B (a .contents .now) (a .row .b) (function-run (c .before .before .before .before .before .before .before .before .before .before .before .function .result)) (c .before .before .before .before .before .before .before .before .before .before .before .before .elements .result) (l .y + 1) (c .next-member2 .result) (c .before .before .before .before .before .before .before .before .before .before .before .function .ensures) (c .before .before .before .before .before .before .before .before .before .before .before .before .elements .ensures .0) (c .next-member2 .ensures .1)) t)),
     )
 
-each-same-length-3 : (t : ℕ) → each-lts.Need-same-length-3 (claims-each t) (each-at t) each.Post each-Inv-loop each-μ-loop
-each-same-length-3 t c = search needs
-
-each-same-length-4 : (t : ℕ) → each-lts.Need-same-length-4 (claims-each t) (each-at t) each.Post each-Inv-loop each-μ-loop
-each-same-length-4 t c = search needs
+each-same-length-2 : (t : ℕ) → each-lts.Need-same-length-2 (claims-each t) (each-at t) each.Post each-Inv-loop each-μ-loop
+each-same-length-2 t c = search needs
 
 each-returns-2 : (t : ℕ) → each-lts.Need-returns-2 (claims-each t) (each-at t) each.Post each-Inv-loop each-μ-loop
 each-returns-2 t c =
-    let a = c .before .before .before .before .before .before .before .before .before .before .before .before .args in
+    let a = c .before .before .before .before .before .before .before .before .before .before .before .args in
     let B = held (a .image .now) in
     let f : ℕ → Walk → Look Walked = body-at (a .image .now) (a .scope .now) (a .depth) (a .row .c) (a .row .a) in
     let l = c .before .loop in
     let h : B .E ≤ l .y = rw (← c .before .before .before .before .elements .ensures .0) (c .loop-test .left) in
-    λ room. runs-for-all B (a .contents .now) (a .bit) (agent-of (a .scope .now)) (variables-of (a .scope .now)) (a .row .a) (a .row .b) (rule-from (node-at B) (a .depth) (a .row .c)) (a .s) (a .list .now) _ _ _ _ (c .before .before .before .before .before .before .before .before .before .before .before .before .pre .1) (c .before .before .before .before .before .before .before .universe .ensures (a .contents .now))
-    (l .inv .2 room _ _ (sweep-end B (a .contents .now) (a .bit) (a .row .b) f (l .y) (reached (l .r) (l .list)) (l .readers) h))
+    runs-for-all B (a .contents .now) (a .bit) (agent-of (a .scope .now)) (variables-of (a .scope .now)) (a .row .a) (a .row .b) (rule-from (node-at B) (a .depth) (a .row .c)) (a .s) (a .list .now) _ _ _ _ (c .before .before .before .before .before .before .before .before .before .before .before .pre .1) (λ p. c .before .before .before .before .before .before .before .universe .ensures ∙ universe-placed B p (a .contents .now) (a .row .b) (a .bit) (a .readers .now))
+    (l .inv .1 _ _ (sweep-end B (a .contents .now) (a .bit) (a .row .b) f (l .y) (reached (l .r) (l .list)) (l .readers) h))
 
 import-lowest-requires : (t : ℕ) → import-lts.Need-lowest-requires (claims-import t) (import-at t) import.Post
 import-lowest-requires t c κs = search needs
@@ -218,22 +211,20 @@ import-within-requires t c κs = search needs
 import-same-length : (t : ℕ) → import-lts.Need-same-length (claims-import t) (import-at t) import.Post
 import-same-length t c = search needs
 
-import-same-length-2 : (t : ℕ) → import-lts.Need-same-length-2 (claims-import t) (import-at t) import.Post
-import-same-length-2 t c = search needs
-
 import-returns : (t : ℕ) → import-lts.Need-returns (claims-import t) (import-at t) import.Post
 unfolding walked
 import-returns t c =
-    let a = c .before .before .before .before .before .before .before .before .before .before .before .before .before .before .before .before .before .before .args in
+    let a = c .before .before .before .before .before .before .before .before .before .before .before .before .before .args in
     let m = a .image .now in
     let B = held m in
     let x = a .row in
     let w = walk-from (a .s) (a .list .now) in
     let body : ℕ → Walk → Look Walked = body-at m (a .scope .now) (a .depth) (x .c) (x .a) in
-    let y = c .before .before .before .before .before .before .before .before .before .before .before .before .before .lowest .result in
-    λ room. runs-bind B (a .contents .now) (a .bit) (lowest (a .s .label) (B .E - a .s .label)) (λ o. import-of B (a .n) (x .b) w body o) (found-below (B .E) y) _ _ _ _ (c .before .before .before .before .before .before .before .before .before .before .before .before .before .lowest .ensures)
+    let y = c .before .before .before .before .before .before .before .before .before .lowest .result in
+    let enrolled : reached (c .before .before .before .before .before .enroll .result) (c .before .before .before .before .before .enroll .last .1 .0) ≡ enrolling B (x .b) y (a .n) w = c .before .before .before .before .before .enroll .ensures ∙ rw (reached-going (a .s) (a .list .now) (c .before .before .before .before .before .before .before .before .before .before .before .before .before .pre .1)) in
+    runs-bind B (a .contents .now) (a .bit) (lowest (a .s .label) (B .E - a .s .label)) (λ o. import-of B (a .n) (x .b) w body o) (found-below (B .E) y) _ _ _ _ (c .before .before .before .before .before .before .before .before .before .lowest .ensures)
     (runs-as B (a .contents .now) (a .bit) _ _ _ _ _ (import-as B (a .n) (x .b) y w body)
-    (rw (← c .before .before .before .before .before .before .before .before .before .enroll .ensures (c .before .before .before .before .before .before .before .before .before .before .before .before .before .before .before .before .before .before .pre .1) room) (c .before .before .before .before .within .ensures (omega (arith, c .before .before .before .before .before .before .before .before .before .enroll .kept .1 .0)))))
+    (rw (← enrolled) (c .before .before .within .ensures)))
 
 let-in-eval-requires : (t : ℕ) → let-in-lts.Need-eval-requires (claims-let-in t) (let-in-at t) let-in.Post
 let-in-eval-requires t c κs = search needs
@@ -244,23 +235,20 @@ let-in-within-requires t c κs = search needs
 let-in-same-length : (t : ℕ) → let-in-lts.Need-same-length (claims-let-in t) (let-in-at t) let-in.Post
 let-in-same-length t c = search needs
 
-let-in-same-length-2 : (t : ℕ) → let-in-lts.Need-same-length-2 (claims-let-in t) (let-in-at t) let-in.Post
-let-in-same-length-2 t c = search needs
-
 let-in-returns : (t : ℕ) → let-in-lts.Need-returns (claims-let-in t) (let-in-at t) let-in.Post
 unfolding walked
 let-in-returns t c =
-    let a = c .before .before .before .before .before .before .before .before .before .before .before .before .before .before .args in
+    let a = c .before .before .before .before .before .before .before .before .before .before .before .args in
     let m = a .image .now in
     let B = held m in
     let s = a .scope .now in
     let x = a .row in
-    λ room. runs-bind B (a .contents .now) (a .bit) (value-at m s (a .depth) (x .b)) (λ y. body-at m s (a .depth) (x .c) (x .a) y (walk-from (a .s) (a .list .now))) _ _ _ _ _ (c .before .before .before .before .before .before .before .before .before .eval .ensures)
-    (runs-from B (a .contents .now) (a .bit) (body-at m s (a .depth) (x .c) (x .a) (c .before .before .before .before .before .before .before .before .before .eval .result)) (a .s) (a .list .now) (c .before .before .before .before .before .before .before .before .before .before .before .before .before .before .pre .1) _ _ _ (c .before .before .before .before .within .ensures room))
+    runs-bind B (a .contents .now) (a .bit) (value-at m s (a .depth) (x .b)) (λ y. body-at m s (a .depth) (x .c) (x .a) y (walk-from (a .s) (a .list .now))) _ _ _ _ _ (c .before .before .before .before .before .before .before .eval .ensures)
+    (runs-from B (a .contents .now) (a .bit) (body-at m s (a .depth) (x .c) (x .a) (c .before .before .before .before .before .before .before .eval .result)) (a .s) (a .list .now) (c .before .before .before .before .before .before .before .before .before .before .before .pre .1) _ _ _ (c .before .before .within .ensures))
 
 abbrev walk-Inv-loop : walk-lts.InvT-loop
 walk-Inv-loop image contents readers₀ bit list₀ scope depth n left₀ at₀ r₀ readers list left at r =
-    (left ≤ depth) × (length readers ≡ length readers₀) × (length list ≡ length list₀) × (Room list₀ → (z : Walked) (m : List ℕ)
+    (left ≤ depth) × (length readers ≡ length readers₀) × ((z : Walked) (m : List ℕ)
     → Runs (held image) contents bit (after (reached r list) (node-walk image scope left at)) z readers m
     → Runs (held image) contents bit (after (reached r₀ list₀) (node-walk image scope depth n)) z readers₀ m)
 
@@ -268,19 +256,16 @@ abbrev walk-μ-loop : walk-lts.MeasureT-loop
 walk-μ-loop image contents readers₀ bit list₀ scope depth n left₀ at₀ r₀ readers list left at r = left
 
 walk-loop-holds : (t : ℕ) → walk-lts.Need-loop-holds (claims-walk t) (walk-at t) walk.Post walk-Inv-loop walk-μ-loop
-walk-loop-holds t c = (omega arith, refl, refl, λ room z m h. h)
+walk-loop-holds t c = (omega arith, refl, λ z m h. h)
 
 walk-same-length : (t : ℕ) → walk-lts.Need-same-length (claims-walk t) (walk-at t) walk.Post walk-Inv-loop walk-μ-loop
 walk-same-length t c = search needs
 
-walk-same-length-2 : (t : ℕ) → walk-lts.Need-same-length-2 (claims-walk t) (walk-at t) walk.Post walk-Inv-loop walk-μ-loop
-walk-same-length-2 t c = search needs
-
 walk-returns : (t : ℕ) → walk-lts.Need-returns (claims-walk t) (walk-at t) walk.Post walk-Inv-loop walk-μ-loop
 walk-returns t c =
-    let a = c .before .before .before .before .before .before .before .args in
+    let a = c .before .before .before .before .before .before .args in
     let l = c .before .before .before .loop in
-    λ room. l .inv .3 room _ _ (runs-met (held (a .image .now)) (a .contents .now) (a .bit) _ _ _ _ _ (reached-met (l .r) (l .list) (c .if1 .taken)))
+    l .inv .2 _ _ (runs-met (held (a .image .now)) (a .contents .now) (a .bit) _ _ _ _ _ (reached-met (l .r) (l .list) (c .if1 .taken)))
 
 walk-node-requires : (t : ℕ) → walk-lts.Need-node-requires (claims-walk t) (walk-at t) walk.Post walk-Inv-loop walk-μ-loop
 walk-node-requires t c κs = search needs
@@ -291,21 +276,18 @@ walk-sub-less t c = search needs
 walk-assign-requires : (t : ℕ) → walk-lts.Need-assign-requires (claims-walk t) (walk-at t) walk.Post walk-Inv-loop walk-μ-loop
 walk-assign-requires t c κs = search needs
 
-walk-same-length-3 : (t : ℕ) → walk-lts.Need-same-length-3 (claims-walk t) (walk-at t) walk.Post walk-Inv-loop walk-μ-loop
-walk-same-length-3 t c = search needs
-
-walk-same-length-4 : (t : ℕ) → walk-lts.Need-same-length-4 (claims-walk t) (walk-at t) walk.Post walk-Inv-loop walk-μ-loop
-walk-same-length-4 t c = search needs
+walk-same-length-2 : (t : ℕ) → walk-lts.Need-same-length-2 (claims-walk t) (walk-at t) walk.Post walk-Inv-loop walk-μ-loop
+walk-same-length-2 t c = search needs
 
 walk-returns-2 : (t : ℕ) → walk-lts.Need-returns-2 (claims-walk t) (walk-at t) walk.Post walk-Inv-loop walk-μ-loop
 walk-returns-2 t c =
-    let a = c .before .before .before .before .before .before .before .before .before .before .before .before .before .before .before .before .before .before .args in
+    let a = c .before .before .before .before .before .before .before .before .before .before .before .before .before .before .before .args in
     let B = held (a .image .now) in
-    let l = c .before .before .before .before .before .before .before .before .before .before .before .before .before .before .loop in
-    λ room. l .inv .3 room _ _
-    (runs-rule B (a .contents .now) (a .bit) (agent-of (a .scope .now)) (variables-of (a .scope .now)) (rule-from (node-at B) (l .left) (l .at)) _ (l .r) (l .list) _ _ _ (c .before .before .before .before .before .before .before .before .before .before .before .if1 .left)
-    (rule-assign (node-at B) (l .left) (l .at) (node-row (c .before .before .before .before .before .before .before .before .before .before .node .result)) (c .before .before .before .before .before .before .before .before .before .before .before .before .before .loop-test .taken) (c .before .before .before .before .before .before .before .before .before .before .node .ensures) (c .before .before .before .before .before .before .before .match .keys1))
-    (c .before .before .before .before .assign .ensures (omega (arith, l .inv .2))))
+    let l = c .before .before .before .before .before .before .before .before .before .before .before .before .loop in
+    l .inv .2 _ _
+    (runs-rule B (a .contents .now) (a .bit) (agent-of (a .scope .now)) (variables-of (a .scope .now)) (rule-from (node-at B) (l .left) (l .at)) _ (l .r) (l .list) _ _ _ (c .before .before .before .before .before .before .before .before .before .if1 .left)
+    (rule-assign (node-at B) (l .left) (l .at) (node-row (c .before .before .before .before .before .before .before .before .node .result)) (c .before .before .before .before .before .before .before .before .before .before .before .loop-test .taken) (c .before .before .before .before .before .before .before .before .node .ensures) (c .before .before .before .before .before .match .keys1))
+    (c .before .before .assign .ensures))
 
 walk-walk-requires : (t : ℕ) → walk-lts.Need-walk-requires (claims-walk t) (walk-at t) walk.Post walk-Inv-loop walk-μ-loop
 walk-walk-requires t c κs = search needs
@@ -319,121 +301,100 @@ walk-branch-requires t c κs = search needs
 walk-let-in-requires : (t : ℕ) → walk-lts.Need-let-in-requires (claims-walk t) (walk-at t) walk.Post walk-Inv-loop walk-μ-loop
 walk-let-in-requires t c κs = search needs
 
-walk-same-length-5 : (t : ℕ) → walk-lts.Need-same-length-5 (claims-walk t) (walk-at t) walk.Post walk-Inv-loop walk-μ-loop
-walk-same-length-5 t c = search needs
-
-walk-same-length-6 : (t : ℕ) → walk-lts.Need-same-length-6 (claims-walk t) (walk-at t) walk.Post walk-Inv-loop walk-μ-loop
-walk-same-length-6 t c = search needs
+walk-same-length-3 : (t : ℕ) → walk-lts.Need-same-length-3 (claims-walk t) (walk-at t) walk.Post walk-Inv-loop walk-μ-loop
+walk-same-length-3 t c = search needs
 
 walk-returns-3 : (t : ℕ) → walk-lts.Need-returns-3 (claims-walk t) (walk-at t) walk.Post walk-Inv-loop walk-μ-loop
 walk-returns-3 t c =
-    let a = c .before .before .before .before .before .before .before .before .before .before .before .before .before .before .before .before .before .before .args in
+    let a = c .before .before .before .before .before .before .before .before .before .before .before .before .before .before .before .args in
     let B = held (a .image .now) in
-    let l = c .before .before .before .before .before .before .before .before .before .before .before .before .before .before .loop in
-    λ room. l .inv .3 room _ _
-    (runs-rule B (a .contents .now) (a .bit) (agent-of (a .scope .now)) (variables-of (a .scope .now)) (rule-from (node-at B) (l .left) (l .at)) _ (l .r) (l .list) _ _ _ (c .before .before .before .before .before .before .before .before .before .before .before .if1 .left)
-    (rule-bind (node-at B) (l .left) (l .at) (node-row (c .before .before .before .before .before .before .before .before .before .before .node .result)) (c .before .before .before .before .before .before .before .before .before .before .before .before .before .loop-test .taken) (c .before .before .before .before .before .before .before .before .before .before .node .ensures) (c .before .before .before .before .before .before .before .match .keys4))
-    (c .before .before .before .before .let-in .ensures (omega (arith, l .inv .2))))
+    let l = c .before .before .before .before .before .before .before .before .before .before .before .before .loop in
+    l .inv .2 _ _
+    (runs-rule B (a .contents .now) (a .bit) (agent-of (a .scope .now)) (variables-of (a .scope .now)) (rule-from (node-at B) (l .left) (l .at)) _ (l .r) (l .list) _ _ _ (c .before .before .before .before .before .before .before .before .before .if1 .left)
+    (rule-bind (node-at B) (l .left) (l .at) (node-row (c .before .before .before .before .before .before .before .before .node .result)) (c .before .before .before .before .before .before .before .before .before .before .before .loop-test .taken) (c .before .before .before .before .before .before .before .before .node .ensures) (c .before .before .before .before .before .match .keys4))
+    (c .before .before .let-in .ensures))
 
 walk-each-requires : (t : ℕ) → walk-lts.Need-each-requires (claims-walk t) (walk-at t) walk.Post walk-Inv-loop walk-μ-loop
 walk-each-requires t c κs = search needs
 
-walk-same-length-7 : (t : ℕ) → walk-lts.Need-same-length-7 (claims-walk t) (walk-at t) walk.Post walk-Inv-loop walk-μ-loop
-walk-same-length-7 t c = search needs
-
-walk-same-length-8 : (t : ℕ) → walk-lts.Need-same-length-8 (claims-walk t) (walk-at t) walk.Post walk-Inv-loop walk-μ-loop
-walk-same-length-8 t c = search needs
+walk-same-length-4 : (t : ℕ) → walk-lts.Need-same-length-4 (claims-walk t) (walk-at t) walk.Post walk-Inv-loop walk-μ-loop
+walk-same-length-4 t c = search needs
 
 walk-returns-4 : (t : ℕ) → walk-lts.Need-returns-4 (claims-walk t) (walk-at t) walk.Post walk-Inv-loop walk-μ-loop
 walk-returns-4 t c =
-    let a = c .before .before .before .before .before .before .before .before .before .before .before .before .before .before .before .before .before .before .args in
+    let a = c .before .before .before .before .before .before .before .before .before .before .before .before .before .before .before .args in
     let B = held (a .image .now) in
-    let l = c .before .before .before .before .before .before .before .before .before .before .before .before .before .before .loop in
-    λ room. l .inv .3 room _ _
-    (runs-rule B (a .contents .now) (a .bit) (agent-of (a .scope .now)) (variables-of (a .scope .now)) (rule-from (node-at B) (l .left) (l .at)) _ (l .r) (l .list) _ _ _ (c .before .before .before .before .before .before .before .before .before .before .before .if1 .left)
-    (rule-for-all (node-at B) (l .left) (l .at) (node-row (c .before .before .before .before .before .before .before .before .before .before .node .result)) (c .before .before .before .before .before .before .before .before .before .before .before .before .before .loop-test .taken) (c .before .before .before .before .before .before .before .before .before .before .node .ensures) (c .before .before .before .before .before .before .before .match .keys5))
-    (c .before .before .before .before .each .ensures (omega (arith, l .inv .2))))
+    let l = c .before .before .before .before .before .before .before .before .before .before .before .before .loop in
+    l .inv .2 _ _
+    (runs-rule B (a .contents .now) (a .bit) (agent-of (a .scope .now)) (variables-of (a .scope .now)) (rule-from (node-at B) (l .left) (l .at)) _ (l .r) (l .list) _ _ _ (c .before .before .before .before .before .before .before .before .before .if1 .left)
+    (rule-for-all (node-at B) (l .left) (l .at) (node-row (c .before .before .before .before .before .before .before .before .node .result)) (c .before .before .before .before .before .before .before .before .before .before .before .loop-test .taken) (c .before .before .before .before .before .before .before .before .node .ensures) (c .before .before .before .before .before .match .keys5))
+    (c .before .before .each .ensures))
 
 walk-import-requires : (t : ℕ) → walk-lts.Need-import-requires (claims-walk t) (walk-at t) walk.Post walk-Inv-loop walk-μ-loop
 walk-import-requires t c κs = search needs
 
-walk-same-length-9 : (t : ℕ) → walk-lts.Need-same-length-9 (claims-walk t) (walk-at t) walk.Post walk-Inv-loop walk-μ-loop
-walk-same-length-9 t c = search needs
-
-walk-same-length-10 : (t : ℕ) → walk-lts.Need-same-length-10 (claims-walk t) (walk-at t) walk.Post walk-Inv-loop walk-μ-loop
-walk-same-length-10 t c = search needs
+walk-same-length-5 : (t : ℕ) → walk-lts.Need-same-length-5 (claims-walk t) (walk-at t) walk.Post walk-Inv-loop walk-μ-loop
+walk-same-length-5 t c = search needs
 
 walk-returns-5 : (t : ℕ) → walk-lts.Need-returns-5 (claims-walk t) (walk-at t) walk.Post walk-Inv-loop walk-μ-loop
 walk-returns-5 t c =
-    let a = c .before .before .before .before .before .before .before .before .before .before .before .before .before .before .before .before .before .before .args in
+    let a = c .before .before .before .before .before .before .before .before .before .before .before .before .before .before .before .args in
     let B = held (a .image .now) in
-    let l = c .before .before .before .before .before .before .before .before .before .before .before .before .before .before .loop in
-    λ room. l .inv .3 room _ _
-    (runs-rule B (a .contents .now) (a .bit) (agent-of (a .scope .now)) (variables-of (a .scope .now)) (rule-from (node-at B) (l .left) (l .at)) _ (l .r) (l .list) _ _ _ (c .before .before .before .before .before .before .before .before .before .before .before .if1 .left)
-    (rule-import (node-at B) (l .left) (l .at) (node-row (c .before .before .before .before .before .before .before .before .before .before .node .result)) (c .before .before .before .before .before .before .before .before .before .before .before .before .before .loop-test .taken) (c .before .before .before .before .before .before .before .before .before .before .node .ensures) (c .before .before .before .before .before .before .before .match .keys6))
-    (c .before .before .before .before .import .ensures (omega (arith, l .inv .2))))
+    let l = c .before .before .before .before .before .before .before .before .before .before .before .before .loop in
+    l .inv .2 _ _
+    (runs-rule B (a .contents .now) (a .bit) (agent-of (a .scope .now)) (variables-of (a .scope .now)) (rule-from (node-at B) (l .left) (l .at)) _ (l .r) (l .list) _ _ _ (c .before .before .before .before .before .before .before .before .before .if1 .left)
+    (rule-import (node-at B) (l .left) (l .at) (node-row (c .before .before .before .before .before .before .before .before .node .result)) (c .before .before .before .before .before .before .before .before .before .before .before .loop-test .taken) (c .before .before .before .before .before .before .before .before .node .ensures) (c .before .before .before .before .before .match .keys6))
+    (c .before .before .import .ensures))
 
 walk-release-requires : (t : ℕ) → walk-lts.Need-release-requires (claims-walk t) (walk-at t) walk.Post walk-Inv-loop walk-μ-loop
 walk-release-requires t c κs = search needs
 
-walk-same-length-11 : (t : ℕ) → walk-lts.Need-same-length-11 (claims-walk t) (walk-at t) walk.Post walk-Inv-loop walk-μ-loop
-walk-same-length-11 t c = search needs
-
-walk-same-length-12 : (t : ℕ) → walk-lts.Need-same-length-12 (claims-walk t) (walk-at t) walk.Post walk-Inv-loop walk-μ-loop
-walk-same-length-12 t c = search needs
+walk-same-length-6 : (t : ℕ) → walk-lts.Need-same-length-6 (claims-walk t) (walk-at t) walk.Post walk-Inv-loop walk-μ-loop
+walk-same-length-6 t c = search needs
 
 walk-returns-6 : (t : ℕ) → walk-lts.Need-returns-6 (claims-walk t) (walk-at t) walk.Post walk-Inv-loop walk-μ-loop
 walk-returns-6 t c =
-    let a = c .before .before .before .before .before .before .before .before .before .before .before .before .before .before .before .before .before .before .args in
+    let a = c .before .before .before .before .before .before .before .before .before .before .before .before .before .before .before .args in
     let B = held (a .image .now) in
-    let l = c .before .before .before .before .before .before .before .before .before .before .before .before .before .before .loop in
-    λ room. l .inv .3 room _ _
-    (runs-rule B (a .contents .now) (a .bit) (agent-of (a .scope .now)) (variables-of (a .scope .now)) (rule-from (node-at B) (l .left) (l .at)) _ (l .r) (l .list) _ _ _ (c .before .before .before .before .before .before .before .before .before .before .before .if1 .left)
-    (rule-free (node-at B) (l .left) (l .at) (node-row (c .before .before .before .before .before .before .before .before .before .before .node .result)) (c .before .before .before .before .before .before .before .before .before .before .before .before .before .loop-test .taken) (c .before .before .before .before .before .before .before .before .before .before .node .ensures) (c .before .before .before .before .before .before .before .match .keys7))
-    (c .before .before .before .before .release .ensures (omega (arith, l .inv .2))))
+    let l = c .before .before .before .before .before .before .before .before .before .before .before .before .loop in
+    l .inv .2 _ _
+    (runs-rule B (a .contents .now) (a .bit) (agent-of (a .scope .now)) (variables-of (a .scope .now)) (rule-from (node-at B) (l .left) (l .at)) _ (l .r) (l .list) _ _ _ (c .before .before .before .before .before .before .before .before .before .if1 .left)
+    (rule-free (node-at B) (l .left) (l .at) (node-row (c .before .before .before .before .before .before .before .before .node .result)) (c .before .before .before .before .before .before .before .before .before .before .before .loop-test .taken) (c .before .before .before .before .before .before .before .before .node .ensures) (c .before .before .before .before .before .match .keys7))
+    (c .before .before .release .ensures))
 
-walk-same-length-13 : (t : ℕ) → walk-lts.Need-same-length-13 (claims-walk t) (walk-at t) walk.Post walk-Inv-loop walk-μ-loop
-walk-same-length-13 t c = search needs
-
-walk-same-length-14 : (t : ℕ) → walk-lts.Need-same-length-14 (claims-walk t) (walk-at t) walk.Post walk-Inv-loop walk-μ-loop
-walk-same-length-14 t c = search needs
+walk-same-length-7 : (t : ℕ) → walk-lts.Need-same-length-7 (claims-walk t) (walk-at t) walk.Post walk-Inv-loop walk-μ-loop
+walk-same-length-7 t c = search needs
 
 walk-returns-7 : (t : ℕ) → walk-lts.Need-returns-7 (claims-walk t) (walk-at t) walk.Post walk-Inv-loop walk-μ-loop
 walk-returns-7 t c =
-    let a = c .before .before .before .before .before .before .before .before .before .before .before .args in
+    let a = c .before .before .before .before .before .before .before .before .before .before .args in
     let B = held (a .image .now) in
     let l = c .before .before .before .before .before .before .before .loop in
-    λ room. l .inv .3 room _ _
+    l .inv .2 _ _
     (runs-skip B (a .contents .now) (a .bit) (agent-of (a .scope .now)) (variables-of (a .scope .now)) (rule-from (node-at B) (l .left) (l .at)) (reached (l .r) (l .list)) (l .readers)
     (rule-none (node-at B) (l .left) (l .at) (node-row (c .before .before .before .node .result)) (c .before .before .before .before .before .before .loop-test .taken) (c .before .before .before .node .ensures) (c .match .rest .0 .0 .0 .0 .0 .0 .1) (c .match .rest .0 .0 .0 .0 .0 .1) (c .match .rest .0 .0 .0 .0 .1) (c .match .rest .0 .0 .0 .1) (c .match .rest .0 .0 .1) (c .match .rest .0 .1) (c .match .rest .1)))
 
-walk-same-length-15 : (t : ℕ) → walk-lts.Need-same-length-15 (claims-walk t) (walk-at t) walk.Post walk-Inv-loop walk-μ-loop
-walk-same-length-15 t c = search needs
-
-walk-same-length-16 : (t : ℕ) → walk-lts.Need-same-length-16 (claims-walk t) (walk-at t) walk.Post walk-Inv-loop walk-μ-loop
-walk-same-length-16 t c = search needs
+walk-same-length-8 : (t : ℕ) → walk-lts.Need-same-length-8 (claims-walk t) (walk-at t) walk.Post walk-Inv-loop walk-μ-loop
+walk-same-length-8 t c = search needs
 
 walk-returns-8 : (t : ℕ) → walk-lts.Need-returns-8 (claims-walk t) (walk-at t) walk.Post walk-Inv-loop walk-μ-loop
 walk-returns-8 t c =
-    let a = c .before .before .before .before .before .before .before .before .before .args in
+    let a = c .before .before .before .before .before .before .before .before .args in
     let B = held (a .image .now) in
     let l = c .before .before .before .before .before .loop in
-    λ room. l .inv .3 room _ _
+    l .inv .2 _ _
     (runs-skip B (a .contents .now) (a .bit) (agent-of (a .scope .now)) (variables-of (a .scope .now)) (rule-from (node-at B) (l .left) (l .at)) (reached (l .r) (l .list)) (l .readers)
     (no-rule-at (node-at B) (l .left) (l .at) (node-row (c .before .node .result)) (c .before .before .before .before .loop-test .taken) (c .before .node .ensures) (inl (c .if2 .taken))))
 
-walk-same-length-17 : (t : ℕ) → walk-lts.Need-same-length-17 (claims-walk t) (walk-at t) walk.Post walk-Inv-loop walk-μ-loop
-walk-same-length-17 t c = search needs
-
-walk-same-length-18 : (t : ℕ) → walk-lts.Need-same-length-18 (claims-walk t) (walk-at t) walk.Post walk-Inv-loop walk-μ-loop
-walk-same-length-18 t c = search needs
+walk-same-length-9 : (t : ℕ) → walk-lts.Need-same-length-9 (claims-walk t) (walk-at t) walk.Post walk-Inv-loop walk-μ-loop
+walk-same-length-9 t c = search needs
 
 walk-returns-9 : (t : ℕ) → walk-lts.Need-returns-9 (claims-walk t) (walk-at t) walk.Post walk-Inv-loop walk-μ-loop
 walk-returns-9 t c =
-    let a = c .before .before .before .before .before .before .before .before .before .before .args in
+    let a = c .before .before .before .before .before .before .before .before .before .args in
     let B = held (a .image .now) in
     let l = c .before .before .before .before .before .before .loop in
-    λ room. l .inv .3 room _ _
+    l .inv .2 _ _
     (runs-skip B (a .contents .now) (a .bit) (agent-of (a .scope .now)) (variables-of (a .scope .now)) (rule-from (node-at B) (l .left) (l .at)) (reached (l .r) (l .list)) (l .readers)
     (no-rule-at (node-at B) (l .left) (l .at) (node-row (c .before .before .node .result)) (c .before .before .before .before .before .loop-test .taken) (c .before .before .node .ensures) (inr (omega (arith, c .if3 .left)))))
 
@@ -442,15 +403,14 @@ walk-loop-less t c = search needs
 
 walk-loop-again : (t : ℕ) → walk-lts.Need-loop-again (claims-walk t) (walk-at t) walk.Post walk-Inv-loop walk-μ-loop
 walk-loop-again t c =
-    let a = c .before .before .before .before .before .before .before .before .before .before .before .before .before .before .before .before .before .before .args in
+    let a = c .before .before .before .before .before .before .before .before .before .before .before .before .before .before .before .args in
     let B = held (a .image .now) in
-    let l = c .before .before .before .before .before .before .before .before .before .before .before .before .before .before .loop in
-    let k = c .before .before .before .before .walk in (
+    let l = c .before .before .before .before .before .before .before .before .before .before .before .before .loop in
+    let k = c .before .before .walk in (
       omega arith,
       k .kept .1 .1 .0 ∙ l .inv .1,
-      k .kept .1 .1 .1 .1 .0 ∙ l .inv .2,
-      λ room z m h. l .inv .3 room z m
-          (runs-pair B (a .contents .now) (a .bit) (agent-of (a .scope .now)) (variables-of (a .scope .now)) (node-at B) (l .left) (l .at) (node-row (c .before .before .before .before .before .before .before .before .before .before .node .result)) (c .before .before .before .before .before .before .before .before .before .before .before .before .before .loop-test .taken) (c .before .before .before .before .before .before .before .before .before .before .node .ensures) (l .r) (l .list) (c .before .before .before .before .before .before .before .before .before .before .before .if1 .left) _ z _ _ m (c .before .before .before .before .before .before .before .match .keys2) (k .ensures (omega (arith, l .inv .2))) h),
+      λ z m h. l .inv .2 z m
+          (runs-pair B (a .contents .now) (a .bit) (agent-of (a .scope .now)) (variables-of (a .scope .now)) (node-at B) (l .left) (l .at) (node-row (c .before .before .before .before .before .before .before .before .node .result)) (c .before .before .before .before .before .before .before .before .before .before .before .loop-test .taken) (c .before .before .before .before .before .before .before .before .node .ensures) (l .r) (l .list) (c .before .before .before .before .before .before .before .before .before .if1 .left) _ z _ _ m (c .before .before .before .before .before .match .keys2) (k .ensures) h),
     )
 
 walk-loop-less-2 : (t : ℕ) → walk-lts.Need-loop-less-2 (claims-walk t) (walk-at t) walk.Post walk-Inv-loop walk-μ-loop
@@ -458,28 +418,24 @@ walk-loop-less-2 t c = search needs
 
 walk-loop-again-2 : (t : ℕ) → walk-lts.Need-loop-again-2 (claims-walk t) (walk-at t) walk.Post walk-Inv-loop walk-μ-loop
 walk-loop-again-2 t c =
-    let a = c .before .before .before .before .before .before .before .before .before .before .before .before .before .before .before .before .args in
+    let a = c .before .before .before .before .before .before .before .before .before .before .before .before .before .before .before .args in
     let B = held (a .image .now) in
     let l = c .before .before .before .before .before .before .before .before .before .before .before .before .loop in (
       omega arith,
       c .before .before .before .eval .kept .1 .1 .0 ∙ l .inv .1,
-      l .inv .2,
-      λ room z m h. l .inv .3 room z m
+      λ z m h. l .inv .2 z m
           (runs-test B (a .contents .now) (a .bit) (agent-of (a .scope .now)) (variables-of (a .scope .now)) (node-at B) (l .left) (l .at) (node-row (c .before .before .before .before .before .before .before .before .node .result)) (c .before .before .before .before .before .before .before .before .before .before .before .loop-test .taken) (c .before .before .before .before .before .before .before .before .node .ensures) (l .r) (l .list) (c .before .before .before .before .before .before .before .before .before .if1 .left) (c .before .before .before .eval .result) (c .branch .result) z _ _ m (c .before .before .before .before .before .match .keys3) (c .branch .ensures) (c .before .before .before .eval .ensures) h),
     )
 
-walk-same-length-19 : (t : ℕ) → walk-lts.Need-same-length-19 (claims-walk t) (walk-at t) walk.Post walk-Inv-loop walk-μ-loop
-walk-same-length-19 t c = search needs
-
-walk-same-length-20 : (t : ℕ) → walk-lts.Need-same-length-20 (claims-walk t) (walk-at t) walk.Post walk-Inv-loop walk-μ-loop
-walk-same-length-20 t c = search needs
+walk-same-length-10 : (t : ℕ) → walk-lts.Need-same-length-10 (claims-walk t) (walk-at t) walk.Post walk-Inv-loop walk-μ-loop
+walk-same-length-10 t c = search needs
 
 walk-returns-10 : (t : ℕ) → walk-lts.Need-returns-10 (claims-walk t) (walk-at t) walk.Post walk-Inv-loop walk-μ-loop
 walk-returns-10 t c =
-    let a = c .before .before .before .before .before .args in
+    let a = c .before .before .before .before .args in
     let B = held (a .image .now) in
     let l = c .before .loop in
-    λ room. l .inv .3 room _ _
+    l .inv .2 _ _
     (runs-skip B (a .contents .now) (a .bit) (agent-of (a .scope .now)) (variables-of (a .scope .now)) (rule-from (node-at B) (l .left) (l .at)) (reached (l .r) (l .list)) (l .readers)
     (rule-last (node-at B) (l .left) (l .at) (c .loop-test .left)))
 
@@ -492,14 +448,11 @@ within-walk-requires t c κs = search needs
 within-same-length : (t : ℕ) → within-lts.Need-same-length (claims-within t) (within-at t) within.Post
 within-same-length t c = search needs
 
-within-same-length-2 : (t : ℕ) → within-lts.Need-same-length-2 (claims-within t) (within-at t) within.Post
-within-same-length-2 t c = search needs
-
 within-returns : (t : ℕ) → within-lts.Need-returns (claims-within t) (within-at t) within.Post
 within-returns t c =
-    let a = c .before .before .before .before .before .before .before .before .before .before .before .before .before .before .args in
+    let a = c .before .before .before .before .before .before .before .before .before .before .before .args in
     let B = held (a .image .now) in
-    λ room. runs-scope B (a .contents .now) (a .bit) (c .before .before .before .before .before .before .before .before .bind .last .0) (set (variables-of (a .scope .now)) (a .row .a) (a .x)) (agent-of (a .scope .now)) (rule-from (node-at B) (a .depth) (a .row .c)) (reached (a .s) (a .list .now)) _ _ _ (c .before .before .before .before .before .before .before .before .bind .ensures .0) (c .before .before .before .before .before .before .before .before .bind .ensures .1) (c .before .before .before .before .walk .ensures room)
+    runs-scope B (a .contents .now) (a .bit) (c .before .before .before .before .before .before .bind .last .0) (set (variables-of (a .scope .now)) (a .row .a) (a .x)) (agent-of (a .scope .now)) (rule-from (node-at B) (a .depth) (a .row .c)) (reached (a .s) (a .list .now)) _ _ _ (c .before .before .before .before .before .before .bind .ensures .0) (c .before .before .before .before .before .before .bind .ensures .1) (c .before .before .walk .ensures)
 
 pub +each+import+let-in+walk+within-spec : {M : Type 1} → statement M
 +each+import+let-in+walk+within-spec =
@@ -515,14 +468,12 @@ pub +each+import+let-in+walk+within-spec : {M : Type 1} → statement M
     (each-loop-holds t)
     (each-within-requires t)
     (each-same-length t)
-    (each-same-length-2 t)
     (each-returns t)
     (each-add-next-member t)
     (each-next-member-requires-2 t)
     (each-loop-less t)
     (each-loop-again t)
-    (each-same-length-3 t)
-    (each-same-length-4 t)
+    (each-same-length-2 t)
     (each-returns-2 t))
     (λ t. import-lts.spec (claims-import t)
     (import-at t)
@@ -531,15 +482,14 @@ pub +each+import+let-in+walk+within-spec : {M : Type 1} → statement M
     (import-enroll-requires t)
     (import-within-requires t)
     (import-same-length t)
-    (import-same-length-2 t)
     (import-returns t))
-    (λ t. let-in-lts.spec (claims-let-in t)
+    (λ t. let-in-lts.spec
+    (eval-reads.Asked, eval-reads.Learnt, within-below t, within.Post)
     (let-in-at t)
     let-in.Post
     (let-in-eval-requires t)
     (let-in-within-requires t)
     (let-in-same-length t)
-    (let-in-same-length-2 t)
     (let-in-returns t))
     (λ t. walk-lts.spec (claims-walk t)
     (walk-at t)
@@ -548,54 +498,44 @@ pub +each+import+let-in+walk+within-spec : {M : Type 1} → statement M
     walk-μ-loop
     (walk-loop-holds t)
     (walk-same-length t)
-    (walk-same-length-2 t)
     (walk-returns t)
     (walk-node-requires t)
     (walk-sub-less t)
     (walk-assign-requires t)
-    (walk-same-length-3 t)
-    (walk-same-length-4 t)
+    (walk-same-length-2 t)
     (walk-returns-2 t)
     (walk-walk-requires t)
     (walk-eval-requires t)
     (walk-branch-requires t)
     (walk-let-in-requires t)
-    (walk-same-length-5 t)
-    (walk-same-length-6 t)
+    (walk-same-length-3 t)
     (walk-returns-3 t)
     (walk-each-requires t)
-    (walk-same-length-7 t)
-    (walk-same-length-8 t)
+    (walk-same-length-4 t)
     (walk-returns-4 t)
     (walk-import-requires t)
-    (walk-same-length-9 t)
-    (walk-same-length-10 t)
+    (walk-same-length-5 t)
     (walk-returns-5 t)
     (walk-release-requires t)
-    (walk-same-length-11 t)
-    (walk-same-length-12 t)
+    (walk-same-length-6 t)
     (walk-returns-6 t)
-    (walk-same-length-13 t)
-    (walk-same-length-14 t)
+    (walk-same-length-7 t)
     (walk-returns-7 t)
-    (walk-same-length-15 t)
-    (walk-same-length-16 t)
+    (walk-same-length-8 t)
     (walk-returns-8 t)
-    (walk-same-length-17 t)
-    (walk-same-length-18 t)
+    (walk-same-length-9 t)
     (walk-returns-9 t)
     (walk-loop-less t)
     (walk-loop-again t)
     (walk-loop-less-2 t)
     (walk-loop-again-2 t)
-    (walk-same-length-19 t)
-    (walk-same-length-20 t)
+    (walk-same-length-10 t)
     (walk-returns-10 t))
-    λ t. within-lts.spec (claims-within t)
+    λ t. within-lts.spec
+    (bind-reads.Asked, bind-reads.Learnt, walk-below t, walk.Post)
     (within-at t)
     within.Post
     (within-bind-requires t)
     (within-walk-requires t)
     (within-same-length t)
-    (within-same-length-2 t)
     (within-returns t)

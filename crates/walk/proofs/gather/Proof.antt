@@ -1,6 +1,8 @@
 -- `gather` meets its contract.
-use mathlib.Core.Path.{refl}
+use mathlib.Core.Path.{_≡_, refl}
 use mathlib.Core.List.{[], _∷_}
+use native.Mathlib.Omega.{arith}
+use lib.ListN.{length}
 use Rattle.book.specs.Image.{held}
 use Rattle.giving.specs.Giving.{walk-from}
 use Rattle.giving.proofs.Steps.{reached-going, reached-met}
@@ -27,22 +29,22 @@ ended-requires c κs = search needs
 same-length : tie.Need-same-length
 same-length c = search needs
 
-same-length-2 : tie.Need-same-length-2
-same-length-2 c = search needs
-
 returns : tie.Need-returns
 returns c =
-    let a = c .before .before .before .before .before .before .before .before .before .before .before .before .before .before .before .before .args in
+    let a = c .before .before .before .before .before .before .before .before .before .before .before .before .before .before .before .args in
     let m = a .image .now in
     let B = held m in
     let who = c .before .before .before .before .before .before .before .before .before .before .before .before .agent-at .result in
     let r = c .before .before .before .before .before .before .before .walk .result in
     let l = c .before .before .before .before .before .before .before .walk .last .1 .1 .1 .1 .0 in
-    λ room. rw (c .ended .ensures l)
-    (gathered B (a .contents .now) (a .bit) (a .agent) _ _ _
-    (runs-agent B (a .contents .now) (a .bit) _ _ _ (a .agent) (c .before .before .before .before .before .before .before .before .before .before .before .permanent .result) (agent-row who) (c .before .before .before .before .before .before .before .before .before .before .before .before .agent-at .ensures) (c .before .before .before .before .before .before .before .before .before .before .before .permanent .ensures)
-    (runs-from B (a .contents .now) (a .bit) (walk-at m (0 ∷ 0 ∷ 0 ∷ 0 ∷ 0 ∷ 0 ∷ 0 ∷ 0 ∷ who .element ∷ []) 32 (who .root)) (record { len = 0; label = c .before .before .before .before .before .before .before .before .before .before .before .permanent .result; refused = 0; node = 0 }) (a .list .now) refl _ _ _ (c .before .before .before .before .before .before .before .walk .ensures room)))
-    (walk-from r l) (reached-going r l (c .before .if1 .taken)))
+    let long : length l ≡ 256 = omega (arith, c .before .ended-arg2 .given) in (
+      rw (c .ended .ensures)
+          (gathered B (a .contents .now) (a .bit) (a .agent) _ _ _
+          (runs-agent B (a .contents .now) (a .bit) _ _ _ (a .agent) (c .before .before .before .before .before .before .before .before .before .before .before .permanent .result) (agent-row who) (c .before .before .before .before .before .before .before .before .before .before .before .before .agent-at .ensures) (c .before .before .before .before .before .before .before .before .before .before .before .permanent .ensures)
+          (runs-from B (a .contents .now) (a .bit) (walk-at m (0 ∷ 0 ∷ 0 ∷ 0 ∷ 0 ∷ 0 ∷ 0 ∷ 0 ∷ who .element ∷ []) 32 (who .root)) (record { len = 0; label = c .before .before .before .before .before .before .before .before .before .before .before .permanent .result; refused = 0; node = 0 }) (a .list .now) refl _ _ _ (c .before .before .before .before .before .before .before .walk .ensures)))
+          (walk-from r l) (reached-going r l (c .before .before .before .if1 .taken))),
+      long,
+    )
 
 clear-requires : tie.Need-clear-requires
 clear-requires c κs = search needs
@@ -50,25 +52,25 @@ clear-requires c κs = search needs
 ended-requires-2 : tie.Need-ended-requires-2
 ended-requires-2 c κs = search needs
 
-same-length-3 : tie.Need-same-length-3
-same-length-3 c = search needs
-
-same-length-4 : tie.Need-same-length-4
-same-length-4 c = search needs
+same-length-2 : tie.Need-same-length-2
+same-length-2 c = search needs
 
 returns-2 : tie.Need-returns-2
 returns-2 c =
-    let a = c .before .before .before .before .before .before .before .before .before .before .before .before .before .before .before .before .before .before .before .before .args in
+    let a = c .before .before .before .before .before .before .before .before .before .before .before .before .before .before .before .before .before .before .before .args in
     let m = a .image .now in
     let B = held m in
     let who = c .before .before .before .before .before .before .before .before .before .before .before .before .before .before .before .before .agent-at .result in
     let r = c .before .before .before .before .before .before .before .before .before .before .before .walk .result in
     let l = c .before .before .before .before .before .before .before .before .before .before .before .walk .last .1 .1 .1 .1 .0 in
-    λ room. rw (c .ended2 .ensures l)
-    (gathered-back B (a .contents .now) (a .bit) (a .agent) _ _ _
-    (runs-agent B (a .contents .now) (a .bit) _ _ _ (a .agent) (c .before .before .before .before .before .before .before .before .before .before .before .before .before .before .before .permanent .result) (agent-row who) (c .before .before .before .before .before .before .before .before .before .before .before .before .before .before .before .before .agent-at .ensures) (c .before .before .before .before .before .before .before .before .before .before .before .before .before .before .before .permanent .ensures)
-    (runs-from B (a .contents .now) (a .bit) (walk-at m (0 ∷ 0 ∷ 0 ∷ 0 ∷ 0 ∷ 0 ∷ 0 ∷ 0 ∷ who .element ∷ []) 32 (who .root)) (record { len = 0; label = c .before .before .before .before .before .before .before .before .before .before .before .before .before .before .before .permanent .result; refused = 0; node = 0 }) (a .list .now) refl _ _ _ (c .before .before .before .before .before .before .before .before .before .before .before .walk .ensures room)))
-    (r .refused) (r .node) _ (reached-met r l (c .before .before .before .before .before .if1 .left)) (c .before .before .before .clear .ensures))
+    let long : length l ≡ 256 = omega (arith, c .before .ended-arg4 .given) in (
+      rw (c .ended2 .ensures)
+          (gathered-back B (a .contents .now) (a .bit) (a .agent) _ _ _
+          (runs-agent B (a .contents .now) (a .bit) _ _ _ (a .agent) (c .before .before .before .before .before .before .before .before .before .before .before .before .before .before .before .permanent .result) (agent-row who) (c .before .before .before .before .before .before .before .before .before .before .before .before .before .before .before .before .agent-at .ensures) (c .before .before .before .before .before .before .before .before .before .before .before .before .before .before .before .permanent .ensures)
+          (runs-from B (a .contents .now) (a .bit) (walk-at m (0 ∷ 0 ∷ 0 ∷ 0 ∷ 0 ∷ 0 ∷ 0 ∷ 0 ∷ who .element ∷ []) 32 (who .root)) (record { len = 0; label = c .before .before .before .before .before .before .before .before .before .before .before .before .before .before .before .permanent .result; refused = 0; node = 0 }) (a .list .now) refl _ _ _ (c .before .before .before .before .before .before .before .before .before .before .before .walk .ensures)))
+          (r .refused) (r .node) _ (reached-met r l (c .before .before .before .before .before .before .before .if1 .left)) (c .before .before .before .before .before .clear .ensures)),
+      long,
+    )
 
 pub gather-spec : {M : Type 1} → statement M
 gather-spec =
@@ -79,10 +81,8 @@ gather-spec =
     walk-requires
     ended-requires
     same-length
-    same-length-2
     returns
     clear-requires
     ended-requires-2
-    same-length-3
-    same-length-4
+    same-length-2
     returns-2)

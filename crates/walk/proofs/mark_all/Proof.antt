@@ -31,6 +31,9 @@ loop-holds c = (omega arith, omega arith, refl, refl)
 function-requires : tie.Need-function-requires Inv-loop μ-loop
 function-requires c κs = search needs
 
+cast-size : tie.Need-cast-size Inv-loop μ-loop
+cast-size c = search needs
+
 size-requires : tie.Need-size-requires Inv-loop μ-loop
 size-requires c κs = search needs
 
@@ -38,26 +41,26 @@ cast-end : tie.Need-cast-end Inv-loop μ-loop
 cast-end c = search needs
 
 add-end : tie.Need-add-end Inv-loop μ-loop
-add-end c = omega (arith, c .size .ok, c .before .before .before .before .functions .ok, c .before .before .loop-test .taken)
+add-end c = omega (arith, c .size .ok, c .before .before .before .before .before .functions .ok, c .before .before .before .loop-test .taken)
 
 mark-function-requires : tie.Need-mark-function-requires Inv-loop μ-loop
 mark-function-requires c κs = search needs
 
 add-f : tie.Need-add-f Inv-loop μ-loop
-add-f c = omega (arith, c .before .before .before .before .before .before .before .before .functions .ok, c .before .before .before .before .before .before .loop-test .taken)
+add-f c = omega (arith, c .before .before .before .before .before .before .before .before .before .functions .ok, c .before .before .before .before .before .before .before .loop-test .taken)
 
 loop-less : tie.Need-loop-less Inv-loop μ-loop
-loop-less c = omega (arith, c .before .before .before .before .before .before .loop-test .taken)
+loop-less c = omega (arith, c .before .before .before .before .before .before .before .loop-test .taken)
 
 loop-again : tie.Need-loop-again Inv-loop μ-loop
 loop-again c =
-    let a = c .before .before .before .before .before .before .before .before .before .before .before .args in
+    let a = c .before .before .before .before .before .before .before .before .before .before .before .before .args in
     let m = a .image .now in
-    let l = c .before .before .before .before .before .before .before .loop in
-    let h : l .f < length (held m .functions) = rw (← c .before .before .before .before .before .before .before .before .functions .ensures .0) (c .before .before .before .before .before .before .loop-test .taken) in
-    let e : c .before .before .before .before .size .result ≡ size (held m .E) (function-at (held m) (l .f) .arity) = rw (← c .before .before .before .before .before .function .ensures, ← c .before .before .before .before .before .before .before .before .before .elements .ensures .0) (c .before .before .before .before .size .ensures) in
-    let k : c .before .before .before .before .before .function .result .kind ≡ function-at (held m) (l .f) .kind = ap (λ (g : Function). g .kind) (c .before .before .before .before .before .function .ensures) in
-    (omega (arith, c .before .before .before .before .before .before .loop-test .taken), omega (arith, c .before .before .before .before .size .ok), c .before .before .mark-function .kept .0 ∙ l .inv .2, all-step (a .bit) (held m .E) (held m .functions) (l .f) (l .first) (l .readers) (c .before .before .before .before .size .result) (c .before .before .before .before .before .function .result .kind) _ h e k (c .before .before .mark-function .ensures) ∙ l .inv .3)
+    let l = c .before .before .before .before .before .before .before .before .loop in
+    let h : l .f < length (held m .functions) = rw (← c .before .before .before .before .before .before .before .before .before .functions .ensures .0) (c .before .before .before .before .before .before .before .loop-test .taken) in
+    let e : c .before .before .before .before .size .result ≡ size (held m .E) (function-at (held m) (l .f) .arity) = rw (← c .before .before .before .before .before .before .function .ensures, ← c .before .before .before .before .before .before .before .before .before .before .elements .ensures .0) (c .before .before .before .before .size .ensures) in
+    let k : c .before .before .before .before .before .before .function .result .kind ≡ function-at (held m) (l .f) .kind = ap (λ (g : Function). g .kind) (c .before .before .before .before .before .before .function .ensures) in
+    (omega (arith, c .before .before .before .before .before .before .before .loop-test .taken), omega (arith, c .before .before .before .before .size .ok), c .before .before .mark-function .kept .0 ∙ l .inv .2, all-step (a .bit) (held m .E) (held m .functions) (l .f) (l .first) (l .readers) (c .before .before .before .before .size .result) (c .before .before .before .before .before .before .function .result .kind) _ h e k (c .before .before .mark-function .ensures) ∙ l .inv .3)
 
 same-length : tie.Need-same-length Inv-loop μ-loop
 same-length c = search needs
@@ -80,6 +83,7 @@ mark-all-spec =
     functions-requires
     loop-holds
     function-requires
+    cast-size
     size-requires
     cast-end
     add-end

@@ -26,22 +26,18 @@ free-requires c κs = search needs
 same-length : tie.Need-same-length
 same-length c = search needs
 
-same-length-2 : tie.Need-same-length-2
-same-length-2 c = search needs
-
 returns : tie.Need-returns
 unfolding walk
 returns c =
-    let a = c .before .before .before .before .before .before .before .before .before .before .before .before .before .before .before .args in
+    let a = c .before .before .before .before .before .before .before .before .before .before .before .before .args in
     let m = a .image .now in
     let B = held m in
     let w = walk-from (a .s) (a .list .now) in
-    let y = c .before .before .before .before .before .before .before .before .before .before .eval .result in
-    λ room. runs-bind B (a .contents .now) (a .bit) (value-at m (a .scope .now) (a .depth) (a .row .a)) (λ y. read (reserve y) >>= λ v. done (refuse-if (not-free B y v) not-releasable (a .n) w then give (a .n) (Release y))) _ _ _ _ _ (c .before .before .before .before .before .before .before .before .before .before .eval .ensures)
-    (runs-bind B (a .contents .now) (a .bit) (read (reserve y)) (λ v. done (refuse-if (not-free B y v) not-releasable (a .n) w then give (a .n) (Release y))) _ _ _ _ _ (c .before .before .before .before .before .before .read-roll .ensures)
-    (runs-gives B (a .contents .now) (a .bit) _ _ _ (c .before .before .free .ensures room ∙ rw (reached-going (a .s) (a .list .now) (c .before .before .before .before .before .before .before .before .before .before .before .before .before .before .before .pre)))))
+    let y = c .before .before .before .before .before .before .before .before .eval .result in
+    runs-bind B (a .contents .now) (a .bit) (value-at m (a .scope .now) (a .depth) (a .row .a)) (λ y. read (reserve y) >>= λ v. done (refuse-if (not-free B y v) not-releasable (a .n) w then give (a .n) (Release y))) _ _ _ _ _ (c .before .before .before .before .before .before .before .before .eval .ensures)
+    (runs-bind B (a .contents .now) (a .bit) (read (reserve y)) (λ v. done (refuse-if (not-free B y v) not-releasable (a .n) w then give (a .n) (Release y))) _ _ _ _ _ (c .before .before .before .before .read-roll .ensures)
+    (runs-gives B (a .contents .now) (a .bit) _ _ _ (c .free .ensures ∙ rw (reached-going (a .s) (a .list .now) (c .before .before .before .before .before .before .before .before .before .before .before .before .pre)))))
 
 pub release-spec : {M : Type 1} → statement M
 release-spec =
-    tie.close
-    (tie.spec eval-requires read-roll-requires free-requires same-length same-length-2 returns)
+    tie.close (tie.spec eval-requires read-roll-requires free-requires same-length returns)

@@ -1,0 +1,32 @@
+-- 10 from the table of an order, by sets of moves (01, "Refused, and how").
+use mathlib.Core.Path.{_≡_}
+use mathlib.Core.Bool.{Bool, true, _&&_, not}
+use mathlib.Core.List.{List}
+use Prim.Native.Nat.{ℕ, _%_, _≤_, _<_, min}
+use lib.Dec.{eqb}
+use Rattle.text.specs.Words.{Checked}
+use Rattle.text.specs.Refusals.{agent-unordered}
+use Rattle.order.specs.Sets.{bit}
+use Rattle.order.specs.Pairs.{ordered-by, least-two, none-two}
+use Rattle.order.specs.Log.{most-moves}
+use Rattle.order.specs.Table.{agent-in}
+
+abbrev pub most-agents : ℕ
+most-agents = 16
+
+-- the agent of move i, as far as a table of so many tells agents apart
+abbrev pub agent-of : List ℕ → ℕ → ℕ
+agent-of t i = agent-in t i % most-agents
+
+-- moves i and j are of one agent, and the table leaves them unordered
+abbrev pub loose-in : List ℕ → ℕ → ℕ → Bool
+loose-in t i j = eqb (agent-of t i) (agent-of t j) && not (ordered-by t i j)
+
+-- of the first m moves
+unfoldable pub check-agents-in : List ℕ → ℕ → Checked (Unit {0})
+check-agents-in t m = none-two agent-unordered (least-two (loose-in t) (min m most-moves))
+
+-- r is the least move that is in the set `own` and not in `row`; 64 for none
+pub record Nearest (own row r : ℕ) : Type 0 where
+  pub hit : r < 64 → (bit own r && not (bit row r)) ≡ true
+  pub low : (i : ℕ) → i < 64 → (bit own i && not (bit row i)) ≡ true → r ≤ i

@@ -1,0 +1,128 @@
+// The rows of an image, taken from the text of a book: each line read once, its form and its numbers together.
+use book::Header;
+use book::Image;
+use text::Found;
+use text::Line;
+ghost use mathlib.Core.Path.{_≡_};
+ghost use Prim.Native.Nat.{_+_, _*_, _-_, _<_, _≤_};
+ghost use Rattle.text.specs.Words.{least-from};
+ghost use Rattle.text.specs.Text.{bad-line};
+ghost use Rattle.book.specs.Lines.{first-function, first-entry};
+ghost use Rattle.book.specs.Image.{row-in, Room, capped-header, filled, first-of, laid-row};
+ghost use Rattle.rows.specs.Rows.{row-of, headed, taken, passed, laid};
+
+// The row that line i has.
+fn row_of(h: Header, i: u32) -> u32
+    requires { ⌜ (Room h) × (i < first-entry h) ⌝ }
+    ensures { λ r. ⌜ r ≡ row-of h i ⌝ }
+{
+    let nodes = 2 + h.functions;
+    let agents = nodes + h.nodes;
+    if i < nodes {
+        i
+    } else if i < agents {
+        image::NODE_ROWS + (i - nodes)
+    } else {
+        image::AGENT_ROWS + (i - agents)
+    }
+}
+
+// The header's two rows.
+fn put_header(h: Header, image: &mut [u32])
+    ensures { λ _. ⌜ now (image .exit) ≡ headed h (now (image .entry)) ⌝ }
+{
+    image::store(
+        image,
+        0,
+        Line {
+            a: h.elements,
+            b: h.permanent,
+            c: h.functions,
+            d: h.nodes,
+        },
+    );
+    image::store(
+        image,
+        1,
+        Line {
+            a: h.agents,
+            b: h.contents,
+            c: 0,
+            d: 0,
+        },
+    );
+}
+
+// Stores the lines of functions, nodes and agents. The first that is out of form ends it.
+fn take_lines(text: &[u8], h: Header, image: &mut [u32]) -> Found
+    requires { ⌜ Room h ⌝ }
+    ensures { λ r. ⌜ (r ≡ least-from (bad-line (now (text .entry))) (first-entry h - first-function) first-function) × (now (image .exit) ≡ taken h (now (text .entry)) (passed first-function (first-entry h) r) (now (image .entry))) ⌝ }
+{
+    let end = 2 + h.functions + h.nodes + h.agents;
+    let mut i: u32 = 2;
+    while i < end {
+        let l = text::parse(text, i);
+        if !l.ok {
+            return Found::Here(i);
+        }
+        image::store(image, row_of(h, i), l.line);
+        i += 1;
+    }
+    Found::Nowhere
+}
+
+// 1 on the lines before the contents, and their rows: of functions, nodes and agents as they stand.
+pub fn take(text: &[u8], h: Header, image: &mut Image) -> Found
+    ensures { λ r. ⌜ (r ≡ least-from (bad-line (now (text .entry))) (first-entry (capped-header h) - first-function) first-function) × (now (image .exit) ≡ taken (capped-header h) (now (text .entry)) (passed first-function (first-entry (capped-header h)) r) (headed (capped-header h) (now (image .entry)))) ⌝ }
+{
+    let g = image::capped(h);
+    put_header(g, image);
+    take_lines(text, g, image)
+}
+
+// Gives the rows of n functions their first locations, and says how many locations there are.
+fn lay_functions(e: u32, n: u32, image: &mut [u32]) -> u32
+    requires { ⌜ (e ≤ 10000) × (n ≤ 32) ⌝ }
+    ensures { λ r. ⌜ (r ≡ first-of (λ f. row-in (now (image .entry)) (2 + f)) e n) × (now (image .exit) ≡ filled (laid-row (λ f. row-in (now (image .entry)) (2 + f)) e) 2 n 0 (now (image .entry))) ⌝ }
+{
+    let mut sum: u64 = 0;
+    let mut i: u32 = 0;
+    while i < n {
+        let l = image::row(image, image::FUNCTION_ROWS + i);
+        let first = sum as u32;
+        image::store(
+            image,
+            image::FUNCTION_ROWS + i,
+            Line {
+                a: first,
+                b: l.a,
+                c: l.b,
+                d: 0,
+            },
+        );
+        sum += image::size(e, l.a);
+        i += 1;
+    }
+    sum as u32
+}
+
+// Gives the functions their first locations, and the header's rows L.
+pub fn lay_out(image: &mut Image)
+    ensures { λ _. ⌜ now (image .exit) ≡ laid (now (image .entry)) ⌝ }
+{
+    let e = image::elements(image);
+    let n = image::functions(image);
+    let a = image::fetch(image, 4);
+    let c = image::fetch(image, 5);
+    let all = lay_functions(e, n, image);
+    image::store(
+        image,
+        1,
+        Line {
+            a,
+            b: c,
+            c: all,
+            d: 0,
+        },
+    );
+}
