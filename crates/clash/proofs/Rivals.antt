@@ -34,49 +34,51 @@ slot-low c = mod-lt (location-of c) (omega arith)
 one-slot : (c d : ℕ) → location-of c ≡ location-of d → slot-of c ≡ slot-of d
 one-slot c d e = ap (λ (l : ℕ). l % 512) e
 
--- ---- down a chain
+-- ---- down to the last one at its location
 
--- from i to p none has the location of c, and i is at its slot
+-- from i to p none has the location of c
 pub record Down (list : List ℕ) (c p i : ℕ) : Type 0 where
   pub low : i ≤ p
-  pub same : 0 < i → slot-of (getD list (i - 1) 0) ≡ slot-of c
   pub skips : (k : ℕ) → i ≤ k → k < p → location-of (getD list k 0) ≡ location-of c → ⊥
 
-module _ (list prior : List ℕ) (c p : ℕ) (chain : Chain list prior c p) where
-  pub down-start : Down list c p p
-  down-start = record { low = omega arith; same = chain .same; skips = λ k h g. absurd (omega arith) }
+pub down-start : (list : List ℕ) (c p : ℕ) → Down list c p p
+down-start list c p = record { low = omega arith; skips = λ k h g. absurd (omega arith) }
 
-  module _ (i : ℕ) (down : Down list c p i) where
-    pub down-here : 0 < i → location-of (getD list (i - 1) 0) ≡ location-of c → Last location-of list c p i
-    down-here h e = record { low = down .low; same = λ g. e; skips = down .skips }
+module _ {list : List ℕ} {c p i : ℕ} (down : Down list c p i) where
+  pub down-here : location-of (getD list (i - 1) 0) ≡ location-of c → Last location-of list c p i
+  down-here e = record { low = down .low; same = λ g. e; skips = down .skips }
 
-    pub down-end : i ≤ 0 → Last location-of list c p 0
-    down-end h = record { low = omega arith; same = λ g. absurd (omega arith); skips = λ k g. down .skips k (omega arith) }
+  pub down-end : i ≤ 0 → Last location-of list c p 0
+  down-end h = record { low = omega arith; same = λ g. absurd (omega arith); skips = λ k g. down .skips k (omega arith) }
 
-    module _ (more : 0 < i) (apart : location-of (getD list (i - 1) 0) ≡ location-of c → ⊥) where
-      link : Last slot-of list (getD list (i - 1) 0) (i - 1) (getD prior (i - 1) 0)
-      link = chain .links (i - 1) (omega (arith, down .low))
+  module _ (apart : location-of (getD list (i - 1) 0) ≡ location-of c → ⊥) where
+    -- on to q, if none from there to i - 1 has it
+    down-to : (q : ℕ) → q < i → ((k : ℕ) → q ≤ k → k < i - 1 → location-of (getD list k 0) ≡ location-of c → ⊥) → Down list c p q
+    down-to q less between = record { low = omega (arith, down .low); skips = λ k h g e. past k h g e (ltb k i) refl }
+      where
+        past : (k : ℕ) → q ≤ k → k < p → location-of (getD list k 0) ≡ location-of c → (b : Bool) → ltb k i ≡ b → ⊥
+        past k h g e true r =
+            dite (ℕ-discrete k (i - 1)) (λ (s : k ≡ i - 1). apart (rw s at e))
+            (λ (s : ¬ (k ≡ i - 1)). between k h (omega (arith, s, ltb-true k i r)) e)
+        past k h g e false r = down .skips k (omega (arith, ltb-false k i r)) g e
 
-      pub down-less : getD prior (i - 1) 0 < i
-      down-less = omega (arith, link .low)
+    pub down-one : 0 < i → Down list c p (i - 1)
+    down-one more = down-to (i - 1) (omega arith) (λ k h g. absurd (omega arith))
 
-      pub down-next : Down list c p (getD prior (i - 1) 0)
-      down-next =
-          record {
-            low = omega (arith, link .low, down .low);
-            same = λ h. link .same h ∙ down .same more;
-            skips =
-                λ k h g e.
-                dite (ℕ-discrete k (i - 1)) (λ (q : k ≡ i - 1). apart (rw q at e))
-                (λ (q : ¬ (k ≡ i - 1)).
-                past k h g e q (ltb k i) refl);
-          }
-        where
-          past :
-              (k : ℕ) → getD prior (i - 1) 0 ≤ k → k < p → location-of (getD list k 0) ≡ location-of c → ¬ (k ≡ i - 1) →
-              (b : Bool) → ltb k i ≡ b → ⊥
-          past k h g e q true r = link .skips k h (omega (arith, q, ltb-true k i r)) (one-slot (getD list k 0) c e ∙ sym (down .same more))
-          past k h g e q false r = down .skips k (omega (arith, ltb-false k i r)) g e
+-- down a chain each is at the slot of c
+module _ {list prior : List ℕ} {c p i : ℕ} (chain : Chain list prior c p) (down : Down list c p i) (more : 0 < i) where
+  link : Last slot-of list (getD list (i - 1) 0) (i - 1) (getD prior (i - 1) 0)
+  link = chain .links (i - 1) (omega (arith, down .low))
+
+  pub link-less : getD prior (i - 1) 0 < i
+  link-less = omega (arith, link .low)
+
+  module _ (here : slot-of (getD list (i - 1) 0) ≡ slot-of c) where
+    pub link-same : 0 < getD prior (i - 1) 0 → slot-of (getD list (getD prior (i - 1) 0 - 1) 0) ≡ slot-of c
+    link-same h = link .same h ∙ here
+
+    pub link-down : (location-of (getD list (i - 1) 0) ≡ location-of c → ⊥) → Down list c p (getD prior (i - 1) 0)
+    link-down apart = down-to down apart (getD prior (i - 1) 0) link-less (λ k h g e. link .skips k h g (one-slot (getD list k 0) c e ∙ sym here))
 
 -- ---- the pass
 
@@ -98,160 +100,180 @@ module _ (list : List ℕ) (n : ℕ) where
     pub differ : code one ≡ code two → ⊥
 
   -- what holds after the first j, all updates, with b at the start
-  pub record Looked (b j : ℕ) (last prior : List ℕ) (least : ℕ) : Type 0 where
+  pub record Looked (b j least : ℕ) : Type 0 where
     pub updates : (k : ℕ) → k < j → code k < releases
-    pub wide : (length last ≡ 512) × (length prior ≡ 256)
-    pub last-is : (c : ℕ) → Last slot-of list c j (getD last (slot-of c) 0)
-    pub links : Linked list prior j
     pub low : least ≤ b
     pub bad : least < b → Rivals least
     pub found : (i k : ℕ) → i < j → k < j → at i ≡ at k → (code i ≡ code k → ⊥) → least ≤ at k
 
-  pub looked-start : (b : ℕ) → Looked b 0 (replicate 512 0) (replicate 256 0) b
+  pub looked-start : (b : ℕ) → Looked b 0 b
   looked-start b =
       record {
         updates = λ k h. absurd (omega arith);
-        wide = (length-replicate {A = ℕ} 512 0, length-replicate {A = ℕ} 256 0);
-        last-is =
-            λ c.
-            rw (getD-replicate {A = ℕ} 512 (slot-of c) 0 0 (slot-low c))
-            (record { low = omega arith; same = λ h. absurd (omega arith); skips = λ k h g. absurd (omega arith) });
-        links = λ i h. absurd (omega arith);
         low = omega arith;
         bad = λ h. absurd (omega arith);
         found = λ i k h. absurd (omega arith);
       }
 
-  module _ (b j : ℕ) (last prior : List ℕ) (least : ℕ) (so-far : Looked b j last prior least) (more : j < n) (room : j < 256) where
-    -- the last before at the slot
-    abbrev p : ℕ
-    p = getD last (slot-of (code j)) 0
+  module _ {b j least i : ℕ} (so-far : Looked b j least) (more : j < n) (held : Last location-of list (code j) j i) (update : code j < releases) where
+    abbrev left : ℕ
+    left = nearer list i (code j) least
 
-    before : Last slot-of list (code j) j p
-    before = so-far .last-is (code j)
+    left-low : left ≤ least
+    left-low = go (eqb i 0) (eqb (code (i - 1)) (code j)) (leb least (at j)) refl
+      where
+        go : (t s u : Bool) → leb least (at j) ≡ u → (if t then least else if s || u then least else at j) ≤ least
+        go true s u q = omega arith
+        go false true u q = omega arith
+        go false false true q = omega arith
+        go false false false q = omega (arith, leb-false)
 
-    pub looked-chain : n ≤ length list → Chain list prior (code j) p
-    looked-chain h =
+    left-bad : left < b → Rivals left
+    left-bad = go (eqb i 0) (eqb (code (i - 1)) (code j)) (leb least (at j)) refl refl
+      where
+        go :
+            (t s u : Bool) → eqb i 0 ≡ t → eqb (code (i - 1)) (code j) ≡ s → (if t then least else if s || u then least else at j) < b →
+            Rivals (if t then least else if s || u then least else at j)
+        go true s u q r h = so-far .bad h
+        go false true u q r h = so-far .bad h
+        go false false true q r h = so-far .bad h
+        go false false false q r h =
+            let z = eqb-false i 0 q in
+            record {
+              one = i - 1;
+              two = j;
+              one-in = omega (arith, held .low);
+              two-in = more;
+              one-at = held .same (omega (arith, z));
+              two-at = refl;
+              differ = eqb-false (code (i - 1)) (code j) r;
+            }
+
+    -- an earlier one at its location with another value
+    left-found : (k : ℕ) → k < j → at k ≡ at j → (code k ≡ code j → ⊥) → left ≤ at j
+    left-found k h e d = go (eqb i 0) (eqb (code (i - 1)) (code j)) (leb least (at j)) refl refl refl
+      where
+        -- it is no later than the last one there
+        within : k < i
+        within = go (ltb k i) refl
+          where
+            go : (t : Bool) → ltb k i ≡ t → k < i
+            go true q = ltb-true k i q
+            go false q = absurd (held .skips k (ltb-false k i q) h e)
+
+        go : (t s u : Bool) → eqb i 0 ≡ t → eqb (code (i - 1)) (code j) ≡ s → leb least (at j) ≡ u → (if t then least else if s || u then least else at j) ≤ at j
+        go true s u q r v = absurd (omega (arith, eqb-true i 0 q, within))
+        go false true u q r v =
+            let c : code (i - 1) ≡ code j = eqb-true (code (i - 1)) (code j) r in
+            let f = so-far .found k (i - 1) h (omega (arith, held .low, within)) (e ∙ sym (ap location-of c)) (λ z. d (z ∙ c)) in
+            omega (arith, f, ap location-of c)
+        go false false true q r v = leb-true least (at j) v
+        go false false false q r v = omega arith
+
+    next-found : (i k : ℕ) → i < j + 1 → k < j + 1 → at i ≡ at k → (code i ≡ code k → ⊥) → left ≤ at k
+    next-found i k h g e d =
+        dite (ℕ-discrete k j)
+        (λ (q : k ≡ j).
+        dite (ℕ-discrete i j) (λ (r : i ≡ j). absurd (d (ap code (r ∙ sym q))))
+        (λ (r : ¬ (i ≡ j)). let f = left-found i (omega arith) (e ∙ ap at q) (λ z. d (z ∙ ap code (sym q))) in omega (arith, f, ap at q)))
+        (λ (q : ¬ (k ≡ j)).
+        dite (ℕ-discrete i j)
+        (λ (r : i ≡ j). let f = left-found k (omega arith) (sym e ∙ ap at r) (λ z. d (ap code r ∙ sym z)) in omega (arith, f, e, ap at r))
+        (λ (r : ¬ (i ≡ j)). omega (arith, left-low, so-far .found i k (omega arith) (omega arith) e d)))
+
+    pub looked-next : Looked b (j + 1) left
+    looked-next =
         record {
-          inside = (omega (arith, before .low), omega (arith, before .low));
-          links = λ i g. so-far .links i (omega (arith, before .low));
-          same = before .same;
+          updates = λ k h. dite (ℕ-discrete k j) (λ (q : k ≡ j). rw q update) (λ (q : ¬ (k ≡ j)). so-far .updates k (omega arith));
+          low = omega (arith, left-low, so-far .low);
+          bad = left-bad;
+          found = next-found;
         }
 
-    module _ (i : ℕ) (held : Last location-of list (code j) p i) (update : code j < releases) where
-      abbrev left : ℕ
-      left = nearer list i (code j) least
+-- ---- the tables of slots
 
-      pub held-in : i ≤ j
-      held-in = omega (arith, held .low, before .low)
+-- what they have after the first j
+pub record Tables (list : List ℕ) (j : ℕ) (last prior : List ℕ) : Type 0 where
+  pub wide : (length last ≡ 512) × (length prior ≡ 256)
+  pub last-is : (c : ℕ) → Last slot-of list c j (getD last (slot-of c) 0)
+  pub links : Linked list prior j
 
-      left-low : left ≤ least
-      left-low = go (eqb i 0) (eqb (code (i - 1)) (code j)) (leb least (at j)) refl
-        where
-          go : (t s u : Bool) → leb least (at j) ≡ u → (if t then least else if s || u then least else at j) ≤ least
-          go true s u q = omega arith
-          go false true u q = omega arith
-          go false false true q = omega arith
-          go false false false q = omega (arith, leb-false)
+pub tables-start : (list : List ℕ) → Tables list 0 (replicate 512 0) (replicate 256 0)
+tables-start list =
+    record {
+      wide = (length-replicate {A = ℕ} 512 0, length-replicate {A = ℕ} 256 0);
+      last-is =
+          λ c.
+          rw (getD-replicate {A = ℕ} 512 (slot-of c) 0 0 (slot-low c))
+          (record { low = omega arith; same = λ h. absurd (omega arith); skips = λ k h g. absurd (omega arith) });
+      links = λ i h. absurd (omega arith);
+    }
 
-      left-bad : left < b → Rivals left
-      left-bad = go (eqb i 0) (eqb (code (i - 1)) (code j)) (leb least (at j)) refl refl
-        where
-          go :
-              (t s u : Bool) → eqb i 0 ≡ t → eqb (code (i - 1)) (code j) ≡ s → (if t then least else if s || u then least else at j) < b →
-              Rivals (if t then least else if s || u then least else at j)
-          go true s u q r h = so-far .bad h
-          go false true u q r h = so-far .bad h
-          go false false true q r h = so-far .bad h
-          go false false false q r h =
-              let z = eqb-false i 0 q in
-              record {
-                one = i - 1;
-                two = j;
-                one-in = omega (arith, held-in);
-                two-in = more;
-                one-at = held .same (omega (arith, z));
-                two-at = refl;
-                differ = eqb-false (code (i - 1)) (code j) r;
-              }
+module _ {list : List ℕ} {j s : ℕ} {last prior : List ℕ} (so-far : Tables list j last prior) (at-slot : s ≡ slot-of (getD list j 0)) where
+  abbrev x : ℕ
+  x = getD list j 0
 
-      -- an earlier one at its location with another value
-      left-found : (k : ℕ) → k < j → at k ≡ at j → (code k ≡ code j → ⊥) → left ≤ at j
-      left-found k h e d = go (eqb i 0) (eqb (code (i - 1)) (code j)) (leb least (at j)) refl refl refl
-        where
-          -- it is no later than the last one there
-          past : (t : Bool) → ltb k p ≡ t → i ≤ k → ⊥
-          past true q g = held .skips k g (ltb-true k p q) e
-          past false q g = before .skips k (ltb-false k p q) h (one-slot (code k) (code j) e)
+  -- the last before at the slot
+  abbrev p : ℕ
+  p = getD last s 0
 
-          within : k < i
-          within = go (ltb k i) refl
-            where
-              go : (t : Bool) → ltb k i ≡ t → k < i
-              go true q = ltb-true k i q
-              go false q = absurd (past (ltb k p) refl (ltb-false k i q))
+  before : Last slot-of list x j p
+  before = rw at-slot (so-far .last-is x)
 
-          go : (t s u : Bool) → eqb i 0 ≡ t → eqb (code (i - 1)) (code j) ≡ s → leb least (at j) ≡ u → (if t then least else if s || u then least else at j) ≤ at j
-          go true s u q r v = absurd (omega (arith, eqb-true i 0 q, within))
-          go false true u q r v =
-              let c : code (i - 1) ≡ code j = eqb-true (code (i - 1)) (code j) r in
-              let f = so-far .found k (i - 1) h (omega (arith, held-in, within)) (e ∙ sym (ap location-of c)) (λ z. d (z ∙ c)) in
-              omega (arith, f, ap location-of c)
-          go false false true q r v = leb-true least (at j) v
-          go false false false q r v = omega arith
+  pub tables-chain : j ≤ length list → j ≤ 256 → Chain list prior x p
+  tables-chain inside room =
+      record {
+        inside = (omega (arith, before .low), omega (arith, before .low));
+        links = λ i g. so-far .links i (omega (arith, before .low));
+        same = before .same;
+      }
 
-      abbrev next-last : List ℕ
-      next-last = set last (slot-of (code j)) (j + 1)
+  -- the last one at its location is at its slot
+  pub tables-held : {i : ℕ} → Last location-of list x p i → Last location-of list x j i
+  tables-held {i} held =
+      record {
+        low = omega (arith, held .low, before .low);
+        same = held .same;
+        skips = λ k h g e. past k h g e (ltb k p) refl;
+      }
+    where
+      past : (k : ℕ) → i ≤ k → k < j → location-of (getD list k 0) ≡ location-of x → (t : Bool) → ltb k p ≡ t → ⊥
+      past k h g e true q = held .skips k h (ltb-true k p q) e
+      past k h g e false q = before .skips k (ltb-false k p q) g (one-slot (getD list k 0) x e)
 
-      abbrev next-prior : List ℕ
-      next-prior = set prior j p
+  next-last-is : (c : ℕ) → Last slot-of list c (j + 1) (getD (set last s (j + 1)) (slot-of c) 0)
+  next-last-is c =
+      dite (ℕ-discrete (slot-of c) s)
+      (λ (q : slot-of c ≡ s).
+      let e : getD (set last s (j + 1)) (slot-of c) 0 ≡ j + 1 = rw q (getD-set-same last s (j + 1) 0 (omega (arith, so-far .wide, slot-low x, at-slot))) in
+      let f : j + 1 - 1 ≡ j = omega arith in
+      rw e (record { low = omega arith; same = λ h. rw f (sym (q ∙ at-slot)); skips = λ k h g. absurd (omega arith) }))
+      (λ (q : ¬ (slot-of c ≡ s)).
+      let l = so-far .last-is c in
+      rw (getD-set-other last s (slot-of c) (j + 1) 0 q)
+      (record {
+        low = omega (arith, l .low);
+        same = l .same;
+        skips =
+            λ k h g e.
+            dite (ℕ-discrete k j) (λ (r : k ≡ j). q (sym e ∙ ap (λ (i : ℕ). slot-of (getD list i 0)) r ∙ sym at-slot))
+            (λ (r : ¬ (k ≡ j)). l .skips k h (omega arith) e);
+      }))
 
-      next-last-is : (c : ℕ) → Last slot-of list c (j + 1) (getD next-last (slot-of c) 0)
-      next-last-is c =
-          dite (ℕ-discrete (slot-of c) (slot-of (code j)))
-          (λ (q : slot-of c ≡ slot-of (code j)).
-          let e : getD next-last (slot-of c) 0 ≡ j + 1 = ap (λ (s : ℕ). getD next-last s 0) q ∙ getD-set-same last (slot-of (code j)) (j + 1) 0 (omega (arith, so-far .wide, slot-low (code j))) in
-          let f : j + 1 - 1 ≡ j = omega arith in
-          rw e (record { low = omega arith; same = λ h. rw f (sym q); skips = λ k h g. absurd (omega arith) }))
-          (λ (q : ¬ (slot-of c ≡ slot-of (code j))).
-          let l = so-far .last-is c in
-          rw (getD-set-other last (slot-of (code j)) (slot-of c) (j + 1) 0 q)
-          (record {
-            low = omega (arith, l .low);
-            same = l .same;
-            skips =
-                λ k h g e.
-                dite (ℕ-discrete k j) (λ (r : k ≡ j). q (sym e ∙ ap (λ (i : ℕ). slot-of (code i)) r)) (λ (r : ¬ (k ≡ j)). l .skips k h (omega arith) e);
-          }))
+  module _ (room : j < 256) where
+    next-links : Linked list (set prior j p) (j + 1)
+    next-links k h =
+        dite (ℕ-discrete k j)
+        (λ (q : k ≡ j). rw (q, getD-set-same prior j p 0 (omega (arith, so-far .wide))) before)
+        (λ (q : ¬ (k ≡ j)). rw (getD-set-other prior j k p 0 q) (so-far .links k (omega arith)))
 
-      next-links : Linked list next-prior (j + 1)
-      next-links k h =
-          dite (ℕ-discrete k j)
-          (λ (q : k ≡ j). rw (q, getD-set-same prior j p 0 (omega (arith, so-far .wide))) before)
-          (λ (q : ¬ (k ≡ j)). rw (getD-set-other prior j k p 0 q) (so-far .links k (omega arith)))
-
-      next-found : (i k : ℕ) → i < j + 1 → k < j + 1 → at i ≡ at k → (code i ≡ code k → ⊥) → left ≤ at k
-      next-found i k h g e d =
-          dite (ℕ-discrete k j)
-          (λ (q : k ≡ j).
-          dite (ℕ-discrete i j) (λ (r : i ≡ j). absurd (d (ap code (r ∙ sym q))))
-          (λ (r : ¬ (i ≡ j)). let f = left-found i (omega arith) (e ∙ ap at q) (λ z. d (z ∙ ap code (sym q))) in omega (arith, f, ap at q)))
-          (λ (q : ¬ (k ≡ j)).
-          dite (ℕ-discrete i j)
-          (λ (r : i ≡ j). let f = left-found k (omega arith) (sym e ∙ ap at r) (λ z. d (ap code r ∙ sym z)) in omega (arith, f, e, ap at r))
-          (λ (r : ¬ (i ≡ j)). omega (arith, left-low, so-far .found i k (omega arith) (omega arith) e d)))
-
-      pub looked-next : Looked b (j + 1) next-last next-prior left
-      looked-next =
-          record {
-            updates = λ k h. dite (ℕ-discrete k j) (λ (q : k ≡ j). rw q update) (λ (q : ¬ (k ≡ j)). so-far .updates k (omega arith));
-            wide = (length-set last (slot-of (code j)) (j + 1) ∙ so-far .wide .0, length-set prior j p ∙ so-far .wide .1);
-            last-is = next-last-is;
-            links = next-links;
-            low = omega (arith, left-low, so-far .low);
-            bad = left-bad;
-            found = next-found;
-          }
+    pub tables-next : Tables list (j + 1) (set last s (j + 1)) (set prior j p)
+    tables-next =
+        record {
+          wide = (length-set last s (j + 1) ∙ so-far .wide .0, length-set prior j p ∙ so-far .wide .1);
+          last-is = next-last-is;
+          links = next-links;
+        }
 
 -- ---- what it found
 
@@ -267,7 +289,7 @@ any-some p list zero h = refl
 any-some p list (suc n) h =
     rw (take-suc list n 0) (any-snoc p (take n list) (getD list n 0) ∙ ap (λ (b : Bool). b || p (decode-of (getD list n 0))) (any-some p list n (omega arith)))
 
-module _ (B : Program) (c list : List ℕ) (n : ℕ) (fits : n ≤ length list) (updates : (k : ℕ) → k < n → getD list k 0 < releases) where
+module _ (B : Program) (c : List ℕ) {list : List ℕ} {n b j least : ℕ} (fits : n ≤ length list) (over : n ≤ j) (done : Looked list n b j least) where
   abbrev all : List Instruction
   all = items list n
 
@@ -276,7 +298,7 @@ module _ (B : Program) (c list : List ℕ) (n : ℕ) (fits : n ≤ length list) 
 
   is-update : (k : ℕ) → k < n → decode-of (getD list k 0) ≡ Update (at list n k) (val k)
   unfolding decode-of
-  is-update k h = rw (lt-ltb (getD list k 0) releases (updates k h))
+  is-update k h = rw (lt-ltb (getD list k 0) releases (done .updates k (omega arith)))
 
   none-released : (x : ℕ) → has (released all) x ≡ false
   none-released x =
@@ -334,24 +356,23 @@ module _ (B : Program) (c list : List ℕ) (n : ℕ) (fits : n ≤ length list) 
         differ = λ q. eqb-false (val i) (val k) (not-true (eqb (val i) (val k)) (w .1)) (ap (λ (x : ℕ). x % 65536) q);
       }
 
-  module _ (b : ℕ) (last prior : List ℕ) (least : ℕ) (done : Looked list n b n last prior least) where
-    not-above : best B c all all b ≤ least
-    not-above = go (ltb least b) refl
-      where
-        go : (t : Bool) → ltb least b ≡ t → best B c all all b ≤ least
-        go true q = best-here B c all all b least (rivals-trouble least (done .bad (ltb-true least b q)))
-        go false q = omega (arith, best-le B c all all b, ltb-false least b q)
+  not-above : best B c all all b ≤ least
+  not-above = go (ltb least b) refl
+    where
+      go : (t : Bool) → ltb least b ≡ t → best B c all all b ≤ least
+      go true q = best-here B c all all b least (rivals-trouble least (done .bad (ltb-true least b q)))
+      go false q = omega (arith, best-le B c all all b, ltb-false least b q)
 
-    not-below : least ≤ best B c all all b
-    not-below = go (ltb (best B c all all b) b) refl
-      where
-        go : (t : Bool) → ltb (best B c all all b) b ≡ t → least ≤ best B c all all b
-        go true q =
-            let r = trouble-rivals (best B c all all b) (best-trouble B c all b (ltb-true (best B c all all b) b q)) in
-            let f = done .found (r .one) (r .two) (r .one-in) (r .two-in) (r .one-at ∙ sym (r .two-at)) (r .differ) in
-            omega (arith, f, r .two-at)
-        go false q = omega (arith, done .low, ltb-false (best B c all all b) b q)
+  not-below : least ≤ best B c all all b
+  not-below = go (ltb (best B c all all b) b) refl
+    where
+      go : (t : Bool) → ltb (best B c all all b) b ≡ t → least ≤ best B c all all b
+      go true q =
+          let r = trouble-rivals (best B c all all b) (best-trouble B c all b (ltb-true (best B c all all b) b q)) in
+          let f = done .found (r .one) (r .two) (omega (arith, r .one-in)) (omega (arith, r .two-in)) (r .one-at ∙ sym (r .two-at)) (r .differ) in
+          omega (arith, f, r .two-at)
+      go false q = omega (arith, done .low, ltb-false (best B c all all b) b q)
 
-    -- the least location that clashes
-    pub looked-best : least ≡ best B c all all b
-    looked-best = omega (arith, not-above, not-below)
+  -- the least location that clashes
+  pub looked-best : least ≡ best B c all all b
+  looked-best = omega (arith, not-above, not-below)

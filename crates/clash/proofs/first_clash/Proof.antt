@@ -1,19 +1,15 @@
 -- `first_clash` meets its contract.
-use mathlib.Core.Path.{_≡_}
-use Prim.Native.Nat.{_-_, _<_, _≤_}
+use Prim.Native.Nat.{_-_}
 use native.Mathlib.Omega.{arith}
 use borrow.Author.Needs.{needs}
-use lib.ListN.{length, getD}
 use Rattle.book.specs.Image.{held}
-use Rattle.clash.specs.Steps.{location-of, slot-of, Last}
 use Rattle.traces.proofs.Laws.{take-min}
-use Rattle.clash.proofs.Rivals.{Looked, looked-start, looked-chain, held-in, looked-next, looked-best}
+use Rattle.clash.proofs.Rivals.{Looked, looked-start, looked-next, looked-best, Tables, tables-start, tables-chain, tables-held, tables-next}
 use Rattle.clash.proofs.first_clash.Statement.{statement}
 use Rattle.clash.proofs.first_clash.Tie as tie
 
 abbrev Inv-loop : tie.InvT-loop
-Inv-loop image contents list len most n last₀ prior₀ least₀ j₀ last prior least j =
-    (j ≤ n) × Looked list n most j last prior least
+Inv-loop image contents list len most n last₀ prior₀ least₀ j₀ last prior least j = Looked list n most j least × Tables list j last prior
 
 abbrev μ-loop : tie.MeasureT-loop
 μ-loop image contents list len most n last₀ prior₀ least₀ j₀ last prior least j = n - j
@@ -21,14 +17,24 @@ abbrev μ-loop : tie.MeasureT-loop
 smaller-requires : tie.Need-smaller-requires Inv-loop μ-loop
 smaller-requires c κs = search needs
 
+first-of-few-requires : tie.Need-first-of-few-requires Inv-loop μ-loop
+first-of-few-requires c κs = search needs
+
+returns : tie.Need-returns Inv-loop μ-loop
+returns c =
+    let a = c .before .before .before .before .before .args in
+    rw (← take-min (a .list .now) (c .before .before .smaller .result) (a .len) (c .before .before .smaller .ensures)) (c .first-of-few .ensures)
+
 first-of-all-requires : tie.Need-first-of-all-requires Inv-loop μ-loop
 first-of-all-requires c κs = search needs
 
-returns : tie.Need-returns Inv-loop μ-loop
-returns c = c .first-of-all .ensures
+returns-2 : tie.Need-returns-2 Inv-loop μ-loop
+returns-2 c = c .first-of-all .ensures
 
 loop-holds : tie.Need-loop-holds Inv-loop μ-loop
-loop-holds c = let a = c .before .before .before .before .args in (omega arith, looked-start (a .list .now) (c .before .smaller .result) (a .most))
+loop-holds c =
+    let a = c .before .before .before .before .before .args in
+    (looked-start (a .list .now) (c .before .before .smaller .result) (a .most), tables-start (a .list .now))
 
 mul-code : tie.Need-mul-code Inv-loop μ-loop
 mul-code c = search needs
@@ -39,8 +45,8 @@ shared-slice-read-code c = search needs
 first-of-all-requires-2 : tie.Need-first-of-all-requires-2 Inv-loop μ-loop
 first-of-all-requires-2 c κs = search needs
 
-returns-2 : tie.Need-returns-2 Inv-loop μ-loop
-returns-2 c = c .first-of-all2 .ensures
+returns-3 : tie.Need-returns-3 Inv-loop μ-loop
+returns-3 c = c .first-of-all2 .ensures
 
 slot-requires : tie.Need-slot-requires Inv-loop μ-loop
 slot-requires c κs = search needs
@@ -52,25 +58,10 @@ array-read-p : tie.Need-array-read-p Inv-loop μ-loop
 array-read-p c = search needs
 
 last-at-requires : tie.Need-last-at-requires Inv-loop μ-loop
-last-at-requires c κs =
-    let a = c .before .before .before .before .before .before .before .before .before .before .args in
-    let n = c .before .before .before .before .before .before .before .smaller in
-    let l = c .before .before .before .before .before .loop in
-    let h = c .before .before .before .before .loop-test .taken in
-    let room : l .j < 256 = omega (arith, h, c .before .before .before .before .before .before .if1 .left) in
-    rw (c .before .slot .ensures .0) (looked-chain (a .list .now) (n .result) (a .most) (l .j) (l .last) (l .prior) (l .least) (l .inv .1) h room (omega (arith, n .ensures)))
+last-at-requires c κs = tables-chain (c .before .before .before .before .before .loop .inv .1) (c .before .slot .ensures .0) (omega arith) (omega arith)
 
 nearer-requires : tie.Need-nearer-requires Inv-loop μ-loop
-nearer-requires c κs =
-    let a = c .before .before .before .before .before .before .before .before .before .before .before .args in
-    let n = c .before .before .before .before .before .before .before .before .smaller in
-    let l = c .before .before .before .before .before .before .loop in
-    let h = c .before .before .before .before .before .loop-test .taken in
-    let room : l .j < 256 = omega (arith, h, c .before .before .before .before .before .before .before .if1 .left) in
-    let held = c .last-at in
-    let x = getD (a .list .now) (l .j) 0 in
-    let k : Last location-of (a .list .now) x (getD (l .last) (slot-of x) 0) (held .result) = rw (← c .before .before .slot .ensures .0) (held .ensures) in
-    omega (arith, held-in (a .list .now) (n .result) (a .most) (l .j) (l .last) (l .prior) (l .least) (l .inv .1) h room (held .result) k (c .before .before .before .if2 .left), h, n .ensures)
+nearer-requires c κs = let k = tables-held (c .before .before .before .before .before .before .loop .inv .1) (c .before .before .slot .ensures .0) (c .last-at .ensures) in omega arith
 
 mul-prior : tie.Need-mul-prior Inv-loop μ-loop
 mul-prior c = search needs
@@ -98,29 +89,19 @@ loop-less c = search needs
 
 loop-again : tie.Need-loop-again Inv-loop μ-loop
 loop-again c =
-    let a = c .before .before .before .before .before .before .before .before .before .before .before .before .args in
-    let n = c .before .before .before .before .before .before .before .before .before .smaller in
-    let l = c .before .before .before .before .before .before .before .loop in
-    let h = c .before .before .before .before .before .before .loop-test .taken in
-    let room : l .j < 256 = omega (arith, h, c .before .before .before .before .before .before .before .before .if1 .left) in
-    let held = c .before .last-at in
-    let x = getD (a .list .now) (l .j) 0 in
-    let k : Last location-of (a .list .now) x (getD (l .last) (slot-of x) 0) (held .result) = rw (← c .before .before .before .slot .ensures .0) (held .ensures) in
-    let m = looked-next (a .list .now) (n .result) (a .most) (l .j) (l .last) (l .prior) (l .least) (l .inv .1) h room (held .result) k (c .before .before .before .before .if2 .left) in
-    (omega (arith, h), rw (c .nearer .ensures, c .before .before .before .slot .ensures .0) m)
+    let l = c .before .before .before .before .before .before .before .loop .inv in
+    let s = c .before .before .before .slot .ensures .0 in
+    let k = tables-held (l .1) s (c .before .last-at .ensures) in
+    (rw (c .nearer .ensures) (looked-next _ _ (l .0) (c .before .before .before .before .before .before .loop-test .taken) k (c .before .before .before .before .if3 .left)), tables-next (l .1) s (omega arith))
 
 cast-result : tie.Need-cast-result Inv-loop μ-loop
 cast-result c = search needs
 
-returns-3 : tie.Need-returns-3 Inv-loop μ-loop
-returns-3 c =
-    let a = c .before .before .before .before .before .before .args in
-    let n = c .before .before .before .smaller in
-    let l = c .before .loop in
-    let e : l .j ≡ n .result = omega (arith, l .inv .0, c .loop-test .left) in
-    let m : Looked (a .list .now) (n .result) (a .most) (n .result) (l .last) (l .prior) (l .least) = rw e at (l .inv .1) in
-    let f : n .result ≤ length (a .list .now) = omega (arith, n .ensures) in
-    rw (← take-min (a .list .now) (n .result) (a .len) (n .ensures)) (looked-best (held (a .image .now)) (a .contents .now) (a .list .now) (n .result) f (m .updates) (a .most) (l .last) (l .prior) (l .least) m)
+returns-4 : tie.Need-returns-4 Inv-loop μ-loop
+returns-4 c =
+    let a = c .before .before .before .before .before .before .before .args in
+    let n = c .before .before .before .before .smaller in
+    rw (← take-min (a .list .now) (n .result) (a .len) (n .ensures)) (looked-best (held (a .image .now)) (a .contents .now) (omega (arith, n .ensures)) (c .loop-test .left) (c .before .loop .inv .0))
 
 pub first-clash-spec : {M : Type 1} → statement M
 first-clash-spec =
@@ -129,13 +110,15 @@ first-clash-spec =
     Inv-loop
     μ-loop
     smaller-requires
-    first-of-all-requires
+    first-of-few-requires
     returns
+    first-of-all-requires
+    returns-2
     loop-holds
     mul-code
     shared-slice-read-code
     first-of-all-requires-2
-    returns-2
+    returns-3
     slot-requires
     mul-p
     array-read-p
@@ -151,4 +134,4 @@ first-clash-spec =
     loop-less
     loop-again
     cast-result
-    returns-3)
+    returns-4)

@@ -1,18 +1,22 @@
 -- `last_at` meets its contract.
+use mathlib.Core.Path.{_≡_}
+use Prim.Native.Nat.{_-_, _<_}
 use native.Mathlib.Omega.{arith}
 use borrow.Author.Needs.{needs}
-use Rattle.clash.proofs.Rivals.{Down, down-start, down-here, down-next, down-less, down-end}
+use lib.ListN.{getD}
+use Rattle.clash.specs.Steps.{slot-of}
+use Rattle.clash.proofs.Rivals.{Down, down-start, down-here, down-end, link-less, link-same, link-down}
 use Rattle.clash.proofs.last_at.Statement.{statement}
 use Rattle.clash.proofs.last_at.Tie as tie
 
 abbrev Inv-loop : tie.InvT-loop
-Inv-loop list prior p code i₀ i = Down list code p i
+Inv-loop list prior p code i₀ i = Down list code p i × (0 < i → slot-of (getD list (i - 1) 0) ≡ slot-of code)
 
 abbrev μ-loop : tie.MeasureT-loop
 μ-loop list prior p code i₀ i = i
 
 loop-holds : tie.Need-loop-holds Inv-loop μ-loop
-loop-holds c = let a = c .args in down-start (a .list .now) (a .prior .now) (a .code) (a .p) (c .pre)
+loop-holds c = let a = c .args in (down-start (a .list .now) (a .code) (a .p), c .pre .same)
 
 sub-if1 : tie.Need-sub-if1 Inv-loop μ-loop
 sub-if1 c = search needs
@@ -24,7 +28,7 @@ shared-slice-read-if1 : tie.Need-shared-slice-read-if1 Inv-loop μ-loop
 shared-slice-read-if1 c = search needs
 
 returns : tie.Need-returns Inv-loop μ-loop
-returns c = let a = c .before .before .before .before .args in let l = c .before .before .before .loop in down-here (a .list .now) (a .prior .now) (a .code) (a .p) (c .before .before .before .before .pre) (l .i) (l .inv) (c .before .before .loop-test .taken) (c .if1 .taken)
+returns c = down-here (c .before .before .before .loop .inv .0) (c .if1 .taken)
 
 sub-i : tie.Need-sub-i Inv-loop μ-loop
 sub-i c = search needs
@@ -36,16 +40,21 @@ element-copy-out-i : tie.Need-element-copy-out-i Inv-loop μ-loop
 element-copy-out-i c = search needs
 
 cast-i : tie.Need-cast-i Inv-loop μ-loop
-cast-i c = let h = let a = c .before .before .before .before .before .args in let l = c .before .before .before .before .loop in down-less (a .list .now) (a .prior .now) (a .code) (a .p) (c .before .before .before .before .before .pre) (l .i) (l .inv) (c .before .before .before .loop-test .taken) (c .before .if1 .left) in record { fits = omega (arith, h) }
+cast-i c =
+    let h = link-less (c .before .before .before .before .before .pre) (c .before .before .before .before .loop .inv .0) (c .before .before .before .loop-test .taken) in
+    record { fits = omega (arith, h) }
 
 loop-less : tie.Need-loop-less Inv-loop μ-loop
-loop-less c = let a = c .before .before .before .before .before .args in let l = c .before .before .before .before .loop in down-less (a .list .now) (a .prior .now) (a .code) (a .p) (c .before .before .before .before .before .pre) (l .i) (l .inv) (c .before .before .before .loop-test .taken) (c .before .if1 .left)
+loop-less c = link-less (c .before .before .before .before .before .pre) (c .before .before .before .before .loop .inv .0) (c .before .before .before .loop-test .taken)
 
 loop-again : tie.Need-loop-again Inv-loop μ-loop
-loop-again c = let a = c .before .before .before .before .before .args in let l = c .before .before .before .before .loop in down-next (a .list .now) (a .prior .now) (a .code) (a .p) (c .before .before .before .before .before .pre) (l .i) (l .inv) (c .before .before .before .loop-test .taken) (c .before .if1 .left)
+loop-again c =
+    let l = c .before .before .before .before .loop .inv in
+    let h = c .before .before .before .loop-test .taken in
+    (link-down (c .before .before .before .before .before .pre) (l .0) h (l .1 h) (c .before .if1 .left), link-same (c .before .before .before .before .before .pre) (l .0) h (l .1 h))
 
 returns-2 : tie.Need-returns-2 Inv-loop μ-loop
-returns-2 c = let a = c .before .before .args in let l = c .before .loop in down-end (a .list .now) (a .prior .now) (a .code) (a .p) (c .before .before .pre) (l .i) (l .inv) (c .loop-test .left)
+returns-2 c = down-end (c .before .loop .inv .0) (c .loop-test .left)
 
 pub last-at-spec : {M : Type 1} → statement M
 last-at-spec =
