@@ -146,7 +146,7 @@ fn better_of(
     if best <= at {
         return best;
     }
-    let e = pages::elements(image);
+    let e = image::elements(image);
     let s = spot_of(image, contents, at);
     if other_at(e, list, len, s, traces::own_value(what)) {
         return at;

@@ -16,7 +16,7 @@ use Rattle.book.specs.declared.Node.{Node}
 use Rattle.book.specs.Book.{Program, node-at, agent-at}
 use Rattle.book.specs.Kinds.{is-node, is-binder, forall-kind}
 use Rattle.book.specs.Use.{is-root, places, uses, bad-use}
-use Rattle.book.specs.Around.{bit-of, put-if, hand, handed, deeper, as-it-is, forall-more, bound-more, depths, foralls, bounds, misplaced, bad-around}
+use Rattle.book.specs.Around.{bit-of, put-if, hand, handed, deeper, as-it-is, forall-more, bound-more, depths, foralls, misplaced, bad-around}
 use Rattle.around.specs.Tables.{one-more, bumped, counted, rooted, tallied, depth-of, foralls-of, bound-of, below, in-forall, in-binder, to-ab, to-c, misplaced-at}
 
 -- ---- one step of each loop
@@ -252,7 +252,7 @@ bit-small (suc (suc (suc (suc (suc (suc zero)))))) = omega arith
 bit-small (suc (suc (suc (suc (suc (suc (suc zero))))))) = omega arith
 bit-small (suc (suc (suc (suc (suc (suc (suc (suc v)))))))) = omega arith
 
-pub bit-shift : (v : ℕ) → v < 8 → (1 * 2 ^ v) % 4294967296 ≡ bit-of v
+pub bit-shift : (v : ℕ) → v < 8 → (1 * 2 ^ v) % 65536 ≡ bit-of v
 unfolding bit-of
 bit-shift zero h = refl
 bit-shift (suc zero) h = refl

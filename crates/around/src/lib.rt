@@ -1,4 +1,5 @@
 // 6: the use of nodes, and what stands around them, over the image of a book.
+use book::Image;
 use book::Node;
 use text::Found;
 ghost use mathlib.Core.Path.{_≡_};
@@ -24,8 +25,8 @@ fn bump(s: &mut [u8], on: bool, x: u32)
     ensures { λ _. ⌜ now (s .exit) ≡ bumped on x (now (s .entry)) ⌝ }
 {
     if on {
-        let k = image::fetch_byte(s, x as usize);
-        image::put_byte(s, x as usize, one_more(k));
+        let k = numbers::byte_at(s, x as usize);
+        numbers::put_byte(s, x as usize, one_more(k));
     }
 }
 
@@ -41,19 +42,19 @@ fn count(table: &[u8; 84], s: &mut [u8], y: Node)
 }
 
 // Marks the roots of the first n agents. Agents may share one.
-fn mark_roots(image: &[u32], n: u32, s: &mut [u8])
+fn mark_roots(image: &Image, n: u32, s: &mut [u8])
     ensures { λ _. ⌜ now (s .exit) ≡ rooted (program-in (now (image .entry))) n (now (s .entry)) ⌝ }
 {
     let mut i: u32 = 0;
     while i < n {
         let a = image::agent_at(image, i);
-        image::put_byte(s, a.root as usize, 1);
+        numbers::put_byte(s, a.root as usize, 1);
         i += 1;
     }
 }
 
 // Counts the operand places of the first n nodes.
-fn tally(image: &[u32], n: u32, s: &mut [u8])
+fn tally(image: &Image, n: u32, s: &mut [u8])
     ensures { λ _. ⌜ now (s .exit) ≡ tallied (program-in (now (image .entry))) n (now (s .entry)) ⌝ }
 {
     let table = nodes::SORTS;
@@ -70,7 +71,7 @@ fn not_once(s: &[u8], n: u32) -> Found
 {
     let mut i: u32 = 0;
     while i < n {
-        if !(image::fetch_byte(s, i as usize) == 1) {
+        if !(numbers::byte_at(s, i as usize) == 1) {
             return Found::Here(i);
         }
         i += 1;
@@ -79,35 +80,35 @@ fn not_once(s: &[u8], n: u32) -> Found
 }
 
 // 6, use: the least node that is not used exactly once.
-pub fn bad_use(image: &[u32]) -> Found
+pub fn bad_use(image: &Image) -> Found
     ensures { λ r. ⌜ r ≡ least (bad-use (program-in (now (image .entry)))) (length (program-in (now (image .entry)) .nodes)) ⌝ }
 {
     let mut counts = [0u8; 1024];
-    let a = image::agents(image);
-    let n = image::nodes(image);
+    let a = image::agents(image) as u32;
+    let n = image::nodes(image) as u32;
     mark_roots(image, a, &mut counts);
     tally(image, n, &mut counts);
     not_once(&counts, n)
 }
 
-fn bit(v: u32) -> u32
+fn bit(v: u32) -> u16
     ensures { λ r. ⌜ r ≡ bit-of v ⌝ }
 {
-    if v < 8 { 1u32 << v } else { 0 }
+    if v < 8 { 1u16 << v } else { 0 }
 }
 
 // What stands around a node is one number: a bit for each variable bound there, 256 for each forall, which are counted
-// to 2, and 1024 for each node above it, which are counted to 32. A root has 0.
+// to 2, and 1024 for each node above it, which are counted to 32. A root has 0. Sixteen bits hold it.
 
 // Around the operands of a node that has v around it.
-fn below(v: u32) -> u32
+fn below(v: u16) -> u16
     ensures { λ r. ⌜ r ≡ below v ⌝ }
 {
     if v / 1024 < 32 { v + 1024 } else { v }
 }
 
 // One forall more in the c of a forall.
-fn in_forall(y: Node, v: u32) -> u32
+fn in_forall(y: Node, v: u16) -> u16
     ensures { λ r. ⌜ r ≡ in-forall y v ⌝ }
 {
     if y.kind == 25 {
@@ -118,7 +119,7 @@ fn in_forall(y: Node, v: u32) -> u32
 }
 
 // One variable more in the c of a binder.
-fn in_binder(y: Node, v: u32) -> u32
+fn in_binder(y: Node, v: u16) -> u16
     ensures { λ r. ⌜ r ≡ in-binder y v ⌝ }
 {
     let kind = y.kind;
@@ -128,16 +129,16 @@ fn in_binder(y: Node, v: u32) -> u32
     }
 }
 
-fn put_if(s: &mut [u32], on: bool, x: u32, v: u32)
+fn put_if(s: &mut [u16], on: bool, x: u32, v: u16)
     ensures { λ _. ⌜ now (s .exit) ≡ put-if on x v (now (s .entry)) ⌝ }
 {
     if on {
-        image::put(s, x as usize, v);
+        numbers::put_half(s, x as usize, v);
     }
 }
 
 // Node y hands v to its operands a and b, and w to its operand c.
-fn hand(table: &[u8; 84], s: &mut [u32], y: Node, v: u32, w: u32)
+fn hand(table: &[u8; 84], s: &mut [u16], y: Node, v: u16, w: u16)
     requires { ⌜ now table ≡ sort-table ⌝ }
     ensures { λ _. ⌜ now (s .exit) ≡ hand y v w (now (s .entry)) ⌝ }
 {
@@ -148,16 +149,16 @@ fn hand(table: &[u8; 84], s: &mut [u32], y: Node, v: u32, w: u32)
 }
 
 // Each node, from the highest on, hands down what stands around it.
-fn hand_down(image: &[u32], s: &mut [u32])
+fn hand_down(image: &Image, s: &mut [u16])
     ensures { λ _. ⌜ now (s .exit) ≡ handed (program-in (now (image .entry))) to-ab to-c (length (program-in (now (image .entry)) .nodes)) (now (s .entry)) ⌝ }
 {
     let table = nodes::SORTS;
-    let n = image::nodes(image);
+    let n = image::nodes(image) as u32;
     let mut k: u32 = 0;
     while k < n {
         let m = n - (k + 1);
         let y = image::node_at(image, m);
-        let v = below(image::fetch(s, m as usize));
+        let v = below(numbers::half_at(s, m as usize));
         let w = in_binder(y, in_forall(y, v));
         hand(&table, s, y, v, w);
         k += 1;
@@ -165,14 +166,14 @@ fn hand_down(image: &[u32], s: &mut [u32])
 }
 
 // The variable that node y names or binds is bound.
-fn has(y: Node, bound: u32) -> bool
+fn has(y: Node, bound: u16) -> bool
     ensures { λ r. ⌜ r ≡ binds bound (y .a) ⌝ }
 {
     !(bound & bit(y.a) == 0)
 }
 
 // Node y stands where it may not. Only a variable and a binder ask what is bound.
-fn is_misplaced(y: Node, depth: u32, foralls: u32, bound: u32) -> bool
+fn is_misplaced(y: Node, depth: u16, foralls: u16, bound: u16) -> bool
     ensures { λ r. ⌜ r ≡ misplaced y depth foralls bound ⌝ }
 {
     let deep = 32 < depth;
@@ -184,15 +185,15 @@ fn is_misplaced(y: Node, depth: u32, foralls: u32, bound: u32) -> bool
     }
 }
 
-fn misplaced_at<'a>(image: &'a [u32], s: &'a [u32], i: u32) -> bool
+fn misplaced_at<'a>(image: &'a Image, s: &'a [u16], i: u32) -> bool
     ensures { λ r. ⌜ r ≡ misplaced-at (program-in (now (image .entry))) (now (s .entry)) i ⌝ }
 {
     let y = image::node_at(image, i);
-    let v = image::fetch(s, i as usize);
+    let v = numbers::half_at(s, i as usize);
     is_misplaced(y, v / 1024 + 1, v / 256 % 4, v % 256)
 }
 
-fn misplaced_in<'a>(image: &'a [u32], s: &'a [u32], n: u32) -> Found
+fn misplaced_in<'a>(image: &'a Image, s: &'a [u16], n: u32) -> Found
     ensures { λ r. ⌜ r ≡ least (misplaced-at (program-in (now (image .entry))) (now (s .entry))) n ⌝ }
 {
     let mut i: u32 = 0;
@@ -206,11 +207,11 @@ fn misplaced_in<'a>(image: &'a [u32], s: &'a [u32], n: u32) -> Found
 }
 
 // 6, binding, depth and nesting: the least node at fault.
-pub fn bad_around(image: &[u32]) -> Found
+pub fn bad_around(image: &Image) -> Found
     ensures { λ r. ⌜ r ≡ least (bad-around (program-in (now (image .entry)))) (length (program-in (now (image .entry)) .nodes)) ⌝ }
 {
-    let mut around = [0u32; 1024];
-    let n = image::nodes(image);
+    let mut around = [0u16; 1024];
+    let n = image::nodes(image) as u32;
     hand_down(image, &mut around);
     misplaced_in(image, &around, n)
 }

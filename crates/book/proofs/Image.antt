@@ -1,8 +1,8 @@
--- The image: what its rows hold after they are stored, and that a decoded image holds the text's book. Assumes nothing.
+-- The image: what its program has, and what its rows hold after they are stored. Assumes nothing.
 use mathlib.Core.Path.{_≡_, refl, sym, _∙_, ap}
 use mathlib.Core.Bool.{Bool, true, false}
-use mathlib.Core.List.{List, [], _∷_}
-use Prim.Native.Nat.{ℕ, zero, suc, _+_, _-_, _*_, _%_, _^_, _<_, _≤_}
+use mathlib.Core.List.{List, _∷_}
+use Prim.Native.Nat.{ℕ, zero, suc, _+_, _-_, _*_, _^_, _<_, _≤_}
 use native.Mathlib.Decide.{decLt}
 use native.Mathlib.Nat.{le-of-lt, lt-of-le-of-lt, mul-le-mul-left, mul-le-mul-right, mul-lt-mul-of-pos-right}
 use native.Mathlib.Numerals.{add-one}
@@ -14,14 +14,12 @@ use lib.Seq.{getD-set-same, getD-set-other}
 use borrow.Author.Tests.{lt-ltb, le-ltb}
 use Rattle.text.specs.declared.Line.{Line}
 use Rattle.text.specs.Words.{if_then_else_, table-from, table}
-use Rattle.text.specs.Text.{line}
-use Rattle.text.proofs.Words.{length-table-from, getD-table, getD-table-past, table-ext}
+use Rattle.text.proofs.Words.{length-table-from, getD-table, getD-table-past}
 use Rattle.book.specs.declared.Header.{Header}
 use Rattle.book.specs.declared.Function.{Function}
 use Rattle.book.specs.Book.{total, size, function-at, node-at, agent-at, no-function, no-node, no-agent}
-use Rattle.book.specs.Lines.{lay-out, node-of, agent-of, program-of}
-use Rattle.book.specs.Image.{image-length, word, narrow, row-in, capped, function-of, program-in, Holds, Counts, Room, capped-header, stored, filled, first-of, laid-row}
-use Rattle.book.proofs.Accepted.{book-lengths}
+use Rattle.book.specs.Lines.{lay-out, node-of, agent-of}
+use Rattle.book.specs.Image.{word, row-in, capped, function-of, program-in, Room, capped-header, stored, filled, first-of, laid-row}
 
 -- a count within its bound
 pub uncapped : (n most : ℕ) → n ≤ most → capped n most ≡ n
@@ -48,14 +46,6 @@ within-bounds h room =
       uncapped (h .agents) 16 (room .agents),
       uncapped (h .contents) 65536 (room .contents),
     )
-
--- ---- what the engine reads of a word
-
-pub narrow-word : (m : List ℕ) (i : ℕ) → word (narrow m) i ≡ word m i % 65536
-unfolding narrow
-narrow-word [] i = refl
-narrow-word (x ∷ m) zero = refl
-narrow-word (x ∷ m) (suc i) = narrow-word m i
 
 -- ---- what an image's program has
 
@@ -241,132 +231,3 @@ size-most E arity h = go (eqb arity 0) (eqb arity 1)
 pub below : (k : ℕ) {a b : ℕ} → a < 2 ^ k → b < 2 ^ k → a * b < 2 ^ (k + k)
 below k {a} {b} ha hb =
     rw (pow-add 2 k k) (lt-of-le-of-lt (mul-le-mul-left a (le-of-lt hb)) (mul-lt-mul-of-pos-right ha (pow-pos k)))
-
--- ---- a decoded image
-
-abbrev head-row : Header → Line
-head-row h = record { a = h .elements; b = h .permanent; c = h .functions; d = h .nodes }
-
-abbrev tail-row : List ℕ → Header → Line
-tail-row text h = record { a = h .agents; b = h .contents; c = first-of (λ i. line text (2 + i)) (h .elements) (h .functions); d = 0 }
-
-abbrev with-nodes : List ℕ → Header → List ℕ → List ℕ
-with-nodes text h m = filled (λ i. line text (2 + h .functions + i)) 50 (h .nodes) 0 (stored 0 (head-row h) m)
-
-abbrev with-agents : List ℕ → Header → List ℕ → List ℕ
-with-agents text h m = filled (λ i. line text (2 + h .functions + h .nodes + i)) 34 (h .agents) 0 (with-nodes text h m)
-
-abbrev with-functions : List ℕ → Header → List ℕ → List ℕ
-with-functions text h m = filled (laid-row (λ i. line text (2 + i)) (h .elements)) 2 (h .functions) 0 (with-agents text h m)
-
-abbrev pub decoded : List ℕ → Header → List ℕ → List ℕ
-decoded text h m = stored 1 (tail-row text h) (with-functions text h m)
-
-module _ (text : List ℕ) (h : Header) (m : List ℕ) (long : image-length ≤ length m) (room : Room h) where
-  long1 : length (stored 0 (head-row h) m) ≡ length m
-  long1 = length-stored 0 (head-row h) m
-
-  long2 : length (with-nodes text h m) ≡ length m
-  long2 = length-filled (λ i. line text (2 + h .functions + i)) 50 (h .nodes) 0 (stored 0 (head-row h) m) ∙ long1
-
-  long3 : length (with-agents text h m) ≡ length m
-  long3 = length-filled (λ i. line text (2 + h .functions + h .nodes + i)) 34 (h .agents) 0 (with-nodes text h m) ∙ long2
-
-  long4 : length (with-functions text h m) ≡ length m
-  long4 = length-filled (laid-row (λ i. line text (2 + i)) (h .elements)) 2 (h .functions) 0 (with-agents text h m) ∙ long3
-
-  row-head : row-in (decoded text h m) 0 ≡ head-row h
-  row-head =
-      stored-other 1 (tail-row text h) (with-functions text h m) 0 (λ e. omega arith)
-      ∙ filled-below (laid-row (λ i. line text (2 + i)) (h .elements)) 2 (h .functions) 0 (with-agents text h m) 0 (omega arith)
-      ∙ filled-below (λ i. line text (2 + h .functions + h .nodes + i)) 34 (h .agents) 0 (with-nodes text h m) 0 (omega arith)
-      ∙ filled-below (λ i. line text (2 + h .functions + i)) 50 (h .nodes) 0 (stored 0 (head-row h) m) 0 (omega arith)
-      ∙ stored-same 0 (head-row h) m (omega arith)
-
-  row-tail : row-in (decoded text h m) 1 ≡ tail-row text h
-  row-tail = stored-same 1 (tail-row text h) (with-functions text h m) (rw long4 (omega arith))
-
-  row-function : (f : ℕ) → f < h .functions → row-in (decoded text h m) (2 + f) ≡ laid-row (λ i. line text (2 + i)) (h .elements) f
-  row-function f l =
-      stored-other 1 (tail-row text h) (with-functions text h m) (2 + f) (λ e. omega arith)
-      ∙ filled-in (laid-row (λ i. line text (2 + i)) (h .elements)) 2 (h .functions) 0 (with-agents text h m) (rw long3 (omega (arith, room .functions))) f (omega arith) (omega arith)
-
-  row-agent : (i : ℕ) → i < h .agents → row-in (decoded text h m) (34 + i) ≡ line text (2 + h .functions + h .nodes + i)
-  row-agent i l =
-      stored-other 1 (tail-row text h) (with-functions text h m) (34 + i) (λ e. omega arith)
-      ∙ filled-above (laid-row (λ i. line text (2 + i)) (h .elements)) 2 (h .functions) 0 (with-agents text h m) (34 + i) (omega (arith, room .functions))
-      ∙ filled-in (λ i. line text (2 + h .functions + h .nodes + i)) 34 (h .agents) 0 (with-nodes text h m) (rw long2 (omega (arith, room .agents))) i (omega arith) (omega arith)
-
-  row-node : (n : ℕ) → n < h .nodes → row-in (decoded text h m) (50 + n) ≡ line text (2 + h .functions + n)
-  row-node n l =
-      stored-other 1 (tail-row text h) (with-functions text h m) (50 + n) (λ e. omega arith)
-      ∙ filled-above (laid-row (λ i. line text (2 + i)) (h .elements)) 2 (h .functions) 0 (with-agents text h m) (50 + n) (omega (arith, room .functions))
-      ∙ filled-above (λ i. line text (2 + h .functions + h .nodes + i)) 34 (h .agents) 0 (with-nodes text h m) (50 + n) (omega (arith, room .agents))
-      ∙ filled-in (λ i. line text (2 + h .functions + i)) 50 (h .nodes) 0 (stored 0 (head-row h) m) (rw long1 (omega (arith, room .nodes))) n (omega arith) (omega arith)
-
-  functions-same :
-      table (λ f. function-of (row-in (decoded text h m) (2 + f))) (h .functions) ≡ lay-out (h .elements) 0 (table (λ i. line text (2 + i)) (h .functions))
-  functions-same =
-      table-ext (λ f. function-of (row-in (decoded text h m) (2 + f))) (λ f. function-of (laid-row (λ i. line text (2 + i)) (h .elements) f)) (h .functions)
-      (λ f l. ap function-of (row-function f l))
-      ∙ sym (laid (λ i. line text (2 + i)) (h .elements) (h .functions))
-
-  nodes-same : table (λ n. node-of (row-in (decoded text h m) (50 + n))) (h .nodes) ≡ table (λ n. node-of (line text (2 + h .functions + n))) (h .nodes)
-  nodes-same =
-      table-ext (λ n. node-of (row-in (decoded text h m) (50 + n))) (λ n. node-of (line text (2 + h .functions + n))) (h .nodes)
-      (λ n l. ap node-of (row-node n l))
-
-  agents-same :
-      table (λ i. agent-of (row-in (decoded text h m) (34 + i))) (h .agents) ≡ table (λ i. agent-of (line text (2 + h .functions + h .nodes + i))) (h .agents)
-  agents-same =
-      table-ext (λ i. agent-of (row-in (decoded text h m) (34 + i))) (λ i. agent-of (line text (2 + h .functions + h .nodes + i))) (h .agents)
-      (λ i l. ap agent-of (row-agent i l))
-
-  word0 : word (decoded text h m) 0 ≡ h .elements
-  word0 = ap (λ (l : Line). l .a) row-head
-
-  word1 : word (decoded text h m) 1 ≡ h .permanent
-  word1 = ap (λ (l : Line). l .b) row-head
-
-  word2 : word (decoded text h m) 2 ≡ h .functions
-  word2 = ap (λ (l : Line). l .c) row-head
-
-  word3 : word (decoded text h m) 3 ≡ h .nodes
-  word3 = ap (λ (l : Line). l .d) row-head
-
-  word4 : word (decoded text h m) 4 ≡ h .agents
-  word4 = ap (λ (l : Line). l .a) row-tail
-
-  pub decoded-holds : Holds (decoded text h m) h text
-  unfolding program-in program-of
-  decoded-holds =
-      record {
-        program =
-            rw (
-              word0,
-              word1,
-              word2,
-              word3,
-              word4,
-              uncapped (h .elements) 10000 (room .elements),
-              uncapped (h .functions) 32 (room .functions),
-              uncapped (h .nodes) 1024 (room .nodes),
-              uncapped (h .agents) 16 (room .agents),
-              functions-same,
-              nodes-same,
-              agents-same,
-            );
-        contents = ap (λ (l : Line). l .b) row-tail;
-        locations = ap (λ (l : Line). l .c) row-tail ∙ total-laid (λ i. line text (2 + i)) (h .elements) (h .functions);
-      }
-
-  pub decoded-counts : Counts (decoded text h m) (program-of h text)
-  unfolding program-of
-  decoded-counts =
-      let long = book-lengths h text in
-      record {
-        elements = word0;
-        functions = word2 ∙ sym (long .0);
-        nodes = word3 ∙ sym (long .1);
-        agents = word4 ∙ sym (long .2);
-      }

@@ -6,3 +6,4 @@ pub mod Depth
 pub mod Refusals
 pub mod Claims
 pub mod Image
+pub mod Held

@@ -4,12 +4,14 @@ use mathlib.Core.Path.{_≡_}
 use mathlib.Core.List.{List, map}
 use Prim.Native.Nat.{ℕ, zero, suc, _+_, _*_, _%_, _≤_}
 use lib.Dec.{ltb}
-use lib.ListN.{length, getD, set}
+use lib.ListN.{getD, set}
 use Rattle.text.specs.declared.Line.{Line}
 use Rattle.text.specs.Words.{if_then_else_, table}
 use Rattle.text.specs.Text.{line}
 use Rattle.book.specs.declared.Header.{Header}
 use Rattle.book.specs.declared.Function.{Function}
+use Rattle.book.specs.declared.Node.{Node}
+use Rattle.book.specs.declared.Agent.{Agent}
 use Rattle.book.specs.Book.{Program, L, size}
 use Rattle.book.specs.Lines.{node-of, agent-of, program-of}
 
@@ -39,25 +41,35 @@ program-in m =
       agents = table (λ i. agent-of (row-in m (34 + i))) (capped (word m 4) 16);
     }
 
--- What the engine reads of an image: the low sixteen bits of each word, which are all of it where the book is accepted.
-unfoldable pub narrow : List ℕ → List ℕ
-narrow m = map (λ x. x % 65536) m
+-- What the engine takes an image to hold: the program in numbers of sixteen bits. Of an accepted book it is the program itself.
+abbrev pub low : ℕ → ℕ
+low x = x % 65536
 
-abbrev pub held : List ℕ → Program
-held m = program-in (narrow m)
+abbrev pub low-function : Function → Function
+low-function f = record { first = low (f .first); arity = low (f .arity); kind = low (f .kind) }
+
+abbrev pub low-node : Node → Node
+low-node y = record { kind = low (y .kind); a = low (y .a); b = low (y .b); c = low (y .c) }
+
+abbrev pub low-agent : Agent → Agent
+low-agent i = record { root = low (i .root); element = low (i .element) }
+
+unfoldable pub held : List ℕ → Program
+held m =
+    let B = program-in m in
+    record {
+      E = B .E;
+      P = low (B .P);
+      functions = map low-function (B .functions);
+      nodes = map low-node (B .nodes);
+      agents = map low-agent (B .agents);
+    }
 
 -- the image is that of the program that a text says
 pub record Holds (m : List ℕ) (h : Header) (text : List ℕ) : Type 0 where
   pub program : program-in m ≡ program-of h text
   pub contents : word m 5 ≡ h .contents
   pub locations : word m 6 ≡ L (program-of h text)
-
--- the counts of an image are the program's as they stand, none of them past its bound
-pub record Counts (m : List ℕ) (B : Program) : Type 0 where
-  pub elements : word m 0 ≡ B .E
-  pub functions : word m 2 ≡ length (B .functions)
-  pub nodes : word m 3 ≡ length (B .nodes)
-  pub agents : word m 4 ≡ length (B .agents)
 
 -- a header whose program has room in an image
 pub record Room (h : Header) : Type 0 where

@@ -2,11 +2,11 @@
 use mathlib.Core.Path.{_≡_, refl, sym, _∙_, ap, subst}
 use mathlib.Core.Logic.{_≢_}
 use mathlib.Core.Bool.{Bool, true, false, not}
-use mathlib.Core.List.{List, map}
-use Prim.Native.Nat.{ℕ, zero, suc, _+_, _-_, _<_, _≤_}
+use mathlib.Core.List.{List}
+use Prim.Native.Nat.{ℕ, zero, suc, _+_, _-_, _≤_}
 use native.Mathlib.Omega.{arith}
 use lib.Dec.{leb}
-use lib.ListN.{length, length-map}
+use lib.ListN.{length}
 use Rattle.text.specs.declared.Answer.{Answer}
 use Rattle.text.specs.declared.Found.{Found}
 use Rattle.text.specs.declared.Found.the-variants.{Nowhere, Here}
@@ -18,12 +18,12 @@ use Rattle.text.proofs.Words.{least-same, least-first, least-rest, then-good}
 use Rattle.text.proofs.Checks.{Numbered, none-numbered, must-numbered, then-ends, then-stops, then-goes-on}
 use Rattle.book.specs.declared.Header.{Header}
 use Rattle.book.specs.Book.{Program, Book, L}
-use Rattle.book.specs.Lines.{header-of, bad-field, most-locations, first-agent, first-entry, line-count, program-of, entries-of, book-of, bad-function, bad-node, bad-agent}
+use Rattle.book.specs.Lines.{header-of, bad-field, most-locations, first-agent, first-entry, line-count, program-of, entries-of, bad-function, bad-node, bad-agent}
 use Rattle.book.specs.Use.{bad-use}
 use Rattle.book.specs.Around.{bad-around}
 use Rattle.book.specs.Contents.{bad-entry}
 use Rattle.book.specs.Check.{check-header, check-present, check-surplus, check-program, check-lines, check-book}
-use Rattle.book.specs.Image.{image-length, word, row-in, capped, program-in, Holds, Counts, Room, capped-header}
+use Rattle.book.specs.Image.{image-length, word, row-in, capped, program-in, Holds, Room, capped-header}
 use Rattle.book.proofs.Accepted.{header-bounded, lines-book, book-lengths}
 use Rattle.book.proofs.Image.{uncapped, within-bounds, functions-long}
 use Rattle.rows.specs.Rows.{headed, taken, passed, laid, Rows}
@@ -32,10 +32,6 @@ use Rattle.contents.specs.declared.Faults.{Faults}
 use Rattle.contents.specs.Pass.{faults, bad-at, faults-from, first-line}
 use Rattle.contents.specs.Pass.{line-count as contents-count}
 use Rattle.book_check.specs.Opened.{Opened, check-text}
-
--- the length of an array that is lent
-pub unmapped : (A B : Type 0) (f : A → B) (l : List A) (n : ℕ) → length (map f l) ≡ n → length l ≡ n
-unmapped A B f l n e = sym (length-map l f) ∙ e
 
 -- ---- one check, answered by a, and what follows
 
@@ -246,12 +242,12 @@ module _ (o : List ℕ) (h : Header) (text : List ℕ) (room : Room h) (holds : 
 -- ---- what the checks leave in the image
 
 -- an image that holds the text's program holds that of the book accepted
-pub opened-text : (o : List ℕ) (h : Header) (text : List ℕ) → Holds o h text → Counts o (program-of h text) → Opened o (check-text h text)
-opened-text o h text holds counts b e =
+pub opened-text : (o : List ℕ) (h : Header) (text : List ℕ) → Holds o h text → Opened o (check-text h text)
+opened-text o h text holds b e =
     let r = then-good (check-present h text) (check-surplus h text >> check-lines h text) b e in
     let s = then-good (check-surplus h text) (check-lines h text) b (r .2) in
-    subst (λ (x : Book). (program-in o ≡ x .program) × (word o 6 ≡ L (x .program)) × Counts o (x .program)) (sym (lines-book text h b (s .2)))
-    (holds .program, holds .locations, counts)
+    subst (λ (x : Book). (program-in o ≡ x .program) × (word o 6 ≡ L (x .program))) (sym (lines-book text h b (s .2)))
+    (holds .program, holds .locations)
 
 -- ---- the header
 

@@ -1,5 +1,5 @@
--- The words of an accepted book's image fit in sixteen bits, so what the engine reads of it is its program. Assumes nothing.
-use mathlib.Core.Path.{_≡_, sym, ap, _∙_}
+-- The numbers of an accepted book fit in sixteen bits, so what the engine takes its image to hold is its program. Assumes nothing.
+use mathlib.Core.Path.{_≡_, ap}
 use mathlib.Core.Bool.{true, false, and-false}
 use mathlib.Core.List.{List}
 use Prim.Native.Nat.{ℕ, _+_, _*_, _≤_, _<_}
@@ -9,18 +9,17 @@ use lib.Dec.{ltb}
 use lib.ListN.{length, List·getD-eq-default}
 use borrow.Author.Tests.{ltb-true, ltb-false, le-ltb, ne-eqb}
 use Rattle.text.specs.Words.{good}
-use Rattle.text.proofs.Words.{so-true, table-ext}
-use Rattle.book.specs.declared.Function.{Function}
+use Rattle.text.proofs.Words.{so-true}
 use Rattle.book.specs.declared.Node.{Node}
-use Rattle.book.specs.declared.Agent.{Agent}
 use Rattle.book.specs.Book.{Program, Book, function-at, node-at, agent-at}
 use Rattle.book.specs.Kinds.{sort, sort-table}
-use Rattle.book.specs.Lines.{node-of, agent-of, fits, bad-node}
-use Rattle.book.specs.Image.{word, row-in, capped, function-of, program-in, narrow, held, Counts}
+use Rattle.book.specs.Lines.{fits, bad-node}
+use Rattle.book.specs.Image.{low-function, low-node, low-agent, program-in, held}
 use Rattle.book.specs.Check.{check-book}
 use Rattle.book.specs.Sound.{Lawful}
 use Rattle.book.proofs.Accepted.{accepted, accepted-kinds}
-use Rattle.book.proofs.Image.{narrow-word, functions-long, nodes-long, agents-long, functions-most, nodes-most, agents-most, function-inside, node-inside, agent-inside}
+use Rattle.book.proofs.Image.{functions-most, nodes-most}
+use Rattle.book.proofs.Held.{held-same}
 use Rattle.book.proofs.Places.{spot}
 use Rattle.book_check.specs.Opened.{Opened}
 
@@ -76,83 +75,38 @@ small-node B n p f k e =
 
 -- ---- the image of a lawful book
 
-module _ (m : List ℕ) (B : Program) (ok : Lawful B) (kinds : (f : ℕ) → function-at B f .kind ≤ 3) (counts : Counts m B) (is : program-in m ≡ B) where
-  abbrev o : List ℕ
-  o = narrow m
-
-  word-small : (i : ℕ) → word m i < 65536 → word o i ≡ word m i
-  word-small i h = narrow-word m i ∙ mod-eq-of-lt h
-
+module _ (m : List ℕ) (B : Program) (ok : Lawful B) (kinds : (f : ℕ) → function-at B f .kind ≤ 3) (is : program-in m ≡ B) where
   few-functions : length (B .functions) ≤ 32
   few-functions = omega (arith, ap (λ (X : Program). length (X .functions)) is, functions-most m)
 
   few-nodes : length (B .nodes) ≤ 1024
   few-nodes = omega (arith, ap (λ (X : Program). length (X .nodes)) is, nodes-most m)
 
-  few-agents : length (B .agents) ≤ 16
-  few-agents = omega (arith, ap (λ (X : Program). length (X .agents)) is, agents-most m)
-
-  permanent-is : word m 1 ≡ B .P
-  unfolding program-in
-  permanent-is = ap (λ (X : Program). X .P) is
-
   few-permanent : B .P ≤ 10000
   few-permanent = omega (arith, ok .high, ok .elements)
 
-  function-same : (f : ℕ) → f < capped (word m 2) 32 → function-of (row-in o (2 + f)) ≡ function-of (row-in m (2 + f))
+  function-same : (f : ℕ) → f < length (B .functions) → low-function (function-at B f) ≡ function-at B f
   function-same f h =
-      let q : function-of (row-in m (2 + f)) ≡ function-at B f =
-      sym (function-inside m f h) ∙ ap (λ (X : Program). function-at X f) is in
-      let k : f < length (B .functions) =
-      omega (arith, ap (λ (X : Program). length (X .functions)) is, functions-long m) in
-      let s = spot B ok f 0 0 k (omega (arith, ok .low, ok .high)) (omega (arith, ok .low, ok .high)) .inside in
-      rw (
-        word-small ((2 + f) * 4) (omega (arith, ap (λ (x : Function). x .first) q, s, ok .locations)),
-        word-small ((2 + f) * 4 + 1) (omega (arith, ap (λ (x : Function). x .arity) q, ok .arities f)),
-        word-small ((2 + f) * 4 + 2) (omega (arith, ap (λ (x : Function). x .kind) q, kinds f)),
-      )
+      let s = spot B ok f 0 0 h (omega (arith, ok .low, ok .high)) (omega (arith, ok .low, ok .high)) .inside in
+      let first : function-at B f .first < 65536 = omega (arith, s, ok .locations) in
+      let arity : function-at B f .arity < 65536 = omega (arith, ok .arities f) in
+      let kind : function-at B f .kind < 65536 = omega (arith, kinds f) in
+      rw (mod-eq-of-lt first, mod-eq-of-lt arity, mod-eq-of-lt kind)
 
-  node-same : (n : ℕ) → n < capped (word m 3) 1024 → node-of (row-in o (50 + n)) ≡ node-of (row-in m (50 + n))
+  node-same : (n : ℕ) → n < length (B .nodes) → low-node (node-at B n) ≡ node-at B n
   node-same n h =
-      let q : node-of (row-in m (50 + n)) ≡ node-at B n =
-      sym (node-inside m n h) ∙ ap (λ (X : Program). node-at X n) is in
-      let k : n < length (B .nodes) =
-      omega (arith, ap (λ (X : Program). length (X .nodes)) is, nodes-long m) in
-      let s = small-node B n few-permanent few-functions (omega (arith, few-nodes)) (ok .nodes n k) in
-      rw (
-        word-small ((50 + n) * 4) (omega (arith, ap (λ (x : Node). x .kind) q, s .kind)),
-        word-small ((50 + n) * 4 + 1) (omega (arith, ap (λ (x : Node). x .a) q, s .a)),
-        word-small ((50 + n) * 4 + 2) (omega (arith, ap (λ (x : Node). x .b) q, s .b)),
-        word-small ((50 + n) * 4 + 3) (omega (arith, ap (λ (x : Node). x .c) q, s .c)),
-      )
+      let s = small-node B n few-permanent few-functions (omega (arith, few-nodes)) (ok .nodes n h) in
+      rw (mod-eq-of-lt (s .kind), mod-eq-of-lt (s .a), mod-eq-of-lt (s .b), mod-eq-of-lt (s .c))
 
-  agent-same : (i : ℕ) → i < capped (word m 4) 16 → agent-of (row-in o (34 + i)) ≡ agent-of (row-in m (34 + i))
+  agent-same : (i : ℕ) → i < length (B .agents) → low-agent (agent-at B i) ≡ agent-at B i
   agent-same i h =
-      let q : agent-of (row-in m (34 + i)) ≡ agent-at B i =
-      sym (agent-inside m i h) ∙ ap (λ (X : Program). agent-at X i) is in
-      let k : i < length (B .agents) =
-      omega (arith, ap (λ (X : Program). length (X .agents)) is, agents-long m) in
-      rw (
-        word-small ((34 + i) * 4) (omega (arith, ap (λ (x : Agent). x .root) q, ok .roots i k .0, few-nodes)),
-        word-small ((34 + i) * 4 + 1) (omega (arith, ap (λ (x : Agent). x .element) q, ok .agents i, few-permanent)),
-      )
+      let root : agent-at B i .root < 65536 = omega (arith, ok .roots i h .0, few-nodes) in
+      let element : agent-at B i .element < 65536 = omega (arith, ok .agents i, few-permanent) in
+      rw (mod-eq-of-lt root, mod-eq-of-lt element)
 
-  narrow-holds : held m ≡ B
-  unfolding program-in
-  narrow-holds =
-      rw (
-        word-small 0 (omega (arith, counts .elements, ok .elements)),
-        word-small 1 (omega (arith, permanent-is, few-permanent)),
-        word-small 2 (omega (arith, counts .functions, few-functions)),
-        word-small 3 (omega (arith, counts .nodes, few-nodes)),
-        word-small 4 (omega (arith, counts .agents, few-agents)),
-        table-ext (λ f. function-of (row-in o (2 + f))) (λ f. function-of (row-in m (2 + f))) (capped (word m 2) 32) function-same,
-        table-ext (λ n. node-of (row-in o (50 + n))) (λ n. node-of (row-in m (50 + n))) (capped (word m 3) 1024) node-same,
-        table-ext (λ i. agent-of (row-in o (34 + i))) (λ i. agent-of (row-in m (34 + i))) (capped (word m 4) 16) agent-same,
-      ) is
+  lawful-held : held m ≡ B
+  lawful-held = held-same m B is (omega (arith, few-permanent)) function-same node-same agent-same
 
 -- what the check of an accepted book leaves is, as the engine reads it, the book's program
 pub held-is : (text m : List ℕ) → Opened m (check-book text) → (b : Book) → check-book text ≡ good b → held m ≡ b .program
-held-is text m opened b e =
-    let o = opened b e in
-    narrow-holds m (b .program) (accepted text b e) (accepted-kinds text b e) (o .2) (o .0)
+held-is text m opened b e = lawful-held m (b .program) (accepted text b e) (accepted-kinds text b e) (opened b e .0)

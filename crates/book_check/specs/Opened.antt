@@ -5,12 +5,12 @@ use Prim.Native.Nat.{ℕ}
 use Rattle.text.specs.Words.{Checked, good, _>>_}
 use Rattle.book.specs.declared.Header.{Header}
 use Rattle.book.specs.Book.{Book, L}
-use Rattle.book.specs.Image.{word, program-in, Counts}
+use Rattle.book.specs.Image.{word, program-in}
 use Rattle.book.specs.Check.{check-present, check-surplus, check-lines}
 
 -- of a refused book the image may hold anything
 abbrev pub Opened : List ℕ → Checked Book → Type 0
-Opened m r = (b : Book) → r ≡ good b → (program-in m ≡ b .program) × (word m 6 ≡ L (b .program)) × Counts m (b .program)
+Opened m r = (b : Book) → r ≡ good b → (program-in m ≡ b .program) × (word m 6 ≡ L (b .program))
 
 -- the check of a book once its header is known
 abbrev pub check-text : Header → List ℕ → Checked Book

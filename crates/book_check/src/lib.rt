@@ -43,7 +43,7 @@ fn check_program(image: &mut Image) -> Answer
     if functions.number != 0 {
         return functions;
     }
-    let all = image::fetch(image, 6);
+    let all = image::locations(image);
     let locations = text::must(
         all <= book::MOST_LOCATIONS,
         text::HEADER_BOUNDS,

@@ -32,7 +32,7 @@ fn answer(number: u32, p: u32, q: u32) -> Answer
 fn check_agent(image: &Image, agent: usize) -> Answer
     ensures { λ r. ⌜ r ≡ answer-of (check-agent (held (now (image .entry))) agent) ⌝ }
 {
-    if agent < pages::agents(image) as usize {
+    if agent < image::agents(image) as usize {
         answer(0, 0, 0)
     } else {
         answer(text::LOG_LINE, 0, 0)
@@ -43,7 +43,7 @@ fn check_agent(image: &Image, agent: usize) -> Answer
 fn check_lent(image: &Image, contents: &[Value], lent: usize) -> Answer
     ensures { λ r. ⌜ r ≡ answer-of (check-step-lengths (word (now (image .entry)) 6) (now (contents .entry)) lent) ⌝ }
 {
-    let locations = pages::locations(image);
+    let locations = image::locations(image);
     if contents.len() < locations as usize {
         return answer(text::LENT_SHORT, locations, CONTENTS);
     }
@@ -57,7 +57,7 @@ fn check_lent(image: &Image, contents: &[Value], lent: usize) -> Answer
 fn check_contents(image: &Image, contents: &[Value]) -> Answer
     ensures { λ r. ⌜ r ≡ answer-of (check-contents (held (now (image .entry))) (take (word (now (image .entry)) 6) (now (contents .entry)))) ⌝ }
 {
-    let n = numbers::smaller(pages::locations(image) as usize, contents.len());
+    let n = numbers::smaller(image::locations(image) as usize, contents.len());
     let found = table::bad_value(image, &contents[..n]);
     match found {
         Found::Here(l) => answer(text::CONTENTS_RULE, l, 0),

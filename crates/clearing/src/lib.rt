@@ -38,13 +38,13 @@ fn clear(image: &Image, contents: &mut [Value], writers: &mut [u64], x: u16, bit
     ensures { λ _. ⌜ now (contents .exit) ≡ cleared (held (now (image .entry))) x (now (contents .entry)) ⌝ }
     ensures { λ _. ⌜ now (writers .exit) ≡ clear-marked bit (held (now (image .entry))) x (now (contents .entry)) (now (writers .entry)) ⌝ }
 {
-    let e = pages::elements(image);
-    let n = pages::functions(image);
+    let e = image::elements(image);
+    let n = image::functions(image);
     let mut first: usize = 0;
     let mut g: u16 = 0;
     while g < n {
         let f = pages::function_at(image, g);
-        let end = first + pages::size(e, f.arity) as usize;
+        let end = first + image::size(e, f.arity) as usize;
         clear_run(contents, writers, e, f, x, bit, first, end);
         first = end;
         g = g + 1;

@@ -13,7 +13,7 @@ use Rattle.text.specs.Words.{if_then_else_}
 use Rattle.text.specs.Text.{line}
 use Rattle.text.proofs.Words.{and-cases, getD-table}
 use Rattle.book.specs.declared.Entry.{Entry}
-use Rattle.book.specs.Book.{Program, no-entry, function-at, entry-at, location, entry-location}
+use Rattle.book.specs.Book.{Program, no-entry, function-at, entry-at, entry-location}
 use Rattle.book.specs.Lines.{entry-of}
 use Rattle.book.specs.Contents.{in-bounds, in-form, least-location, rolled, untraced, bad-entry}
 use Rattle.contents.specs.Roll.{entries-from, marked, roll-of, untraced-by, Clear}

@@ -109,7 +109,7 @@ fn mark(roll: &mut [u8], x: Entry)
     ensures { λ _. ⌜ now (roll .exit) ≡ marked x (now (roll .entry)) ⌝ }
 {
     if x.function == 0 {
-        image::put_byte(roll, x.arg1 as usize, 1);
+        numbers::put_byte(roll, x.arg1 as usize, 1);
     }
 }
 
@@ -117,9 +117,9 @@ fn mark(roll: &mut [u8], x: Entry)
 fn no_trace(roll: &[u8], x: Entry) -> bool
     ensures { λ r. ⌜ r ≡ untraced-by (now (roll .entry)) x ⌝ }
 {
-    let a = image::fetch_byte(roll, x.arg1 as usize);
-    let b = image::fetch_byte(roll, x.arg2 as usize);
-    let v = image::fetch_byte(roll, x.value as usize);
+    let a = numbers::byte_at(roll, x.arg1 as usize);
+    let b = numbers::byte_at(roll, x.arg2 as usize);
+    let v = numbers::byte_at(roll, x.value as usize);
     (x.function == 0) | ((a == 0) & (b == 0) & (v == 0))
 }
 
@@ -143,7 +143,7 @@ fn fault_at(text: &[u8], i: u32, end: u32) -> Faults
 // Judges the lines from `first` up to `end`. The roll is clear to begin with.
 fn judge_lines<'a>(
     text: &'a [u8],
-    image: &'a [u32],
+    image: &'a Image,
     first: u32,
     end: u32,
     roll: &mut [u8],
@@ -152,8 +152,8 @@ fn judge_lines<'a>(
     ensures { λ r. ⌜ r ≡ faults-from (program-in (now (image .entry))) (now (text .entry)) first (end - first) ⌝ }
 {
     let p = image::permanent(image);
-    let e = image::elements(image);
-    let n = image::functions(image);
+    let e = image::elements(image) as u32;
+    let n = image::functions(image) as u32;
     let mut i = first;
     let mut low: u64 = 0;
     while i < end {
@@ -184,8 +184,11 @@ fn judge_lines<'a>(
 pub fn judge<'a>(text: &'a [u8], image: &'a Image) -> Faults
     ensures { λ r. ⌜ r ≡ faults-from (program-in (now (image .entry))) (now (text .entry)) (first-line (now (image .entry))) (line-count (now (image .entry))) ⌝ }
 {
-    let first = 2 + image::functions(image) + image::nodes(image) + image::agents(image);
-    let end = first + image::cap(image::fetch(image, 5), book::MOST_CONTENTS);
+    let first = 2
+        + image::functions(image) as u32
+        + image::nodes(image) as u32
+        + image::agents(image) as u32;
+    let end = first + image::cap(image[5], book::MOST_CONTENTS);
     if image::elements(image) <= 256 {
         let mut roll = [0u8; 256];
         judge_lines(text, image, first, end, &mut roll)

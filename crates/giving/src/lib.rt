@@ -164,7 +164,7 @@ fn take(image: &Image, list: &mut [u64; 256], s: Pace, n: u16, u: u16, x: u16) -
 pub fn enroll(image: &Image, list: &mut [u64; 256], s: Pace, n: u16, u: u16, x: u16) -> Pace
     ensures { λ r. ⌜ reached r (now (list .exit)) ≡ (reached s (now (list .entry)) then enrolling (held (now (image .entry))) u x n) ⌝ }
 {
-    if x < pages::elements(image) {
+    if x < image::elements(image) {
         take(image, list, s, n, u, x)
     } else {
         refuse(s, text::NO_LABEL_LEFT, n)

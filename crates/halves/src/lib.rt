@@ -44,7 +44,7 @@ fn refused(answer: Answer) -> Paused
 fn begin(image: &Image, contents: &[Value], agent: u32, work: &mut [u64; 256]) -> Begun
     ensures { λ r. ⌜ Walked (held (now (image .entry))) (take (word (now (image .entry)) 6) (now (contents .entry))) agent (now (work .exit)) r ⌝ }
 {
-    let all = pages::locations(image) as usize;
+    let all = image::locations(image) as usize;
     let n = numbers::smaller(all, contents.len());
     let mut readers = [0u64; 1];
     moves::begin(image, &contents[..n], &mut readers[..0], 1, work, agent)
@@ -86,7 +86,7 @@ pub fn second_half(contents: &mut [Value], image: &Image, work: &[u64; 256], p: 
     }
     let begun = p.begun;
     let walk = begun.walk;
-    let all = pages::locations(image) as usize;
+    let all = image::locations(image) as usize;
     let n = numbers::smaller(all, contents.len());
     let mut readers = [0u64; 1];
     let mut writers = [0u64; 1];

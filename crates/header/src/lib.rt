@@ -1,4 +1,5 @@
 // 3 and 4: the fields of a book's header and the rows of its functions' lines, judged.
+use book::Image;
 use text::Found;
 use text::Line;
 ghost use mathlib.Core.Path.{_≡_};
@@ -44,10 +45,10 @@ fn bad_function(l: Line, f: u32) -> bool
 }
 
 // 4: the least function at fault, on the rows of the functions' lines as they stand.
-pub fn bad_functions(image: &[u32]) -> Found
+pub fn bad_functions(image: &Image) -> Found
     ensures { λ r. ⌜ r ≡ least (λ f. bad-function (row-in (now (image .entry)) (first-function + f)) f) (length (program-in (now (image .entry)) .functions)) ⌝ }
 {
-    let n = image::functions(image);
+    let n = image::functions(image) as u32;
     let mut i: u32 = 0;
     while i < n {
         let l = image::row(image, image::FUNCTION_ROWS + i);

@@ -1,14 +1,16 @@
-// The image of a book: numbers in which the checks find its lines.
+// The image of a program, and the one way to read it: its counts, its functions, nodes and agents, and how many locations it has.
 use book::Agent;
 use book::Function;
 use book::Header;
+use book::Image;
 use book::Node;
+use numbers::Value;
 use text::Line;
 ghost use mathlib.Core.Path.{_≡_};
 ghost use Prim.Native.Nat.{_+_, _≤_};
-ghost use lib.ListN.{length, getD, set};
-ghost use Rattle.book.specs.Book.{size, function-at, node-at, agent-at};
-ghost use Rattle.book.specs.Image.{row-in, capped, program-in, Room, capped-header, stored};
+ghost use lib.ListN.{length};
+ghost use Rattle.book.specs.Book.{size, no-node, function-at, node-at, agent-at};
+ghost use Rattle.book.specs.Image.{image-length, word, row-in, capped, program-in, Room, capped-header, stored};
 
 // The first row of each kind.
 pub const FUNCTION_ROWS: u32 = 2;
@@ -17,57 +19,30 @@ pub const AGENT_ROWS: u32 = 34;
 
 pub const NODE_ROWS: u32 = 50;
 
-// The number at an index, 0 past the end.
-pub fn fetch(s: &[u32], i: usize) -> u32
-    ensures { λ r. ⌜ r ≡ getD (now (s .entry)) i 0 ⌝ }
-{
-    if i < s.len() { s[i] } else { 0 }
-}
+// ---- rows
 
-// Past the end nothing is put.
-pub fn put(s: &mut [u32], i: usize, x: u32)
-    ensures { λ _. ⌜ now (s .exit) ≡ set (now (s .entry)) i x ⌝ }
-{
-    if i < s.len() {
-        s[i] = x;
-    }
-}
-
-// The same for a table of bytes.
-pub fn fetch_byte(s: &[u8], i: usize) -> u8
-    ensures { λ r. ⌜ r ≡ getD (now (s .entry)) i 0 ⌝ }
-{
-    if i < s.len() { s[i] } else { 0 }
-}
-
-pub fn put_byte(s: &mut [u8], i: usize, x: u8)
-    ensures { λ _. ⌜ now (s .exit) ≡ set (now (s .entry)) i x ⌝ }
-{
-    if i < s.len() {
-        s[i] = x;
-    }
-}
-
-pub fn row(image: &[u32], r: u32) -> Line
+// A row, as far as there is one.
+pub fn row(image: &Image, r: u32) -> Line
     ensures { λ l. ⌜ l ≡ row-in (now (image .entry)) r ⌝ }
 {
     let at = r as usize * 4;
     Line {
-        a: fetch(image, at),
-        b: fetch(image, at + 1),
-        c: fetch(image, at + 2),
-        d: fetch(image, at + 3),
+        a: numbers::word_at(image, at),
+        b: numbers::word_at(image, at + 1),
+        c: numbers::word_at(image, at + 2),
+        d: numbers::word_at(image, at + 3),
     }
 }
 
-pub fn store(image: &mut [u32], r: u32, l: Line)
-    ensures { λ _. ⌜ now (image .exit) ≡ stored r l (now (image .entry)) ⌝ }
+// Past the end nothing is stored. It also says how long an image is.
+pub fn store(image: &mut Image, r: u32, l: Line)
+    ensures { λ _. ⌜ (now (image .exit) ≡ stored r l (now (image .entry))) × (length (now (image .entry)) ≡ image-length) ⌝ }
 {
     let at = r as usize * 4;
-    put(image, at, l.a);
-    put(image, at + 1, l.b);
-    put(image, at + 2, l.c);
-    put(image, at + 3, l.d);
+    numbers::put_word(image, at, l.a);
+    numbers::put_word(image, at + 1, l.b);
+    numbers::put_word(image, at + 2, l.c);
+    numbers::put_word(image, at + 3, l.d);
 }
 
 pub fn cap(n: u32, most: u32) -> u32
@@ -90,52 +65,62 @@ pub fn capped(h: Header) -> Header
     }
 }
 
+// ---- counts
+
 // E.
-pub fn elements(image: &[u32]) -> u32
+pub fn elements(image: &Image) -> Value
     ensures { λ r. ⌜ r ≡ program-in (now (image .entry)) .E ⌝ }
 {
-    cap(fetch(image, 0), book::MOST_ELEMENTS)
+    cap(image[0], book::MOST_ELEMENTS) as Value
 }
 
 // P.
-pub fn permanent(image: &[u32]) -> u32
+pub fn permanent(image: &Image) -> u32
     ensures { λ r. ⌜ r ≡ program-in (now (image .entry)) .P ⌝ }
 {
-    fetch(image, 1)
+    image[1]
 }
 
 // F.
-pub fn functions(image: &[u32]) -> u32
+pub fn functions(image: &Image) -> u16
     ensures { λ r. ⌜ r ≡ length (program-in (now (image .entry)) .functions) ⌝ }
 {
-    cap(fetch(image, 2), book::MOST_FUNCTIONS)
+    cap(image[2], book::MOST_FUNCTIONS) as u16
 }
 
 // N.
-pub fn nodes(image: &[u32]) -> u32
+pub fn nodes(image: &Image) -> u16
     ensures { λ r. ⌜ r ≡ length (program-in (now (image .entry)) .nodes) ⌝ }
 {
-    cap(fetch(image, 3), book::MOST_NODES)
+    cap(image[3], book::MOST_NODES) as u16
 }
 
 // A.
-pub fn agents(image: &[u32]) -> u32
+pub fn agents(image: &Image) -> u16
     ensures { λ r. ⌜ r ≡ length (program-in (now (image .entry)) .agents) ⌝ }
 {
-    cap(fetch(image, 4), book::MOST_AGENTS)
+    cap(image[4], book::MOST_AGENTS) as u16
 }
 
-// Function f of the image's book; all 0 past the last.
-pub fn function_at(image: &[u32], f: u32) -> Function
+// L, as the book check leaves it.
+pub fn locations(image: &Image) -> u32
+    ensures { λ r. ⌜ r ≡ word (now (image .entry)) 6 ⌝ }
+{
+    image[6]
+}
+
+// ---- functions, nodes, agents
+
+// Function f; past the last one all 0.
+pub fn function_at(image: &Image, f: u32) -> Function
     ensures { λ r. ⌜ r ≡ function-at (program-in (now (image .entry))) f ⌝ }
 {
-    let n = cap(fetch(image, 2), book::MOST_FUNCTIONS);
-    if f < n {
-        let l = row(image, FUNCTION_ROWS + f);
+    if f < cap(image[2], book::MOST_FUNCTIONS) {
+        let at = f as usize * 4 + 8;
         Function {
-            first: l.a,
-            arity: l.b,
-            kind: l.c,
+            first: image[at],
+            arity: image[at + 1],
+            kind: image[at + 2],
         }
     } else {
         Function {
@@ -146,39 +131,46 @@ pub fn function_at(image: &[u32], f: u32) -> Function
     }
 }
 
-// Node n of the image's book; all 0 past the last.
-pub fn node_at(image: &[u32], n: u32) -> Node
-    ensures { λ r. ⌜ r ≡ node-at (program-in (now (image .entry))) n ⌝ }
+// The node that there is not.
+fn no_node() -> Node
+    ensures { λ r. ⌜ r ≡ no-node ⌝ }
 {
-    let count = cap(fetch(image, 3), book::MOST_NODES);
-    if n < count {
-        let l = row(image, NODE_ROWS + n);
-        Node {
-            kind: l.a,
-            a: l.b,
-            b: l.c,
-            c: l.d,
-        }
-    } else {
-        Node {
-            kind: 0,
-            a: 0,
-            b: 0,
-            c: 0,
-        }
+    Node {
+        kind: 0,
+        a: 0,
+        b: 0,
+        c: 0,
     }
 }
 
-// Agent i of the image's book; all 0 past the last.
-pub fn agent_at(image: &[u32], i: u32) -> Agent
+// Node n; past the last all 0. Every term and rule is read through here, so the two bounds are tested one by one.
+pub fn node_at(image: &Image, n: u32) -> Node
+    ensures { λ r. ⌜ r ≡ node-at (program-in (now (image .entry))) n ⌝ }
+{
+    if image[3] <= n {
+        return no_node();
+    }
+    if book::MOST_NODES <= n {
+        return no_node();
+    }
+    let at = n as usize * 4 + 200;
+    Node {
+        kind: image[at],
+        a: image[at + 1],
+        b: image[at + 2],
+        c: image[at + 3],
+    }
+}
+
+// Agent i; past the last all 0.
+pub fn agent_at(image: &Image, i: u32) -> Agent
     ensures { λ r. ⌜ r ≡ agent-at (program-in (now (image .entry))) i ⌝ }
 {
-    let n = cap(fetch(image, 4), book::MOST_AGENTS);
-    if i < n {
-        let l = row(image, AGENT_ROWS + i);
+    if i < cap(image[4], book::MOST_AGENTS) {
+        let at = i as usize * 4 + 136;
         Agent {
-            root: l.a,
-            element: l.b,
+            root: image[at],
+            element: image[at + 1],
         }
     } else {
         Agent {
@@ -189,14 +181,14 @@ pub fn agent_at(image: &[u32], i: u32) -> Agent
 }
 
 // How many locations a function of that arity has.
-pub fn size(e: u32, arity: u32) -> u64
+pub fn size(e: Value, arity: u32) -> u32
     ensures { λ r. ⌜ r ≡ size e arity ⌝ }
 {
     if arity == 0 {
-        1
-    } else if arity == 1 {
-        e as u64
-    } else {
-        e as u64 * e as u64
+        return 1;
     }
+    if arity == 1 {
+        return e as u32;
+    }
+    e as u32 * e as u32
 }

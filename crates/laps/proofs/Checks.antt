@@ -2,7 +2,7 @@
 use mathlib.Core.Path.{_≡_, refl, sym, ap, subst, _∙_}
 use mathlib.Core.Logic.{_≢_}
 use mathlib.Core.List.{List, []}
-use Prim.Native.Nat.{ℕ, _≤_, _<_}
+use Prim.Native.Nat.{ℕ, _≤_}
 use native.Mathlib.Omega.{arith}
 use lib.ListN.{length}
 use Rattle.text.specs.declared.Answer.{Answer}
@@ -11,9 +11,9 @@ use Rattle.text.proofs.Words.{bind-good, then-good, good-same}
 use Rattle.text.proofs.Checks.{bind-stops, then-stops}
 use Rattle.book.specs.Book.{Program, Book, L, start}
 use Rattle.book.specs.Check.{check-book}
-use Rattle.book.specs.Image.{word, narrow, held}
+use Rattle.book.specs.Image.{word, held}
 use Rattle.book.proofs.Claims.{accepted-book}
-use Rattle.book.proofs.Image.{agents-most}
+use Rattle.book.proofs.Held.{held-agents-most}
 use Rattle.order.specs.declared.Lengths.{Lengths}
 use Rattle.order.specs.Log.{Log, check-agents, read-log, check-log}
 use Rattle.order.specs.Call.{Tables, lengths, check-lengths, check-lent, check-all, left-in, log-answer, log-call}
@@ -31,7 +31,7 @@ use Rattle.book_check.specs.Opened as image
 use Rattle.book_check.proofs.Fits.{held-is}
 use Rattle.laps.specs.declared.Opening.{Opening}
 use Rattle.laps.specs.Turns.{Runnable, answered}
-use Rattle.laps.specs.Checked.{Holds, Opened, run-lists}
+use Rattle.laps.specs.Checked.{Opened, run-lists}
 
 -- ---- the checks, one after the other
 
@@ -177,7 +177,7 @@ module _ (book log : List ℕ) (n : Lengths) where
       reads b e = subst (λ (k : ℕ). LogReads k log o c) (agents-same b e) read
 
       few : (b : Book) → check-book book ≡ good b → length (b .program .agents) ≤ 16
-      few b e = omega (arith, ek, agents-same b e, agents-most (narrow m))
+      few b e = omega (arith, ek, agents-same b e, held-agents-most m)
 
       answers : c .answer ≡ answer-of (read-log (length (B .program .agents)) log)
       answers = reads B (book-is .1) .answer

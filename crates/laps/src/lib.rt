@@ -65,7 +65,7 @@ pub fn check_all(
     if opened.number != 0 {
         return refused(opened);
     }
-    let read = log::read_log(log, pages::agents(image) as u32, order);
+    let read = log::read_log(log, image::agents(image) as u32, order);
     let listed = read.answer;
     if listed.number != 0 {
         return refused(listed);
@@ -74,7 +74,7 @@ pub fn check_all(
     if unordered.number != 0 {
         return refused(unordered);
     }
-    let locations = pages::locations(image);
+    let locations = image::locations(image);
     let short = ends::check_lent(locations, lent);
     Opening {
         answer: short,
@@ -218,7 +218,7 @@ pub fn begin(
     let i = t.at;
     let bit = bit_of(i);
     let agent = log::agent_at(order, i);
-    let all = pages::locations(image) as usize;
+    let all = image::locations(image) as usize;
     let n = numbers::smaller(all, numbers::smaller(contents.len(), readers.len()));
     moves::begin(image, &contents[..n], &mut readers[..n], bit, list, agent)
 }
@@ -261,7 +261,7 @@ pub fn finish(
 ) -> Turn
     ensures { λ r. ⌜ ((lent : Tables) (n : ℕ) (whole : LogAnswer) (is : List Instruction) (rest : List (List Instruction)) → Midway lent n whole (now (image .entry)) (now (order .entry)) is rest t s (now (list .entry)) (now (contents .entry)) (now (readers .entry)) (now (writers .entry)) → Lap lent n whole (now (image .entry)) (now (order .entry)) rest r (now (contents .exit)) (now (readers .exit)) (now (writers .exit))) × (turns-left r ≤ 64 - t .at) ⌝ }
 {
-    let all = pages::locations(image) as usize;
+    let all = image::locations(image) as usize;
     let two = numbers::smaller(readers.len(), writers.len());
     let n = numbers::smaller(all, numbers::smaller(contents.len(), two));
     finish_on(

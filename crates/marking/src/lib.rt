@@ -64,7 +64,7 @@ pub fn mark_function(readers: &mut [u64], bit: u64, kind: u16, first: usize, end
 pub fn lowest(image: &Image, contents: &[Value], readers: &mut [u64], bit: u64, from: u16) -> u16
     ensures { λ r. ⌜ Runs (held (now (image .entry))) (now (contents .entry)) bit (lowest from (held (now (image .entry)) .E - from)) (found-below (held (now (image .entry)) .E) r) (now (readers .entry)) (now (readers .exit)) ⌝ }
 {
-    let e = pages::elements(image);
+    let e = image::elements(image);
     let mut x = from;
     while x < e {
         term::mark(readers, bit, x as usize);
@@ -80,7 +80,7 @@ pub fn lowest(image: &Image, contents: &[Value], readers: &mut [u64], bit: u64, 
 fn roll(image: &Image, x: u16) -> bool
     ensures { λ r. ⌜ (Placed (held (now (image .entry))) → r ≡ dynamic-at (held (now (image .entry))) x) ⌝ }
 {
-    if x < pages::elements(image) {
+    if x < image::elements(image) {
         return true;
     }
     term::dynamic_at(image, x as u32)
@@ -138,7 +138,7 @@ pub fn universe(image: &Image, readers: &mut [u64], bit: u64, u: u16)
             readers,
             bit,
             pages::function(image, u),
-            pages::elements(image),
+            image::elements(image),
         );
     }
 }

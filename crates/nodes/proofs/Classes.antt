@@ -1,5 +1,5 @@
 -- What fits a sort is what the definition says of that sort alone. Assumes nothing.
-use mathlib.Core.Path.{_≡_, refl, _∙_}
+use mathlib.Core.Path.{_≡_, _∙_}
 use mathlib.Core.List.{List}
 use mathlib.Core.Bool.{or-false}
 use mathlib.Core.Logic.{_≢_}

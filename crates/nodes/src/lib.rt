@@ -1,5 +1,6 @@
 // 5 and 7: node lines and agent lines, over the image of a book.
 use book::Function;
+use book::Image;
 use text::Found;
 use text::Line;
 ghost use mathlib.Core.Path.{_≡_};
@@ -176,14 +177,19 @@ fn fits_target(s: u8, x: u32, n: u32, kind: u32, g: Function) -> bool
 }
 
 // x fits s, any sort but 1, 9 and 10, as an operand of node n. Only what the sort asks about is loaded.
-fn fits_other(image: &[u32], n: u32, s: u8, x: u32) -> bool
+fn fits_other(image: &Image, n: u32, s: u8, x: u32) -> bool
     requires { ⌜ (s ≢ 1) × (9 ≤ s → 11 ≤ s) ⌝ }
     ensures { λ r. ⌜ r ≡ fits (program-in (now (image .entry))) n s x ⌝ }
 {
     if s < 4 {
         fits_plain(s, x, image::permanent(image))
     } else if s < 9 {
-        fits_function(s, x, image::functions(image), image::function_at(image, x))
+        fits_function(
+            s,
+            x,
+            image::functions(image) as u32,
+            image::function_at(image, x),
+        )
     } else {
         let y = image::node_at(image, x);
         fits_target(s, x, n, y.kind, image::function_at(image, y.a))
@@ -191,7 +197,7 @@ fn fits_other(image: &[u32], n: u32, s: u8, x: u32) -> bool
 }
 
 // x fits the sort s as an operand of node n. Most operands are unused or nodes.
-fn fits(image: &[u32], n: u32, s: u8, x: u32) -> bool
+fn fits(image: &Image, n: u32, s: u8, x: u32) -> bool
     ensures { λ r. ⌜ r ≡ fits (program-in (now (image .entry))) n s x ⌝ }
 {
     if s == 1 {
@@ -207,7 +213,7 @@ fn fits(image: &[u32], n: u32, s: u8, x: u32) -> bool
 }
 
 // 5: node n is at fault.
-fn bad_node(image: &[u32], table: &[u8; 84], n: u32) -> bool
+fn bad_node(image: &Image, table: &[u8; 84], n: u32) -> bool
     requires { ⌜ now table ≡ sort-table ⌝ }
     ensures { λ r. ⌜ r ≡ bad-node (program-in (now (image .entry))) n ⌝ }
 {
@@ -220,11 +226,11 @@ fn bad_node(image: &[u32], table: &[u8; 84], n: u32) -> bool
 }
 
 // 5: the least node at fault.
-pub fn bad_nodes(image: &[u32]) -> Found
+pub fn bad_nodes(image: &Image) -> Found
     ensures { λ r. ⌜ r ≡ least (bad-node (program-in (now (image .entry)))) (length (program-in (now (image .entry)) .nodes)) ⌝ }
 {
     let table = SORTS;
-    let n = image::nodes(image);
+    let n = image::nodes(image) as u32;
     let mut i: u32 = 0;
     while i < n {
         if bad_node(image, &table, i) {
@@ -243,10 +249,10 @@ fn before(i: u32) -> u32
 }
 
 // 7: agent i, whose line is l, is at fault.
-fn bad_agent(image: &[u32], l: Line, i: u32) -> bool
+fn bad_agent(image: &Image, l: Line, i: u32) -> bool
     ensures { λ r. ⌜ r ≡ bad-agent (program-in (now (image .entry))) l i ⌝ }
 {
-    let n = image::nodes(image);
+    let n = image::nodes(image) as u32;
     let p = image::permanent(image);
     let root = image::node_at(image, l.a);
     let last = image::agent_at(image, before(i));
@@ -259,10 +265,10 @@ fn bad_agent(image: &[u32], l: Line, i: u32) -> bool
 }
 
 // 7: the least agent at fault, on the rows of the agents' lines.
-pub fn bad_agents(image: &[u32]) -> Found
+pub fn bad_agents(image: &Image) -> Found
     ensures { λ r. ⌜ r ≡ least (λ i. bad-agent (program-in (now (image .entry))) (row-in (now (image .entry)) (34 + i)) i) (length (program-in (now (image .entry)) .agents)) ⌝ }
 {
-    let n = image::agents(image);
+    let n = image::agents(image) as u32;
     let mut i: u32 = 0;
     while i < n {
         let l = image::row(image, image::AGENT_ROWS + i);

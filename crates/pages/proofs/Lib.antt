@@ -1,4 +1,3 @@
 pub mod Laws
 pub mod Parts
 pub mod Places
-pub mod Rows

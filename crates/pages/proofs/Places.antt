@@ -9,8 +9,9 @@ use lib.ListN.{length, drop, drop-of-length-le}
 use lib.Seq.{drop-cons}
 use Rattle.book.specs.declared.Function.{Function}
 use Rattle.book.specs.Book.{Program, L, size, total, no-function, function-at, place-in, place}
-use Rattle.book.specs.Image.{narrow, held}
+use Rattle.book.specs.Image.{held}
 use Rattle.book.proofs.Image.{size-most, elements-most, functions-most}
+use Rattle.book.proofs.Held.{held-elements, held-functions}
 
 -- past the last function's locations there is none
 no-place : (E : ℕ) (fs : List Function) (l : ℕ) → total E fs ≤ l → place-in E fs l ≡ record { function = no-function; index = 0 }
@@ -26,7 +27,7 @@ total-most E (f ∷ fs) h = omega (arith, size-most E (f .arity) h, total-most E
 
 module _ (m : List ℕ) where
   pub locations-fit : L (held m) < 2 ^ 32
-  locations-fit = omega (arith, total-most (held m .E) (held m .functions) (elements-most (narrow m)), functions-most (narrow m))
+  locations-fit = omega (arith, total-most (held m .E) (held m .functions) (rw (held-elements m) (elements-most m)), held-functions m, functions-most m)
 
 module _ (B : Program) where
   pub place-past : (l : ℕ) → L B ≤ l → place B l ≡ record { function = no-function; index = 0 }

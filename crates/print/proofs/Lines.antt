@@ -6,7 +6,7 @@ use Prim.Native.Nat.{ℕ, zero, suc, _+_, _-_, _*_, _≤_, _<_}
 use native.Mathlib.Numerals.{add-one}
 use native.Mathlib.Omega.{arith}
 use lib.Dec.{eqb}
-use lib.ListN.{length, getD, drop, length-append, length-drop, drop-of-length-le}
+use lib.ListN.{length, getD, drop, length-append}
 use lib.Seq.{drop-cons}
 use borrow.Author.Tests.{eqb-true, eqb-false, eq-eqb, ne-eqb}
 use Rattle.text.specs.declared.Line.{Line}
@@ -20,7 +20,7 @@ use Rattle.book.proofs.Image.{elements-most, size-most}
 use Rattle.order.specs.Run.{LogAnswer}
 use Rattle.report.specs.Report.{contents-line, part-lines, lines-from, contents-lines, all-written, first-line, print-answer}
 use Rattle.write.specs.Bytes.{put-bytes}
-use Rattle.write.proofs.Bytes.{put-none, put-then, put-apart, put-front, length-put, length-written}
+use Rattle.write.proofs.Bytes.{put-none, put-then, put-apart, put-front, length-written}
 use Rattle.print.specs.Print.{line-for, shown, lines-put, printed, most-output, Prints}
 
 -- ---- written lines

@@ -1,8 +1,8 @@
 -- Where the book of an input ends: the header's tests one by one, and that the checks of the input are those of its two parts. Assumes nothing.
-use mathlib.Core.Path.{_≡_, refl, sym, ap, _∙_}
+use mathlib.Core.Path.{_≡_, refl, sym, _∙_}
 use mathlib.Core.Bool.{Bool, true, false, _&&_, _||_, not}
-use mathlib.Core.List.{List, []}
-use Prim.Native.Nat.{ℕ, _+_, _*_, _≤_, _<_, min}
+use mathlib.Core.List.{List}
+use Prim.Native.Nat.{ℕ, _*_, _≤_, _<_, min}
 use native.Mathlib.Nat.{min-eq-left, min-eq-right}
 use native.Mathlib.Omega.{arith}
 use native.Mathlib.Decide.{decLt}
@@ -13,7 +13,7 @@ use Rattle.text.specs.declared.Found.{Found}
 use Rattle.text.specs.declared.Found.the-variants.{Nowhere, Here}
 use Rattle.text.specs.declared.Line.{Line}
 use Rattle.text.specs.Words.{if_then_else_, within, least-from, least, Checked, good, refused, _>>_, none-at}
-use Rattle.text.specs.Text.{line-bytes, well-formed, line, bad-line}
+use Rattle.text.specs.Text.{line-bytes, well-formed, line}
 use Rattle.book.specs.declared.Header.{Header}
 use Rattle.book.specs.Lines.{header-of, bad-field, line-count}
 use Rattle.book.specs.Check.{check-header}

@@ -1,5 +1,6 @@
 // The printed answer of a log, and where the book of an input ends.
 use book::Function;
+use book::Image;
 use numbers::Value;
 use text::Answer;
 use text::Line;
@@ -19,7 +20,7 @@ fn default_of(f: Function) -> u32
 }
 
 // The line of location i of function k, which is f and holds v there. Only what is printed is divided.
-fn line_of(e: u32, f: Function, k: u32, i: u32, v: u16) -> Line
+fn line_of(e: Value, f: Function, k: u32, i: u32, v: u16) -> Line
     requires { ⌜ i < size e (f .arity) ⌝ }
     ensures { λ r. ⌜ r ≡ line-for e f k i v ⌝ }
 {
@@ -39,8 +40,9 @@ fn line_of(e: u32, f: Function, k: u32, i: u32, v: u16) -> Line
             d,
         }
     } else {
-        let x = i / e;
-        let y = i % e;
+        let side = e as u32;
+        let x = i / side;
+        let y = i % side;
         Line {
             a: k,
             b: x,
@@ -51,7 +53,7 @@ fn line_of(e: u32, f: Function, k: u32, i: u32, v: u16) -> Line
 }
 
 // Prints that line after n others, unless v is the default. Says how many lines there are then.
-fn print_location(e: u32, f: Function, k: u32, i: u32, v: u16, n: u32, out: &mut [u8]) -> u32
+fn print_location(e: Value, f: Function, k: u32, i: u32, v: u16, n: u32, out: &mut [u8]) -> u32
     requires { ⌜ (i < size e (f .arity)) × (n < 4294967295) ⌝ }
     ensures { λ r. ⌜ (r ≡ n + length (shown e f k i v)) × (now (out .exit) ≡ lines-put n (shown e f k i v) (now (out .entry))) ⌝ }
 {
@@ -65,13 +67,13 @@ fn print_location(e: u32, f: Function, k: u32, i: u32, v: u16, n: u32, out: &mut
 }
 
 // Prints the contents of function k after n lines.
-fn print_function(image: &[u32], contents: &[Value], k: u32, n: u32, out: &mut [u8]) -> u32
+fn print_function(image: &Image, contents: &[Value], k: u32, n: u32, out: &mut [u8]) -> u32
     requires { ⌜ n ≤ 3100000000 ⌝ }
     ensures { λ r. ⌜ (r ≡ n + length (function-lines (program-in (now (image .entry))) (now (contents .entry)) k)) × (now (out .exit) ≡ lines-put n (function-lines (program-in (now (image .entry))) (now (contents .entry)) k) (now (out .entry))) × (r ≤ n + 100000000) ⌝ }
 {
     let f = image::function_at(image, k);
     let e = image::elements(image);
-    let all = image::size(e, f.arity) as u32;
+    let all = image::size(e, f.arity);
     let first = f.first as usize;
     let mut lines = n;
     let mut i: u32 = 0;
@@ -84,10 +86,10 @@ fn print_function(image: &[u32], contents: &[Value], k: u32, n: u32, out: &mut [
 }
 
 // Prints the non-default contents as lines of a book, from byte 25 on, as far as they fit. Says how many lines there are.
-fn print_contents(image: &[u32], contents: &[Value], out: &mut [u8]) -> u32
+fn print_contents(image: &Image, contents: &[Value], out: &mut [u8]) -> u32
     ensures { λ r. ⌜ (r ≡ length (contents-lines (program-in (now (image .entry))) (now (contents .entry)))) × (now (out .exit) ≡ lines-put 0 (contents-lines (program-in (now (image .entry))) (now (contents .entry))) (now (out .entry))) ⌝ }
 {
-    let all = image::functions(image);
+    let all = image::functions(image) as u32;
     let mut lines: u32 = 0;
     let mut k: u32 = 0;
     while k < all {
@@ -98,7 +100,7 @@ fn print_contents(image: &[u32], contents: &[Value], out: &mut [u8]) -> u32
 }
 
 // The whole text of an answer: its first line, and when accepted the contents. Says how many bytes it has; those past it stay.
-pub fn print_answer(image: &[u32], contents: &[Value], answer: Answer, out: &mut [u8]) -> usize
+pub fn print_answer(image: &Image, contents: &[Value], answer: Answer, out: &mut [u8]) -> usize
     ensures { λ r. ⌜ Prints (program-in (now (image .entry))) answer (now (contents .entry)) (now (out .entry)) r (now (out .exit)) ⌝ }
 {
     if answer.number == 0 {

@@ -49,7 +49,7 @@ fn print_refusal(answer: Answer, output: &mut [u8]) -> usize
 fn print_image(image: &Image, contents: &[Value], answer: Answer, output: &mut [u8]) -> usize
     ensures { λ r. ⌜ Prints (program-in (now (image .entry))) answer (take (min (word (now (image .entry)) 6) (length (now (contents .entry)))) (now (contents .entry))) (now (output .entry)) r (now (output .exit)) ⌝ }
 {
-    let n = numbers::smaller(image::fetch(image, 6) as usize, contents.len());
+    let n = numbers::smaller(image::locations(image) as usize, contents.len());
     print::print_answer(image, &contents[..n], answer, output)
 }
 

@@ -2,24 +2,19 @@
 use mathlib.Core.Path.{_≡_, refl, sym, _∙_, ap}
 use mathlib.Core.Logic.{dite}
 use mathlib.Core.List.{List}
-use Prim.Native.Nat.{ℕ, zero, suc, _+_, _-_, _*_, _<_, _≤_}
+use Prim.Native.Nat.{ℕ, zero, suc, _+_, _-_, _<_, _≤_}
 use native.Mathlib.Decide.{ℕ-discrete, decLt}
-use native.Mathlib.Numerals.{add-one}
 use native.Mathlib.Omega.{arith}
 use lib.ListN.{length}
 use borrow.Author.Tests.{lt-ltb, le-ltb}
 use Rattle.text.specs.declared.Line.{Line}
-use Rattle.text.specs.declared.Found.the-variants.{Nowhere, Here}
-use Rattle.text.specs.Words.{table}
 use Rattle.text.specs.Text.{line}
 use Rattle.text.proofs.Words.{table-ext}
 use Rattle.book.specs.declared.Header.{Header}
-use Rattle.book.specs.Book.{Program, L, size}
-use Rattle.book.specs.Lines.{first-function, first-node, first-agent, first-entry, lay-out, node-of, agent-of, program-of}
-use Rattle.book.specs.Image.{image-length, word, row-in, function-of, program-in, Holds, Counts, Room, stored, filled, first-of, laid-row}
-use Rattle.book.proofs.Accepted.{book-lengths}
+use Rattle.book.specs.Lines.{first-function, first-node, first-agent, first-entry, node-of, agent-of, program-of}
+use Rattle.book.specs.Image.{image-length, word, row-in, function-of, program-in, Holds, Room, stored, filled, first-of, laid-row}
 use Rattle.book.proofs.Image.{uncapped, length-stored, stored-other, stored-same, length-filled, filled-below, filled-above, filled-in, laid, total-laid}
-use Rattle.rows.specs.Rows.{row-of, head-row, tail-row, headed, taken, passed, Rows, laid as laid-out}
+use Rattle.rows.specs.Rows.{row-of, head-row, tail-row, headed, taken, Rows, laid as laid-out}
 
 -- ---- lines stored row by row
 
@@ -267,18 +262,6 @@ module _ (m : List ℕ) (h : Header) (text : List ℕ) (room : Room h) (long : i
 
   pub laid-holds : Holds (laid-out m) h text
   laid-holds = rw is-whole whole-holds
-
-  pub laid-counts : Counts (laid-out m) (program-of h text)
-  unfolding program-of
-  laid-counts =
-      let long = book-lengths h text in
-      rw is-whole
-      (record {
-        elements = word0;
-        functions = word2 ∙ sym (long .0);
-        nodes = word3 ∙ sym (long .1);
-        agents = word4 ∙ sym (long .2);
-      })
 
   -- the agents' rows are left as they stand
   pub laid-agent : (i : ℕ) → i < h .agents → row-in (laid-out m) (34 + i) ≡ line text (first-agent h + i)

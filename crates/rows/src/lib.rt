@@ -1,14 +1,16 @@
 // The rows of an image, taken from the text of a book: each line read once, its form and its numbers together.
 use book::Header;
 use book::Image;
+use numbers::Value;
 use text::Found;
 use text::Line;
 ghost use mathlib.Core.Path.{_≡_};
-ghost use Prim.Native.Nat.{_+_, _*_, _-_, _<_, _≤_};
+ghost use Prim.Native.Nat.{_+_, _-_, _<_, _≤_};
+ghost use lib.ListN.{length};
 ghost use Rattle.text.specs.Words.{least-from};
 ghost use Rattle.text.specs.Text.{bad-line};
 ghost use Rattle.book.specs.Lines.{first-function, first-entry};
-ghost use Rattle.book.specs.Image.{row-in, Room, capped-header, filled, first-of, laid-row};
+ghost use Rattle.book.specs.Image.{image-length, row-in, Room, capped-header, filled, first-of, laid-row};
 ghost use Rattle.rows.specs.Rows.{row-of, headed, taken, passed, laid};
 
 // The row that line i has.
@@ -28,7 +30,7 @@ fn row_of(h: Header, i: u32) -> u32
 }
 
 // The header's two rows.
-fn put_header(h: Header, image: &mut [u32])
+fn put_header(h: Header, image: &mut Image)
     ensures { λ _. ⌜ now (image .exit) ≡ headed h (now (image .entry)) ⌝ }
 {
     image::store(
@@ -54,7 +56,7 @@ fn put_header(h: Header, image: &mut [u32])
 }
 
 // Stores the lines of functions, nodes and agents. The first that is out of form ends it.
-fn take_lines(text: &[u8], h: Header, image: &mut [u32]) -> Found
+fn take_lines(text: &[u8], h: Header, image: &mut Image) -> Found
     requires { ⌜ Room h ⌝ }
     ensures { λ r. ⌜ (r ≡ least-from (bad-line (now (text .entry))) (first-entry h - first-function) first-function) × (now (image .exit) ≡ taken h (now (text .entry)) (passed first-function (first-entry h) r) (now (image .entry))) ⌝ }
 {
@@ -81,20 +83,19 @@ pub fn take(text: &[u8], h: Header, image: &mut Image) -> Found
 }
 
 // Gives the rows of n functions their first locations, and says how many locations there are.
-fn lay_functions(e: u32, n: u32, image: &mut [u32]) -> u32
+fn lay_functions(e: Value, n: u32, image: &mut Image) -> u32
     requires { ⌜ (e ≤ 10000) × (n ≤ 32) ⌝ }
     ensures { λ r. ⌜ (r ≡ first-of (λ f. row-in (now (image .entry)) (2 + f)) e n) × (now (image .exit) ≡ filled (laid-row (λ f. row-in (now (image .entry)) (2 + f)) e) 2 n 0 (now (image .entry))) ⌝ }
 {
-    let mut sum: u64 = 0;
+    let mut sum: u32 = 0;
     let mut i: u32 = 0;
     while i < n {
         let l = image::row(image, image::FUNCTION_ROWS + i);
-        let first = sum as u32;
         image::store(
             image,
             image::FUNCTION_ROWS + i,
             Line {
-                a: first,
+                a: sum,
                 b: l.a,
                 c: l.b,
                 d: 0,
@@ -103,17 +104,17 @@ fn lay_functions(e: u32, n: u32, image: &mut [u32]) -> u32
         sum += image::size(e, l.a);
         i += 1;
     }
-    sum as u32
+    sum
 }
 
 // Gives the functions their first locations, and the header's rows L.
 pub fn lay_out(image: &mut Image)
-    ensures { λ _. ⌜ now (image .exit) ≡ laid (now (image .entry)) ⌝ }
+    ensures { λ _. ⌜ (now (image .exit) ≡ laid (now (image .entry))) × (length (now (image .entry)) ≡ image-length) ⌝ }
 {
     let e = image::elements(image);
-    let n = image::functions(image);
-    let a = image::fetch(image, 4);
-    let c = image::fetch(image, 5);
+    let n = image::functions(image) as u32;
+    let a = image[4];
+    let c = image[5];
     let all = lay_functions(e, n, image);
     image::store(
         image,

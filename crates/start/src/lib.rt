@@ -36,13 +36,13 @@ fn fill_run(contents: &mut [Value], first: usize, end: usize, v: u16)
 fn write_defaults(image: &Image, contents: &mut [Value])
     ensures { λ _. ⌜ now (contents .exit) ≡ defaults-in (held (now (image .entry))) (now (contents .entry)) ⌝ }
 {
-    let e = pages::elements(image);
-    let n = pages::functions(image);
+    let e = image::elements(image);
+    let n = image::functions(image);
     let mut first: usize = 0;
     let mut f: u16 = 0;
     while f < n {
         let g = pages::function_at(image, f);
-        let end = first + pages::size(e, g.arity) as usize;
+        let end = first + image::size(e, g.arity) as usize;
         fill_run(contents, first, end, pages::default_of(g));
         first = end;
         f += 1;
@@ -88,10 +88,10 @@ fn write_line(image: &Image, contents: &mut [Value], l: Line)
 {
     let x = numbers::low(l.b);
     let y = numbers::low(l.c);
-    let e = pages::elements(image);
+    let e = image::elements(image);
     let g = pages::function_at(image, numbers::low(l.a));
     let first = g.first as usize;
-    let end = first + pages::size(e, g.arity) as usize;
+    let end = first + image::size(e, g.arity) as usize;
     put_in(
         contents,
         first,

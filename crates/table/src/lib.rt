@@ -134,7 +134,7 @@ fn bad_part(contents: &[Value], e: u16, p: u16, f: Function, first: u32) -> Foun
     requires { ⌜ (e ≤ 10000) × (first ≤ 3200000000) ⌝ }
     ensures { λ r. ⌜ ((B : Program) → Part B e p f first → r ≡ least (λ i. bad-value B (now (contents .entry)) (first + i)) (size e (f .arity))) ⌝ }
 {
-    let end = first + pages::size(e, f.arity);
+    let end = first + image::size(e, f.arity);
     let v = blameless(contents, e, f);
     let mut l = past(contents, v, first, end);
     while l < end {
@@ -150,9 +150,9 @@ fn bad_part(contents: &[Value], e: u16, p: u16, f: Function, first: u32) -> Foun
 pub fn bad_value(image: &Image, contents: &[Value]) -> Found
     ensures { λ r. ⌜ r ≡ least (bad-value (held (now (image .entry))) (now (contents .entry))) (L (held (now (image .entry)))) ⌝ }
 {
-    let e = pages::elements(image);
+    let e = image::elements(image);
     let p = pages::permanent(image);
-    let n = pages::functions(image);
+    let n = image::functions(image);
     let mut first: u32 = 0;
     let mut g: u16 = 0;
     while g < n {
@@ -161,7 +161,7 @@ pub fn bad_value(image: &Image, contents: &[Value]) -> Found
         if let Found::Here(i) = found {
             return Found::Here(first + i);
         }
-        first = first + pages::size(e, f.arity);
+        first = first + image::size(e, f.arity);
         g = g + 1;
     }
     Found::Nowhere

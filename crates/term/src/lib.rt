@@ -30,7 +30,7 @@ pub fn locate(run: Run, e: u16, x: u16, y: u16) -> u32
 pub fn location(image: &Image, f: u16, x: u16, y: u16) -> u32
     ensures { λ r. ⌜ r ≡ location (held (now (image .entry))) f x y ⌝ }
 {
-    locate(pages::function(image, f), pages::elements(image), x, y)
+    locate(pages::function(image, f), image::elements(image), x, y)
 }
 
 // Whether a location is dynamic.
@@ -45,10 +45,10 @@ pub fn dynamic_at(image: &Image, l: u32) -> bool
 pub fn dynamic(image: &Image, f: u16, x: u16, y: u16) -> bool
     ensures { λ r. ⌜ r ≡ dynamic-of (held (now (image .entry))) f x y ⌝ }
 {
-    if pages::functions(image) <= f {
+    if image::functions(image) <= f {
         return dynamic_at(image, location(image, f, x, y));
     }
-    let e = pages::elements(image);
+    let e = image::elements(image);
     if e <= x {
         return dynamic_at(image, location(image, f, x, y));
     }

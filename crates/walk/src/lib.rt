@@ -190,7 +190,7 @@ fn each(
     ensures { λ r. ⌜ Runs (held (now (image .entry))) (now (contents .entry)) bit (walk (held (now (image .entry))) (agent-of (now (scope .entry))) (for-all (row .a) (row .b) (rule-from (node-at (held (now (image .entry)))) depth (row .c))) (variables-of (now (scope .entry))) (walk-from s (now (list .entry)))) (reached r (now (list .exit))) (now (readers .entry)) (now (readers .exit)) ⌝ }
 {
     marking::universe(image, readers, bit, row.b);
-    let e = pages::elements(image);
+    let e = image::elements(image);
     let run = pages::function(image, row.b);
     let mut r = s;
     let mut y = marking::next_member(contents, run, e, 0);
@@ -278,13 +278,13 @@ pub fn gather(
 pub fn mark_all(image: &Image, readers: &mut [u64], bit: u64)
     ensures { λ _. ⌜ now (readers .exit) ≡ marked bit (all-dynamic (held (now (image .entry)))) (now (readers .entry)) ⌝ }
 {
-    let e = pages::elements(image);
-    let count = pages::functions(image);
+    let e = image::elements(image);
+    let count = image::functions(image);
     let mut first: usize = 0;
     let mut f: u16 = 0;
     while f < count {
         let run = pages::function(image, f);
-        let end = first + pages::size(e, run.arity as u32) as usize;
+        let end = first + image::size(e, run.arity as u32) as usize;
         marking::mark_function(readers, bit, run.kind, first, end);
         first = end;
         f += 1;

@@ -1,3 +1,4 @@
+-- `hand_down` meets its contract.
 use Rattle.around.proofs.Tables.{handed-step, handed-none}
 use Rattle.around.specs.Tables.{to-ab, to-c}
 use Rattle.book.specs.Around.{handed}
@@ -6,19 +7,9 @@ use borrow.Author.Needs.{needs}
 use native.Mathlib.Omega.{arith}
 use lib.ListN.{length}
 use Prim.Native.Nat.{_≤_, _-_}
-use mathlib.Core.List.{[]}
 use mathlib.Core.Path.{_≡_, refl, _∙_}
 use Rattle.around.proofs.hand_down.Statement.{statement}
 use Rattle.around.proofs.hand_down.Tie as tie
-use Rattle.around.proofs.hand_down.Reads as reads
-use Rattle.around.proofs.hand_down.Lts as lts
-use Rattle.around.proofs.below.Reads as below-reads
-use Rattle.around.proofs.hand.Reads as hand-reads
-use Rattle.around.proofs.in_binder.Reads as in-binder-reads
-use Rattle.around.proofs.in_forall.Reads as in-forall-reads
-use Rattle.image.proofs.fetch.Reads as fetch-reads
-use Rattle.image.proofs.node_at.Reads as node-at-reads
-use Rattle.image.proofs.nodes.Reads as nodes-reads
 
 abbrev Inv-loop : tie.InvT-loop
 Inv-loop image s₀ table n k₀ s k =
@@ -27,67 +18,54 @@ Inv-loop image s₀ table n k₀ s k =
 abbrev μ-loop : tie.MeasureT-loop
 μ-loop image s₀ table n k₀ s k = n - k
 
--- src/lib.rt:152:9
 nodes-requires : tie.Need-nodes-requires Inv-loop μ-loop
 nodes-requires c κs = search needs
 
--- src/lib.rt:154:5
-loop-holds : tie.Need-loop-holds Inv-loop μ-loop
-loop-holds c = let a = c .before .before .before .args in (search needs, refl, handed-none (program-in (a .image .now)) to-ab to-c (a .s .now))
+cast-n : tie.Need-cast-n Inv-loop μ-loop
+cast-n c = search needs
 
--- src/lib.rt:155:22
+loop-holds : tie.Need-loop-holds Inv-loop μ-loop
+loop-holds c = let a = c .before .before .args in (search needs, refl, handed-none (program-in (a .image .now)) to-ab to-c (a .s .now))
+
 add-m : tie.Need-add-m Inv-loop μ-loop
 add-m c = search needs
 
--- src/lib.rt:155:17
 sub-m : tie.Need-sub-m Inv-loop μ-loop
 sub-m c = search needs
 
--- src/lib.rt:156:13
 node-at-requires : tie.Need-node-at-requires Inv-loop μ-loop
 node-at-requires c κs = search needs
 
--- src/lib.rt:157:38
-cast-fetch : tie.Need-cast-fetch Inv-loop μ-loop
-cast-fetch c = search needs
+cast-half-at : tie.Need-cast-half-at Inv-loop μ-loop
+cast-half-at c = search needs
 
--- src/lib.rt:157:23
-fetch-requires : tie.Need-fetch-requires Inv-loop μ-loop
-fetch-requires c κs = search needs
+half-at-requires : tie.Need-half-at-requires Inv-loop μ-loop
+half-at-requires c κs = search needs
 
--- src/lib.rt:157:13
 below-requires : tie.Need-below-requires Inv-loop μ-loop
 below-requires c κs = search needs
 
--- src/lib.rt:158:30
 in-forall-requires : tie.Need-in-forall-requires Inv-loop μ-loop
 in-forall-requires c κs = search needs
 
--- src/lib.rt:158:13
 in-binder-requires : tie.Need-in-binder-requires Inv-loop μ-loop
 in-binder-requires c κs = search needs
 
--- src/lib.rt:159:9
 hand-requires : tie.Need-hand-requires Inv-loop μ-loop
 hand-requires c κs = refl
 
--- src/lib.rt:160:9
 add-k : tie.Need-add-k Inv-loop μ-loop
 add-k c = search needs
 
--- src/lib.rt:154:5
 loop-less : tie.Need-loop-less Inv-loop μ-loop
 loop-less c = search needs
 
--- src/lib.rt:154:5
 loop-again : tie.Need-loop-again Inv-loop μ-loop
-loop-again c = let a = c .before .before .before .before .before .before .before .before .before .before .before .before .before .before .before .before .args in let l = c .before .before .before .before .before .before .before .before .before .before .before .before .loop in (search needs, c .before .before .hand .kept .1 .0 ∙ l .inv .1, rw (handed-step (program-in (a .image .now)) to-ab to-c (a .s .now) (l .k)) (c .before .before .hand .ensures ∙ rw (c .before .before .before .before .before .in-binder .ensures, c .before .before .before .before .before .before .in-forall .ensures, c .before .before .before .before .before .before .before .below .ensures, c .before .before .before .before .before .before .before .before .fetch .ensures, c .before .before .before .before .before .before .before .before .before .before .node-at .ensures, c .before .before .before .before .before .before .before .before .before .before .before .before .before .nodes .ensures, l .inv .2)))
+loop-again c = let a = c .before .before .before .before .before .before .before .before .before .before .before .before .before .before .before .args in let l = c .before .before .before .before .before .before .before .before .before .before .before .before .loop in (search needs, c .before .before .hand .kept .1 .0 ∙ l .inv .1, rw (handed-step (program-in (a .image .now)) to-ab to-c (a .s .now) (l .k)) (c .before .before .hand .ensures ∙ rw (c .before .before .before .before .before .in-binder .ensures, c .before .before .before .before .before .before .in-forall .ensures, c .before .before .before .before .before .before .before .below .ensures, c .before .before .before .before .before .before .before .before .half-at .ensures, c .before .before .before .before .before .before .before .before .before .before .node-at .ensures, c .before .before .before .before .before .before .before .before .before .before .before .before .before .nodes .ensures, l .inv .2)))
 
--- src/lib.rt:148:1
 same-length : tie.Need-same-length Inv-loop μ-loop
 same-length c = c .before .loop .inv .1
 
--- src/lib.rt:148:1
 returns : tie.Need-returns Inv-loop μ-loop
 returns c = let l = c .before .loop in let e : l .k ≡ c .before .before .nodes .result = omega arith in l .inv .2 ∙ rw (e, c .before .before .nodes .ensures)
 
@@ -98,12 +76,13 @@ hand-down-spec =
     Inv-loop
     μ-loop
     nodes-requires
+    cast-n
     loop-holds
     add-m
     sub-m
     node-at-requires
-    cast-fetch
-    fetch-requires
+    cast-half-at
+    half-at-requires
     below-requires
     in-forall-requires
     in-binder-requires

@@ -1,25 +1,19 @@
+-- `in_binder` meets its contract.
 use native.Mathlib.Omega.{arith}
 use borrow.Author.Tests.{le-leb, lt-leb}
 use borrow.Author.Needs.{needs}
 use Rattle.around.proofs.in_binder.Statement.{statement}
 use Rattle.around.proofs.in_binder.Tie as tie
-use Rattle.around.proofs.in_binder.Reads as reads
-use Rattle.around.proofs.in_binder.Lts as lts
-use Rattle.around.proofs.bit.Reads as bit-reads
 
--- src/lib.rt:123:24
 bit-requires : tie.Need-bit-requires
 bit-requires c κs = search needs
 
--- src/lib.rt:118:1
 returns : tie.Need-returns
 returns c = let k = c .before .before .before .args .y .kind in simp (le-leb 24 k (omega arith), le-leb k 26 (omega arith), c .bit .ensures)
 
--- src/lib.rt:118:1
 returns-2 : tie.Need-returns-2
 returns-2 c = let k = c .before .args .y .kind in simp (lt-leb 24 k (omega arith))
 
--- src/lib.rt:118:1
 returns-3 : tie.Need-returns-3
 returns-3 c = let k = c .before .before .args .y .kind in simp (le-leb 24 k (omega arith), lt-leb k 26 (omega arith))
 

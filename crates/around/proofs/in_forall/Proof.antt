@@ -1,23 +1,18 @@
+-- `in_forall` meets its contract.
 use borrow.Author.Tests.{lt-ltb, le-ltb, eq-eqb, ne-eqb}
 use borrow.Author.Needs.{needs}
 use Rattle.around.proofs.in_forall.Statement.{statement}
 use Rattle.around.proofs.in_forall.Tie as tie
-use Rattle.around.proofs.in_forall.Reads as reads
-use Rattle.around.proofs.in_forall.Lts as lts
 
--- src/lib.rt:115:30
 add-result : tie.Need-add-result
 add-result c = search needs
 
--- src/lib.rt:111:1
 returns : tie.Need-returns
 returns c = rw (eq-eqb _ _ (c .before .if1 .taken), lt-ltb _ _ (c .if2 .taken))
 
--- src/lib.rt:111:1
 returns-2 : tie.Need-returns-2
 returns-2 c = rw (eq-eqb _ _ (c .before .if1 .taken), le-ltb _ _ (c .if2 .left))
 
--- src/lib.rt:111:1
 returns-3 : tie.Need-returns-3
 returns-3 c = rw (ne-eqb _ _ (c .if1 .left))
 

@@ -1,3 +1,4 @@
+-- `tally` meets its contract.
 use Rattle.around.proofs.Tables.{tally-step, tally-none}
 use Rattle.around.specs.Tables.{tallied}
 use Rattle.book.specs.Image.{program-in}
@@ -5,14 +6,9 @@ use borrow.Author.Needs.{needs}
 use native.Mathlib.Omega.{arith}
 use lib.ListN.{length}
 use Prim.Native.Nat.{_≤_, _-_}
-use mathlib.Core.List.{[]}
 use mathlib.Core.Path.{_≡_, refl, _∙_}
 use Rattle.around.proofs.tally.Statement.{statement}
 use Rattle.around.proofs.tally.Tie as tie
-use Rattle.around.proofs.tally.Reads as reads
-use Rattle.around.proofs.tally.Lts as lts
-use Rattle.around.proofs.count.Reads as count-reads
-use Rattle.image.proofs.node_at.Reads as node-at-reads
 
 abbrev Inv-loop : tie.InvT-loop
 Inv-loop image n s₀ table i₀ s i =
@@ -21,37 +17,29 @@ Inv-loop image n s₀ table i₀ s i =
 abbrev μ-loop : tie.MeasureT-loop
 μ-loop image n s₀ table i₀ s i = n - i
 
--- src/lib.rt:62:5
 loop-holds : tie.Need-loop-holds Inv-loop μ-loop
-loop-holds c = let a = c .before .before .args in (search needs, refl, tally-none (program-in (a .image .now)) (a .s .now))
+loop-holds c = let a = c .before .args in (search needs, refl, tally-none (program-in (a .image .now)) (a .s .now))
 
--- src/lib.rt:63:13
 node-at-requires : tie.Need-node-at-requires Inv-loop μ-loop
 node-at-requires c κs = search needs
 
--- src/lib.rt:64:9
 count-requires : tie.Need-count-requires Inv-loop μ-loop
 count-requires c κs = refl
 
--- src/lib.rt:65:9
 add-i : tie.Need-add-i Inv-loop μ-loop
 add-i c = search needs
 
--- src/lib.rt:62:5
 loop-less : tie.Need-loop-less Inv-loop μ-loop
 loop-less c = search needs
 
--- src/lib.rt:62:5
 loop-again : tie.Need-loop-again Inv-loop μ-loop
-loop-again c = let a = c .before .before .before .before .before .before .before .before .before .before .args in let l = c .before .before .before .before .before .before .before .loop in (search needs, c .before .before .count .kept .1 .0 ∙ l .inv .1, rw (tally-step (program-in (a .image .now)) (l .i) (a .s .now)) (c .before .before .count .ensures ∙ rw (c .before .before .before .before .before .node-at .ensures, l .inv .2)))
+loop-again c = let a = c .before .before .before .before .before .before .before .before .before .args in let l = c .before .before .before .before .before .before .before .loop in (search needs, c .before .before .count .kept .1 .0 ∙ l .inv .1, rw (tally-step (program-in (a .image .now)) (l .i) (a .s .now)) (c .before .before .count .ensures ∙ rw (c .before .before .before .before .before .node-at .ensures, l .inv .2)))
 
--- src/lib.rt:57:1
 same-length : tie.Need-same-length Inv-loop μ-loop
 same-length c = c .before .loop .inv .1
 
--- src/lib.rt:57:1
 returns : tie.Need-returns Inv-loop μ-loop
-returns c = let a = c .before .before .before .before .args in let l = c .before .loop in let e : l .i ≡ a .n = omega arith in rw (← e) (l .inv .2)
+returns c = let a = c .before .before .before .args in let l = c .before .loop in let e : l .i ≡ a .n = omega arith in rw (← e) (l .inv .2)
 
 pub tally-spec : {M : Type 1} → statement M
 tally-spec =

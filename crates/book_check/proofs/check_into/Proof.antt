@@ -1,3 +1,4 @@
+-- `check_into` meets its contract.
 use native.Mathlib.Omega.{arith}
 use Rattle.book_check.proofs.Chain.{answered, stops, goes-on, after, opened-refused, opened-same, of-line, of-bounds, header, book-chain, lines-sound, header-room, line-passed, bounds-passed}
 use Rattle.book_check.specs.Opened.{check-text}
@@ -13,14 +14,6 @@ use mathlib.Core.Path.{_≡_, sym, ap, _∙_}
 use borrow.Author.Needs.{needs}
 use Rattle.book_check.proofs.check_into.Statement.{statement}
 use Rattle.book_check.proofs.check_into.Tie as tie
-use Rattle.book_check.proofs.check_into.Reads as reads
-use Rattle.book_check.proofs.check_into.Lts as lts
-use Rattle.book_check.proofs.check_text.Reads as check-text-reads
-use Rattle.book_check.proofs.header_of.Reads as header-of-reads
-use Rattle.header.proofs.bad_header.Reads as bad-header-reads
-use Rattle.text.proofs.must.Reads as must-reads
-use Rattle.text.proofs.none_at.Reads as none-at-reads
-use Rattle.text.proofs.parse.Reads as parse-reads
 
 -- the header lines, once they are in form
 
@@ -55,51 +48,39 @@ line1 c = c .must2 .ensures ∙ ap (λ (t : Bool). answer-of (must t 1 1 0)) (pa
 bounds : (c : tie.After-none-at) → c .none-at .result ≡ answer-of (of-bounds (c .before .before .before .before .before .before .before .before .before .before .before .args .book .now))
 bounds c = answered 3 _ _ _ (c .none-at .ensures) (c .before .bad-header .ensures ∙ rw (first-is (c .before), second-is (c .before)))
 
--- src/lib.rt:98:9
 parse-requires : tie.Need-parse-requires
 parse-requires c κs = search needs
 
--- src/lib.rt:99:9
 must-requires : tie.Need-must-requires
 must-requires c κs = search needs
 
--- src/lib.rt:101:9
 returns : tie.Need-returns
 returns c = let e = (stops (of-line (c .before .before .before .before .before .args .book .now) 0) _ _ (line0 (c .before .before)) (c .if1 .taken)) ∙ ap answer-of (book-chain (c .before .before .before .before .before .args .book .now)) in (e, opened-refused _ (check-book (c .before .before .before .before .before .args .book .now)) _ e (c .if1 .taken))
 
--- src/lib.rt:103:9
 parse-requires-2 : tie.Need-parse-requires-2
 parse-requires-2 c κs = search needs
 
--- src/lib.rt:104:9
 must-requires-2 : tie.Need-must-requires-2
 must-requires-2 c κs = search needs
 
--- src/lib.rt:106:9
 returns-2 : tie.Need-returns-2
 returns-2 c = let e = (after (of-line (c .before .before .before .before .before .before .before .before .before .args .book .now) 0) _ _ _ (must-numbered _ _ _ _ (omega arith)) (line0 (c .before .before .before .before .before .before)) (c .before .before .before .before .if1 .left) (stops (of-line (c .before .before .before .before .before .before .before .before .before .args .book .now) 1) _ _ (line1 (c .before .before)) (c .if2 .taken))) ∙ ap answer-of (book-chain (c .before .before .before .before .before .before .before .before .before .args .book .now)) in (e, opened-refused _ (check-book (c .before .before .before .before .before .before .before .before .before .args .book .now)) _ e (c .if2 .taken))
 
--- src/lib.rt:108:56
 bad-header-requires : tie.Need-bad-header-requires
 bad-header-requires c κs = search needs
 
--- src/lib.rt:108:9
 none-at-requires : tie.Need-none-at-requires
 none-at-requires c κs = search needs
 
--- src/lib.rt:110:9
 returns-3 : tie.Need-returns-3
 returns-3 c = let e = (after (of-line (c .before .before .before .before .before .before .before .before .before .before .before .before .before .args .book .now) 0) _ _ _ (must-numbered _ _ _ _ (omega arith)) (line0 (c .before .before .before .before .before .before .before .before .before .before)) (c .before .before .before .before .before .before .before .before .if1 .left) (after (of-line (c .before .before .before .before .before .before .before .before .before .before .before .before .before .args .book .now) 1) _ _ _ (must-numbered _ _ _ _ (omega arith)) (line1 (c .before .before .before .before .before .before)) (c .before .before .before .before .if2 .left) (stops (of-bounds (c .before .before .before .before .before .before .before .before .before .before .before .before .before .args .book .now)) _ _ (bounds (c .before .before)) (c .if3 .taken)))) ∙ ap answer-of (book-chain (c .before .before .before .before .before .before .before .before .before .before .before .before .before .args .book .now)) in (e, opened-refused _ (check-book (c .before .before .before .before .before .before .before .before .before .before .before .before .before .args .book .now)) _ e (c .if3 .taken))
 
--- src/lib.rt:112:22
 header-of-requires : tie.Need-header-of-requires
 header-of-requires c κs = search needs
 
--- src/lib.rt:112:5
 check-text-requires : tie.Need-check-text-requires
 check-text-requires c κs = (rw (header-is (c .before)) (header-room (c .before .before .before .before .before .before .before .before .before .before .before .before .before .before .before .args .book .now) (sound (c .before)) (bounds-passed _ _ (bounds (c .before .before .before .before)) (c .before .before .if3 .left))), sound (c .before))
 
--- src/lib.rt:95:1
 returns-4 : tie.Need-returns-4
 returns-4 c = let text = (c .before .before .before .before .before .before .before .before .before .before .before .before .before .before .before .before .args .book .now) in let h = header text in let e = sym (book-chain text) ∙ goes-on (of-line text 0) _ _ (must-numbered _ _ _ _ (omega arith)) (line0 (c .before .before .before .before .before .before .before .before .before .before .before .before .before)) (c .before .before .before .before .before .before .before .before .before .before .before .if1 .left) ∙ goes-on (of-line text 1) _ _ (must-numbered _ _ _ _ (omega arith)) (line1 (c .before .before .before .before .before .before .before .before .before)) (c .before .before .before .before .before .before .before .if2 .left) ∙ goes-on (of-bounds text) _ _ (none-numbered _ _ _ _ (omega arith)) (bounds (c .before .before .before .before .before)) (c .before .before .before .if3 .left) ∙ ap (λ (g : Header). check-text g text) (sym (header-is (c .before .before))) in (c .check-text .ensures .0 ∙ ap answer-of (sym e), opened-same _ (check-book text) _ e (c .check-text .ensures .1))
 

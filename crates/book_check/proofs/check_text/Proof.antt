@@ -1,7 +1,8 @@
+-- `check_text` meets its contract.
 use native.Mathlib.Omega.{arith}
 use Rattle.book_check.proofs.Chain.{answered, stops, after, last, opened-refused, opened-text, present-numbered, surplus-numbered, program-numbered, rows-found, rows-taken, rows-refused, rows-passed, form-found, rule-found}
 use Rattle.book_check.specs.Opened.{Opened, check-text}
-use Rattle.rows.proofs.Rows.{laid-holds, laid-counts}
+use Rattle.rows.proofs.Rows.{laid-holds}
 use Rattle.rows.specs.Rows.{Rows}
 use Rattle.book.specs.Check.{check-present, check-surplus, check-program, check-lines}
 use Rattle.book.specs.Image.{Holds}
@@ -11,13 +12,6 @@ use mathlib.Core.Path.{_≡_, sym, ap, _∙_}
 use borrow.Author.Needs.{needs}
 use Rattle.book_check.proofs.check_text.Statement.{statement}
 use Rattle.book_check.proofs.check_text.Tie as tie
-use Rattle.book_check.proofs.check_text.Reads as reads
-use Rattle.book_check.proofs.check_text.Lts as lts
-use Rattle.book_check.proofs.check_program.Reads as check-program-reads
-use Rattle.contents.proofs.judge.Reads as judge-reads
-use Rattle.rows.proofs.take.Reads as take-reads
-use Rattle.text.proofs.must.Reads as must-reads
-use Rattle.text.proofs.none_at.Reads as none-at-reads
 
 -- once the rows are taken, c .before .. being the states passed
 
@@ -34,7 +28,6 @@ holds-are c = rw (c .before .before .before .check-program .ensures .0) (laid-ho
 opened : (c : tie.After-none-at2) → Opened (c .before .before .before .check-program .last .0) (check-text (c .before .before .before .before .before .before .before .before .before .before .before .args .h) (c .before .before .before .before .before .before .before .before .before .before .before .args .text .now))
 opened c =
     opened-text (c .before .before .before .check-program .last .0) (c .before .before .before .before .before .before .before .before .before .before .before .args .h) (c .before .before .before .before .before .before .before .before .before .before .before .args .text .now) (holds-are c)
-    (rw (c .before .before .before .check-program .ensures .0) (laid-counts (c .before .before .before .before .before .before .before .before .take .last .1 .1 .0) (c .before .before .before .before .before .before .before .before .before .before .before .args .h) (c .before .before .before .before .before .before .before .before .before .before .before .args .text .now) (c .before .before .before .before .before .before .before .before .before .before .before .pre .0) (c .before .before .before .check-program .ensures .1) (rows-are c)))
 
 -- 1 on all lines
 present : (c : tie.After-none-at2) → c .none-at2 .result ≡ answer-of (check-present (c .before .before .before .before .before .before .before .before .before .before .before .args .h) (c .before .before .before .before .before .before .before .before .before .before .before .args .text .now))
@@ -52,76 +45,58 @@ surplus : (c : tie.After-must) → c .must .result ≡ answer-of (check-surplus 
 unfolding check-surplus
 surplus c = c .must .ensures
 
--- src/lib.rt:71:51
 take-requires : tie.Need-take-requires
 take-requires c κs = search needs
 
--- src/lib.rt:71:9
 none-at-requires : tie.Need-none-at-requires
 none-at-requires c κs = search needs
 
--- src/lib.rt:73:9
 returns : tie.Need-returns
 returns c = let a = c .before .before .before .before .before .before .args in let m = a .image .now in let n = c .if1 .taken in let e = stops (check-present (c .before .before .before .before .before .before .args .h) (c .before .before .before .before .before .before .args .text .now)) _ _ (c .before .before .none-at .ensures ∙ ap answer-of (rows-refused (c .before .before .before .before .before .before .args .h) (c .before .before .before .before .before .before .args .text .now) (c .before .before .before .before .before .before .pre .1) (c .before .before .before .take .result) (rows-found (c .before .before .before .before .before .before .args .h) (c .before .before .before .before .before .before .args .text .now) m (c .before .before .before .before .before .before .pre .0) (c .before .before .before .take .result) (c .before .before .before .take .ensures .0)) (rw (c .before .before .none-at .ensures) at n))) n in (e, opened-refused _ (check-text (c .before .before .before .before .before .before .args .h) (c .before .before .before .before .before .before .args .text .now)) _ e n)
 
--- src/lib.rt:75:9
 check-program-requires : tie.Need-check-program-requires
 check-program-requires c κs = search needs
 
--- src/lib.rt:76:9
 judge-requires : tie.Need-judge-requires
 judge-requires c κs = search needs
 
--- src/lib.rt:79:9
 none-at-requires-2 : tie.Need-none-at-requires-2
 none-at-requires-2 c κs = search needs
 
--- src/lib.rt:81:9
 returns-2 : tie.Need-returns-2
 returns-2 c = (stops (check-present (c .before .before .before .before .before .before .before .before .before .before .before .before .before .args .h) (c .before .before .before .before .before .before .before .before .before .before .before .before .before .args .text .now)) _ _ (present (c .before .before)) (c .if2 .taken), opened (c .before .before))
 
--- src/lib.rt:83:15
 add-all : tie.Need-add-all
 add-all c = omega (arith, c .before .before .before .before .before .before .before .before .before .before .before .before .before .before .pre .0)
 
--- src/lib.rt:83:15
 add-all-2 : tie.Need-add-all-2
 add-all-2 c = omega (arith, c .before .before .before .before .before .before .before .before .before .before .before .before .before .before .before .pre .0)
 
--- src/lib.rt:83:15
 add-all-3 : tie.Need-add-all-3
 add-all-3 c = omega (arith, c .before .before .before .before .before .before .before .before .before .before .before .before .before .before .before .before .pre .0)
 
--- src/lib.rt:83:15
 add-all-4 : tie.Need-add-all-4
 add-all-4 c = omega (arith, c .before .before .before .before .before .before .before .before .before .before .before .before .before .before .before .before .before .pre .0)
 
--- src/lib.rt:84:57
 cast-must : tie.Need-cast-must
 cast-must c = search needs
 
--- src/lib.rt:84:44
 mul-must : tie.Need-mul-must
 mul-must c = search needs
 
--- src/lib.rt:84:9
 must-requires : tie.Need-must-requires
 must-requires c κs = search needs
 
--- src/lib.rt:86:9
 returns-3 : tie.Need-returns-3
 returns-3 c = (after (check-present (c .before .before .before .before .before .before .before .before .before .before .before .before .before .before .before .before .before .before .before .before .args .h) (c .before .before .before .before .before .before .before .before .before .before .before .before .before .before .before .before .before .before .before .before .args .text .now)) _ _ _ (present-numbered (c .before .before .before .before .before .before .before .before .before .before .before .before .before .before .before .before .before .before .before .before .args .h) (c .before .before .before .before .before .before .before .before .before .before .before .before .before .before .before .before .before .before .before .before .args .text .now)) (present (c .before .before .before .before .before .before .before .before .before)) (c .before .before .before .before .before .before .before .if2 .left) (stops (check-surplus (c .before .before .before .before .before .before .before .before .before .before .before .before .before .before .before .before .before .before .before .before .args .h) (c .before .before .before .before .before .before .before .before .before .before .before .before .before .before .before .before .before .before .before .before .args .text .now)) _ _ (surplus (c .before .before)) (c .if3 .taken)), opened (c .before .before .before .before .before .before .before .before .before))
 
--- src/lib.rt:89:9
 returns-4 : tie.Need-returns-4
 unfolding check-lines
 returns-4 c = (after (check-present (c .before .before .before .before .before .before .before .before .before .before .before .before .before .before .before .before .before .before .before .before .before .before .args .h) (c .before .before .before .before .before .before .before .before .before .before .before .before .before .before .before .before .before .before .before .before .before .before .args .text .now)) _ _ _ (present-numbered (c .before .before .before .before .before .before .before .before .before .before .before .before .before .before .before .before .before .before .before .before .before .before .args .h) (c .before .before .before .before .before .before .before .before .before .before .before .before .before .before .before .before .before .before .before .before .before .before .args .text .now)) (present (c .before .before .before .before .before .before .before .before .before .before .before)) (c .before .before .before .before .before .before .before .before .before .if2 .left) (after (check-surplus (c .before .before .before .before .before .before .before .before .before .before .before .before .before .before .before .before .before .before .before .before .before .before .args .h) (c .before .before .before .before .before .before .before .before .before .before .before .before .before .before .before .before .before .before .before .before .before .before .args .text .now)) _ _ _ (surplus-numbered (c .before .before .before .before .before .before .before .before .before .before .before .before .before .before .before .before .before .before .before .before .before .before .args .h) (c .before .before .before .before .before .before .before .before .before .before .before .before .before .before .before .before .before .before .before .before .before .before .args .text .now)) (surplus (c .before .before .before .before)) (c .before .before .if3 .left) (stops (check-program (c .before .before .before .before .before .before .before .before .before .before .before .before .before .before .before .before .before .before .before .before .before .before .args .h) (c .before .before .before .before .before .before .before .before .before .before .before .before .before .before .before .before .before .before .before .before .before .before .args .text .now)) _ _ (program (c .before .before .before .before .before .before .before .before .before .before .before)) (c .if4 .taken))), opened (c .before .before .before .before .before .before .before .before .before .before .before))
 
--- src/lib.rt:91:5
 none-at-requires-3 : tie.Need-none-at-requires-3
 none-at-requires-3 c κs = search needs
 
--- src/lib.rt:67:1
 returns-5 : tie.Need-returns-5
 unfolding check-lines
 returns-5 c = let z = ap (λ (a : Answer). a .number) (sym (c .before .before .before .before .before .before .before .before .before .before .before .before .none-at2 .ensures)) ∙ c .before .before .before .before .before .before .before .before .before .before .if2 .left in (after (check-present (c .before .before .before .before .before .before .before .before .before .before .before .before .before .before .before .before .before .before .before .before .before .before .before .args .h) (c .before .before .before .before .before .before .before .before .before .before .before .before .before .before .before .before .before .before .before .before .before .before .before .args .text .now)) _ _ _ (present-numbered (c .before .before .before .before .before .before .before .before .before .before .before .before .before .before .before .before .before .before .before .before .before .before .before .args .h) (c .before .before .before .before .before .before .before .before .before .before .before .before .before .before .before .before .before .before .before .before .before .before .before .args .text .now)) (present (c .before .before .before .before .before .before .before .before .before .before .before .before)) (c .before .before .before .before .before .before .before .before .before .before .if2 .left) (after (check-surplus (c .before .before .before .before .before .before .before .before .before .before .before .before .before .before .before .before .before .before .before .before .before .before .before .args .h) (c .before .before .before .before .before .before .before .before .before .before .before .before .before .before .before .before .before .before .before .before .before .before .before .args .text .now)) _ _ _ (surplus-numbered (c .before .before .before .before .before .before .before .before .before .before .before .before .before .before .before .before .before .before .before .before .before .before .before .args .h) (c .before .before .before .before .before .before .before .before .before .before .before .before .before .before .before .before .before .before .before .before .before .before .before .args .text .now)) (surplus (c .before .before .before .before .before)) (c .before .before .before .if3 .left) (after (check-program (c .before .before .before .before .before .before .before .before .before .before .before .before .before .before .before .before .before .before .before .before .before .before .before .args .h) (c .before .before .before .before .before .before .before .before .before .before .before .before .before .before .before .before .before .before .before .before .before .before .before .args .text .now)) _ _ _ (program-numbered (c .before .before .before .before .before .before .before .before .before .before .before .before .before .before .before .before .before .before .before .before .before .before .before .args .h) (c .before .before .before .before .before .before .before .before .before .before .before .before .before .before .before .before .before .before .before .before .before .before .before .args .text .now)) (program (c .before .before .before .before .before .before .before .before .before .before .before .before)) (c .before .if4 .left) (last _ _ _ (c .none-at3 .ensures ∙ ap answer-of (rule-found (c .before .before .before .before .before .before .before .before .before .before .before .before .before .before .before .check-program .last .0) (c .before .before .before .before .before .before .before .before .before .before .before .before .before .before .before .before .before .before .before .before .before .before .before .args .h) (c .before .before .before .before .before .before .before .before .before .before .before .before .before .before .before .before .before .before .before .before .before .before .before .args .text .now) (c .before .before .before .before .before .before .before .before .before .before .before .before .before .before .before .before .before .before .before .before .before .before .before .pre .0) (holds-are (c .before .before .before .before .before .before .before .before .before .before .before .before)) (c .before .before .before .before .before .before .before .before .before .before .before .before .before .judge .result) (c .before .before .before .before .before .before .before .before .before .before .before .before .before .judge .ensures) z))))), opened (c .before .before .before .before .before .before .before .before .before .before .before .before))

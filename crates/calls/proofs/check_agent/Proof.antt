@@ -3,6 +3,7 @@ use Rattle.calls.proofs.Checks.{agent-there, agent-missing}
 use Rattle.book.specs.Image.{held}
 use native.Mathlib.Omega.{arith}
 use mathlib.Core.Path.{_∙_}
+use Rattle.book.proofs.Held.{agents-held}
 use borrow.Author.Needs.{needs}
 use Rattle.calls.proofs.check_agent.Statement.{statement}
 use Rattle.calls.proofs.check_agent.Tie as tie
@@ -20,10 +21,10 @@ answer-requires-2 : tie.Need-answer-requires-2
 answer-requires-2 c κs = search needs
 
 returns : tie.Need-returns
-returns c = let a = c .before .before .before .args in c .answer .ensures ∙ agent-there (held (a .image .now)) (a .agent) (omega (arith, c .before .if1 .taken, c .before .before .agents .ensures .0))
+returns c = let a = c .before .before .before .args in c .answer .ensures ∙ agent-there (held (a .image .now)) (a .agent) (omega (arith, c .before .if1 .taken, agents-held _ _ (c .before .before .agents .ensures) .0))
 
 returns-2 : tie.Need-returns-2
-returns-2 c = let a = c .before .before .before .args in c .answer2 .ensures ∙ agent-missing (held (a .image .now)) (a .agent) (omega (arith, c .before .if1 .left, c .before .before .agents .ensures .0))
+returns-2 c = let a = c .before .before .before .args in c .answer2 .ensures ∙ agent-missing (held (a .image .now)) (a .agent) (omega (arith, c .before .if1 .left, agents-held _ _ (c .before .before .agents .ensures) .0))
 
 pub check-agent-spec : {M : Type 1} → statement M
 check-agent-spec =

@@ -1,16 +1,11 @@
-use native.Mathlib.Omega.{arith}
-use borrow.Author.Needs.{needs}
+-- `arguments_fit` meets its contract.
 use borrow.Author.Tests.{ne-eqb}
 use Rattle.contents.proofs.arguments_fit.Statement.{statement}
 use Rattle.contents.proofs.arguments_fit.Tie as tie
-use Rattle.contents.proofs.arguments_fit.Reads as reads
-use Rattle.contents.proofs.arguments_fit.Lts as lts
 
--- src/lib.rt:46:1
 returns : tie.Need-returns
 returns c = rw (c .if1 .taken)
 
--- src/lib.rt:46:1
 returns-2 : tie.Need-returns-2
 returns-2 c = rw (ne-eqb _ _ (c .before .before .before .if1 .left))
 

@@ -1,33 +1,31 @@
-use native.Mathlib.Omega.{arith}
+-- `fault_at` meets its contract.
 use Rattle.contents.proofs.Pass.{ill, at-fault}
-use mathlib.Core.Path.{_≡_, refl, sym, ap, _∙_}
+use mathlib.Core.Path.{refl, sym, _∙_}
 use borrow.Author.Needs.{needs}
 use Rattle.contents.proofs.fault_at.Statement.{statement}
 use Rattle.contents.proofs.fault_at.Tie as tie
-use Rattle.contents.proofs.fault_at.Reads as reads
-use Rattle.contents.proofs.fault_at.Lts as lts
-use Rattle.text.proofs.bad_line_from.Reads as bad-line-from-reads
 
--- src/lib.rt:96:9
 bad-line-from-requires : tie.Need-bad-line-from-requires
 bad-line-from-requires c κs = search needs
 
--- src/lib.rt:98:27
 enum-told : tie.Need-enum-told
 enum-told c = search needs
 
--- src/lib.rt:99:21
 enum-known-found : tie.Need-enum-known-found
 enum-known-found c = search needs
 
--- src/lib.rt:93:1
 returns : tie.Need-returns
 returns c = at-fault _ _ _ (sym (c .before .before .bad-line-from .ensures) ∙ c .enum-told .given .1) refl
 
--- src/lib.rt:93:1
 returns-2 : tie.Need-returns-2
 returns-2 c = ill _ _ _ (sym (c .before .before .before .bad-line-from .ensures) ∙ c .before .found .given .1)
 
 pub fault-at-spec : {M : Type 1} → statement M
 fault-at-spec =
-    tie.close (tie.spec bad-line-from-requires enum-told enum-known-found returns returns-2)
+    tie.close
+    (tie.spec
+    bad-line-from-requires
+    enum-told
+    enum-known-found
+    returns
+    returns-2)

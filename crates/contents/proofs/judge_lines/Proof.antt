@@ -1,3 +1,4 @@
+-- `judge_lines` meets its contract.
 use native.Mathlib.Omega.{arith}
 use borrow.Author.Needs.{needs}
 use Rattle.contents.proofs.Pass.{entry-line, ill-formed, at-fault-from, all-sound}
@@ -23,20 +24,6 @@ use mathlib.Core.Bool.{not, _&&_}
 use mathlib.Core.Path.{_≡_, refl, sym, ap, _∙_}
 use Rattle.contents.proofs.judge_lines.Statement.{statement}
 use Rattle.contents.proofs.judge_lines.Tie as tie
-use Rattle.contents.proofs.judge_lines.Reads as reads
-use Rattle.contents.proofs.judge_lines.Lts as lts
-use Rattle.contents.proofs.entry.Reads as entry-reads
-use Rattle.contents.proofs.fault_at.Reads as fault-at-reads
-use Rattle.contents.proofs.in_bounds.Reads as in-bounds-reads
-use Rattle.contents.proofs.in_form.Reads as in-form-reads
-use Rattle.contents.proofs.location.Reads as location-reads
-use Rattle.contents.proofs.mark.Reads as mark-reads
-use Rattle.contents.proofs.no_trace.Reads as no-trace-reads
-use Rattle.image.proofs.elements.Reads as elements-reads
-use Rattle.image.proofs.function_at.Reads as function-at-reads
-use Rattle.image.proofs.functions.Reads as functions-reads
-use Rattle.image.proofs.permanent.Reads as permanent-reads
-use Rattle.text.proofs.parse.Reads as parse-reads
 
 abbrev Inv-loop : tie.InvT-loop
 Inv-loop text image first end roll₀ p e n i₀ low₀ roll i low = (first ≤ i)
@@ -52,10 +39,10 @@ abbrev μ-loop : tie.MeasureT-loop
 -- the entry of the line that the loop reads
 there :
     (c : tie.After-entry Inv-loop μ-loop) →
-    entry-at (entries-from (c .before .before .before .before .before .before .before .before .before .before .before .before .args .text .now) (c .before .before .before .before .before .before .before .before .before .before .before .before .args .first) (c .before .before .before .before .before .before .before .before .before .before .before .before .args .end - c .before .before .before .before .before .before .before .before .before .before .before .before .args .first)) (c .before .before .before .before .before .loop .i - c .before .before .before .before .before .before .before .before .before .before .before .before .args .first)
+    entry-at (entries-from (c .before .before .before .before .before .before .before .before .before .before .before .args .text .now) (c .before .before .before .before .before .before .before .before .before .before .before .args .first) (c .before .before .before .before .before .before .before .before .before .before .before .args .end - c .before .before .before .before .before .before .before .before .before .before .before .args .first)) (c .before .before .before .before .before .loop .i - c .before .before .before .before .before .before .before .before .before .before .before .args .first)
     ≡ c .entry .result
 there c =
-    let a = c .before .before .before .before .before .before .before .before .before .before .before .before .args in
+    let a = c .before .before .before .before .before .before .before .before .before .before .before .args in
     let l = c .before .before .before .before .before .loop in
     entry-line (a .text .now) (a .first) (a .end) (l .i) (l .inv .0) (c .before .before .before .before .loop-test .taken)
     ∙ sym (c .entry .ensures ∙ ap entry-of (parsed-line (a .text .now) (l .i) _ (c .before .before .before .parse .ensures) (not-false _ (c .before .if1 .left))))
@@ -63,10 +50,10 @@ there c =
 -- what the tests of the entry say
 rest :
     (c : tie.After-no-trace Inv-loop μ-loop) →
-    bad-entry (program-in (c .before .before .before .before .before .before .before .before .before .before .before .before .before .before .before .before .before .before .args .image .now)) (entries-from (c .before .before .before .before .before .before .before .before .before .before .before .before .before .before .before .before .before .before .args .text .now) (c .before .before .before .before .before .before .before .before .before .before .before .before .before .before .before .before .before .before .args .first) (c .before .before .before .before .before .before .before .before .before .before .before .before .before .before .before .before .before .before .args .end - c .before .before .before .before .before .before .before .before .before .before .before .before .before .before .before .before .before .before .args .first)) (c .before .before .before .before .before .before .before .before .before .before .before .loop .i - c .before .before .before .before .before .before .before .before .before .before .before .before .before .before .before .before .before .before .args .first)
+    bad-entry (program-in (c .before .before .before .before .before .before .before .before .before .before .before .before .before .before .before .before .before .args .image .now)) (entries-from (c .before .before .before .before .before .before .before .before .before .before .before .before .before .before .before .before .before .args .text .now) (c .before .before .before .before .before .before .before .before .before .before .before .before .before .before .before .before .before .args .first) (c .before .before .before .before .before .before .before .before .before .before .before .before .before .before .before .before .before .args .end - c .before .before .before .before .before .before .before .before .before .before .before .before .before .before .before .before .before .args .first)) (c .before .before .before .before .before .before .before .before .before .before .before .loop .i - c .before .before .before .before .before .before .before .before .before .before .before .before .before .before .before .before .before .args .first)
     ≡ not (c .before .before .before .in-bounds .result && (c .before .before .in-form .result && leb (c .before .before .before .before .before .before .before .before .before .before .before .loop .low) (c .before .before .before .before .location .result) && c .no-trace .result))
 rest c =
-    let a = c .before .before .before .before .before .before .before .before .before .before .before .before .before .before .before .before .before .before .args in
+    let a = c .before .before .before .before .before .before .before .before .before .before .before .before .before .before .before .before .before .args in
     let l = c .before .before .before .before .before .before .before .before .before .before .before .loop in
     let es : List Entry = entries-from (a .text .now) (a .first) (a .end - a .first) in
     rw (
@@ -81,99 +68,82 @@ rest c =
       l .inv .4,
       l .inv .3,
     )
-    (bad-tests (program-in (a .image .now)) es (l .i - a .first) (c .before .before .before .before .before .before .entry .result) (there (c .before .before .before .before .before .before)) (a .roll .now) (c .before .before .before .before .before .before .before .before .before .before .before .before .before .before .before .before .before .before .pre))
+    (bad-tests (program-in (a .image .now)) es (l .i - a .first) (c .before .before .before .before .before .before .entry .result) (there (c .before .before .before .before .before .before)) (a .roll .now) (c .before .before .before .before .before .before .before .before .before .before .before .before .before .before .before .before .before .pre))
 
--- src/lib.rt:108:9
 permanent-requires : tie.Need-permanent-requires Inv-loop μ-loop
 permanent-requires c κs = search needs
 
--- src/lib.rt:109:9
 elements-requires : tie.Need-elements-requires Inv-loop μ-loop
 elements-requires c κs = search needs
 
--- src/lib.rt:110:9
+cast-e : tie.Need-cast-e Inv-loop μ-loop
+cast-e c = search needs
+
 functions-requires : tie.Need-functions-requires Inv-loop μ-loop
 functions-requires c κs = search needs
 
--- src/lib.rt:113:5
-loop-holds : tie.Need-loop-holds Inv-loop μ-loop
-loop-holds c = let a = c .before .before .before .before .before .before .args in let z : a .first - a .first ≡ 0 = omega arith in (search needs, refl, refl, rw z (roll-none (entries-from (a .text .now) (a .first) (a .end - a .first)) (a .roll .now)), rw z (low-none (program-in (a .image .now)) (entries-from (a .text .now) (a .first) (a .end - a .first))), refl)
+cast-n : tie.Need-cast-n Inv-loop μ-loop
+cast-n c = search needs
 
--- src/lib.rt:114:13
+loop-holds : tie.Need-loop-holds Inv-loop μ-loop
+loop-holds c = let a = c .before .before .before .before .before .args in let z : a .first - a .first ≡ 0 = omega arith in (search needs, refl, refl, rw z (roll-none (entries-from (a .text .now) (a .first) (a .end - a .first)) (a .roll .now)), rw z (low-none (program-in (a .image .now)) (entries-from (a .text .now) (a .first) (a .end - a .first))), refl)
+
 parse-requires : tie.Need-parse-requires Inv-loop μ-loop
 parse-requires c κs = search needs
 
--- src/lib.rt:116:13
 same-length : tie.Need-same-length Inv-loop μ-loop
 same-length c = c .before .before .before .before .loop .inv .5
 
--- src/lib.rt:116:13
 returns : tie.Need-returns Inv-loop μ-loop
-returns c = let a = c .before .before .before .before .before .before .before .before .before .before .before .args in let l = c .before .before .before .before .loop in let w = parsed-ok (a .text .now) (l .i) _ (c .before .before .parse .ensures) in ill-formed (program-in (a .image .now)) (a .text .now) (a .first) (a .end) (l .i) (least-stop (bad-line (a .text .now)) (a .end) (l .i) (c .before .before .before .loop-test .taken) (ap not (sym w) ∙ c .if1 .taken) (l .inv .1))
+returns c = let a = c .before .before .before .before .before .before .before .before .before .before .args in let l = c .before .before .before .before .loop in let w = parsed-ok (a .text .now) (l .i) _ (c .before .before .parse .ensures) in ill-formed (program-in (a .image .now)) (a .text .now) (a .first) (a .end) (l .i) (least-stop (bad-line (a .text .now)) (a .end) (l .i) (c .before .before .before .loop-test .taken) (ap not (sym w) ∙ c .if1 .taken) (l .inv .1))
 
--- src/lib.rt:118:13
 entry-requires : tie.Need-entry-requires Inv-loop μ-loop
 entry-requires c κs = search needs
 
--- src/lib.rt:119:13
 function-at-requires : tie.Need-function-at-requires Inv-loop μ-loop
 function-at-requires c κs = search needs
 
--- src/lib.rt:120:13
 location-requires : tie.Need-location-requires Inv-loop μ-loop
-location-requires c κs = omega (arith, c .before .before .before .before .before .before .before .before .elements .ensures, elements-most (c .before .before .before .before .before .before .before .before .before .before .before .before .before .args .image .now))
+location-requires c κs = omega (arith, c .before .before .before .before .before .before .before .before .elements .ensures, elements-most (c .before .before .before .before .before .before .before .before .before .before .before .before .args .image .now))
 
--- src/lib.rt:121:14
 in-bounds-requires : tie.Need-in-bounds-requires Inv-loop μ-loop
 in-bounds-requires c κs = search needs
 
--- src/lib.rt:121:36
 in-form-requires : tie.Need-in-form-requires Inv-loop μ-loop
 in-form-requires c κs = search needs
 
--- src/lib.rt:121:72
 no-trace-requires : tie.Need-no-trace-requires Inv-loop μ-loop
 no-trace-requires c κs = search needs
 
--- src/lib.rt:122:13
 fault-at-requires : tie.Need-fault-at-requires Inv-loop μ-loop
 fault-at-requires c κs = search needs
 
--- src/lib.rt:122:13
 same-length-2 : tie.Need-same-length-2 Inv-loop μ-loop
 same-length-2 c = c .before .before .before .before .before .before .before .before .before .before .before .before .before .loop .inv .5
 
--- src/lib.rt:122:13
 returns-2 : tie.Need-returns-2 Inv-loop μ-loop
-returns-2 c = let a = c .before .before .before .before .before .before .before .before .before .before .before .before .before .before .before .before .before .before .before .before .args in let l = c .before .before .before .before .before .before .before .before .before .before .before .before .before .loop in at-fault-from (program-in (a .image .now)) (a .text .now) (a .first) (a .end) _ (l .i) (c .fault-at .ensures) (l .inv .1) (least-stop (bad-at (program-in (a .image .now)) (a .text .now) (a .first) (a .end - a .first)) (a .end) (l .i) (c .before .before .before .before .before .before .before .before .before .before .before .before .loop-test .taken) (rest (c .before .before) ∙ c .before .if2 .taken) (l .inv .2))
+returns-2 c = let a = c .before .before .before .before .before .before .before .before .before .before .before .before .before .before .before .before .before .before .before .args in let l = c .before .before .before .before .before .before .before .before .before .before .before .before .before .loop in at-fault-from (program-in (a .image .now)) (a .text .now) (a .first) (a .end) _ (l .i) (c .fault-at .ensures) (l .inv .1) (least-stop (bad-at (program-in (a .image .now)) (a .text .now) (a .first) (a .end - a .first)) (a .end) (l .i) (c .before .before .before .before .before .before .before .before .before .before .before .before .loop-test .taken) (rest (c .before .before) ∙ c .before .if2 .taken) (l .inv .2))
 
--- src/lib.rt:124:9
 mark-requires : tie.Need-mark-requires Inv-loop μ-loop
 mark-requires c κs = search needs
 
--- src/lib.rt:125:15
 add-low : tie.Need-add-low Inv-loop μ-loop
 add-low c = omega (arith, c .before .before .before .before .before .before .before .before .before .location .ensures .1)
 
--- src/lib.rt:126:9
 add-i : tie.Need-add-i Inv-loop μ-loop
-add-i c = omega (arith, c .before .before .before .before .before .before .before .before .before .before .before .before .before .before .before .loop-test .taken, c .before .before .before .before .before .before .before .before .before .before .before .before .before .before .before .before .before .before .before .before .before .before .before .fits)
+add-i c = omega (arith, c .before .before .before .before .before .before .before .before .before .before .before .before .before .before .before .loop-test .taken, c .before .before .before .before .before .before .before .before .before .before .before .before .before .before .before .before .before .before .before .before .before .before .fits)
 
--- src/lib.rt:113:5
 loop-less : tie.Need-loop-less Inv-loop μ-loop
 loop-less c = search needs
 
--- src/lib.rt:113:5
 loop-again : tie.Need-loop-again Inv-loop μ-loop
-loop-again c = let a = c .before .before .before .before .before .before .before .before .before .before .before .before .before .before .before .before .before .before .before .before .before .before .before .args in let l = c .before .before .before .before .before .before .before .before .before .before .before .before .before .before .before .before .loop in let x = c .before .before .before .before .before .before .before .before .before .before .before .entry .result in let z : l .i + 1 - a .first ≡ l .i - a .first + 1 = omega arith in let w = parsed-ok (a .text .now) (l .i) _ (c .before .before .before .before .before .before .before .before .before .before .before .before .before .before .parse .ensures) in (search needs, least-pass (bad-line (a .text .now)) (a .end) (l .i) (c .before .before .before .before .before .before .before .before .before .before .before .before .before .before .before .loop-test .taken) (ap not (sym w) ∙ c .before .before .before .before .before .before .before .before .before .before .before .before .if1 .left) (l .inv .1), least-pass (bad-at (program-in (a .image .now)) (a .text .now) (a .first) (a .end - a .first)) (a .end) (l .i) (c .before .before .before .before .before .before .before .before .before .before .before .before .before .before .before .loop-test .taken) (rest (c .before .before .before .before .before) ∙ c .before .before .before .before .if2 .left) (l .inv .2), rw z (c .before .before .mark .ensures ∙ ap (marked x) (l .inv .3) ∙ sym (roll-step (entries-from (a .text .now) (a .first) (a .end - a .first)) (l .i - a .first) (a .roll .now) x (there (c .before .before .before .before .before .before .before .before .before .before .before)))), rw (z, c .before .before .before .before .before .before .before .before .before .location .ensures .0, c .before .before .before .before .before .before .before .before .before .before .function-at .ensures, c .before .before .before .before .before .before .before .before .before .before .before .before .before .before .before .before .before .before .elements .ensures) (sym (low-step (program-in (a .image .now)) (entries-from (a .text .now) (a .first) (a .end - a .first)) (l .i - a .first) x (there (c .before .before .before .before .before .before .before .before .before .before .before)))), c .before .before .mark .kept .0 ∙ l .inv .5)
+loop-again c = let a = c .before .before .before .before .before .before .before .before .before .before .before .before .before .before .before .before .before .before .before .before .before .before .args in let l = c .before .before .before .before .before .before .before .before .before .before .before .before .before .before .before .before .loop in let x = c .before .before .before .before .before .before .before .before .before .before .before .entry .result in let z : l .i + 1 - a .first ≡ l .i - a .first + 1 = omega arith in let w = parsed-ok (a .text .now) (l .i) _ (c .before .before .before .before .before .before .before .before .before .before .before .before .before .before .parse .ensures) in (search needs, least-pass (bad-line (a .text .now)) (a .end) (l .i) (c .before .before .before .before .before .before .before .before .before .before .before .before .before .before .before .loop-test .taken) (ap not (sym w) ∙ c .before .before .before .before .before .before .before .before .before .before .before .before .if1 .left) (l .inv .1), least-pass (bad-at (program-in (a .image .now)) (a .text .now) (a .first) (a .end - a .first)) (a .end) (l .i) (c .before .before .before .before .before .before .before .before .before .before .before .before .before .before .before .loop-test .taken) (rest (c .before .before .before .before .before) ∙ c .before .before .before .before .if2 .left) (l .inv .2), rw z (c .before .before .mark .ensures ∙ ap (marked x) (l .inv .3) ∙ sym (roll-step (entries-from (a .text .now) (a .first) (a .end - a .first)) (l .i - a .first) (a .roll .now) x (there (c .before .before .before .before .before .before .before .before .before .before .before)))), rw (z, c .before .before .before .before .before .before .before .before .before .location .ensures .0, c .before .before .before .before .before .before .before .before .before .before .function-at .ensures, c .before .before .before .before .before .before .before .before .before .before .before .before .before .before .before .before .before .before .elements .ensures) (sym (low-step (program-in (a .image .now)) (entries-from (a .text .now) (a .first) (a .end - a .first)) (l .i - a .first) x (there (c .before .before .before .before .before .before .before .before .before .before .before)))), c .before .before .mark .kept .0 ∙ l .inv .5)
 
--- src/lib.rt:104:1
 same-length-3 : tie.Need-same-length-3 Inv-loop μ-loop
 same-length-3 c = c .before .loop .inv .5
 
--- src/lib.rt:104:1
 returns-3 : tie.Need-returns-3 Inv-loop μ-loop
-returns-3 c = let a = c .before .before .before .before .before .before .before .before .args in let l = c .before .loop in all-sound (program-in (a .image .now)) (a .text .now) (a .first) (a .end) (least-end (bad-line (a .text .now)) (a .end) (l .i) (c .loop-test .left) (l .inv .1)) (least-end (bad-at (program-in (a .image .now)) (a .text .now) (a .first) (a .end - a .first)) (a .end) (l .i) (c .loop-test .left) (l .inv .2))
+returns-3 c = let a = c .before .before .before .before .before .before .before .args in let l = c .before .loop in all-sound (program-in (a .image .now)) (a .text .now) (a .first) (a .end) (least-end (bad-line (a .text .now)) (a .end) (l .i) (c .loop-test .left) (l .inv .1)) (least-end (bad-at (program-in (a .image .now)) (a .text .now) (a .first) (a .end - a .first)) (a .end) (l .i) (c .loop-test .left) (l .inv .2))
 
 pub judge-lines-spec : {M : Type 1} → statement M
 judge-lines-spec =
@@ -183,7 +153,9 @@ judge-lines-spec =
     μ-loop
     permanent-requires
     elements-requires
+    cast-e
     functions-requires
+    cast-n
     loop-holds
     parse-requires
     same-length

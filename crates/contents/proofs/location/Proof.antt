@@ -1,58 +1,44 @@
+-- `location` meets its contract.
 use native.Mathlib.Omega.{arith}
 use borrow.Author.Tests.{eq-eqb, ne-eqb}
 use native.Mathlib.Nat.{mul-le-mul-left}
-use mathlib.Core.Path.{_≡_, refl, sym, ap, _∙_}
 use borrow.Author.Needs.{needs}
 use Rattle.contents.proofs.location.Statement.{statement}
 use Rattle.contents.proofs.location.Tie as tie
-use Rattle.contents.proofs.location.Reads as reads
-use Rattle.contents.proofs.location.Lts as lts
 
--- src/lib.rt:63:17
 cast-first : tie.Need-cast-first
 cast-first c = search needs
 
--- src/lib.rt:65:9
 add-result : tie.Need-add-result
 add-result c = search needs
 
--- src/lib.rt:67:17
 cast-result : tie.Need-cast-result
 cast-result c = search needs
 
--- src/lib.rt:67:9
 add-result-2 : tie.Need-add-result-2
 add-result-2 c = search needs
 
--- src/lib.rt:69:18
 cast-result-2 : tie.Need-cast-result-2
 cast-result-2 c = search needs
 
--- src/lib.rt:69:18
 mul-result : tie.Need-mul-result
 mul-result c = let a = c .before .before .before .before .before .before .args in let w = mul-le-mul-left (a .x .arg1) (c .before .before .before .before .before .before .pre) in omega (arith, w)
 
--- src/lib.rt:69:45
 cast-result-3 : tie.Need-cast-result-3
 cast-result-3 c = search needs
 
--- src/lib.rt:69:18
 add-result-3 : tie.Need-add-result-3
 add-result-3 c = let a = c .before .before .before .before .before .before .before .args in let w = mul-le-mul-left (a .x .arg1) (c .before .before .before .before .before .before .before .pre) in omega (arith, w)
 
--- src/lib.rt:69:9
 add-result-4 : tie.Need-add-result-4
 add-result-4 c = let a = c .before .before .before .before .before .before .before .args in let w = mul-le-mul-left (a .x .arg1) (c .before .before .before .before .before .before .before .pre) in omega (arith, w)
 
--- src/lib.rt:59:1
 returns : tie.Need-returns
 returns c = (rw (eq-eqb _ _ (c .if1 .taken)), omega arith)
 
--- src/lib.rt:59:1
 returns-2 : tie.Need-returns-2
 returns-2 c = (rw (ne-eqb _ _ (c .before .before .before .if1 .left), eq-eqb _ _ (c .before .if2 .taken)), omega arith)
 
--- src/lib.rt:59:1
 returns-3 : tie.Need-returns-3
 returns-3 c = let a = c .before .before .before .before .before .before .before .args in let w = mul-le-mul-left (a .x .arg1) (c .before .before .before .before .before .before .before .pre) in (rw (ne-eqb _ _ (c .before .before .before .before .if1 .left), ne-eqb _ _ (c .before .before .if2 .left)), omega (arith, w))
 

@@ -1,28 +1,21 @@
+-- `mark` meets its contract.
 use borrow.Author.Tests.{eq-eqb, ne-eqb}
 use borrow.Author.Needs.{needs}
 use Rattle.contents.proofs.mark.Statement.{statement}
 use Rattle.contents.proofs.mark.Tie as tie
-use Rattle.contents.proofs.mark.Reads as reads
-use Rattle.contents.proofs.mark.Lts as lts
-use Rattle.image.proofs.put_byte.Reads as put-byte-reads
 
--- src/lib.rt:55:25
 cast-put-byte : tie.Need-cast-put-byte
 cast-put-byte c = search needs
 
--- src/lib.rt:55:9
 put-byte-requires : tie.Need-put-byte-requires
 put-byte-requires c κs = search needs
 
--- src/lib.rt:51:1
 same-length : tie.Need-same-length
 same-length c = search needs
 
--- src/lib.rt:51:1
 returns : tie.Need-returns
 returns c = simp (eq-eqb _ _ (c .before .before .before .before .before .if1 .taken)) (c .before .before .put-byte .ensures)
 
--- src/lib.rt:51:1
 returns-2 : tie.Need-returns-2
 returns-2 c = simp (ne-eqb _ _ (c .if1 .left))
 

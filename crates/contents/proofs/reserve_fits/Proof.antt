@@ -1,16 +1,11 @@
-use native.Mathlib.Omega.{arith}
-use borrow.Author.Needs.{needs}
+-- `reserve_fits` meets its contract.
 use borrow.Author.Tests.{eq-eqb, ne-eqb}
 use Rattle.contents.proofs.reserve_fits.Statement.{statement}
 use Rattle.contents.proofs.reserve_fits.Tie as tie
-use Rattle.contents.proofs.reserve_fits.Reads as reads
-use Rattle.contents.proofs.reserve_fits.Lts as lts
 
--- src/lib.rt:79:1
 returns : tie.Need-returns
 returns c = rw (eq-eqb _ _ (c .before .if1 .taken))
 
--- src/lib.rt:79:1
 returns-2 : tie.Need-returns-2
 returns-2 c = rw (ne-eqb _ _ (c .if1 .left))
 

@@ -1,17 +1,12 @@
-use native.Mathlib.Omega.{arith}
-use borrow.Author.Needs.{needs}
+-- `value_fits` meets its contract.
 use mathlib.Core.Bool.{or-false}
 use mathlib.Core.Path.{sym}
 use Rattle.contents.proofs.value_fits.Statement.{statement}
 use Rattle.contents.proofs.value_fits.Tie as tie
-use Rattle.contents.proofs.value_fits.Reads as reads
-use Rattle.contents.proofs.value_fits.Lts as lts
 
--- src/lib.rt:57:1
 returns : tie.Need-returns
 returns c = rw (c .before .if1 .taken) (sym (or-false _))
 
--- src/lib.rt:57:1
 returns-2 : tie.Need-returns-2
 returns-2 c = rw (c .before .if1 .left)
 

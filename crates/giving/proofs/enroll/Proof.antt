@@ -5,6 +5,7 @@ use native.Mathlib.Omega.{arith}
 use Rattle.book.specs.Image.{held}
 use Rattle.giving.specs.Giving.{reached}
 use Rattle.giving.proofs.Steps.{enrolling-in, enrolling-none}
+use Rattle.book.proofs.Held.{elements-held}
 use borrow.Author.Needs.{needs}
 use Rattle.giving.proofs.enroll.Statement.{statement}
 use Rattle.giving.proofs.enroll.Tie as tie
@@ -21,13 +22,13 @@ refuse-requires c κs = search needs
 returns : tie.Need-returns
 returns c =
     let a = c .before .before .before .before .args in
-    let h : a .x < held (a .image .now) .E = omega (arith, c .before .before .before .elements .ensures .0, c .before .before .if1 .taken) in
+    let h : a .x < held (a .image .now) .E = omega (arith, elements-held _ _ (c .before .before .before .elements .ensures) .0, c .before .before .if1 .taken) in
     c .take .ensures ∙ sym (enrolling-in (held (a .image .now)) (a .u) (a .x) (a .n) h (reached (a .s) (a .list .now)))
 
 returns-2 : tie.Need-returns-2
 returns-2 c =
     let a = c .before .before .before .args in
-    let h : held (a .image .now) .E ≤ a .x = omega (arith, c .before .before .elements .ensures .0, c .before .if1 .left) in
+    let h : held (a .image .now) .E ≤ a .x = omega (arith, elements-held _ _ (c .before .before .elements .ensures) .0, c .before .if1 .left) in
     c .refuse .ensures (a .list .now) ∙ sym (enrolling-none (held (a .image .now)) (a .u) (a .x) (a .n) h (reached (a .s) (a .list .now)))
 
 pub enroll-spec : {M : Type 1} → statement M

@@ -1,8 +1,7 @@
 -- `first_half` meets its contract.
 use Rattle.halves.proofs.Halves.{halted-half, begun-half}
 use Rattle.halves.proofs.Whole.{refused-book, refused-call, cleared}
-use Rattle.book.proofs.Image.{agents-most}
-use Rattle.book.specs.Image.{narrow}
+use Rattle.book.proofs.Held.{held-agents-most}
 use mathlib.Core.Path.{_≡_}
 use native.Mathlib.Omega.{arith}
 use borrow.Author.Needs.{needs}
@@ -44,7 +43,7 @@ cast-begin c =
     let o = c .before .before .before .before .before .before .before .check-into in
     let d = c .before .before .before .check-call in
     let e = cleared (a .book .now) (a .contents .now) (a .work .now) (a .agent) (a .lent) (o .last .1 .0) (o .ensures .1) (o .result) (o .ensures .0) (c .before .before .before .before .before .if1 .left) (d .result) (d .ensures) (c .before .if2 .left) in
-    record { fits = omega (arith, e .passed .agent, agents-most (narrow (o .last .1 .0))) }
+    record { fits = omega (arith, e .passed .agent, held-agents-most (o .last .1 .0)) }
 
 begin-requires : tie.Need-begin-requires
 begin-requires c κs = search needs

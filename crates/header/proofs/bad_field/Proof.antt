@@ -1,11 +1,9 @@
+-- `bad_field` meets its contract.
 use Rattle.book.specs.Lines.{bad-field}
 use mathlib.Core.Path.{refl}
 use Rattle.header.proofs.bad_field.Statement.{statement}
 use Rattle.header.proofs.bad_field.Tie as tie
-use Rattle.header.proofs.bad_field.Reads as reads
-use Rattle.header.proofs.bad_field.Lts as lts
 
--- src/lib.rt:169:1
 returns : tie.Need-returns
 unfolding bad-field
 returns c = refl

@@ -1,3 +1,4 @@
+-- `bad_functions` meets its contract.
 use native.Mathlib.Omega.{arith}
 use borrow.Author.Needs.{needs}
 use Rattle.book.proofs.Image.{functions-most}
@@ -9,11 +10,6 @@ use Prim.Native.Nat.{_≤_, _-_, _+_}
 use mathlib.Core.Path.{_≡_, ap, _∙_}
 use Rattle.header.proofs.bad_functions.Statement.{statement}
 use Rattle.header.proofs.bad_functions.Tie as tie
-use Rattle.header.proofs.bad_functions.Reads as reads
-use Rattle.header.proofs.bad_functions.Lts as lts
-use Rattle.header.proofs.bad_function.Reads as bad-function-reads
-use Rattle.image.proofs.functions.Reads as functions-reads
-use Rattle.image.proofs.row.Reads as row-reads
 
 abbrev Inv-loop : tie.InvT-loop
 Inv-loop image n i₀ i = (i ≤ n) × (least-from (λ f. bad-function (row-in image (2 + f)) f) (n - i) i ≡ least (λ f. bad-function (row-in image (2 + f)) f) n)
@@ -21,45 +17,38 @@ Inv-loop image n i₀ i = (i ≤ n) × (least-from (λ f. bad-function (row-in i
 abbrev μ-loop : tie.MeasureT-loop
 μ-loop image n i₀ i = n - i
 
--- src/lib.rt:50:9
 functions-requires : tie.Need-functions-requires Inv-loop μ-loop
 functions-requires c κs = search needs
 
--- src/lib.rt:52:5
+cast-n : tie.Need-cast-n Inv-loop μ-loop
+cast-n c = search needs
+
 loop-holds : tie.Need-loop-holds Inv-loop μ-loop
 loop-holds c = (search needs, least-start _ _)
 
--- src/lib.rt:53:35
 add-row : tie.Need-add-row Inv-loop μ-loop
-add-row c = omega (arith, c .before .before .functions .ensures, functions-most (c .before .before .before .before .args .image .now))
+add-row c = omega (arith, c .before .before .functions .ensures, functions-most (c .before .before .before .args .image .now))
 
--- src/lib.rt:53:13
 row-requires : tie.Need-row-requires Inv-loop μ-loop
 row-requires c κs = search needs
 
--- src/lib.rt:54:12
 bad-function-requires : tie.Need-bad-function-requires Inv-loop μ-loop
 bad-function-requires c κs = search needs
 
--- src/lib.rt:55:13
 returns : tie.Need-returns Inv-loop μ-loop
-returns c = let a = c .before .before .before .before .before .before .before .args in let l = c .before .before .before .before .loop in least-stop (λ f. bad-function (row-in (a .image .now) (2 + f)) f) _ (l .i) (c .before .before .before .loop-test .taken) (cc) (l .inv .1) ∙ ap (least (λ f. bad-function (row-in (a .image .now) (2 + f)) f)) (c .before .before .before .before .before .functions .ensures)
+returns c = let a = c .before .before .before .before .before .before .args in let l = c .before .before .before .before .loop in least-stop (λ f. bad-function (row-in (a .image .now) (2 + f)) f) _ (l .i) (c .before .before .before .loop-test .taken) (cc) (l .inv .1) ∙ ap (least (λ f. bad-function (row-in (a .image .now) (2 + f)) f)) (c .before .before .before .before .before .functions .ensures)
 
--- src/lib.rt:57:9
 add-i : tie.Need-add-i Inv-loop μ-loop
 add-i c = search needs
 
--- src/lib.rt:52:5
 loop-less : tie.Need-loop-less Inv-loop μ-loop
 loop-less c = search needs
 
--- src/lib.rt:52:5
 loop-again : tie.Need-loop-again Inv-loop μ-loop
-loop-again c = let a = c .before .before .before .before .before .before .before .args in let l = c .before .before .before .before .loop in (search needs, least-pass (λ f. bad-function (row-in (a .image .now) (2 + f)) f) _ (l .i) (c .before .before .before .loop-test .taken) (cc) (l .inv .1))
+loop-again c = let a = c .before .before .before .before .before .before .args in let l = c .before .before .before .before .loop in (search needs, least-pass (λ f. bad-function (row-in (a .image .now) (2 + f)) f) _ (l .i) (c .before .before .before .loop-test .taken) (cc) (l .inv .1))
 
--- src/lib.rt:47:1
 returns-2 : tie.Need-returns-2 Inv-loop μ-loop
-returns-2 c = let a = c .before .before .before .before .args in let l = c .before .loop in least-end (λ f. bad-function (row-in (a .image .now) (2 + f)) f) _ (l .i) (c .loop-test .left) (l .inv .1) ∙ ap (least (λ f. bad-function (row-in (a .image .now) (2 + f)) f)) (c .before .before .functions .ensures)
+returns-2 c = let a = c .before .before .before .args in let l = c .before .loop in least-end (λ f. bad-function (row-in (a .image .now) (2 + f)) f) _ (l .i) (c .loop-test .left) (l .inv .1) ∙ ap (least (λ f. bad-function (row-in (a .image .now) (2 + f)) f)) (c .before .before .functions .ensures)
 
 pub bad-functions-spec : {M : Type 1} → statement M
 bad-functions-spec =
@@ -68,6 +57,7 @@ bad-functions-spec =
     Inv-loop
     μ-loop
     functions-requires
+    cast-n
     loop-holds
     add-row
     row-requires

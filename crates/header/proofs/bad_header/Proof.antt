@@ -1,3 +1,4 @@
+-- `bad_header` meets its contract.
 use Rattle.text.proofs.Words.{least-start, least-pass, least-stop, least-end}
 use Rattle.text.specs.Words.{least-from, least}
 use mathlib.Core.Path.{_≡_}
@@ -6,9 +7,6 @@ use borrow.Author.Needs.{needs}
 use Rattle.book.specs.Lines.{bad-field}
 use Rattle.header.proofs.bad_header.Statement.{statement}
 use Rattle.header.proofs.bad_header.Tie as tie
-use Rattle.header.proofs.bad_header.Reads as reads
-use Rattle.header.proofs.bad_header.Lts as lts
-use Rattle.header.proofs.bad_field.Reads as bad-field-reads
 
 abbrev Inv-loop : tie.InvT-loop
 Inv-loop k l i₀ i = (i ≤ (8)) × (least-from (bad-field k l) ((8) - i) i ≡ least (bad-field k l) (8))
@@ -16,31 +14,24 @@ Inv-loop k l i₀ i = (i ≤ (8)) × (least-from (bad-field k l) ((8) - i) i ≡
 abbrev μ-loop : tie.MeasureT-loop
 μ-loop k l i₀ i = (8) - i
 
--- src/lib.rt:187:5
 loop-holds : tie.Need-loop-holds Inv-loop μ-loop
 loop-holds c = (search needs, least-start _ _)
 
--- src/lib.rt:188:12
 bad-field-requires : tie.Need-bad-field-requires Inv-loop μ-loop
 bad-field-requires c κs = search needs
 
--- src/lib.rt:189:13
 returns : tie.Need-returns Inv-loop μ-loop
 returns c = let a = c .before .before .before .before .args in let l = c .before .before .before .loop in least-stop (bad-field (a .k) (a .l)) (8) (l .i) (c .before .before .loop-test .taken) (cc) (l .inv .1)
 
--- src/lib.rt:191:9
 add-i : tie.Need-add-i Inv-loop μ-loop
 add-i c = search needs
 
--- src/lib.rt:187:5
 loop-less : tie.Need-loop-less Inv-loop μ-loop
 loop-less c = search needs
 
--- src/lib.rt:187:5
 loop-again : tie.Need-loop-again Inv-loop μ-loop
 loop-again c = let a = c .before .before .before .before .args in let l = c .before .before .before .loop in (search needs, least-pass (bad-field (a .k) (a .l)) (8) (l .i) (c .before .before .loop-test .taken) (cc) (l .inv .1))
 
--- src/lib.rt:183:1
 returns-2 : tie.Need-returns-2 Inv-loop μ-loop
 returns-2 c = let a = c .before .before .args in let l = c .before .loop in least-end (bad-field (a .k) (a .l)) (8) (l .i) (c .loop-test .left) (l .inv .1)
 

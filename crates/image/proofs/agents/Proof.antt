@@ -1,25 +1,21 @@
+-- `agents` meets its contract.
+use mathlib.Core.Path.{sym, _∙_}
 use Rattle.book.proofs.Image.{agents-long}
-use mathlib.Core.List.{[]}
-use mathlib.Core.Path.{_∙_, sym}
 use borrow.Author.Needs.{needs}
 use Rattle.image.proofs.agents.Statement.{statement}
 use Rattle.image.proofs.agents.Tie as tie
-use Rattle.image.proofs.agents.Reads as reads
-use Rattle.image.proofs.agents.Lts as lts
-use Rattle.image.proofs.cap.Reads as cap-reads
-use Rattle.image.proofs.fetch.Reads as fetch-reads
 
--- src/lib.rt:140:9
-fetch-requires : tie.Need-fetch-requires
-fetch-requires c κs = search needs
+element-copy-out-cap : tie.Need-element-copy-out-cap
+element-copy-out-cap c = search needs
 
--- src/lib.rt:140:5
 cap-requires : tie.Need-cap-requires
 cap-requires c κs = search needs
 
--- src/lib.rt:137:1
+cast-result : tie.Need-cast-result
+cast-result c = search needs
+
 returns : tie.Need-returns
-returns c = c .cap .ensures .0 ∙ rw (c .before .fetch .ensures) (sym (agents-long (c .before .before .before .args .image .now)))
+returns c = c .cap .ensures .0 ∙ sym (agents-long (c .before .before .args .image .now))
 
 pub agents-spec : {M : Type 1} → statement M
-agents-spec = tie.close (tie.spec fetch-requires cap-requires returns)
+agents-spec = tie.close (tie.spec element-copy-out-cap cap-requires cast-result returns)

@@ -1,15 +1,12 @@
+-- `cap` meets its contract.
 use borrow.Author.Tests.{lt-ltb, le-ltb}
 use native.Mathlib.Omega.{arith}
 use Rattle.image.proofs.cap.Statement.{statement}
 use Rattle.image.proofs.cap.Tie as tie
-use Rattle.image.proofs.cap.Reads as reads
-use Rattle.image.proofs.cap.Lts as lts
 
--- src/lib.rt:102:1
 returns : tie.Need-returns
 returns c = (simp (lt-ltb _ _ (c .if1 .taken)), omega arith)
 
--- src/lib.rt:102:1
 returns-2 : tie.Need-returns-2
 returns-2 c = (simp (le-ltb _ _ (c .if1 .left)), omega arith)
 

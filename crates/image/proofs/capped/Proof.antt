@@ -1,32 +1,23 @@
-use native.Mathlib.Omega.{arith}
+-- `capped` meets its contract.
 use borrow.Author.Needs.{needs}
 use Rattle.image.proofs.capped.Statement.{statement}
 use Rattle.image.proofs.capped.Tie as tie
-use Rattle.image.proofs.capped.Reads as reads
-use Rattle.image.proofs.capped.Lts as lts
-use Rattle.image.proofs.cap.Reads as cap-reads
 
--- src/lib.rt:19:19
 cap-requires : tie.Need-cap-requires
 cap-requires c κs = search needs
 
--- src/lib.rt:21:20
 cap-requires-2 : tie.Need-cap-requires-2
 cap-requires-2 c κs = search needs
 
--- src/lib.rt:22:16
 cap-requires-3 : tie.Need-cap-requires-3
 cap-requires-3 c κs = search needs
 
--- src/lib.rt:23:17
 cap-requires-4 : tie.Need-cap-requires-4
 cap-requires-4 c κs = search needs
 
--- src/lib.rt:24:19
 cap-requires-5 : tie.Need-cap-requires-5
 cap-requires-5 c κs = search needs
 
--- src/lib.rt:15:1
 returns : tie.Need-returns
 returns c = (rw (c .cap5 .ensures .0, c .before .cap4 .ensures .0, c .before .before .cap3 .ensures .0, c .before .before .before .cap2 .ensures .0, c .before .before .before .before .cap .ensures .0), record { elements = c .before .before .before .before .cap .ensures .1; functions = c .before .before .before .cap2 .ensures .1; nodes = c .before .before .cap3 .ensures .1; agents = c .before .cap4 .ensures .1; contents = c .cap5 .ensures .1 })
 

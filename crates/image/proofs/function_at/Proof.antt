@@ -1,40 +1,68 @@
-use native.Mathlib.Omega.{arith}
-use Rattle.book.proofs.Image.{function-inside, function-past}
-use mathlib.Core.List.{[]}
-use mathlib.Core.Path.{_∙_, sym, ap}
+-- `function_at` meets its contract.
+use mathlib.Core.Path.{sym}
+use Rattle.book.proofs.Image.{function-past}
+use Rattle.image.proofs.Rows.{function-in}
 use borrow.Author.Needs.{needs}
 use Rattle.image.proofs.function_at.Statement.{statement}
 use Rattle.image.proofs.function_at.Tie as tie
-use Rattle.image.proofs.function_at.Reads as reads
-use Rattle.image.proofs.function_at.Lts as lts
-use Rattle.image.proofs.cap.Reads as cap-reads
-use Rattle.image.proofs.fetch.Reads as fetch-reads
-use Rattle.image.proofs.row.Reads as row-reads
 
--- src/lib.rt:147:17
-fetch-requires : tie.Need-fetch-requires
-fetch-requires c κs = search needs
+element-copy-out-cap : tie.Need-element-copy-out-cap
+element-copy-out-cap c = search needs
 
--- src/lib.rt:147:9
 cap-requires : tie.Need-cap-requires
 cap-requires c κs = search needs
 
--- src/lib.rt:149:28
-add-row : tie.Need-add-row
-add-row c = search needs
+mul-at : tie.Need-mul-at
+mul-at c = search needs
 
--- src/lib.rt:149:13
-row-requires : tie.Need-row-requires
-row-requires c κs = search needs
+add-at : tie.Need-add-at
+add-at c = search needs
 
--- src/lib.rt:144:1
+mul-t10 : tie.Need-mul-t10
+mul-t10 c = search needs
+
+element-copy-out-t14 : tie.Need-element-copy-out-t14
+element-copy-out-t14 c = search needs
+
+add-t11 : tie.Need-add-t11
+add-t11 c = search needs
+
+mul-t15 : tie.Need-mul-t15
+mul-t15 c = search needs
+
+element-copy-out-t18 : tie.Need-element-copy-out-t18
+element-copy-out-t18 c = search needs
+
+add-t19 : tie.Need-add-t19
+add-t19 c = search needs
+
+mul-t20 : tie.Need-mul-t20
+mul-t20 c = search needs
+
+element-copy-out-t23 : tie.Need-element-copy-out-t23
+element-copy-out-t23 c = search needs
+
 returns : tie.Need-returns
-returns c = let a = c .before .before .before .before .before .args in rw (c .row .ensures) (sym (function-inside (a .image .now) (a .f) (rw (← c .before .before .before .fetch .ensures, ← c .before .before .cap .ensures .0) (c .before .if1 .taken))))
+returns c = let a = c .before .before .before .before .before .before .args in function-in (a .image .now) (a .f) (rw (← c .before .before .before .before .cap .ensures .0) (c .before .before .before .if1 .taken))
 
--- src/lib.rt:144:1
 returns-2 : tie.Need-returns-2
-returns-2 c = let a = c .before .before .before .before .args in sym (function-past (a .image .now) (a .f) (rw (← c .before .before .fetch .ensures, ← c .before .cap .ensures .0) (c .if1 .left)))
+returns-2 c = let a = c .before .before .before .args in sym (function-past (a .image .now) (a .f) (rw (← c .before .cap .ensures .0) (c .if1 .left)))
 
 pub function-at-spec : {M : Type 1} → statement M
 function-at-spec =
-    tie.close (tie.spec fetch-requires cap-requires add-row row-requires returns returns-2)
+    tie.close
+    (tie.spec
+    element-copy-out-cap
+    cap-requires
+    mul-at
+    add-at
+    mul-t10
+    element-copy-out-t14
+    add-t11
+    mul-t15
+    element-copy-out-t18
+    add-t19
+    mul-t20
+    element-copy-out-t23
+    returns
+    returns-2)

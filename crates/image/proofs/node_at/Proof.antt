@@ -1,40 +1,90 @@
-use native.Mathlib.Omega.{arith}
-use Rattle.book.proofs.Image.{node-inside, node-past}
-use mathlib.Core.List.{[]}
-use mathlib.Core.Path.{_∙_, sym, ap}
+-- `node_at` meets its contract.
+use mathlib.Core.Path.{sym, _∙_}
+use mathlib.Core.Logic.{inl, inr}
+use Rattle.book.specs.Image.{word}
+use Rattle.book.proofs.Image.{node-past}
+use Rattle.image.proofs.Rows.{capped-above, capped-reached, node-in}
 use borrow.Author.Needs.{needs}
 use Rattle.image.proofs.node_at.Statement.{statement}
 use Rattle.image.proofs.node_at.Tie as tie
-use Rattle.image.proofs.node_at.Reads as reads
-use Rattle.image.proofs.node_at.Lts as lts
-use Rattle.image.proofs.cap.Reads as cap-reads
-use Rattle.image.proofs.fetch.Reads as fetch-reads
-use Rattle.image.proofs.row.Reads as row-reads
 
--- src/lib.rt:168:21
-fetch-requires : tie.Need-fetch-requires
-fetch-requires c κs = search needs
+element-copy-out-if1 : tie.Need-element-copy-out-if1
+element-copy-out-if1 c = search needs
 
--- src/lib.rt:168:9
-cap-requires : tie.Need-cap-requires
-cap-requires c κs = search needs
+no-node-requires : tie.Need-no-node-requires
+no-node-requires c κs = search needs
 
--- src/lib.rt:170:28
-add-row : tie.Need-add-row
-add-row c = search needs
-
--- src/lib.rt:170:13
-row-requires : tie.Need-row-requires
-row-requires c κs = search needs
-
--- src/lib.rt:165:1
 returns : tie.Need-returns
-returns c = let a = c .before .before .before .before .before .args in rw (c .row .ensures) (sym (node-inside (a .image .now) (a .n) (rw (← c .before .before .before .fetch .ensures, ← c .before .before .cap .ensures .0) (c .before .if1 .taken))))
+returns c = let a = c .before .before .before .args in c .no-node .ensures ∙ sym (node-past (a .image .now) (a .n) (capped-reached (a .n) (word (a .image .now) 3) 1024 (inl (c .before .if1 .taken))))
 
--- src/lib.rt:165:1
+no-node-requires-2 : tie.Need-no-node-requires-2
+no-node-requires-2 c κs = search needs
+
 returns-2 : tie.Need-returns-2
-returns-2 c = let a = c .before .before .before .before .args in sym (node-past (a .image .now) (a .n) (rw (← c .before .before .fetch .ensures, ← c .before .cap .ensures .0) (c .if1 .left)))
+returns-2 c = let a = c .before .before .before .before .args in c .no-node2 .ensures ∙ sym (node-past (a .image .now) (a .n) (capped-reached (a .n) (word (a .image .now) 3) 1024 (inr (c .before .if2 .taken))))
+
+mul-at : tie.Need-mul-at
+mul-at c = search needs
+
+add-at : tie.Need-add-at
+add-at c = search needs
+
+mul-t8 : tie.Need-mul-t8
+mul-t8 c = search needs
+
+element-copy-out-t6 : tie.Need-element-copy-out-t6
+element-copy-out-t6 c = search needs
+
+add-t9 : tie.Need-add-t9
+add-t9 c = search needs
+
+mul-t12 : tie.Need-mul-t12
+mul-t12 c = search needs
+
+element-copy-out-t15 : tie.Need-element-copy-out-t15
+element-copy-out-t15 c = search needs
+
+add-t16 : tie.Need-add-t16
+add-t16 c = search needs
+
+mul-t17 : tie.Need-mul-t17
+mul-t17 c = search needs
+
+element-copy-out-t20 : tie.Need-element-copy-out-t20
+element-copy-out-t20 c = search needs
+
+add-t21 : tie.Need-add-t21
+add-t21 c = search needs
+
+mul-t22 : tie.Need-mul-t22
+mul-t22 c = search needs
+
+element-copy-out-t25 : tie.Need-element-copy-out-t25
+element-copy-out-t25 c = search needs
+
+returns-3 : tie.Need-returns-3
+returns-3 c = let a = c .before .before .before .before .before .before .before .args in node-in (a .image .now) (a .n) (capped-above (a .n) (word (a .image .now) 3) 1024 (c .before .before .before .before .before .if1 .left) (c .before .before .before .before .if2 .left))
 
 pub node-at-spec : {M : Type 1} → statement M
 node-at-spec =
-    tie.close (tie.spec fetch-requires cap-requires add-row row-requires returns returns-2)
+    tie.close
+    (tie.spec
+    element-copy-out-if1
+    no-node-requires
+    returns
+    no-node-requires-2
+    returns-2
+    mul-at
+    add-at
+    mul-t8
+    element-copy-out-t6
+    add-t9
+    mul-t12
+    element-copy-out-t15
+    add-t16
+    mul-t17
+    element-copy-out-t20
+    add-t21
+    mul-t22
+    element-copy-out-t25
+    returns-3)

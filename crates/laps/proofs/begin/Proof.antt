@@ -4,8 +4,7 @@ use lib.ListN.{take}
 use mathlib.Core.Path.{sym}
 use native.Mathlib.Omega.{arith}
 use Rattle.laps.proofs.Calls.{midway}
-use Rattle.book.specs.Image.{narrow}
-use Rattle.book.proofs.Image.{agents-most}
+use Rattle.book.proofs.Held.{held-agents-most}
 use Rattle.laps.proofs.Laps.{low, agent-low, begins}
 use borrow.Author.Needs.{needs}
 use Rattle.laps.proofs.begin.Statement.{statement}
@@ -45,7 +44,7 @@ same-length : tie.Need-same-length
 same-length c = search needs
 
 returns : tie.Need-returns
-returns c = let a = c .before .before .before .before .before .before .before .before .before .before .before .before .before .args in let b = c .before .before .begin in let k = c .before .before .before .before .before .before .smaller2 .result in λ lent n whole ws is rest h. midway lent n whole (a .image .now) (a .order .now) is rest (a .t) (a .contents .now) (a .readers .now) ws h k (omega (arith, c .before .before .before .before .before .before .smaller2 .ensures, c .before .before .before .before .before .before .before .smaller .ensures, c .before .before .before .before .before .before .before .before .locations .ensures)) (b .result) (b .last .1 .1 .1 .1 .0) (b .last .1 .1 .0) (b .kept .1 .1 .0) (λ g s vs to. begins (a .image .now) (a .order .now) g s (a .t) (take k (a .contents .now)) (take k (a .readers .now)) vs to (c .before .before .before .before .before .before .before .before .before .before .bit-of .result) (c .before .before .before .before .before .before .before .before .before .agent-at .result) (c .before .before .before .before .before .before .before .before .before .before .bit-of .ensures (low (a .image .now) (a .order .now) g s (a .t) (take k (a .contents .now)) (take k (a .readers .now)) vs to)) (omega (arith, c .before .before .before .before .before .before .before .before .before .agent-at .ensures, agent-low (a .image .now) (a .order .now) g s (a .t) (take k (a .contents .now)) (take k (a .readers .now)) vs to, agents-most (narrow (a .image .now)))) (b .result) (b .last .1 .1 .1 .1 .0) (b .last .1 .1 .0) (b .ensures .0) (b .ensures .1) (b .ensures .2))
+returns c = let a = c .before .before .before .before .before .before .before .before .before .before .before .before .before .args in let b = c .before .before .begin in let k = c .before .before .before .before .before .before .smaller2 .result in λ lent n whole ws is rest h. midway lent n whole (a .image .now) (a .order .now) is rest (a .t) (a .contents .now) (a .readers .now) ws h k (omega (arith, c .before .before .before .before .before .before .smaller2 .ensures, c .before .before .before .before .before .before .before .smaller .ensures, c .before .before .before .before .before .before .before .before .locations .ensures)) (b .result) (b .last .1 .1 .1 .1 .0) (b .last .1 .1 .0) (b .kept .1 .1 .0) (λ g s vs to. begins (a .image .now) (a .order .now) g s (a .t) (take k (a .contents .now)) (take k (a .readers .now)) vs to (c .before .before .before .before .before .before .before .before .before .before .bit-of .result) (c .before .before .before .before .before .before .before .before .before .agent-at .result) (c .before .before .before .before .before .before .before .before .before .before .bit-of .ensures (low (a .image .now) (a .order .now) g s (a .t) (take k (a .contents .now)) (take k (a .readers .now)) vs to)) (omega (arith, c .before .before .before .before .before .before .before .before .before .agent-at .ensures, agent-low (a .image .now) (a .order .now) g s (a .t) (take k (a .contents .now)) (take k (a .readers .now)) vs to, held-agents-most (a .image .now))) (b .result) (b .last .1 .1 .1 .1 .0) (b .last .1 .1 .0) (b .ensures .0) (b .ensures .1) (b .ensures .2))
 
 pub begin-spec : {M : Type 1} → statement M
 begin-spec =

@@ -2,6 +2,7 @@
 use mathlib.Core.Path.{sym}
 use Prim.Native.Nat.{_<_}
 use Rattle.book.specs.Image.{held}
+use Rattle.book.proofs.Held.{elements-held}
 use borrow.Author.Needs.{needs}
 use Rattle.marking.proofs.roll.Statement.{statement}
 use Rattle.marking.proofs.roll.Tie as tie
@@ -12,7 +13,7 @@ elements-requires c κs = search needs
 returns : tie.Need-returns
 returns c =
     let a = c .before .before .args in
-    let h : a .x < held (a .image .now) .E = rw (← c .before .elements .ensures .0) (c .if1 .taken) in
+    let h : a .x < held (a .image .now) .E = rw (← elements-held _ _ (c .before .elements .ensures) .0) (c .if1 .taken) in
     λ p. sym (p .roll (a .x) h)
 
 dynamic-at-requires : tie.Need-dynamic-at-requires

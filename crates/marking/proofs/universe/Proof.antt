@@ -1,5 +1,6 @@
 -- `universe` meets its contract.
 use mathlib.Core.Path.{sym, _∙_}
+use Rattle.book.proofs.Held.{elements-held}
 use borrow.Author.Needs.{needs}
 use Rattle.marking.proofs.universe.Statement.{statement}
 use Rattle.marking.proofs.universe.Tie as tie
@@ -20,7 +21,7 @@ same-length : tie.Need-same-length
 same-length c = search needs
 
 returns : tie.Need-returns
-returns c = c .before .before .mark-run .ensures ∙ rw (sym (c .before .before .before .before .before .before .before .dynamic .ensures) ∙ c .before .before .before .before .before .before .if1 .taken, ← c .before .before .before .before .function .ensures, ← c .before .before .before .elements .ensures .0)
+returns c = c .before .before .mark-run .ensures ∙ rw (sym (c .before .before .before .before .before .before .before .dynamic .ensures) ∙ c .before .before .before .before .before .before .if1 .taken, ← c .before .before .before .before .function .ensures, ← elements-held _ _ (c .before .before .before .elements .ensures) .0)
 
 returns-2 : tie.Need-returns-2
 returns-2 c = rw (sym (c .before .dynamic .ensures) ∙ c .if1 .left)

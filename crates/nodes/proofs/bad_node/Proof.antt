@@ -1,38 +1,28 @@
+-- `bad_node` meets its contract.
 use Rattle.nodes.proofs.Classes.{lent-sorts}
 use Rattle.book.specs.Lines.{bad-node}
 use borrow.Author.Needs.{needs}
 use Rattle.nodes.proofs.bad_node.Statement.{statement}
 use Rattle.nodes.proofs.bad_node.Tie as tie
-use Rattle.nodes.proofs.bad_node.Reads as reads
-use Rattle.nodes.proofs.bad_node.Lts as lts
-use Rattle.image.proofs.node_at.Reads as node-at-reads
-use Rattle.nodes.proofs.fits.Reads as fits-reads
-use Rattle.nodes.proofs.sorts_of.Reads as sorts-of-reads
 
--- src/lib.rt:203:9
 node-at-requires : tie.Need-node-at-requires
 node-at-requires c κs = search needs
 
--- src/lib.rt:204:9
 sorts-of-requires : tie.Need-sorts-of-requires
 sorts-of-requires c κs = search needs
 
--- src/lib.rt:205:9
 fits-requires : tie.Need-fits-requires
 fits-requires c κs = search needs
 
--- src/lib.rt:206:9
 fits-requires-2 : tie.Need-fits-requires-2
 fits-requires-2 c κs = search needs
 
--- src/lib.rt:207:9
 fits-requires-3 : tie.Need-fits-requires-3
 fits-requires-3 c κs = search needs
 
--- src/lib.rt:199:1
 returns : tie.Need-returns
 unfolding bad-node
-returns c = rw (c .fits4 .ensures, c .before .fits3 .ensures, c .before .before .fits2 .ensures, lent-sorts _ (c .before .before .before .before .node-at .result .kind) (c .before .before .before .sorts-of .result) (c .before .before .before .sorts-of .ensures) (c .before .before .before .before .before .before .pre), c .before .before .before .before .node-at .ensures)
+returns c = rw (c .fits4 .ensures, c .before .fits3 .ensures, c .before .before .fits2 .ensures, lent-sorts _ (c .before .before .before .before .node-at .result .kind) (c .before .before .before .sorts-of .result) (c .before .before .before .sorts-of .ensures) (c .before .before .before .before .before .pre), c .before .before .before .before .node-at .ensures)
 
 pub bad-node-spec : {M : Type 1} → statement M
 bad-node-spec =

@@ -1,19 +1,15 @@
+-- `is_term` meets its contract.
 use borrow.Author.Tests.{le-leb, lt-leb}
 use native.Mathlib.Omega.{arith}
 use Rattle.nodes.proofs.is_term.Statement.{statement}
 use Rattle.nodes.proofs.is_term.Tie as tie
-use Rattle.nodes.proofs.is_term.Reads as reads
-use Rattle.nodes.proofs.is_term.Lts as lts
 
--- src/lib.rt:32:1
 returns : tie.Need-returns
 returns c = let k = c .before .before .args .kind in simp (le-leb 1 k (omega arith), le-leb k 13 (omega arith))
 
--- src/lib.rt:32:1
 returns-2 : tie.Need-returns-2
 returns-2 c = let k = c .before .args .kind in simp (lt-leb 1 k (omega arith))
 
--- src/lib.rt:32:1
 returns-3 : tie.Need-returns-3
 returns-3 c = let k = c .before .before .args .kind in simp (le-leb 1 k (omega arith), lt-leb k 13 (omega arith))
 

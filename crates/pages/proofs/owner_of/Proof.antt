@@ -8,6 +8,7 @@ use Rattle.book.specs.Image.{held}
 use Rattle.pages.proofs.Laws.{size-low}
 use Rattle.pages.proofs.Places.{From, from-start, from-at, from-next, from-past}
 use Rattle.pages.proofs.Parts.{Sought, part-here, part-next, part-none, owner-is}
+use Rattle.book.proofs.Held.{elements-held, functions-held}
 use borrow.Author.Needs.{needs}
 use Rattle.pages.proofs.owner_of.Statement.{statement}
 use Rattle.pages.proofs.owner_of.Tie as tie
@@ -37,15 +38,15 @@ cast-end : tie.Need-cast-end Inv-loop μ-loop
 cast-end c = search needs
 
 add-end : tie.Need-add-end Inv-loop μ-loop
-add-end c = record { fits = omega (arith, c .before .before .before .loop .inv .0 .low, size-low (c .size .result) (c .before .before .before .before .before .elements .result) (c .before .function-at .result .arity) (c .size .ensures) (c .before .before .before .before .before .elements .ensures .1), c .before .before .loop-test .taken, c .before .before .before .before .functions .ensures .1) }
+add-end c = record { fits = omega (arith, c .before .before .before .loop .inv .0 .low, size-low (c .size .result) (c .before .before .before .before .before .elements .result) (c .before .function-at .result .arity) (c .size .ensures) (elements-held _ _ (c .before .before .before .before .before .elements .ensures) .1), c .before .before .loop-test .taken, functions-held _ _ (c .before .before .before .before .functions .ensures) .1) }
 
 returns : tie.Need-returns Inv-loop μ-loop
 returns c =
     let a = c .before .before .before .before .before .before .before .args in
     let B = held (a .image .now) in
     let l = c .before .before .before .before .loop in
-    let more : l .g < length (B .functions) = omega (arith, c .before .before .before .loop-test .taken, c .before .before .before .before .before .functions .ensures .0) in
-    let many : c .before .size .result ≡ size (B .E) (function-at B (l .g) .arity) = c .before .size .ensures ∙ rw (c .before .before .function-at .ensures, c .before .before .before .before .before .before .elements .ensures .0) in
+    let more : l .g < length (B .functions) = omega (arith, c .before .before .before .loop-test .taken, functions-held _ _ (c .before .before .before .before .before .functions .ensures) .0) in
+    let many : c .before .size .result ≡ size (B .E) (function-at B (l .g) .arity) = c .before .size .ensures ∙ rw (c .before .before .function-at .ensures, elements-held _ _ (c .before .before .before .before .before .before .elements .ensures) .0) in
     owner-is B (a .l) (c .before .before .function-at .result) (a .l - l .first) (l .first) (l .first + c .before .size .result)
     (from-at B (l .g) (l .first) (l .inv .0) more (a .l) (l .inv .2) (omega (arith, many, c .if1 .taken)) ∙ rw (← c .before .before .function-at .ensures))
     (part-here B (a .l) (l .g) (l .first) (l .first + c .before .size .result) (l .inv .3) more (rw many) (c .if1 .taken))
@@ -61,9 +62,9 @@ loop-again c =
     let a = c .before .before .before .before .before .before .before .args in
     let B = held (a .image .now) in
     let l = c .before .before .before .before .loop in
-    let more : l .g < length (B .functions) = omega (arith, c .before .before .before .loop-test .taken, c .before .before .before .before .before .functions .ensures .0) in
-    let many : c .before .size .result ≡ size (B .E) (function-at B (l .g) .arity) = c .before .size .ensures ∙ rw (c .before .before .function-at .ensures, c .before .before .before .before .before .before .elements .ensures .0) in (
-      rw many (from-next B (l .g) (l .first) (l .inv .0) more (omega (arith, c .before .before .before .before .before .before .elements .ensures))),
+    let more : l .g < length (B .functions) = omega (arith, c .before .before .before .loop-test .taken, functions-held _ _ (c .before .before .before .before .before .functions .ensures) .0) in
+    let many : c .before .size .result ≡ size (B .E) (function-at B (l .g) .arity) = c .before .size .ensures ∙ rw (c .before .before .function-at .ensures, elements-held _ _ (c .before .before .before .before .before .before .elements .ensures) .0) in (
+      rw many (from-next B (l .g) (l .first) (l .inv .0) more (omega (arith, elements-held _ _ (c .before .before .before .before .before .before .elements .ensures)))),
       omega (arith, c .before .before .before .loop-test .taken),
       omega (arith, c .if1 .left),
       part-next B (a .l) (l .g) (l .first) (l .first + c .before .size .result) (l .inv .3) more (rw many) (c .if1 .left),
@@ -77,8 +78,8 @@ returns-2 c =
     let a = c .before .before .before .before .before .args in
     let B = held (a .image .now) in
     let l = c .before .before .loop in
-    let done : length (B .functions) ≤ l .g = omega (arith, c .before .loop-test .left, c .before .before .before .functions .ensures .0) in
-    let none : c .function-at2 .result ≡ no-function = c .function-at2 .ensures ∙ rw (c .before .before .before .functions .ensures .0) (List·getD-eq-default (B .functions) no-function {n = length (B .functions)} (omega arith)) in
+    let done : length (B .functions) ≤ l .g = omega (arith, c .before .loop-test .left, functions-held _ _ (c .before .before .before .functions .ensures) .0) in
+    let none : c .function-at2 .result ≡ no-function = c .function-at2 .ensures ∙ rw (functions-held _ _ (c .before .before .before .functions .ensures) .0) (List·getD-eq-default (B .functions) no-function {n = length (B .functions)} (omega arith)) in
     owner-is B (a .l) (c .function-at2 .result) 0 (l .first) (l .first)
     (from-past B (l .g) (l .first) (l .inv .0) done (a .l) (l .inv .2) ∙ rw none)
     (part-none B (a .l) (l .g) (l .first) (l .inv .3) done)

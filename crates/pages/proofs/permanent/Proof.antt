@@ -1,15 +1,18 @@
 -- `permanent` meets its contract.
-use Rattle.book.specs.Image.{program-in}
+use mathlib.Core.Path.{sym, _∙_}
+use Rattle.book.proofs.Held.{held-permanent}
 use borrow.Author.Needs.{needs}
 use Rattle.pages.proofs.permanent.Statement.{statement}
 use Rattle.pages.proofs.permanent.Tie as tie
 
-word-requires : tie.Need-word-requires
-word-requires c κs = search needs
+permanent-requires : tie.Need-permanent-requires
+permanent-requires c κs = search needs
+
+low-requires : tie.Need-low-requires
+low-requires c κs = search needs
 
 returns : tie.Need-returns
-unfolding program-in
-returns c = c .word .ensures
+returns c = c .low .ensures ∙ rw (c .before .permanent .ensures) (sym (held-permanent (c .before .before .args .image .now)))
 
 pub permanent-spec : {M : Type 1} → statement M
-permanent-spec = tie.close (tie.spec word-requires returns)
+permanent-spec = tie.close (tie.spec permanent-requires low-requires returns)

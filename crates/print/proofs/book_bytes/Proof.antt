@@ -1,5 +1,6 @@
+-- `book_bytes` meets its contract.
 use mathlib.Core.Path.{_≡_, sym, _∙_}
-use Prim.Native.Nat.{ℕ, _+_, _*_, min}
+use Prim.Native.Nat.{_*_, min}
 use lib.ListN.{length}
 use native.Mathlib.Omega.{arith}
 use native.Mathlib.Nat.{min-eq-left, min-eq-right}
@@ -8,85 +9,61 @@ use Rattle.print.proofs.Split.{length-passed, length-unbounded, length-
 use borrow.Author.Needs.{needs}
 use Rattle.print.proofs.book_bytes.Statement.{statement}
 use Rattle.print.proofs.book_bytes.Tie as tie
-use Rattle.print.proofs.book_bytes.Reads as reads
-use Rattle.print.proofs.book_bytes.Lts as lts
-use Rattle.print.proofs.bounded.Reads as bounded-reads
-use Rattle.text.proofs.read_line.Reads as read-line-reads
-use Rattle.text.proofs.sound.Reads as sound-reads
 
--- src/lib.rt:151:8
 sound-requires : tie.Need-sound-requires
 sound-requires c κs = search needs
 
--- src/lib.rt:151:32
 sound-requires-2 : tie.Need-sound-requires-2
 sound-requires-2 c κs = search needs
 
--- src/lib.rt:152:13
 read-line-requires : tie.Need-read-line-requires
 read-line-requires c κs = search needs
 
--- src/lib.rt:153:13
 read-line-requires-2 : tie.Need-read-line-requires-2
 read-line-requires-2 c κs = search needs
 
--- src/lib.rt:154:12
 bounded-requires : tie.Need-bounded-requires
 bounded-requires c κs = search needs
 
--- src/lib.rt:155:29
 cast-lines : tie.Need-cast-lines
 cast-lines c = search needs
 
--- src/lib.rt:155:25
 add-lines : tie.Need-add-lines
 add-lines c = search needs
 
--- src/lib.rt:155:44
 cast-lines-2 : tie.Need-cast-lines-2
 cast-lines-2 c = search needs
 
--- src/lib.rt:155:25
 add-lines-2 : tie.Need-add-lines-2
 add-lines-2 c = search needs
 
--- src/lib.rt:155:59
 cast-lines-3 : tie.Need-cast-lines-3
 cast-lines-3 c = search needs
 
--- src/lib.rt:155:25
 add-lines-3 : tie.Need-add-lines-3
 add-lines-3 c = search needs
 
--- src/lib.rt:155:74
 cast-lines-4 : tie.Need-cast-lines-4
 cast-lines-4 c = search needs
 
--- src/lib.rt:155:25
 add-lines-4 : tie.Need-add-lines-4
 add-lines-4 c = search needs
 
--- src/lib.rt:156:16
 mul-if3 : tie.Need-mul-if3
 mul-if3 c = search needs
 
--- src/lib.rt:157:24
 mul-result : tie.Need-mul-result
 mul-result c = search needs
 
--- src/lib.rt:157:17
 returns : tie.Need-returns
 returns c = let t = c .before .before .before .before .before .before .before .before .before .before .before .before .before .args .input .now in let k = c .before .before .before .before .before .before .before .before .read-line .result in let l = c .before .before .before .before .before .before .before .read-line2 .result in let p = length-passed t (c .before .before .before .before .before .before .before .before .before .before .before .sound .result) (c .before .before .before .before .before .before .before .before .before .before .sound2 .result) (c .before .before .before .before .before .before .bounded .result) k l (c .before .before .before .before .before .before .before .before .before .before .before .sound .ensures) (c .before .before .before .before .before .before .before .before .before .before .sound2 .ensures) (c .before .before .before .before .before .before .before .before .read-line .ensures) (c .before .before .before .before .before .before .before .read-line2 .ensures) (c .before .before .before .before .before .before .bounded .ensures) (c .before .before .before .before .before .before .before .before .before .if1 .taken) (c .before .before .before .before .before .if2 .taken) in let e : min (25 * line-count (header-of k l)) (length t) ≡ 25 * line-count (header-of k l) = min-eq-left (omega arith) in sym (p ∙ e)
 
--- src/lib.rt:147:1
 returns-2 : tie.Need-returns-2
 returns-2 c = let t = c .before .before .before .before .before .before .before .before .before .before .before .before .before .args .input .now in let k = c .before .before .before .before .before .before .before .before .read-line .result in let l = c .before .before .before .before .before .before .before .read-line2 .result in let p = length-passed t (c .before .before .before .before .before .before .before .before .before .before .before .sound .result) (c .before .before .before .before .before .before .before .before .before .before .sound2 .result) (c .before .before .before .before .before .before .bounded .result) k l (c .before .before .before .before .before .before .before .before .before .before .before .sound .ensures) (c .before .before .before .before .before .before .before .before .before .before .sound2 .ensures) (c .before .before .before .before .before .before .before .before .read-line .ensures) (c .before .before .before .before .before .before .before .read-line2 .ensures) (c .before .before .before .before .before .before .bounded .ensures) (c .before .before .before .before .before .before .before .before .before .if1 .taken) (c .before .before .before .before .before .if2 .taken) in let e : min (25 * line-count (header-of k l)) (length t) ≡ length t = min-eq-right (omega arith) in sym (p ∙ e)
 
--- src/lib.rt:147:1
 returns-3 : tie.Need-returns-3
 returns-3 c = let t = c .before .before .before .before .before .before .before .before .args .input .now in length-unbounded t (c .before .before .before .before .before .before .sound .result) (c .before .before .before .before .before .sound2 .result) (c .before .bounded .result) (c .before .before .before .read-line .result) (c .before .before .read-line2 .result) (c .before .before .before .before .before .before .sound .ensures) (c .before .before .before .before .before .sound2 .ensures) (c .before .before .before .read-line .ensures) (c .before .before .read-line2 .ensures) (c .before .bounded .ensures) (c .before .before .before .before .if1 .taken) (c .if2 .left)
 
--- src/lib.rt:147:1
 returns-4 : tie.Need-returns-4
 returns-4 c = let t = c .before .before .before .before .args .input .now in length-formless t (c .before .before .sound .result) (c .before .sound2 .result) (c .before .before .sound .ensures) (c .before .sound2 .ensures) (c .if1 .left)
 

@@ -1,28 +1,22 @@
+-- `line_of` meets its contract.
 use borrow.Author.Needs.{needs}
 use borrow.Author.Tests.{eq-eqb, ne-eqb}
 use Rattle.print.proofs.Lines.{elements-some}
 use Rattle.print.proofs.line_of.Statement.{statement}
 use Rattle.print.proofs.line_of.Tie as tie
-use Rattle.print.proofs.line_of.Reads as reads
-use Rattle.print.proofs.line_of.Lts as lts
 
--- src/lib.rt:52:16
 div-x : tie.Need-div-x
 div-x c = let a = c .before .before .before .before .args in let h = elements-some (a .e) (a .f) (a .k) (a .i) (a .v) (c .before .before .if1 .left) (c .if2 .left) (c .before .before .before .before .pre) in search needs
 
--- src/lib.rt:53:16
 rem-y : tie.Need-rem-y
 rem-y c = let a = c .before .before .before .before .args in let h = elements-some (a .e) (a .f) (a .k) (a .i) (a .v) (c .before .before .if1 .left) (c .if2 .left) (c .before .before .before .before .pre) in search needs
 
--- src/lib.rt:30:1
 returns : tie.Need-returns
 returns c = simp (eq-eqb _ _ (c .if1 .taken))
 
--- src/lib.rt:30:1
 returns-2 : tie.Need-returns-2
 returns-2 c = simp (ne-eqb _ _ (c .before .before .if1 .left), eq-eqb _ _ (c .if2 .taken))
 
--- src/lib.rt:30:1
 returns-3 : tie.Need-returns-3
 returns-3 c = simp (ne-eqb _ _ (c .before .before .if1 .left), ne-eqb _ _ (c .if2 .left))
 

@@ -1,53 +1,39 @@
-use mathlib.Core.List.{[]}
+-- `print_answer` meets its contract.
 use Rattle.book.specs.Image.{program-in}
 use Rattle.print.proofs.Lines.{prints-accepted, prints-refused}
 use borrow.Author.Needs.{needs}
 use Rattle.print.proofs.print_answer.Statement.{statement}
 use Rattle.print.proofs.print_answer.Tie as tie
-use Rattle.print.proofs.print_answer.Reads as reads
-use Rattle.print.proofs.print_answer.Lts as lts
-use Rattle.print.proofs.print_contents.Reads as print-contents-reads
-use Rattle.write.proofs.write_line.Reads as write-line-reads
 
--- src/lib.rt:112:13
 print-contents-requires : tie.Need-print-contents-requires
 print-contents-requires c κs = search needs
 
--- src/lib.rt:119:9
 write-line-requires : tie.Need-write-line-requires
 write-line-requires c κs = search needs
 
--- src/lib.rt:120:19
 cast-result : tie.Need-cast-result
 cast-result c = search needs
 
--- src/lib.rt:120:14
 mul-result : tie.Need-mul-result
 mul-result c = search needs
 
--- src/lib.rt:120:9
 add-result : tie.Need-add-result
 add-result c = search needs
 
--- src/lib.rt:128:9
 write-line-requires-2 : tie.Need-write-line-requires-2
 write-line-requires-2 c κs = search needs
 
--- src/lib.rt:108:1
 same-length : tie.Need-same-length
 same-length c = search needs
 
--- src/lib.rt:108:1
 returns : tie.Need-returns
-returns c = let a = c .before .before .before .before .before .before .before .before .before .before .before .before .before .args in let p = c .before .before .before .before .before .before .print-contents in let w = c .before .before .write-line in prints-accepted (program-in (a .image .now)) (a .answer) (a .contents .now) (a .out .now) (p .last .1 .1 .0) (w .last .0) (p .result) (c .before .before .before .before .before .before .before .before .if1 .taken) (p .ensures .0) (p .ensures .1) (w .ensures)
+returns c = let a = c .before .before .before .before .before .before .before .before .before .before .before .before .args in let p = c .before .before .before .before .before .before .print-contents in let w = c .before .before .write-line in prints-accepted (program-in (a .image .now)) (a .answer) (a .contents .now) (a .out .now) (p .last .1 .1 .0) (w .last .0) (p .result) (c .before .before .before .before .before .before .before .before .if1 .taken) (p .ensures .0) (p .ensures .1) (w .ensures)
 
--- src/lib.rt:108:1
 same-length-2 : tie.Need-same-length-2
 same-length-2 c = search needs
 
--- src/lib.rt:108:1
 returns-2 : tie.Need-returns-2
-returns-2 c = let a = c .before .before .before .before .before .before .before .before .before .args in let w = c .before .before .write-line2 in prints-refused (program-in (a .image .now)) (a .answer) (a .contents .now) (a .out .now) (w .last .0) (c .before .before .before .before .if1 .left) (w .ensures)
+returns-2 c = let a = c .before .before .before .before .before .before .before .before .args in let w = c .before .before .write-line2 in prints-refused (program-in (a .image .now)) (a .answer) (a .contents .now) (a .out .now) (w .last .0) (c .before .before .before .before .if1 .left) (w .ensures)
 
 pub print-answer-spec : {M : Type 1} → statement M
 print-answer-spec =

@@ -1,23 +1,16 @@
-use mathlib.Core.Path.{_≡_, refl, sym, _∙_, ap}
-use mathlib.Core.List.{[]}
-use Prim.Native.Nat.{ℕ, _≤_, _-_, _+_, _*_}
+-- `print_function` meets its contract.
+use mathlib.Core.Path.{_≡_, refl, _∙_}
+use Prim.Native.Nat.{_≤_, _-_, _+_}
 use lib.ListN.{length}
 use native.Mathlib.Omega.{arith}
 use borrow.Author.Needs.{needs}
 use Rattle.book.specs.Image.{program-in}
-use Rattle.book.specs.Book.{Program, size, function-at}
+use Rattle.book.specs.Book.{function-at}
 use Rattle.report.specs.Report.{part-lines}
 use Rattle.print.specs.Print.{shown}
 use Rattle.print.proofs.Lines.{Left, left-all, left-step, left-none, shown-most, size-few, size-same, part-next, part-end}
 use Rattle.print.proofs.print_function.Statement.{statement}
 use Rattle.print.proofs.print_function.Tie as tie
-use Rattle.print.proofs.print_function.Reads as reads
-use Rattle.print.proofs.print_function.Lts as lts
-use Rattle.image.proofs.elements.Reads as elements-reads
-use Rattle.image.proofs.function_at.Reads as function-at-reads
-use Rattle.image.proofs.size.Reads as size-reads
-use Rattle.numbers.proofs.fetch.Reads as fetch-reads
-use Rattle.print.proofs.print_location.Reads as print-location-reads
 
 abbrev Inv-loop : tie.InvT-loop
 Inv-loop image contents k n out₀ f e all first lines₀ i₀ out lines i =
@@ -27,65 +20,47 @@ Inv-loop image contents k n out₀ f e all first lines₀ i₀ out lines i =
 abbrev μ-loop : tie.MeasureT-loop
 μ-loop image contents k n out₀ f e all first lines₀ i₀ out lines i = all - i
 
--- src/lib.rt:78:9
 function-at-requires : tie.Need-function-at-requires Inv-loop μ-loop
 function-at-requires c κs = search needs
 
--- src/lib.rt:79:9
 elements-requires : tie.Need-elements-requires Inv-loop μ-loop
 elements-requires c κs = search needs
 
--- src/lib.rt:80:15
 size-requires : tie.Need-size-requires Inv-loop μ-loop
 size-requires c κs = search needs
 
--- src/lib.rt:80:15
-cast-all : tie.Need-cast-all Inv-loop μ-loop
-cast-all c = omega (arith, size-few (c .before .before .before .before .before .before .args .image .now) (c .before .elements .result) (c .before .before .function-at .result .arity) (c .size .result) (c .before .elements .ensures) (c .size .ensures))
-
--- src/lib.rt:81:17
 cast-first : tie.Need-cast-first Inv-loop μ-loop
 cast-first c = search needs
 
--- src/lib.rt:84:5
 loop-holds : tie.Need-loop-holds Inv-loop μ-loop
-loop-holds c = let a = c .before .before .before .before .before .before .before .args in let B = program-in (a .image .now) in let n = c .before .size .result in let e : n - 0 ≡ n = omega arith in (search needs, refl, search needs, left-all (a .n) (part-lines B (a .contents .now) (a .k) 0 n) (a .out .now) (part-lines B (a .contents .now) (a .k) 0 (n - 0)) (rw e))
+loop-holds c = let a = c .before .before .before .before .before .before .args in let B = program-in (a .image .now) in let n = c .before .size .result in let e : n - 0 ≡ n = omega arith in (search needs, refl, search needs, left-all (a .n) (part-lines B (a .contents .now) (a .k) 0 n) (a .out .now) (part-lines B (a .contents .now) (a .k) 0 (n - 0)) (rw e))
 
--- src/lib.rt:85:41
 cast-fetch : tie.Need-cast-fetch Inv-loop μ-loop
 cast-fetch c = search needs
 
--- src/lib.rt:85:33
 add-fetch : tie.Need-add-fetch Inv-loop μ-loop
-add-fetch c = omega (arith, size-few (c .before .before .before .before .before .before .before .before .before .args .image .now) (c .before .before .before .before .elements .result) (c .before .before .before .before .before .function-at .result .arity) (c .before .before .before .size .result) (c .before .before .before .before .elements .ensures) (c .before .before .before .size .ensures), c .loop-test .taken)
+add-fetch c = omega (arith, size-few (c .before .before .before .before .before .before .before .before .args .image .now) (c .before .before .before .before .elements .result) (c .before .before .before .before .before .function-at .result .arity) (c .before .before .before .size .result) (c .before .before .before .before .elements .ensures) (c .before .before .before .size .ensures), c .loop-test .taken)
 
--- src/lib.rt:85:13
 fetch-requires : tie.Need-fetch-requires Inv-loop μ-loop
 fetch-requires c κs = search needs
 
--- src/lib.rt:86:9
 print-location-requires : tie.Need-print-location-requires Inv-loop μ-loop
-print-location-requires c κs = let f = size-few (c .before .before .before .before .before .before .before .before .before .before .before .args .image .now) (c .before .before .before .before .before .before .elements .result) (c .before .before .before .before .before .before .before .function-at .result .arity) (c .before .before .before .before .before .size .result) (c .before .before .before .before .before .before .elements .ensures) (c .before .before .before .before .before .size .ensures) in (rw (← c .before .before .before .before .before .size .ensures) (c .before .before .loop-test .taken), omega (arith, f, c .before .before .before .loop .inv .2, c .before .before .loop-test .taken, c .before .before .before .before .before .before .before .before .before .before .before .pre))
+print-location-requires c κs = let f = size-few (c .before .before .before .before .before .before .before .before .before .before .args .image .now) (c .before .before .before .before .before .before .elements .result) (c .before .before .before .before .before .before .before .function-at .result .arity) (c .before .before .before .before .before .size .result) (c .before .before .before .before .before .before .elements .ensures) (c .before .before .before .before .before .size .ensures) in (rw (← c .before .before .before .before .before .size .ensures) (c .before .before .loop-test .taken), omega (arith, f, c .before .before .before .loop .inv .2, c .before .before .loop-test .taken, c .before .before .before .before .before .before .before .before .before .before .pre))
 
--- src/lib.rt:87:9
 add-i : tie.Need-add-i Inv-loop μ-loop
-add-i c = omega (arith, size-few (c .before .before .before .before .before .before .before .before .before .before .before .before .before .before .args .image .now) (c .before .before .before .before .before .before .before .before .before .elements .result) (c .before .before .before .before .before .before .before .before .before .before .function-at .result .arity) (c .before .before .before .before .before .before .before .before .size .result) (c .before .before .before .before .before .before .before .before .before .elements .ensures) (c .before .before .before .before .before .before .before .before .size .ensures), c .before .before .before .before .before .loop-test .taken)
+add-i c = omega (arith, size-few (c .before .before .before .before .before .before .before .before .before .before .before .before .before .args .image .now) (c .before .before .before .before .before .before .before .before .before .elements .result) (c .before .before .before .before .before .before .before .before .before .before .function-at .result .arity) (c .before .before .before .before .before .before .before .before .size .result) (c .before .before .before .before .before .before .before .before .before .elements .ensures) (c .before .before .before .before .before .before .before .before .size .ensures), c .before .before .before .before .before .loop-test .taken)
 
--- src/lib.rt:84:5
 loop-less : tie.Need-loop-less Inv-loop μ-loop
 loop-less c = search needs
 
--- src/lib.rt:84:5
 loop-again : tie.Need-loop-again Inv-loop μ-loop
-loop-again c = let a = c .before .before .before .before .before .before .before .before .before .before .before .before .before .before .args in let l = c .before .before .before .before .before .before .loop in let B = program-in (a .image .now) in let n = c .before .before .before .before .before .before .before .before .size .result in let e = c .before .before .before .before .before .before .before .before .before .elements .result in let f = c .before .before .before .before .before .before .before .before .before .before .function-at .result in let v = c .before .before .before .before .fetch .result in let o = c .before .before .print-location in (search needs, o .kept .1 .1 .1 .1 .1 .1 .0 ∙ l .inv .1, omega (arith, shown-most e f (a .k) (l .i) v, o .ensures .0, l .inv .2), left-step (a .n) (part-lines B (a .contents .now) (a .k) 0 n) (a .out .now) (l .lines) (o .result) (part-lines B (a .contents .now) (a .k) (l .i) (n - l .i)) (shown e f (a .k) (l .i) v) (part-lines B (a .contents .now) (a .k) (l .i + 1) (n - (l .i + 1))) (l .out) (o .last .1 .1 .1 .1 .1 .1 .0) (part-next B (a .contents .now) (a .k) n (l .i) e f v (c .before .before .before .before .before .loop-test .taken) (c .before .before .before .before .before .before .before .before .before .elements .ensures) (c .before .before .before .before .before .before .before .before .before .before .function-at .ensures) (c .before .before .before .before .fetch .ensures)) (l .inv .3) (o .ensures .0) (o .ensures .1))
+loop-again c = let a = c .before .before .before .before .before .before .before .before .before .before .before .before .before .args in let l = c .before .before .before .before .before .before .loop in let B = program-in (a .image .now) in let n = c .before .before .before .before .before .before .before .before .size .result in let e = c .before .before .before .before .before .before .before .before .before .elements .result in let f = c .before .before .before .before .before .before .before .before .before .before .function-at .result in let v = c .before .before .before .before .fetch .result in let o = c .before .before .print-location in (search needs, o .kept .1 .1 .1 .1 .1 .1 .0 ∙ l .inv .1, omega (arith, shown-most e f (a .k) (l .i) v, o .ensures .0, l .inv .2), left-step (a .n) (part-lines B (a .contents .now) (a .k) 0 n) (a .out .now) (l .lines) (o .result) (part-lines B (a .contents .now) (a .k) (l .i) (n - l .i)) (shown e f (a .k) (l .i) v) (part-lines B (a .contents .now) (a .k) (l .i + 1) (n - (l .i + 1))) (l .out) (o .last .1 .1 .1 .1 .1 .1 .0) (part-next B (a .contents .now) (a .k) n (l .i) e f v (c .before .before .before .before .before .loop-test .taken) (c .before .before .before .before .before .before .before .before .before .elements .ensures) (c .before .before .before .before .before .before .before .before .before .before .function-at .ensures) (c .before .before .before .before .fetch .ensures)) (l .inv .3) (o .ensures .0) (o .ensures .1))
 
--- src/lib.rt:74:1
 same-length : tie.Need-same-length Inv-loop μ-loop
 same-length c = c .before .loop .inv .1
 
--- src/lib.rt:74:1
 returns : tie.Need-returns Inv-loop μ-loop
-returns c = let a = c .before .before .before .before .before .before .before .before .before .args in let l = c .before .loop in let B = program-in (a .image .now) in let n = c .before .before .before .size .result in let f = size-few (a .image .now) (c .before .before .before .before .elements .result) (c .before .before .before .before .before .function-at .result .arity) n (c .before .before .before .before .elements .ensures) (c .before .before .before .size .ensures) in let s = size-same (c .before .before .before .before .elements .result) (B .E) (c .before .before .before .before .before .function-at .result) (function-at B (a .k)) n (c .before .before .before .size .ensures) (c .before .before .before .before .elements .ensures) (c .before .before .before .before .before .function-at .ensures) in let x = left-none (a .n) (part-lines B (a .contents .now) (a .k) 0 n) (a .out .now) (l .lines) (part-lines B (a .contents .now) (a .k) (l .i) (n - l .i)) (l .out) (part-end B (a .contents .now) (a .k) n (l .i) (c .loop-test .left)) (l .inv .3) in (rw (← s) (x .0), rw (← s) (x .1), omega (arith, f, l .inv .2, l .inv .0))
+returns c = let a = c .before .before .before .before .before .before .before .before .args in let l = c .before .loop in let B = program-in (a .image .now) in let n = c .before .before .before .size .result in let f = size-few (a .image .now) (c .before .before .before .before .elements .result) (c .before .before .before .before .before .function-at .result .arity) n (c .before .before .before .before .elements .ensures) (c .before .before .before .size .ensures) in let s = size-same (c .before .before .before .before .elements .result) (B .E) (c .before .before .before .before .before .function-at .result) (function-at B (a .k)) n (c .before .before .before .size .ensures) (c .before .before .before .before .elements .ensures) (c .before .before .before .before .before .function-at .ensures) in let x = left-none (a .n) (part-lines B (a .contents .now) (a .k) 0 n) (a .out .now) (l .lines) (part-lines B (a .contents .now) (a .k) (l .i) (n - l .i)) (l .out) (part-end B (a .contents .now) (a .k) n (l .i) (c .loop-test .left)) (l .inv .3) in (rw (← s) (x .0), rw (← s) (x .1), omega (arith, f, l .inv .2, l .inv .0))
 
 pub print-function-spec : {M : Type 1} → statement M
 print-function-spec =
@@ -96,7 +71,6 @@ print-function-spec =
     function-at-requires
     elements-requires
     size-requires
-    cast-all
     cast-first
     loop-holds
     cast-fetch

@@ -1,48 +1,35 @@
+-- `print_location` meets its contract.
 use mathlib.Core.Path.{sym, _∙_}
 use Rattle.print.specs.Print.{line-for, shown}
 use Rattle.print.proofs.Lines.{shown-none, shown-one, put-nothing, put-single}
 use borrow.Author.Needs.{needs}
 use Rattle.print.proofs.print_location.Statement.{statement}
 use Rattle.print.proofs.print_location.Tie as tie
-use Rattle.print.proofs.print_location.Reads as reads
-use Rattle.print.proofs.print_location.Lts as lts
-use Rattle.print.proofs.default_of.Reads as default-of-reads
-use Rattle.print.proofs.line_of.Reads as line-of-reads
-use Rattle.write.proofs.write_line.Reads as write-line-reads
 
--- src/lib.rt:64:9
 default-of-requires : tie.Need-default-of-requires
 default-of-requires c κs = search needs
 
--- src/lib.rt:66:9
 returns : tie.Need-returns
 returns c = let a = c .before .before .before .args in put-nothing (a .n) (shown (a .e) (a .f) (a .k) (a .i) (a .v)) (a .out .now) (shown-none (a .e) (a .f) (a .k) (a .i) (a .v) (c .if1 .taken ∙ c .before .default-of .ensures))
 
--- src/lib.rt:68:9
 line-of-requires : tie.Need-line-of-requires
 line-of-requires c κs = search needs
 
--- src/lib.rt:69:33
 mul-write-line : tie.Need-mul-write-line
 mul-write-line c = search needs
 
--- src/lib.rt:69:28
 add-write-line : tie.Need-add-write-line
 add-write-line c = search needs
 
--- src/lib.rt:69:5
 write-line-requires : tie.Need-write-line-requires
 write-line-requires c κs = search needs
 
--- src/lib.rt:70:5
 add-result : tie.Need-add-result
 add-result c = search needs
 
--- src/lib.rt:60:1
 same-length : tie.Need-same-length
 same-length c = search needs
 
--- src/lib.rt:60:1
 returns-2 : tie.Need-returns-2
 returns-2 c = let a = c .before .before .before .before .before .before .before .before .args in let s = shown-one (a .e) (a .f) (a .k) (a .i) (a .v) (λ q. c .before .before .before .before .before .if1 .left (q ∙ sym (c .before .before .before .before .before .before .default-of .ensures))) in let p = put-single (a .n) (shown (a .e) (a .f) (a .k) (a .i) (a .v)) (line-for (a .e) (a .f) (a .k) (a .i) (a .v)) (a .out .now) s in (p .0, rw (c .before .before .write-line .ensures, c .before .before .before .before .line-of .ensures) (p .1))
 

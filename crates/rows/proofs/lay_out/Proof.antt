@@ -1,47 +1,38 @@
+-- `lay_out` meets its contract.
 use Rattle.rows.specs.Rows.{laid}
-use Rattle.book.proofs.Image.{elements-most, functions-most, functions-long}
+use Rattle.book.proofs.Image.{elements-most, functions-most, functions-long, length-filled}
 use Rattle.book.specs.Image.{program-in}
-use mathlib.Core.Path.{_≡_, refl, sym, ap, _∙_}
+use mathlib.Core.Path.{sym, ap, _∙_}
+use lib.ListN.{length}
 use native.Mathlib.Omega.{arith}
 use borrow.Author.Needs.{needs}
 use Rattle.rows.proofs.lay_out.Statement.{statement}
 use Rattle.rows.proofs.lay_out.Tie as tie
-use Rattle.rows.proofs.lay_out.Reads as reads
-use Rattle.rows.proofs.lay_out.Lts as lts
-use Rattle.image.proofs.elements.Reads as elements-reads
-use Rattle.image.proofs.fetch.Reads as fetch-reads
-use Rattle.image.proofs.functions.Reads as functions-reads
-use Rattle.image.proofs.store.Reads as store-reads
-use Rattle.rows.proofs.lay_functions.Reads as lay-functions-reads
 
--- src/lib.rt:127:9
 elements-requires : tie.Need-elements-requires
 elements-requires c κs = search needs
 
--- src/lib.rt:128:9
 functions-requires : tie.Need-functions-requires
 functions-requires c κs = search needs
 
--- src/lib.rt:129:9
-fetch-requires : tie.Need-fetch-requires
-fetch-requires c κs = search needs
+cast-n : tie.Need-cast-n
+cast-n c = search needs
 
--- src/lib.rt:130:9
-fetch-requires-2 : tie.Need-fetch-requires-2
-fetch-requires-2 c κs = search needs
+element-copy-out-a : tie.Need-element-copy-out-a
+element-copy-out-a c = search needs
 
--- src/lib.rt:131:9
+element-copy-out-c : tie.Need-element-copy-out-c
+element-copy-out-c c = search needs
+
 lay-functions-requires : tie.Need-lay-functions-requires
-lay-functions-requires c κs = let m = c .before .before .before .before .before .before .before .before .before .before .before .before .before .args .image .now in (omega (arith, c .before .before .before .before .before .before .before .before .before .before .elements .ensures, elements-most m), omega (arith, c .before .before .before .before .before .before .before .functions .ensures, functions-most m))
+lay-functions-requires c κs = let m = c .before .before .before .before .before .before .before .args .image .now in (omega (arith, c .before .before .before .before .before .elements .ensures, elements-most m), omega (arith, c .before .before .before .functions .ensures, functions-most m))
 
--- src/lib.rt:132:5
 store-requires : tie.Need-store-requires
 store-requires c κs = search needs
 
--- src/lib.rt:124:1
 returns : tie.Need-returns
 unfolding laid program-in
-returns c = let m = c .before .before .before .before .before .before .before .before .before .before .before .before .before .before .before .before .args .image .now in c .store .ensures ∙ rw (c .before .before .lay-functions .ensures .1, c .before .before .lay-functions .ensures .0, c .before .before .before .before .fetch2 .ensures, c .before .before .before .before .before .before .before .fetch .ensures, c .before .before .before .before .before .before .before .before .before .before .before .before .before .elements .ensures, c .before .before .before .before .before .before .before .before .before .before .functions .ensures, functions-long m)
+returns c = let m = c .before .before .before .before .before .before .before .before .before .before .args .image .now in (c .store .ensures .0 ∙ rw (c .before .before .lay-functions .ensures .1, c .before .before .lay-functions .ensures .0, c .before .before .before .before .before .before .before .before .elements .ensures, c .before .before .before .before .before .before .functions .ensures, functions-long m), sym (length-filled _ 2 _ 0 m) ∙ ap length (sym (c .before .before .lay-functions .ensures .1)) ∙ c .store .ensures .1)
 
 pub lay-out-spec : {M : Type 1} → statement M
 lay-out-spec =
@@ -49,8 +40,9 @@ lay-out-spec =
     (tie.spec
     elements-requires
     functions-requires
-    fetch-requires
-    fetch-requires-2
+    cast-n
+    element-copy-out-a
+    element-copy-out-c
     lay-functions-requires
     store-requires
     returns)

@@ -1,3 +1,4 @@
+-- `take_lines` meets its contract.
 use borrow.Author.Tests.{not-false}
 use native.Mathlib.Omega.{arith}
 use borrow.Author.Needs.{needs}
@@ -8,79 +9,53 @@ use Rattle.text.proofs.Fields.{parsed-ok, parsed-line}
 use Rattle.text.proofs.Words.{least-pass, least-stop, least-end}
 use Rattle.text.specs.Text.{bad-line}
 use Rattle.text.specs.Words.{least-from}
-use lib.ListN.{length}
 use Prim.Native.Nat.{_≤_, _-_}
 use mathlib.Core.Bool.{not}
 use mathlib.Core.Path.{_≡_, refl, sym, ap, _∙_}
 use Rattle.rows.proofs.take_lines.Statement.{statement}
 use Rattle.rows.proofs.take_lines.Tie as tie
-use Rattle.rows.proofs.take_lines.Reads as reads
-use Rattle.rows.proofs.take_lines.Lts as lts
-use Rattle.image.proofs.store.Reads as store-reads
-use Rattle.rows.proofs.row_of.Reads as row-of-reads
-use Rattle.text.proofs.parse.Reads as parse-reads
 
 abbrev Inv-loop : tie.InvT-loop
-Inv-loop text h image₀ end i₀ image i = (2 ≤ i) × (i ≤ end) × (length image ≡ length image₀) × (least-from (bad-line text) (end - i) i ≡ least-from (bad-line text) (end - 2) 2) × (image ≡ taken h text (i - 2) image₀)
+Inv-loop text h image₀ end i₀ image i = (2 ≤ i) × (i ≤ end) × (least-from (bad-line text) (end - i) i ≡ least-from (bad-line text) (end - 2) 2) × (image ≡ taken h text (i - 2) image₀)
 
 abbrev μ-loop : tie.MeasureT-loop
 μ-loop text h image₀ end i₀ image i = end - i
 
--- src/lib.rt:75:15
 add-end : tie.Need-add-end Inv-loop μ-loop
 add-end c = search needs
 
--- src/lib.rt:75:15
 add-end-2 : tie.Need-add-end-2 Inv-loop μ-loop
 add-end-2 c = search needs
 
--- src/lib.rt:75:15
 add-end-3 : tie.Need-add-end-3 Inv-loop μ-loop
 add-end-3 c = search needs
 
--- src/lib.rt:77:5
 loop-holds : tie.Need-loop-holds Inv-loop μ-loop
-loop-holds c = let a = c .before .before .before .before .before .args in (search needs, search needs, refl, refl, sym (taken-none (a .h) (a .text .now) (a .image .now)))
+loop-holds c = let a = c .before .before .before .before .args in (search needs, search needs, refl, sym (taken-none (a .h) (a .text .now) (a .image .now)))
 
--- src/lib.rt:78:13
 parse-requires : tie.Need-parse-requires Inv-loop μ-loop
 parse-requires c κs = search needs
 
--- src/lib.rt:80:13
-same-length : tie.Need-same-length Inv-loop μ-loop
-same-length c = c .before .before .before .before .loop .inv .2
-
--- src/lib.rt:80:13
 returns : tie.Need-returns Inv-loop μ-loop
-returns c = let a = c .before .before .before .before .before .before .before .before .before .before .args in let l = c .before .before .before .before .loop in let w = parsed-ok (a .text .now) (l .i) _ (c .before .before .parse .ensures) in (least-stop (bad-line (a .text .now)) (first-entry (a .h)) (l .i) (c .before .before .before .loop-test .taken) (ap not (sym w) ∙ c .if1 .taken) (l .inv .3), l .inv .4)
+returns c = let a = c .before .before .before .before .before .before .before .before .before .args in let l = c .before .before .before .before .loop in let w = parsed-ok (a .text .now) (l .i) _ (c .before .before .parse .ensures) in (least-stop (bad-line (a .text .now)) (first-entry (a .h)) (l .i) (c .before .before .before .loop-test .taken) (ap not (sym w) ∙ c .if1 .taken) (l .inv .2), l .inv .3)
 
--- src/lib.rt:82:29
 row-of-requires : tie.Need-row-of-requires Inv-loop μ-loop
 row-of-requires c κs = search needs
 
--- src/lib.rt:82:9
 store-requires : tie.Need-store-requires Inv-loop μ-loop
 store-requires c κs = search needs
 
--- src/lib.rt:83:9
 add-i : tie.Need-add-i Inv-loop μ-loop
 add-i c = search needs
 
--- src/lib.rt:77:5
 loop-less : tie.Need-loop-less Inv-loop μ-loop
 loop-less c = search needs
 
--- src/lib.rt:77:5
 loop-again : tie.Need-loop-again Inv-loop μ-loop
-loop-again c = let a = c .before .before .before .before .before .before .before .before .before .before .before .before .before .before .before .args in let l = c .before .before .before .before .before .before .before .before .before .loop in let w = parsed-ok (a .text .now) (l .i) _ (c .before .before .before .before .before .before .before .parse .ensures) in let t = c .before .before .before .before .before .if1 .left in (search needs, search needs, c .before .before .store .kept .0 ∙ l .inv .2, least-pass (bad-line (a .text .now)) (first-entry (a .h)) (l .i) (c .before .before .before .before .before .before .before .before .loop-test .taken) (ap not (sym w) ∙ t) (l .inv .3), c .before .before .store .ensures ∙ rw (c .before .before .before .row-of .ensures, parsed-line (a .text .now) (l .i) _ (c .before .before .before .before .before .before .before .parse .ensures) (not-false _ t), l .inv .4) (sym (taken-step (a .h) (a .text .now) (a .image .now) (l .i) (l .inv .0))))
+loop-again c = let a = c .before .before .before .before .before .before .before .before .before .before .before .before .args in let l = c .before .before .before .before .before .before .before .loop in let w = parsed-ok (a .text .now) (l .i) _ (c .before .before .before .before .before .parse .ensures) in let t = c .before .before .before .if1 .left in (search needs, search needs, least-pass (bad-line (a .text .now)) (first-entry (a .h)) (l .i) (c .before .before .before .before .before .before .loop-test .taken) (ap not (sym w) ∙ t) (l .inv .2), c .store .ensures .0 ∙ rw (c .before .row-of .ensures, parsed-line (a .text .now) (l .i) _ (c .before .before .before .before .before .parse .ensures) (not-false _ t), l .inv .3) (sym (taken-step (a .h) (a .text .now) (a .image .now) (l .i) (l .inv .0))))
 
--- src/lib.rt:71:1
-same-length-2 : tie.Need-same-length-2 Inv-loop μ-loop
-same-length-2 c = c .before .loop .inv .2
-
--- src/lib.rt:71:1
 returns-2 : tie.Need-returns-2 Inv-loop μ-loop
-returns-2 c = let a = c .before .before .before .before .before .before .before .args in let l = c .before .loop in let e : l .i ≡ first-entry (a .h) = omega arith in (least-end (bad-line (a .text .now)) (first-entry (a .h)) (l .i) (c .loop-test .left) (l .inv .3), l .inv .4 ∙ rw e)
+returns-2 c = let a = c .before .before .before .before .before .before .args in let l = c .before .loop in let e : l .i ≡ first-entry (a .h) = omega arith in (least-end (bad-line (a .text .now)) (first-entry (a .h)) (l .i) (c .loop-test .left) (l .inv .2), l .inv .3 ∙ rw e)
 
 pub take-lines-spec : {M : Type 1} → statement M
 take-lines-spec =
@@ -93,12 +68,10 @@ take-lines-spec =
     add-end-3
     loop-holds
     parse-requires
-    same-length
     returns
     row-of-requires
     store-requires
     add-i
     loop-less
     loop-again
-    same-length-2
     returns-2)

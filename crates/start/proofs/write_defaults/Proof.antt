@@ -2,6 +2,7 @@
 use mathlib.Core.Path.{_≡_, ap, _∙_}
 use Prim.Native.Nat.{ℕ, _+_, _-_, _<_, _≤_}
 use native.Mathlib.Omega.{arith}
+use Rattle.book.proofs.Held.{elements-held, functions-held}
 use borrow.Author.Needs.{needs}
 use lib.ListN.{length}
 use Rattle.book.specs.Book.{size, function-at}
@@ -42,9 +43,9 @@ add-end c =
           omega (
             arith,
             c .before .before .before .loop .inv .0 .at .low,
-            size-low (c .size .result) (c .before .before .before .before .before .elements .result) (c .before .function-at .result .arity) (c .size .ensures) (c .before .before .before .before .before .elements .ensures .1),
+            size-low (c .size .result) (c .before .before .before .before .before .elements .result) (c .before .function-at .result .arity) (c .size .ensures) (elements-held _ _ (c .before .before .before .before .before .elements .ensures) .1),
             c .before .before .loop-test .taken,
-            c .before .before .before .before .functions .ensures .1,
+            functions-held _ _ (c .before .before .before .before .functions .ensures) .1,
           );
     }
 
@@ -55,7 +56,7 @@ fill-run-requires : tie.Need-fill-run-requires Inv-loop μ-loop
 fill-run-requires c κs = omega arith
 
 add-f : tie.Need-add-f Inv-loop μ-loop
-add-f c = omega (arith, c .before .before .before .before .before .before .before .loop-test .taken, c .before .before .before .before .before .before .before .before .before .functions .ensures .1)
+add-f c = omega (arith, c .before .before .before .before .before .before .before .loop-test .taken, functions-held _ _ (c .before .before .before .before .before .before .before .before .before .functions .ensures) .1)
 
 loop-less : tie.Need-loop-less Inv-loop μ-loop
 loop-less c = omega (arith, c .before .before .before .before .before .before .before .loop-test .taken)
@@ -66,9 +67,9 @@ loop-again c =
     let B = held (a .image .now) in
     let l = c .before .before .before .before .before .before .before .before .loop in
     let s = c .before .before .before .before .before .size .result in
-    let elements = c .before .before .before .before .before .before .before .before .before .before .elements .ensures in
+    let elements = elements-held _ _ (c .before .before .before .before .before .before .before .before .before .before .elements .ensures) in
     let function = c .before .before .before .before .before .before .function-at .ensures in
-    let more : l .f < length (B .functions) = omega (arith, c .before .before .before .before .before .before .before .loop-test .taken, c .before .before .before .before .before .before .before .before .before .functions .ensures .0) in
+    let more : l .f < length (B .functions) = omega (arith, c .before .before .before .before .before .before .before .loop-test .taken, functions-held _ _ (c .before .before .before .before .before .before .before .before .before .functions .ensures) .0) in
     let q : s ≡ size (B .E) (function-at B (l .f) .arity) = c .before .before .before .before .before .size .ensures ∙ rw (function, elements .0) in
     let ends : l .first + s ≡ l .first + size (B .E) (function-at B (l .f) .arity) = ap (λ (z : ℕ). l .first + z) q in (
       filled-function B (a .contents .now) (l .first) (l .f) (l .first + s) (l .contents) _ (l .inv .0) more ends (omega (arith, elements .0, elements .1))
@@ -84,7 +85,7 @@ returns c =
     let a = c .before .before .before .before .before .args in
     let l = c .before .loop in
     filled-all (held (a .image .now)) (a .contents .now) (l .first) (l .f) (l .contents) (l .inv .0)
-    (omega (arith, c .loop-test .left, c .before .before .functions .ensures .0))
+    (omega (arith, c .loop-test .left, functions-held _ _ (c .before .before .functions .ensures) .0))
 
 pub write-defaults-spec : {M : Type 1} → statement M
 write-defaults-spec =

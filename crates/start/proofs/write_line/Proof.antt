@@ -1,5 +1,6 @@
 -- `write_line` meets its contract.
 use mathlib.Core.Path.{_∙_}
+use Rattle.book.proofs.Held.{elements-held}
 use borrow.Author.Needs.{needs}
 use Rattle.start.proofs.write_line.Statement.{statement}
 use Rattle.start.proofs.write_line.Tie as tie
@@ -50,7 +51,7 @@ returns c =
       c .before .before .before .before .offset .ensures,
       c .before .before .before .before .before .before .size .ensures,
       c .before .before .before .before .before .before .before .before .function-at .ensures,
-      c .before .before .before .before .before .before .before .before .before .before .elements .ensures .0,
+      elements-held _ _ (c .before .before .before .before .before .before .before .before .before .before .elements .ensures) .0,
       c .before .before .before .low4 .ensures,
       c .before .before .before .before .before .before .before .before .before .low3 .ensures,
       c .before .before .before .before .before .before .before .before .before .before .before .low2 .ensures,

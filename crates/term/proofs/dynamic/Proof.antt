@@ -7,6 +7,7 @@ use borrow.Author.Tests.{lt-ltb, le-ltb}
 use Rattle.book.specs.Book.{dynamic}
 use Rattle.book.specs.Image.{held}
 use Rattle.term.proofs.Leaves.{dynamic-own, dynamic-other}
+use Rattle.book.proofs.Held.{elements-held, functions-held}
 use borrow.Author.Needs.{needs}
 use Rattle.term.proofs.dynamic.Statement.{statement}
 use Rattle.term.proofs.dynamic.Tie as tie
@@ -24,7 +25,7 @@ returns : tie.Need-returns
 returns c =
     let a = c .before .before .before .before .args in
     let B = held (a .image .now) in
-    let h : length (B .functions) ≤ a .f = omega (arith, c .before .before .before .functions .ensures .0, c .before .before .if1 .taken) in
+    let h : length (B .functions) ≤ a .f = omega (arith, functions-held _ _ (c .before .before .before .functions .ensures) .0, c .before .before .if1 .taken) in
     c .dynamic-at .ensures ∙ rw (c .before .location .ensures) (sym (dynamic-other B (a .f) (a .x) (a .y) (rw (le-ltb (a .f) (length (B .functions)) h))))
 
 elements-requires : tie.Need-elements-requires
@@ -40,8 +41,8 @@ returns-2 : tie.Need-returns-2
 returns-2 c =
     let a = c .before .before .before .before .before .before .args in
     let B = held (a .image .now) in
-    let h : a .f < length (B .functions) = omega (arith, c .before .before .before .before .before .functions .ensures .0, c .before .before .before .before .if1 .left) in
-    let i : B .E ≤ a .x = omega (arith, c .before .before .before .elements .ensures .0, c .before .before .if2 .taken) in
+    let h : a .f < length (B .functions) = omega (arith, functions-held _ _ (c .before .before .before .before .before .functions .ensures) .0, c .before .before .before .before .if1 .left) in
+    let i : B .E ≤ a .x = omega (arith, elements-held _ _ (c .before .before .before .elements .ensures) .0, c .before .before .if2 .taken) in
     c .dynamic-at2 .ensures ∙ rw (c .before .location2 .ensures) (sym (dynamic-other B (a .f) (a .x) (a .y) (rw (lt-ltb (a .f) (length (B .functions)) h, le-ltb (a .x) (B .E) i))))
 
 location-requires-3 : tie.Need-location-requires-3
@@ -54,9 +55,9 @@ returns-3 : tie.Need-returns-3
 returns-3 c =
     let a = c .before .before .before .before .before .before .before .args in
     let B = held (a .image .now) in
-    let h : a .f < length (B .functions) = omega (arith, c .before .before .before .before .before .before .functions .ensures .0, c .before .before .before .before .before .if1 .left) in
-    let i : a .x < B .E = omega (arith, c .before .before .before .before .elements .ensures .0, c .before .before .before .if2 .left) in
-    let j : B .E ≤ a .y = omega (arith, c .before .before .before .before .elements .ensures .0, c .before .before .if3 .taken) in
+    let h : a .f < length (B .functions) = omega (arith, functions-held _ _ (c .before .before .before .before .before .before .functions .ensures) .0, c .before .before .before .before .before .if1 .left) in
+    let i : a .x < B .E = omega (arith, elements-held _ _ (c .before .before .before .before .elements .ensures) .0, c .before .before .before .if2 .left) in
+    let j : B .E ≤ a .y = omega (arith, elements-held _ _ (c .before .before .before .before .elements .ensures) .0, c .before .before .if3 .taken) in
     c .dynamic-at3 .ensures ∙ rw (c .before .location3 .ensures) (sym (dynamic-other B (a .f) (a .x) (a .y) (rw (lt-ltb (a .f) (length (B .functions)) h, lt-ltb (a .x) (B .E) i, le-ltb (a .y) (B .E) j))))
 
 function-requires : tie.Need-function-requires
@@ -66,9 +67,9 @@ returns-4 : tie.Need-returns-4
 returns-4 c =
     let a = c .before .before .before .before .before .before .before .args in
     let B = held (a .image .now) in
-    let h : a .f < length (B .functions) = omega (arith, c .before .before .before .before .before .before .functions .ensures .0, c .before .before .before .before .before .if1 .left) in
-    let i : a .x < B .E = omega (arith, c .before .before .before .before .elements .ensures .0, c .before .before .before .if2 .left) in
-    let j : a .y < B .E = omega (arith, c .before .before .before .before .elements .ensures .0, c .before .before .if3 .left) in
+    let h : a .f < length (B .functions) = omega (arith, functions-held _ _ (c .before .before .before .before .before .before .functions .ensures) .0, c .before .before .before .before .before .if1 .left) in
+    let i : a .x < B .E = omega (arith, elements-held _ _ (c .before .before .before .before .elements .ensures) .0, c .before .before .before .if2 .left) in
+    let j : a .y < B .E = omega (arith, elements-held _ _ (c .before .before .before .before .elements .ensures) .0, c .before .before .if3 .left) in
     ap dynamic (c .before .function .ensures) ∙ sym (dynamic-own B (a .f) (a .x) (a .y) h i j)
 
 pub dynamic-spec : {M : Type 1} → statement M

@@ -1,5 +1,6 @@
 -- `location` meets its contract.
 use mathlib.Core.Path.{_∙_}
+use Rattle.book.proofs.Held.{elements-held}
 use borrow.Author.Needs.{needs}
 use Rattle.term.proofs.location.Statement.{statement}
 use Rattle.term.proofs.location.Tie as tie
@@ -14,7 +15,7 @@ locate-requires : tie.Need-locate-requires
 locate-requires c κs = search needs
 
 returns : tie.Need-returns
-returns c = c .locate .ensures ∙ rw (← c .before .before .function .ensures, ← c .before .elements .ensures .0)
+returns c = c .locate .ensures ∙ rw (← c .before .before .function .ensures, ← elements-held _ _ (c .before .elements .ensures) .0)
 
 pub location-spec : {M : Type 1} → statement M
 location-spec = tie.close (tie.spec function-requires elements-requires locate-requires returns)

@@ -21,6 +21,7 @@ use Rattle.marking.proofs.Members.{universe-placed, members-next}
 use Rattle.walk.specs.Walk.{rule-from, body-at, walk-at as node-walk}
 use Rattle.walk.proofs.Steps.{runs-scope, runs-from, runs-met, runs-rule, runs-skip, runs-pair, runs-test, import-as, rule-none}
 use Rattle.walk.proofs.Sweep.{sweep-as, sweep-more, sweep-end, runs-for-all}
+use Rattle.book.proofs.Held.{elements-held}
 use borrow.Author.Needs.{needs}
 use borrow.Fn.Kinds.{In}
 use borrow.Fn.PlainCycle.{Measures, is, falls, and}
@@ -43,7 +44,7 @@ use Rattle.giving.proofs.enroll.Reads as enroll-reads
 use Rattle.marking.proofs.lowest.Reads as lowest-reads
 use Rattle.marking.proofs.next_member.Reads as next-member-reads
 use Rattle.marking.proofs.universe.Reads as universe-reads
-use Rattle.pages.proofs.elements.Reads as elements-reads
+use Rattle.image.proofs.elements.Reads as elements-reads
 use Rattle.term.proofs.eval.Reads as eval-reads
 use Rattle.pages.proofs.function.Reads as function-reads
 use Rattle.pages.proofs.node.Reads as node-reads
@@ -141,7 +142,7 @@ each-loop-holds t c =
     let B = held (a .image .now) in
     let f : ℕ → Walk → Look Walked = body-at (a .image .now) (a .scope .now) (a .depth) (a .row .c) (a .row .a) in (
       refl,
-      λ z n h. sweep-as B (a .contents .now) (a .bit) (a .row .b) f _ _ (reached (a .s) (a .list .now)) z _ n (members-next B (a .contents .now) (a .row .b) (function-run (c .before .function .result)) (c .before .before .elements .result) 0 (c .next-member .result) (c .before .function .ensures) (c .before .before .elements .ensures .0) (c .next-member .ensures .1)) h,
+      λ z n h. sweep-as B (a .contents .now) (a .bit) (a .row .b) f _ _ (reached (a .s) (a .list .now)) z _ n (members-next B (a .contents .now) (a .row .b) (function-run (c .before .function .result)) (c .before .before .elements .result) 0 (c .next-member .result) (c .before .function .ensures) (elements-held _ _ (c .before .before .elements .ensures) .0) (c .next-member .ensures .1)) h,
     )
 
 each-within-requires : (t : ℕ) → each-lts.Need-within-requires (claims-each t) (each-at t) each.Post each-Inv-loop each-μ-loop
@@ -157,7 +158,7 @@ each-returns t c =
     let f : ℕ → Walk → Look Walked = body-at (a .image .now) (a .scope .now) (a .depth) (a .row .c) (a .row .a) in
     let l = c .before .before .before .before .before .before .before .before .loop in
     let k = c .before .before .before .before .within in
-    let h : l .y < B .E = rw (← c .before .before .before .before .before .before .before .before .before .before .before .elements .ensures .0) (c .before .before .before .before .before .before .before .loop-test .taken) in
+    let h : l .y < B .E = rw (← elements-held _ _ (c .before .before .before .before .before .before .before .before .before .before .before .elements .ensures) .0) (c .before .before .before .before .before .before .before .loop-test .taken) in
     runs-for-all B (a .contents .now) (a .bit) (agent-of (a .scope .now)) (variables-of (a .scope .now)) (a .row .a) (a .row .b) (rule-from (node-at B) (a .depth) (a .row .c)) (a .s) (a .list .now) _ _ _ _ (c .before .before .before .before .before .before .before .before .before .before .before .before .before .before .before .before .before .before .pre .1) (λ p. c .before .before .before .before .before .before .before .before .before .before .before .before .before .before .universe .ensures ∙ universe-placed B p (a .contents .now) (a .row .b) (a .bit) (a .readers .now))
     (l .inv .1 _ _
     (sweep-more B (a .contents .now) (a .bit) (a .row .b) f (l .y) (reached (l .r) (l .list)) _ _ _ _ _ h (k .ensures)
@@ -179,11 +180,11 @@ each-loop-again t c =
     let f : ℕ → Walk → Look Walked = body-at (a .image .now) (a .scope .now) (a .depth) (a .row .c) (a .row .a) in
     let l = c .before .before .before .before .before .before .before .before .before .loop in
     let k = c .before .before .before .before .before .within in
-    let h : l .y < B .E = rw (← c .before .before .before .before .before .before .before .before .before .before .before .before .elements .ensures .0) (c .before .before .before .before .before .before .before .before .loop-test .taken) in (
+    let h : l .y < B .E = rw (← elements-held _ _ (c .before .before .before .before .before .before .before .before .before .before .before .before .elements .ensures) .0) (c .before .before .before .before .before .before .before .before .loop-test .taken) in (
       k .kept .1 .1 .0 ∙ l .inv .0,
       λ z n t. l .inv .1 z n
           (sweep-more B (a .contents .now) (a .bit) (a .row .b) f (l .y) (reached (l .r) (l .list)) _ z _ _ n h (k .ensures)
-          (sweep-as B (a .contents .now) (a .bit) (a .row .b) f _ _ (reached (k .result) (k .last .1 .1 .1 .1 .0)) z _ n (members-next B (a .contents .now) (a .row .b) (function-run (c .before .before .before .before .before .before .before .before .before .before .before .function .result)) (c .before .before .before .before .before .before .before .before .before .before .before .before .elements .result) (l .y + 1) (c .next-member2 .result) (c .before .before .before .before .before .before .before .before .before .before .before .function .ensures) (c .before .before .before .before .before .before .before .before .before .before .before .before .elements .ensures .0) (c .next-member2 .ensures .1)) t)),
+          (sweep-as B (a .contents .now) (a .bit) (a .row .b) f _ _ (reached (k .result) (k .last .1 .1 .1 .1 .0)) z _ n (members-next B (a .contents .now) (a .row .b) (function-run (c .before .before .before .before .before .before .before .before .before .before .before .function .result)) (c .before .before .before .before .before .before .before .before .before .before .before .before .elements .result) (l .y + 1) (c .next-member2 .result) (c .before .before .before .before .before .before .before .before .before .before .before .function .ensures) (elements-held _ _ (c .before .before .before .before .before .before .before .before .before .before .before .before .elements .ensures) .0) (c .next-member2 .ensures .1)) t)),
     )
 
 each-same-length-2 : (t : ℕ) → each-lts.Need-same-length-2 (claims-each t) (each-at t) each.Post each-Inv-loop each-μ-loop
@@ -195,7 +196,7 @@ each-returns-2 t c =
     let B = held (a .image .now) in
     let f : ℕ → Walk → Look Walked = body-at (a .image .now) (a .scope .now) (a .depth) (a .row .c) (a .row .a) in
     let l = c .before .loop in
-    let h : B .E ≤ l .y = rw (← c .before .before .before .before .elements .ensures .0) (c .loop-test .left) in
+    let h : B .E ≤ l .y = rw (← elements-held _ _ (c .before .before .before .before .elements .ensures) .0) (c .loop-test .left) in
     runs-for-all B (a .contents .now) (a .bit) (agent-of (a .scope .now)) (variables-of (a .scope .now)) (a .row .a) (a .row .b) (rule-from (node-at B) (a .depth) (a .row .c)) (a .s) (a .list .now) _ _ _ _ (c .before .before .before .before .before .before .before .before .before .before .before .pre .1) (λ p. c .before .before .before .before .before .before .before .universe .ensures ∙ universe-placed B p (a .contents .now) (a .row .b) (a .bit) (a .readers .now))
     (l .inv .1 _ _ (sweep-end B (a .contents .now) (a .bit) (a .row .b) f (l .y) (reached (l .r) (l .list)) (l .readers) h))
 

@@ -4,6 +4,7 @@ use mathlib.Core.List.{List}
 use Prim.Native.Nat.{ℕ, _*_, _-_, _<_, _≤_}
 use native.Mathlib.Omega.{arith}
 use lib.ListN.{length, drop}
+use Rattle.book.proofs.Held.{elements-held, functions-held}
 use borrow.Author.Needs.{needs}
 use Rattle.book.specs.declared.Function.{Function}
 use Rattle.book.specs.Book.{function-at, size}
@@ -57,8 +58,8 @@ loop-again c =
     let a = c .before .before .before .before .before .before .before .before .before .before .before .before .args in
     let m = a .image .now in
     let l = c .before .before .before .before .before .before .before .before .loop in
-    let h : l .f < length (held m .functions) = rw (← c .before .before .before .before .before .before .before .before .before .functions .ensures .0) (c .before .before .before .before .before .before .before .loop-test .taken) in
-    let e : c .before .before .before .before .size .result ≡ size (held m .E) (function-at (held m) (l .f) .arity) = rw (← c .before .before .before .before .before .before .function .ensures, ← c .before .before .before .before .before .before .before .before .before .before .elements .ensures .0) (c .before .before .before .before .size .ensures) in
+    let h : l .f < length (held m .functions) = rw (← functions-held _ _ (c .before .before .before .before .before .before .before .before .before .functions .ensures) .0) (c .before .before .before .before .before .before .before .loop-test .taken) in
+    let e : c .before .before .before .before .size .result ≡ size (held m .E) (function-at (held m) (l .f) .arity) = rw (← c .before .before .before .before .before .before .function .ensures, ← elements-held _ _ (c .before .before .before .before .before .before .before .before .before .before .elements .ensures) .0) (c .before .before .before .before .size .ensures) in
     let k : c .before .before .before .before .before .before .function .result .kind ≡ function-at (held m) (l .f) .kind = ap (λ (g : Function). g .kind) (c .before .before .before .before .before .before .function .ensures) in
     (omega (arith, c .before .before .before .before .before .before .before .loop-test .taken), omega (arith, c .before .before .before .before .size .ok), c .before .before .mark-function .kept .0 ∙ l .inv .2, all-step (a .bit) (held m .E) (held m .functions) (l .f) (l .first) (l .readers) (c .before .before .before .before .size .result) (c .before .before .before .before .before .before .function .result .kind) _ h e k (c .before .before .mark-function .ensures) ∙ l .inv .3)
 
@@ -70,7 +71,7 @@ returns c =
     let a = c .before .before .before .before .before .args in
     let m = a .image .now in
     let l = c .before .loop in
-    let h : length (held m .functions) ≤ l .f = rw (← c .before .before .functions .ensures .0) (c .loop-test .left) in
+    let h : length (held m .functions) ≤ l .f = rw (← functions-held _ _ (c .before .before .functions .ensures) .0) (c .loop-test .left) in
     sym (all-end (a .bit) (held m .E) (held m .functions) (l .f) (l .first) (l .readers) h) ∙ l .inv .3 ∙ ap (λ (s : List ℕ). marked (a .bit) s (a .readers .now)) (all-dynamic-is (held m))
 
 pub mark-all-spec : {M : Type 1} → statement M

@@ -1,24 +1,19 @@
-use lib.Seq.{set-out}
+-- `put_byte` meets its contract.
 use mathlib.Core.Path.{sym}
+use lib.Seq.{set-out}
 use borrow.Author.Needs.{needs}
-use Rattle.image.proofs.put_byte.Statement.{statement}
-use Rattle.image.proofs.put_byte.Tie as tie
-use Rattle.image.proofs.put_byte.Reads as reads
-use Rattle.image.proofs.put_byte.Lts as lts
+use Rattle.numbers.proofs.put_byte.Statement.{statement}
+use Rattle.numbers.proofs.put_byte.Tie as tie
 
--- src/lib.rt:76:9
 slice-write-s : tie.Need-slice-write-s
 slice-write-s c = search needs
 
--- src/lib.rt:72:1
 same-length : tie.Need-same-length
 same-length c = search needs
 
--- src/lib.rt:72:1
 returns : tie.Need-returns
 returns c = search needs
 
--- src/lib.rt:72:1
 returns-2 : tie.Need-returns-2
 returns-2 c = let a = c .before .args in sym (set-out (a .s .now) (a .i) (a .x) (c .if1 .left))
 

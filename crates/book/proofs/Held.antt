@@ -1,0 +1,74 @@
+-- What the engine takes an image to hold, against the image's program. Assumes nothing.
+use mathlib.Core.Path.{_≡_, refl, sym, _∙_, ap₂}
+use mathlib.Core.List.{List, [], _∷_, map}
+use Prim.Native.Nat.{ℕ, suc, _<_, _≤_}
+use native.Mathlib.Nat.{mod-eq-of-lt}
+use native.Mathlib.Omega.{arith}
+use lib.ListN.{length, getD, length-map, List·getD-map}
+use Rattle.book.specs.Book.{Program, function-at, node-at, agent-at, no-function, no-node, no-agent}
+use Rattle.book.specs.Image.{low-function, low-node, low-agent, low, program-in, held}
+use Rattle.book.proofs.Image.{elements-most, functions-most, agents-most}
+
+module _ (m : List ℕ) where
+  pub held-elements : held m .E ≡ program-in m .E
+  unfolding held
+  held-elements = refl
+
+  pub held-permanent : held m .P ≡ low (program-in m .P)
+  unfolding held
+  held-permanent = refl
+
+  pub held-functions : length (held m .functions) ≡ length (program-in m .functions)
+  unfolding held
+  held-functions = length-map (program-in m .functions) low-function
+
+  pub held-agents : length (held m .agents) ≡ length (program-in m .agents)
+  unfolding held
+  held-agents = length-map (program-in m .agents) low-agent
+
+  pub held-function : (f : ℕ) → function-at (held m) f ≡ low-function (function-at (program-in m) f)
+  unfolding held
+  held-function f = List·getD-map low-function (program-in m .functions) f no-function
+
+  pub held-node : (n : ℕ) → node-at (held m) n ≡ low-node (node-at (program-in m) n)
+  unfolding held
+  held-node n = List·getD-map low-node (program-in m .nodes) n no-node
+
+  pub held-agent : (i : ℕ) → agent-at (held m) i ≡ low-agent (agent-at (program-in m) i)
+  unfolding held
+  held-agent i = List·getD-map low-agent (program-in m .agents) i no-agent
+
+  pub held-agents-most : length (held m .agents) ≤ 16
+  held-agents-most = rw held-agents (agents-most m)
+
+  -- the counts that are read
+  module _ (r : ℕ) where
+    pub elements-held : r ≡ program-in m .E → (r ≡ held m .E) × (r ≤ 10000)
+    elements-held e = (e ∙ sym held-elements, rw e (elements-most m))
+
+    pub functions-held : r ≡ length (program-in m .functions) → (r ≡ length (held m .functions)) × (r ≤ 32)
+    functions-held e = (e ∙ sym held-functions, rw e (functions-most m))
+
+    pub agents-held : r ≡ length (program-in m .agents) → (r ≡ length (held m .agents)) × (r ≤ 16)
+    agents-held e = (e ∙ sym held-agents, rw e (agents-most m))
+
+-- ---- where all of it fits
+
+map-same : {A : Type 0} (f : A → A) (d : A) (xs : List A) → ((i : ℕ) → i < length xs → f (getD xs i d) ≡ getD xs i d) → map f xs ≡ xs
+map-same f d [] h = refl
+map-same f d (x ∷ xs) h = ap₂ _∷_ (h 0 (omega arith)) (map-same f d xs (λ i l. h (suc i) (omega arith)))
+
+module _ (m : List ℕ) (B : Program) (is : program-in m ≡ B) (permanent : B .P < 65536)
+    (functions : (f : ℕ) → f < length (B .functions) → low-function (function-at B f) ≡ function-at B f)
+    (nodes : (n : ℕ) → n < length (B .nodes) → low-node (node-at B n) ≡ node-at B n)
+    (agents : (i : ℕ) → i < length (B .agents) → low-agent (agent-at B i) ≡ agent-at B i) where
+  pub held-same : held m ≡ B
+  unfolding held
+  held-same =
+      rw (
+        is,
+        mod-eq-of-lt permanent,
+        map-same low-function no-function (B .functions) functions,
+        map-same low-node no-node (B .nodes) nodes,
+        map-same low-agent no-agent (B .agents) agents,
+      )
