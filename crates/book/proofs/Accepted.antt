@@ -15,7 +15,7 @@ use Rattle.text.specs.Words.{table-from, table, least, good}
 use Rattle.text.specs.Text.{line, no-line}
 use Rattle.text.proofs.Words.{so-true, length-table-from, getD-table, getD-table-past, least-none, bind-good, then-good, none-good, found-good, test-good, good-same}
 use Rattle.book.specs.declared.Header.{Header}
-use Rattle.book.specs.Book.{Program, Book, L, size, no-function, no-agent, function-at, node-at, agent-at}
+use Rattle.book.specs.Book.{Program, Book, L, size, no-function, no-agent, node-at, agent-at}
 use Rattle.book.specs.Kinds.{is-rule}
 use Rattle.book.specs.Lines.{header-of, bad-field, most-locations, first-function, first-agent, lay-out, agent-of, program-of, entries-of, book-of, bad-function, bad-node, bad-agent}
 use Rattle.book.specs.Use.{bad-use}
@@ -87,19 +87,9 @@ laid-arity E n [] f = refl
 laid-arity E n (l ∷ ls) zero = refl
 laid-arity E n (l ∷ ls) (suc f) = laid-arity E (n + size E (l .a)) ls f
 
-pub laid-kind : (E n : ℕ) (ls : List Line) (f : ℕ) → getD (lay-out E n ls) f no-function .kind ≡ getD ls f no-line .b
-unfolding lay-out
-laid-kind E n [] f = refl
-laid-kind E n (l ∷ ls) zero = refl
-laid-kind E n (l ∷ ls) (suc f) = laid-kind E (n + size E (l .a)) ls f
-
 function-good : (l : Line) (f : ℕ) → bad-function l f ≡ false → l .a ≤ 2
 unfolding bad-function
 function-good l f h = leb-true (l .a) 2 (so-true (leb (l .a) 2) (bad-function l f) h (λ q. simp q))
-
-function-kind : (l : Line) (f : ℕ) → bad-function l f ≡ false → l .b ≤ 3
-unfolding bad-function
-function-kind l f h = leb-true (l .b) 3 (so-true (leb (l .b) 3) (bad-function l f) h (λ q. simp (q, and-false)))
 
 roll-good : (l : Line) → bad-function l 0 ≡ false → (l .a ≡ 1) × (l .b ≡ 3)
 unfolding bad-function
@@ -238,18 +228,3 @@ accepted-entries text b e =
     let p = passed (r .0) text b (r .2) in
     subst (λ (x : Book). (i : ℕ) → i < length (x .entries) → bad-entry (x .program) (x .entries) i ≡ false) (p .1)
     (λ i q. p .0 .entries i (omega (arith, book-lengths (r .0) text .3)))
-
--- its functions are of one of the four kinds
-pub accepted-kinds : (text : List ℕ) (b : Book) → check-book text ≡ good b → (f : ℕ) → function-at (b .program) f .kind ≤ 3
-unfolding program-of
-accepted-kinds text b e f =
-    let r = accepted-lines text b e in
-    let h = r .0 in
-    let p = passed h text b (r .2) in
-    let at : ℕ → Line = λ i. line text (first-function + i) in
-    let ls = table at (h .functions) in
-    subst (λ (x : Book). function-at (x .program) f .kind ≤ 3) (p .1)
-    (rw (laid-kind (h .elements) 0 ls f)
-    (dite (decLt f (h .functions))
-    (λ q. rw (getD-table at (h .functions) f no-line q) (function-kind (at f) f (p .0 .functions f q)))
-    (λ (q : ¬ (f < h .functions)). rw (getD-table-past at (h .functions) f no-line (omega arith)) (omega arith))))

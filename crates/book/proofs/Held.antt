@@ -1,10 +1,12 @@
 -- What the engine takes an image to hold, against the image's program. Assumes nothing.
-use mathlib.Core.Path.{_≡_, refl, sym, _∙_, ap₂}
+use mathlib.Core.Path.{_≡_, refl, sym, _∙_, ap, ap₂}
 use mathlib.Core.List.{List, [], _∷_, map}
 use Prim.Native.Nat.{ℕ, suc, _<_, _≤_}
 use native.Mathlib.Nat.{mod-eq-of-lt}
 use native.Mathlib.Omega.{arith}
 use lib.ListN.{length, getD, length-map, List·getD-map}
+use Rattle.book.specs.declared.Function.{Function}
+use Rattle.book.specs.declared.Agent.{Agent}
 use Rattle.book.specs.Book.{Program, function-at, node-at, agent-at, no-function, no-node, no-agent}
 use Rattle.book.specs.Image.{low-function, low-node, low-agent, low, program-in, held}
 use Rattle.book.proofs.Image.{elements-most, functions-most, agents-most}
@@ -41,7 +43,13 @@ module _ (m : List ℕ) where
   pub held-agents-most : length (held m .agents) ≤ 16
   held-agents-most = rw held-agents (agents-most m)
 
-  -- the counts that are read
+  -- what is read
+  pub function-held : (f : ℕ) (r : Function) → r ≡ function-at (program-in m) f → low-function r ≡ function-at (held m) f
+  function-held f r e = ap low-function e ∙ sym (held-function f)
+
+  pub agent-held : (i : ℕ) (r : Agent) → r ≡ agent-at (program-in m) i → low-agent r ≡ agent-at (held m) i
+  agent-held i r e = ap low-agent e ∙ sym (held-agent i)
+
   module _ (r : ℕ) where
     pub elements-held : r ≡ program-in m .E → (r ≡ held m .E) × (r ≤ 10000)
     elements-held e = (e ∙ sym held-elements, rw e (elements-most m))

@@ -41,12 +41,13 @@ program-in m =
       agents = table (λ i. agent-of (row-in m (34 + i))) (capped (word m 4) 16);
     }
 
--- What the engine takes an image to hold: the program in numbers of sixteen bits. Of an accepted book it is the program itself.
+-- What the engine takes an image to hold: the program, with first locations, elements and the numbers of nodes in sixteen bits. Of an accepted book it is
+-- the program itself.
 abbrev pub low : ℕ → ℕ
 low x = x % 65536
 
 abbrev pub low-function : Function → Function
-low-function f = record { first = low (f .first); arity = low (f .arity); kind = low (f .kind) }
+low-function f = record { first = low (f .first); arity = f .arity; kind = f .kind }
 
 abbrev pub low-node : Node → Node
 low-node y = record { kind = low (y .kind); a = low (y .a); b = low (y .b); c = low (y .c) }

@@ -17,7 +17,7 @@ use Rattle.book.specs.Lines.{fits, bad-node}
 use Rattle.book.specs.Image.{low-function, low-node, low-agent, program-in, held}
 use Rattle.book.specs.Check.{check-book}
 use Rattle.book.specs.Sound.{Lawful}
-use Rattle.book.proofs.Accepted.{accepted, accepted-kinds}
+use Rattle.book.proofs.Accepted.{accepted}
 use Rattle.book.proofs.Image.{functions-most, nodes-most}
 use Rattle.book.proofs.Held.{held-same}
 use Rattle.book.proofs.Places.{spot}
@@ -75,7 +75,7 @@ small-node B n p f k e =
 
 -- ---- the image of a lawful book
 
-module _ (m : List ℕ) (B : Program) (ok : Lawful B) (kinds : (f : ℕ) → function-at B f .kind ≤ 3) (is : program-in m ≡ B) where
+module _ (m : List ℕ) (B : Program) (ok : Lawful B) (is : program-in m ≡ B) where
   few-functions : length (B .functions) ≤ 32
   few-functions = omega (arith, ap (λ (X : Program). length (X .functions)) is, functions-most m)
 
@@ -89,9 +89,7 @@ module _ (m : List ℕ) (B : Program) (ok : Lawful B) (kinds : (f : ℕ) → fun
   function-same f h =
       let s = spot B ok f 0 0 h (omega (arith, ok .low, ok .high)) (omega (arith, ok .low, ok .high)) .inside in
       let first : function-at B f .first < 65536 = omega (arith, s, ok .locations) in
-      let arity : function-at B f .arity < 65536 = omega (arith, ok .arities f) in
-      let kind : function-at B f .kind < 65536 = omega (arith, kinds f) in
-      rw (mod-eq-of-lt first, mod-eq-of-lt arity, mod-eq-of-lt kind)
+      rw (mod-eq-of-lt first)
 
   node-same : (n : ℕ) → n < length (B .nodes) → low-node (node-at B n) ≡ node-at B n
   node-same n h =
@@ -109,4 +107,4 @@ module _ (m : List ℕ) (B : Program) (ok : Lawful B) (kinds : (f : ℕ) → fun
 
 -- what the check of an accepted book leaves is, as the engine reads it, the book's program
 pub held-is : (text m : List ℕ) → Opened m (check-book text) → (b : Book) → check-book text ≡ good b → held m ≡ b .program
-held-is text m opened b e = lawful-held m (b .program) (accepted text b e) (accepted-kinds text b e) (opened b e .0)
+held-is text m opened b e = lawful-held m (b .program) (accepted text b e) (opened b e .0)

@@ -2,10 +2,8 @@
 use book::Image;
 use engine::Instruction;
 ghost use mathlib.Core.Path.{_≡_};
-ghost use mathlib.Core.Bool.{_||_};
 ghost use mathlib.Core.List.{List};
 ghost use Prim.Native.Nat.{ℕ, _<_};
-ghost use lib.Dec.{eqb};
 ghost use lib.ListN.{length};
 ghost use Rattle.book.specs.Book.{node-at};
 ghost use Rattle.engine.specs.Term.{term-at, function-of};
@@ -60,17 +58,6 @@ fn give(list: &mut [u64], s: Pace, i: Instruction, n: u16) -> Pace
     }
 }
 
-// Whether a function of that kind is a relation.
-fn relation(kind: u16) -> bool
-    ensures { λ r. ⌜ r ≡ (eqb kind 1 || eqb kind 3) ⌝ }
-{
-    match kind {
-        1 => true,
-        3 => true,
-        _ => false,
-    }
-}
-
 // The function of the location that the term at node n names.
 pub fn named(image: &Image, depth: usize, n: u16) -> u16
     ensures { λ r. ⌜ r ≡ function-of (term-at (node-at (held (now (image .entry)))) depth n) ⌝ }
@@ -100,8 +87,7 @@ pub fn update(
 ) -> Pace
     ensures { λ r. ⌜ reached r (now (list .exit)) ≡ (reached s (now (list .entry)) then setting (held (now (image .entry))) f at x n) ⌝ }
 {
-    let run = pages::function(image, f);
-    if relation(run.kind) {
+    if pages::is_relation(image::function_at(image, f as u32)) {
         if term::boolean(x) {
             give(
                 list,

@@ -1,7 +1,7 @@
 // What rules look at beside their terms: labels, Reserve, universes; and the marks of it.
+use book::Function;
 use book::Image;
 use numbers::Value;
-use pages::Run;
 ghost use mathlib.Core.Path.{_≡_};
 ghost use mathlib.Core.List.{map};
 ghost use Prim.Native.Nat.{_+_, _-_, _≤_};
@@ -11,8 +11,7 @@ ghost use Rattle.text.specs.Words.{if_then_else_, table, table-from};
 ghost use Rattle.book.specs.Book.{offset, reserve, dynamic-at};
 ghost use Rattle.engine.specs.Look.{read};
 ghost use Rattle.engine.specs.Rule.{lowest};
-ghost use Rattle.pages.specs.Rows.{function-run};
-ghost use Rattle.book.specs.Image.{held};
+ghost use Rattle.book.specs.Image.{low, low-function, held};
 ghost use Rattle.term.specs.Marks.{noted, marked, Placed, Runs};
 ghost use Rattle.marking.specs.Marking.{found-below, universe-marked, member, next};
 
@@ -50,7 +49,7 @@ fn mark_between(readers: &mut [u64], bit: u64, first: usize, end: usize)
 }
 
 // Marks the locations from first to end if their function's kind is dynamic.
-pub fn mark_function(readers: &mut [u64], bit: u64, kind: u16, first: usize, end: usize)
+pub fn mark_function(readers: &mut [u64], bit: u64, kind: u32, first: usize, end: usize)
     ensures { λ _. ⌜ now (readers .exit) ≡ (if leb 2 kind then marked bit (table-from (λ l. l) first (end - first)) (now (readers .entry)) else now (readers .entry)) ⌝ }
 {
     if 2 <= kind {
@@ -106,26 +105,26 @@ pub fn read_roll(image: &Image, contents: &[Value], readers: &mut [u64], bit: u6
 // ---- universes
 
 // Marks a function at the elements below e, location by location.
-fn mark_each(readers: &mut [u64], bit: u64, run: Run, e: u16)
-    ensures { λ _. ⌜ now (readers .exit) ≡ marked bit (table (λ y. run .first + offset e (run .arity) y 0) e) (now (readers .entry)) ⌝ }
+fn mark_each(readers: &mut [u64], bit: u64, f: Function, e: u16)
+    ensures { λ _. ⌜ now (readers .exit) ≡ marked bit (table (λ y. low (f .first) + offset e (f .arity) y 0) e) (now (readers .entry)) ⌝ }
 {
     let mut y: u16 = 0;
     while y < e {
-        let at = term::locate(run, e, y, 0);
+        let at = term::locate(f, e, y, 0);
         term::mark(readers, bit, at as usize);
         y += 1;
     }
 }
 
 // The same; the locations of a unary function, as every universe is, are one part.
-fn mark_run(readers: &mut [u64], bit: u64, run: Run, e: u16)
-    ensures { λ _. ⌜ now (readers .exit) ≡ marked bit (table (λ y. run .first + offset e (run .arity) y 0) e) (now (readers .entry)) ⌝ }
+fn mark_run(readers: &mut [u64], bit: u64, f: Function, e: u16)
+    ensures { λ _. ⌜ now (readers .exit) ≡ marked bit (table (λ y. low (f .first) + offset e (f .arity) y 0) e) (now (readers .entry)) ⌝ }
 {
-    if run.arity == 1 {
-        let first = run.first as usize;
+    if f.arity == 1 {
+        let first = numbers::low(f.first) as usize;
         mark_between(readers, bit, first, first + e as usize);
     } else {
-        mark_each(readers, bit, run, e);
+        mark_each(readers, bit, f, e);
     }
 }
 
@@ -137,19 +136,19 @@ pub fn universe(image: &Image, readers: &mut [u64], bit: u64, u: u16)
         mark_run(
             readers,
             bit,
-            pages::function(image, u),
+            image::function_at(image, u as u32),
             image::elements(image),
         );
     }
 }
 
-// The least member of a universe from `from` on, or e; run is the universe's.
-pub fn next_member(contents: &[Value], run: Run, e: u16, from: u16) -> u16
-    ensures { λ r. ⌜ (from ≤ r) × (r ≡ next (member (now (contents .entry)) (function-run run) e) from (e - from)) ⌝ }
+// The least member of a universe from `from` on, or e; f is the universe.
+pub fn next_member(contents: &[Value], f: Function, e: u16, from: u16) -> u16
+    ensures { λ r. ⌜ (from ≤ r) × (r ≡ next (member (now (contents .entry)) (low-function f) e) from (e - from)) ⌝ }
 {
     let mut y = from;
     while y < e {
-        let at = term::locate(run, e, y, 0);
+        let at = term::locate(f, e, y, 0);
         if numbers::fetch(contents, at as usize) == 2 {
             return y;
         }

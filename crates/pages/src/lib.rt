@@ -3,10 +3,10 @@ use book::Function;
 use book::Image;
 use numbers::Value;
 ghost use mathlib.Core.Path.{_≡_};
-ghost use Rattle.book.specs.Book.{relation, dynamic, default, function-at, node-at, agent-at};
+ghost use Rattle.book.specs.Book.{relation, dynamic, default, function-at, node-at};
 ghost use Rattle.book.specs.Image.{held};
 ghost use Rattle.pages.specs.Part.{part-of, owner-of};
-ghost use Rattle.pages.specs.Rows.{node-row, function-run, agent-row};
+ghost use Rattle.pages.specs.Rows.{node-row};
 
 // ---- what the engine takes from an image, in its own width
 
@@ -17,43 +17,24 @@ pub fn permanent(image: &Image) -> Value
     numbers::low(image::permanent(image))
 }
 
+// Function f; past the last all 0.
+pub fn function_at(image: &Image, f: u16) -> Function
+    ensures { λ r. ⌜ r ≡ function-at (held (now (image .entry))) f ⌝ }
+{
+    let w = image::function_at(image, f as u32);
+    Function {
+        first: numbers::low(w.first) as u32,
+        arity: w.arity,
+        kind: w.kind,
+    }
+}
+
 // A node in sixteen bits.
 pub struct Row {
     pub kind: u16,
     pub a: u16,
     pub b: u16,
     pub c: u16,
-}
-
-// A function: its first location, its arity and its kind.
-pub struct Run {
-    pub first: u16,
-    pub arity: u16,
-    pub kind: u16,
-}
-
-// Function f; past the last all 0.
-pub fn function(image: &Image, f: u16) -> Run
-    ensures { λ r. ⌜ function-run r ≡ function-at (held (now (image .entry))) f ⌝ }
-{
-    let w = image::function_at(image, f as u32);
-    Run {
-        first: numbers::low(w.first),
-        arity: numbers::low(w.arity),
-        kind: numbers::low(w.kind),
-    }
-}
-
-// The same as a function of a book.
-pub fn function_at(image: &Image, f: u16) -> Function
-    ensures { λ r. ⌜ r ≡ function-at (held (now (image .entry))) f ⌝ }
-{
-    let run = function(image, f);
-    Function {
-        first: run.first as u32,
-        arity: run.arity as u32,
-        kind: run.kind as u32,
-    }
 }
 
 // Node n; past the last all 0.
@@ -66,23 +47,6 @@ pub fn node(image: &Image, n: u16) -> Row
         a: numbers::low(w.a),
         b: numbers::low(w.b),
         c: numbers::low(w.c),
-    }
-}
-
-// An agent: the node of its rule, and its element.
-pub struct Actor {
-    pub root: u16,
-    pub element: u16,
-}
-
-// Agent i; past the last all 0.
-pub fn agent_at(image: &Image, i: u32) -> Actor
-    ensures { λ r. ⌜ agent-row r ≡ agent-at (held (now (image .entry))) i ⌝ }
-{
-    let w = image::agent_at(image, i);
-    Actor {
-        root: numbers::low(w.root),
-        element: numbers::low(w.element),
     }
 }
 

@@ -1,7 +1,7 @@
 // Terms: their values in the book that an image holds, and the marks of what they read.
+use book::Function;
 use book::Image;
 use numbers::Value;
-use pages::Run;
 ghost use mathlib.Core.Path.{_≡_};
 ghost use Prim.Native.Nat.{_+_};
 ghost use lib.ListN.{getD};
@@ -10,15 +10,15 @@ ghost use Rattle.text.specs.Words.{if_then_else_};
 ghost use Rattle.engine.specs.Look.{read};
 ghost use Rattle.engine.specs.Term.{both, either, plus, minus, less, number, negate, apply, shapes, no-term};
 ghost use Rattle.term.specs.Held.{variables-of, value-at, aim-at, operated};
-ghost use Rattle.book.specs.Image.{held};
+ghost use Rattle.book.specs.Image.{low, held};
 ghost use Rattle.term.specs.Marks.{mark-one, dynamic-of, Runs};
 
 // The location of a function at x and y: counted from its first, the argument, or first × E + second.
-pub fn locate(run: Run, e: u16, x: u16, y: u16) -> u32
-    ensures { λ r. ⌜ r ≡ run .first + offset e (run .arity) x y ⌝ }
+pub fn locate(f: Function, e: u16, x: u16, y: u16) -> u32
+    ensures { λ r. ⌜ r ≡ low (f .first) + offset e (f .arity) x y ⌝ }
 {
-    let arity = run.arity;
-    let first = run.first as u32;
+    let arity = f.arity;
+    let first = numbers::low(f.first) as u32;
     match arity {
         0 => first,
         1 => first + x as u32,
@@ -30,7 +30,12 @@ pub fn locate(run: Run, e: u16, x: u16, y: u16) -> u32
 pub fn location(image: &Image, f: u16, x: u16, y: u16) -> u32
     ensures { λ r. ⌜ r ≡ location (held (now (image .entry))) f x y ⌝ }
 {
-    locate(pages::function(image, f), image::elements(image), x, y)
+    locate(
+        image::function_at(image, f as u32),
+        image::elements(image),
+        x,
+        y,
+    )
 }
 
 // Whether a location is dynamic.
@@ -55,8 +60,7 @@ pub fn dynamic(image: &Image, f: u16, x: u16, y: u16) -> bool
     if e <= y {
         return dynamic_at(image, location(image, f, x, y));
     }
-    let run = pages::function(image, f);
-    2 <= run.kind
+    pages::is_dynamic(image::function_at(image, f as u32))
 }
 
 // Puts a bit into the mark of a location, if there is one.

@@ -191,15 +191,15 @@ fn each(
 {
     marking::universe(image, readers, bit, row.b);
     let e = image::elements(image);
-    let run = pages::function(image, row.b);
+    let f = image::function_at(image, row.b as u32);
     let mut r = s;
-    let mut y = marking::next_member(contents, run, e, 0);
+    let mut y = marking::next_member(contents, f, e, 0);
     while y < e {
         r = within(image, contents, readers, bit, list, scope, depth, r, row, y);
         if r.refused != 0 {
             return r;
         }
-        y = marking::next_member(contents, run, e, y + 1);
+        y = marking::next_member(contents, f, e, y + 1);
     }
     r
 }
@@ -258,15 +258,16 @@ pub fn gather(
     ensures { λ r. ⌜ Gathered (held (now (image .entry))) (now (contents .entry)) bit agent (outcome r (now (list .exit))) (now (readers .entry)) (now (readers .exit)) ⌝ }
     ensures { λ _. ⌜ length (now (list .exit)) ≡ most-instructions ⌝ }
 {
-    let who = pages::agent_at(image, agent);
+    let who = image::agent_at(image, agent);
+    let root = numbers::low(who.root);
     let s = Pace {
         len: 0,
         label: pages::permanent(image),
         refused: 0,
         node: 0,
     };
-    let scope = [0, 0, 0, 0, 0, 0, 0, 0, who.element];
-    let r = walk(image, contents, readers, bit, list, &scope, 32, s, who.root);
+    let scope = [0, 0, 0, 0, 0, 0, 0, 0, numbers::low(who.element)];
+    let r = walk(image, contents, readers, bit, list, &scope, 32, s, root);
     if r.refused == 0 {
         return ended(r, list);
     }
@@ -283,9 +284,9 @@ pub fn mark_all(image: &Image, readers: &mut [u64], bit: u64)
     let mut first: usize = 0;
     let mut f: u16 = 0;
     while f < count {
-        let run = pages::function(image, f);
-        let end = first + image::size(e, run.arity as u32) as usize;
-        marking::mark_function(readers, bit, run.kind, first, end);
+        let g = image::function_at(image, f as u32);
+        let end = first + image::size(e, g.arity) as usize;
+        marking::mark_function(readers, bit, g.kind, first, end);
         first = end;
         f += 1;
     }

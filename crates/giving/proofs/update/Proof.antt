@@ -5,15 +5,16 @@ use Rattle.book.specs.Book.{boolean, relation, function-at}
 use Rattle.book.specs.Image.{held}
 use Rattle.giving.specs.Giving.{reached}
 use Rattle.giving.proofs.Steps.{setting-ok, setting-bad}
+use Rattle.book.proofs.Held.{function-held}
 use borrow.Author.Needs.{needs}
 use Rattle.giving.proofs.update.Statement.{statement}
 use Rattle.giving.proofs.update.Tie as tie
 
-function-requires : tie.Need-function-requires
-function-requires c κs = search needs
+function-at-requires : tie.Need-function-at-requires
+function-at-requires c κs = search needs
 
-relation-requires : tie.Need-relation-requires
-relation-requires c κs = search needs
+is-relation-requires : tie.Need-is-relation-requires
+is-relation-requires c κs = search needs
 
 boolean-requires : tie.Need-boolean-requires
 boolean-requires c κs = search needs
@@ -31,29 +32,29 @@ returns : tie.Need-returns
 returns c =
     let a = c .before .before .before .before .before .before .before .args in
     let B = held (a .image .now) in
-    let e : (relation (function-at B (a .f)) && not (boolean (a .x))) ≡ false = rw (← c .before .before .before .before .before .before .function .ensures, sym (c .before .before .before .before .before .relation .ensures) ∙ c .before .before .before .before .if1 .taken, sym (c .before .before .before .boolean .ensures) ∙ c .before .before .if2 .taken) in
+    let e : (relation (function-at B (a .f)) && not (boolean (a .x))) ≡ false = rw (← function-held _ _ _ (c .before .before .before .before .before .before .function-at .ensures), sym (c .before .before .before .before .before .is-relation .ensures) ∙ c .before .before .before .before .if1 .taken, sym (c .before .before .before .boolean .ensures) ∙ c .before .before .if2 .taken) in
     c .give .ensures ∙ sym (setting-ok B (a .f) (a .at) (a .x) (a .n) e (reached (a .s) (a .list .now)))
 
 returns-2 : tie.Need-returns-2
 returns-2 c =
     let a = c .before .before .before .before .before .before .args in
     let B = held (a .image .now) in
-    let e : (relation (function-at B (a .f)) && not (boolean (a .x))) ≡ true = rw (← c .before .before .before .before .before .function .ensures, sym (c .before .before .before .before .relation .ensures) ∙ c .before .before .before .if1 .taken, sym (c .before .before .boolean .ensures) ∙ c .before .if2 .left) in
+    let e : (relation (function-at B (a .f)) && not (boolean (a .x))) ≡ true = rw (← function-held _ _ _ (c .before .before .before .before .before .function-at .ensures), sym (c .before .before .before .before .is-relation .ensures) ∙ c .before .before .before .if1 .taken, sym (c .before .before .boolean .ensures) ∙ c .before .if2 .left) in
     c .refuse .ensures (a .list .now) ∙ sym (setting-bad B (a .f) (a .at) (a .x) (a .n) e (reached (a .s) (a .list .now)))
 
 returns-3 : tie.Need-returns-3
 returns-3 c =
     let a = c .before .before .before .before .before .args in
     let B = held (a .image .now) in
-    let e : (relation (function-at B (a .f)) && not (boolean (a .x))) ≡ false = rw (← c .before .before .before .before .function .ensures, sym (c .before .before .before .relation .ensures) ∙ c .before .before .if1 .left) in
+    let e : (relation (function-at B (a .f)) && not (boolean (a .x))) ≡ false = rw (← function-held _ _ _ (c .before .before .before .before .function-at .ensures), sym (c .before .before .before .is-relation .ensures) ∙ c .before .before .if1 .left) in
     c .give2 .ensures ∙ sym (setting-ok B (a .f) (a .at) (a .x) (a .n) e (reached (a .s) (a .list .now)))
 
 pub update-spec : {M : Type 1} → statement M
 update-spec =
     tie.close
     (tie.spec
-    function-requires
-    relation-requires
+    function-at-requires
+    is-relation-requires
     boolean-requires
     give-requires
     refuse-requires

@@ -5,6 +5,7 @@ use native.Mathlib.Omega.{arith}
 use lib.ListN.{length, length-set}
 use Rattle.text.specs.Words.{table-from, table}
 use Rattle.book.specs.Book.{offset}
+use Rattle.book.specs.Image.{low}
 use Rattle.term.specs.Marks.{marked}
 use Rattle.marking.proofs.Members.{run-more, run-end}
 use borrow.Author.Needs.{needs}
@@ -12,10 +13,10 @@ use Rattle.marking.proofs.mark_each.Statement.{statement}
 use Rattle.marking.proofs.mark_each.Tie as tie
 
 abbrev Inv-loop : tie.InvT-loop
-Inv-loop readers₀ bit run e y₀ readers y = (y ≤ e) × (length readers ≡ length readers₀) × (marked bit (table-from (λ z. run .first + offset e (run .arity) z 0) y (e - y)) readers ≡ marked bit (table (λ z. run .first + offset e (run .arity) z 0) e) readers₀)
+Inv-loop readers₀ bit f e y₀ readers y = (y ≤ e) × (length readers ≡ length readers₀) × (marked bit (table-from (λ z. low (f .first) + offset e (f .arity) z 0) y (e - y)) readers ≡ marked bit (table (λ z. low (f .first) + offset e (f .arity) z 0) e) readers₀)
 
 abbrev μ-loop : tie.MeasureT-loop
-μ-loop readers₀ bit run e y₀ readers y = e - y
+μ-loop readers₀ bit f e y₀ readers y = e - y
 
 loop-holds : tie.Need-loop-holds Inv-loop μ-loop
 loop-holds c = let q : c .before .args .e - 0 ≡ c .before .args .e = omega arith in (omega arith, refl, rw q)
@@ -39,7 +40,7 @@ loop-again : tie.Need-loop-again Inv-loop μ-loop
 loop-again c =
     let a = c .before .before .before .before .before .before .before .before .args in
     let l = c .before .before .before .before .before .before .loop in
-    (omega arith, rw (c .before .before .mark .ensures, length-set) (l .inv .1), rw (c .before .before .mark .ensures, c .before .before .before .before .locate .ensures) (sym (run-more (λ z. a .run .first + offset (a .e) (a .run .arity) z 0) (a .bit) (a .e) (l .y) (l .readers) (c .before .before .before .before .before .loop-test .taken)) ∙ l .inv .2))
+    (omega arith, rw (c .before .before .mark .ensures, length-set) (l .inv .1), rw (c .before .before .mark .ensures, c .before .before .before .before .locate .ensures) (sym (run-more (λ z. low (a .f .first) + offset (a .e) (a .f .arity) z 0) (a .bit) (a .e) (l .y) (l .readers) (c .before .before .before .before .before .loop-test .taken)) ∙ l .inv .2))
 
 same-length : tie.Need-same-length Inv-loop μ-loop
 same-length c = search needs
@@ -48,7 +49,7 @@ returns : tie.Need-returns Inv-loop μ-loop
 returns c =
     let a = c .before .before .before .args in
     let l = c .before .loop in
-    sym (run-end (λ z. a .run .first + offset (a .e) (a .run .arity) z 0) (a .bit) (a .e) (l .y) (l .readers) (c .loop-test .left)) ∙ l .inv .2
+    sym (run-end (λ z. low (a .f .first) + offset (a .e) (a .f .arity) z 0) (a .bit) (a .e) (l .y) (l .readers) (c .loop-test .left)) ∙ l .inv .2
 
 pub mark-each-spec : {M : Type 1} → statement M
 mark-each-spec =

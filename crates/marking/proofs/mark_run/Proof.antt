@@ -1,11 +1,15 @@
 -- `mark_run` meets its contract.
 use mathlib.Core.Path.{_≡_, _∙_}
-use Prim.Native.Nat.{_+_, _-_}
+use Prim.Native.Nat.{ℕ, _+_, _-_}
 use native.Mathlib.Omega.{arith}
+use Rattle.book.specs.Image.{low}
 use Rattle.marking.proofs.Members.{run-unary}
 use borrow.Author.Needs.{needs}
 use Rattle.marking.proofs.mark_run.Statement.{statement}
 use Rattle.marking.proofs.mark_run.Tie as tie
+
+low-requires : tie.Need-low-requires
+low-requires c κs = search needs
 
 cast-first : tie.Need-cast-first
 cast-first c = search needs
@@ -25,9 +29,10 @@ same-length c = search needs
 returns : tie.Need-returns
 returns c =
     let a = c .before .before .before .before .before .before .before .before .args in
-    let k : a .run .first + a .e - a .run .first ≡ a .e = omega arith in
-    let z : a .run .first + 0 ≡ a .run .first = omega arith in
-    c .before .before .mark-between .ensures ∙ rw (k, c .before .before .before .before .before .if1 .taken, run-unary (a .run .first) 0 (a .e), z)
+    let first : ℕ = low (a .f .first) in
+    let k : first + a .e - first ≡ a .e = omega arith in
+    let z : first + 0 ≡ first = omega arith in
+    c .before .before .mark-between .ensures ∙ rw (c .before .before .before .before .low .ensures, k, c .before .before .before .before .before .if1 .taken, run-unary first 0 (a .e), z)
 
 same-length-2 : tie.Need-same-length-2
 same-length-2 c = search needs
@@ -39,6 +44,7 @@ pub mark-run-spec : {M : Type 1} → statement M
 mark-run-spec =
     tie.close
     (tie.spec
+    low-requires
     cast-first
     add-mark-between
     mark-between-requires

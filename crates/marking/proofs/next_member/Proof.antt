@@ -4,7 +4,7 @@ use mathlib.Core.Bool.{Bool, true, false}
 use Prim.Native.Nat.{ℕ, _-_, _≤_}
 use native.Mathlib.Omega.{arith}
 use borrow.Author.Tests.{eq-eqb, ne-eqb}
-use Rattle.pages.specs.Rows.{function-run}
+use Rattle.book.specs.Image.{low-function}
 use Rattle.marking.specs.Marking.{member, next}
 use Rattle.marking.proofs.Members.{next-here, next-pass, next-end}
 use borrow.Author.Needs.{needs}
@@ -12,11 +12,11 @@ use Rattle.marking.proofs.next_member.Statement.{statement}
 use Rattle.marking.proofs.next_member.Tie as tie
 
 abbrev Inv-loop : tie.InvT-loop
-Inv-loop contents run e from y₀ y =
-    (from ≤ y) × (next (member contents (function-run run) e) from (e - from) ≡ next (member contents (function-run run) e) y (e - y))
+Inv-loop contents f e from y₀ y =
+    (from ≤ y) × (next (member contents (low-function f) e) from (e - from) ≡ next (member contents (low-function f) e) y (e - y))
 
 abbrev μ-loop : tie.MeasureT-loop
-μ-loop contents run e from y₀ y = e - y
+μ-loop contents f e from y₀ y = e - y
 
 loop-holds : tie.Need-loop-holds Inv-loop μ-loop
 loop-holds c = (omega arith, refl)
@@ -34,7 +34,7 @@ returns : tie.Need-returns Inv-loop μ-loop
 returns c =
     let a = c .before .before .before .before .before .before .args in
     let l = c .before .before .before .before .loop in
-    let t : ℕ → Bool = member (a .contents .now) (function-run (a .run)) (a .e) in
+    let t : ℕ → Bool = member (a .contents .now) (low-function (a .f)) (a .e) in
     let g : t (l .y) ≡ true = rw (← c .before .before .locate .ensures, ← c .before .fetch .ensures) (eq-eqb (c .before .fetch .result) 2 (c .if1 .taken)) in
     (omega arith, sym (l .inv .1 ∙ next-here t (a .e) (l .y) (c .before .before .before .loop-test .taken) g))
 
@@ -48,7 +48,7 @@ loop-again : tie.Need-loop-again Inv-loop μ-loop
 loop-again c =
     let a = c .before .before .before .before .before .before .args in
     let l = c .before .before .before .before .loop in
-    let t : ℕ → Bool = member (a .contents .now) (function-run (a .run)) (a .e) in
+    let t : ℕ → Bool = member (a .contents .now) (low-function (a .f)) (a .e) in
     let g : t (l .y) ≡ false = rw (← c .before .before .locate .ensures, ← c .before .fetch .ensures) (ne-eqb (c .before .fetch .result) 2 (c .if1 .left)) in
     (omega arith, l .inv .1 ∙ next-pass t (a .e) (l .y) (c .before .before .before .loop-test .taken) g)
 
@@ -56,7 +56,7 @@ returns-2 : tie.Need-returns-2 Inv-loop μ-loop
 returns-2 c =
     let a = c .before .before .before .args in
     let l = c .before .loop in
-    (omega arith, sym (l .inv .1 ∙ next-end (member (a .contents .now) (function-run (a .run)) (a .e)) (a .e) (l .y) (c .loop-test .left)))
+    (omega arith, sym (l .inv .1 ∙ next-end (member (a .contents .now) (low-function (a .f)) (a .e)) (a .e) (l .y) (c .loop-test .left)))
 
 pub next-member-spec : {M : Type 1} → statement M
 next-member-spec =

@@ -1,6 +1,6 @@
 -- `universe` meets its contract.
 use mathlib.Core.Path.{sym, _∙_}
-use Rattle.book.proofs.Held.{elements-held}
+use Rattle.book.proofs.Held.{elements-held, function-held}
 use borrow.Author.Needs.{needs}
 use Rattle.marking.proofs.universe.Statement.{statement}
 use Rattle.marking.proofs.universe.Tie as tie
@@ -8,8 +8,8 @@ use Rattle.marking.proofs.universe.Tie as tie
 dynamic-requires : tie.Need-dynamic-requires
 dynamic-requires c κs = search needs
 
-function-requires : tie.Need-function-requires
-function-requires c κs = search needs
+function-at-requires : tie.Need-function-at-requires
+function-at-requires c κs = search needs
 
 elements-requires : tie.Need-elements-requires
 elements-requires c κs = search needs
@@ -21,7 +21,7 @@ same-length : tie.Need-same-length
 same-length c = search needs
 
 returns : tie.Need-returns
-returns c = c .before .before .mark-run .ensures ∙ rw (sym (c .before .before .before .before .before .before .before .dynamic .ensures) ∙ c .before .before .before .before .before .before .if1 .taken, ← c .before .before .before .before .function .ensures, ← elements-held _ _ (c .before .before .before .elements .ensures) .0)
+returns c = c .before .before .mark-run .ensures ∙ rw (sym (c .before .before .before .before .before .before .before .dynamic .ensures) ∙ c .before .before .before .before .before .before .if1 .taken, ← function-held _ _ _ (c .before .before .before .before .function-at .ensures), ← elements-held _ _ (c .before .before .before .elements .ensures) .0)
 
 returns-2 : tie.Need-returns-2
 returns-2 c = rw (sym (c .before .dynamic .ensures) ∙ c .if1 .left)
@@ -31,7 +31,7 @@ universe-spec =
     tie.close
     (tie.spec
     dynamic-requires
-    function-requires
+    function-at-requires
     elements-requires
     mark-run-requires
     same-length

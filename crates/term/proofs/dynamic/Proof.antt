@@ -7,7 +7,7 @@ use borrow.Author.Tests.{lt-ltb, le-ltb}
 use Rattle.book.specs.Book.{dynamic}
 use Rattle.book.specs.Image.{held}
 use Rattle.term.proofs.Leaves.{dynamic-own, dynamic-other}
-use Rattle.book.proofs.Held.{elements-held, functions-held}
+use Rattle.book.proofs.Held.{elements-held, functions-held, function-held}
 use borrow.Author.Needs.{needs}
 use Rattle.term.proofs.dynamic.Statement.{statement}
 use Rattle.term.proofs.dynamic.Tie as tie
@@ -60,8 +60,11 @@ returns-3 c =
     let j : B .E ≤ a .y = omega (arith, elements-held _ _ (c .before .before .before .before .elements .ensures) .0, c .before .before .if3 .taken) in
     c .dynamic-at3 .ensures ∙ rw (c .before .location3 .ensures) (sym (dynamic-other B (a .f) (a .x) (a .y) (rw (lt-ltb (a .f) (length (B .functions)) h, lt-ltb (a .x) (B .E) i, le-ltb (a .y) (B .E) j))))
 
-function-requires : tie.Need-function-requires
-function-requires c κs = search needs
+function-at-requires : tie.Need-function-at-requires
+function-at-requires c κs = search needs
+
+is-dynamic-requires : tie.Need-is-dynamic-requires
+is-dynamic-requires c κs = search needs
 
 returns-4 : tie.Need-returns-4
 returns-4 c =
@@ -70,7 +73,7 @@ returns-4 c =
     let h : a .f < length (B .functions) = omega (arith, functions-held _ _ (c .before .before .before .before .before .before .functions .ensures) .0, c .before .before .before .before .before .if1 .left) in
     let i : a .x < B .E = omega (arith, elements-held _ _ (c .before .before .before .before .elements .ensures) .0, c .before .before .before .if2 .left) in
     let j : a .y < B .E = omega (arith, elements-held _ _ (c .before .before .before .before .elements .ensures) .0, c .before .before .if3 .left) in
-    ap dynamic (c .before .function .ensures) ∙ sym (dynamic-own B (a .f) (a .x) (a .y) h i j)
+    c .is-dynamic .ensures ∙ ap dynamic (function-held _ _ _ (c .before .function-at .ensures)) ∙ sym (dynamic-own B (a .f) (a .x) (a .y) h i j)
 
 pub dynamic-spec : {M : Type 1} → statement M
 dynamic-spec =
@@ -87,5 +90,6 @@ dynamic-spec =
     location-requires-3
     dynamic-at-requires-3
     returns-3
-    function-requires
+    function-at-requires
+    is-dynamic-requires
     returns-4)

@@ -10,8 +10,8 @@ use Rattle.engine.specs.Look.{Look}
 use Rattle.engine.specs.Rule.{Walk, Walked, after, lowest, import-of, each as for-each, walk as walked}
 use Rattle.engine.proofs.Steps.{rule-last, rule-assign, rule-bind, rule-for-all, rule-import, rule-free, no-rule-at}
 use Rattle.term.specs.Held.{variables-of, agent-of, value-at}
-use Rattle.pages.specs.Rows.{node-row, function-run}
-use Rattle.book.specs.Image.{held}
+use Rattle.pages.specs.Rows.{node-row}
+use Rattle.book.specs.Image.{low-function, held}
 use Rattle.term.specs.Marks.{Runs}
 use Rattle.term.proofs.Marking.{runs-bind, runs-as}
 use Rattle.giving.specs.Giving.{walk-from, reached, enrolling}
@@ -21,7 +21,7 @@ use Rattle.marking.proofs.Members.{universe-placed, members-next}
 use Rattle.walk.specs.Walk.{rule-from, body-at, walk-at as node-walk}
 use Rattle.walk.proofs.Steps.{runs-scope, runs-from, runs-met, runs-rule, runs-skip, runs-pair, runs-test, import-as, rule-none}
 use Rattle.walk.proofs.Sweep.{sweep-as, sweep-more, sweep-end, runs-for-all}
-use Rattle.book.proofs.Held.{elements-held}
+use Rattle.book.proofs.Held.{elements-held, function-held}
 use borrow.Author.Needs.{needs}
 use borrow.Fn.Kinds.{In}
 use borrow.Fn.PlainCycle.{Measures, is, falls, and}
@@ -46,7 +46,7 @@ use Rattle.marking.proofs.next_member.Reads as next-member-reads
 use Rattle.marking.proofs.universe.Reads as universe-reads
 use Rattle.image.proofs.elements.Reads as elements-reads
 use Rattle.term.proofs.eval.Reads as eval-reads
-use Rattle.pages.proofs.function.Reads as function-reads
+use Rattle.image.proofs.function_at.Reads as function-at-reads
 use Rattle.pages.proofs.node.Reads as node-reads
 use Rattle.walk.proofs.assign.Reads as assign-reads
 use Rattle.walk.proofs.bind.Reads as bind-reads
@@ -101,7 +101,7 @@ abbrev within-below : ℕ → In 5 within-kinds.ps
 within-below t = and 5 within-kinds.ps (falls 5 within-kinds.ps _<_ μ-within t) within.Pre
 
 abbrev claims-each : ℕ → each-lts.Claims
-claims-each t = (universe-reads.Asked, universe-reads.Learnt, elements-reads.Asked, elements-reads.Learnt, function-reads.Asked, function-reads.Learnt, next-member-reads.Asked, next-member-reads.Learnt, within-below t, within.Post)
+claims-each t = (universe-reads.Asked, universe-reads.Learnt, elements-reads.Asked, elements-reads.Learnt, function-at-reads.Asked, function-at-reads.Learnt, next-member-reads.Asked, next-member-reads.Learnt, within-below t, within.Post)
 
 abbrev claims-import : ℕ → import-lts.Claims
 claims-import t = (lowest-reads.Asked, lowest-reads.Learnt, enroll-reads.Asked, enroll-reads.Learnt, within-below t, within.Post)
@@ -116,13 +116,13 @@ abbrev claims-within : ℕ → within-lts.Claims
 claims-within t = (bind-reads.Asked, bind-reads.Learnt, walk-below t, walk.Post)
 
 abbrev each-Inv-loop : each-lts.InvT-loop
-each-Inv-loop image contents readers₀ bit list₀ scope depth row e run r₀ y₀ readers list r y =
+each-Inv-loop image contents readers₀ bit list₀ scope depth row e f r₀ y₀ readers list r y =
     (length readers ≡ length readers₀) × ((z : Walked) (n : List ℕ)
     → Runs (held image) contents bit (after (reached r list) (for-each (body-at image scope depth (row .c) (row .a)) (first-and-rest (held image) contents (row .b) y))) z readers n
     → Runs (held image) contents bit (after (reached r₀ list₀) (for-each (body-at image scope depth (row .c) (row .a)) (members-from (held image) contents (row .b) 0))) z readers₀ n)
 
 abbrev each-μ-loop : each-lts.MeasureT-loop
-each-μ-loop image contents readers₀ bit list₀ scope depth row e run r₀ y₀ readers list r y = e - y
+each-μ-loop image contents readers₀ bit list₀ scope depth row e f r₀ y₀ readers list r y = e - y
 
 each-universe-requires : (t : ℕ) → each-lts.Need-universe-requires (claims-each t) (each-at t) each.Post each-Inv-loop each-μ-loop
 each-universe-requires t c κs = search needs
@@ -130,19 +130,22 @@ each-universe-requires t c κs = search needs
 each-elements-requires : (t : ℕ) → each-lts.Need-elements-requires (claims-each t) (each-at t) each.Post each-Inv-loop each-μ-loop
 each-elements-requires t c κs = search needs
 
-each-function-requires : (t : ℕ) → each-lts.Need-function-requires (claims-each t) (each-at t) each.Post each-Inv-loop each-μ-loop
-each-function-requires t c κs = search needs
+each-cast-function-at : (t : ℕ) → each-lts.Need-cast-function-at (claims-each t) (each-at t) each.Post each-Inv-loop each-μ-loop
+each-cast-function-at t c = search needs
+
+each-function-at-requires : (t : ℕ) → each-lts.Need-function-at-requires (claims-each t) (each-at t) each.Post each-Inv-loop each-μ-loop
+each-function-at-requires t c κs = search needs
 
 each-next-member-requires : (t : ℕ) → each-lts.Need-next-member-requires (claims-each t) (each-at t) each.Post each-Inv-loop each-μ-loop
 each-next-member-requires t c κs = search needs
 
 each-loop-holds : (t : ℕ) → each-lts.Need-loop-holds (claims-each t) (each-at t) each.Post each-Inv-loop each-μ-loop
 each-loop-holds t c =
-    let a = c .before .before .before .before .before .before .before .before .before .args in
+    let a = c .before .before .before .before .before .before .before .before .before .before .args in
     let B = held (a .image .now) in
     let f : ℕ → Walk → Look Walked = body-at (a .image .now) (a .scope .now) (a .depth) (a .row .c) (a .row .a) in (
       refl,
-      λ z n h. sweep-as B (a .contents .now) (a .bit) (a .row .b) f _ _ (reached (a .s) (a .list .now)) z _ n (members-next B (a .contents .now) (a .row .b) (function-run (c .before .function .result)) (c .before .before .elements .result) 0 (c .next-member .result) (c .before .function .ensures) (elements-held _ _ (c .before .before .elements .ensures) .0) (c .next-member .ensures .1)) h,
+      λ z n h. sweep-as B (a .contents .now) (a .bit) (a .row .b) f _ _ (reached (a .s) (a .list .now)) z _ n (members-next B (a .contents .now) (a .row .b) (low-function (c .before .function-at .result)) (c .before .before .before .elements .result) 0 (c .next-member .result) (function-held _ _ _ (c .before .function-at .ensures)) (elements-held _ _ (c .before .before .before .elements .ensures) .0) (c .next-member .ensures .1)) h,
     )
 
 each-within-requires : (t : ℕ) → each-lts.Need-within-requires (claims-each t) (each-at t) each.Post each-Inv-loop each-μ-loop
@@ -153,13 +156,13 @@ each-same-length t c = search needs
 
 each-returns : (t : ℕ) → each-lts.Need-returns (claims-each t) (each-at t) each.Post each-Inv-loop each-μ-loop
 each-returns t c =
-    let a = c .before .before .before .before .before .before .before .before .before .before .before .before .before .before .before .before .before .before .args in
+    let a = c .before .before .before .before .before .before .before .before .before .before .before .before .before .before .before .before .before .before .before .args in
     let B = held (a .image .now) in
     let f : ℕ → Walk → Look Walked = body-at (a .image .now) (a .scope .now) (a .depth) (a .row .c) (a .row .a) in
     let l = c .before .before .before .before .before .before .before .before .loop in
     let k = c .before .before .before .before .within in
-    let h : l .y < B .E = rw (← elements-held _ _ (c .before .before .before .before .before .before .before .before .before .before .before .elements .ensures) .0) (c .before .before .before .before .before .before .before .loop-test .taken) in
-    runs-for-all B (a .contents .now) (a .bit) (agent-of (a .scope .now)) (variables-of (a .scope .now)) (a .row .a) (a .row .b) (rule-from (node-at B) (a .depth) (a .row .c)) (a .s) (a .list .now) _ _ _ _ (c .before .before .before .before .before .before .before .before .before .before .before .before .before .before .before .before .before .before .pre .1) (λ p. c .before .before .before .before .before .before .before .before .before .before .before .before .before .before .universe .ensures ∙ universe-placed B p (a .contents .now) (a .row .b) (a .bit) (a .readers .now))
+    let h : l .y < B .E = rw (← elements-held _ _ (c .before .before .before .before .before .before .before .before .before .before .before .before .elements .ensures) .0) (c .before .before .before .before .before .before .before .loop-test .taken) in
+    runs-for-all B (a .contents .now) (a .bit) (agent-of (a .scope .now)) (variables-of (a .scope .now)) (a .row .a) (a .row .b) (rule-from (node-at B) (a .depth) (a .row .c)) (a .s) (a .list .now) _ _ _ _ (c .before .before .before .before .before .before .before .before .before .before .before .before .before .before .before .before .before .before .before .pre .1) (λ p. c .before .before .before .before .before .before .before .before .before .before .before .before .before .before .before .universe .ensures ∙ universe-placed B p (a .contents .now) (a .row .b) (a .bit) (a .readers .now))
     (l .inv .1 _ _
     (sweep-more B (a .contents .now) (a .bit) (a .row .b) f (l .y) (reached (l .r) (l .list)) _ _ _ _ _ h (k .ensures)
     (runs-met B (a .contents .now) (a .bit) _ _ _ _ _ (reached-met (k .result) _ (c .if1 .taken)))))
@@ -175,16 +178,16 @@ each-loop-less t c = search needs
 
 each-loop-again : (t : ℕ) → each-lts.Need-loop-again (claims-each t) (each-at t) each.Post each-Inv-loop each-μ-loop
 each-loop-again t c =
-    let a = c .before .before .before .before .before .before .before .before .before .before .before .before .before .before .before .before .before .before .before .args in
+    let a = c .before .before .before .before .before .before .before .before .before .before .before .before .before .before .before .before .before .before .before .before .args in
     let B = held (a .image .now) in
     let f : ℕ → Walk → Look Walked = body-at (a .image .now) (a .scope .now) (a .depth) (a .row .c) (a .row .a) in
     let l = c .before .before .before .before .before .before .before .before .before .loop in
     let k = c .before .before .before .before .before .within in
-    let h : l .y < B .E = rw (← elements-held _ _ (c .before .before .before .before .before .before .before .before .before .before .before .before .elements .ensures) .0) (c .before .before .before .before .before .before .before .before .loop-test .taken) in (
+    let h : l .y < B .E = rw (← elements-held _ _ (c .before .before .before .before .before .before .before .before .before .before .before .before .before .elements .ensures) .0) (c .before .before .before .before .before .before .before .before .loop-test .taken) in (
       k .kept .1 .1 .0 ∙ l .inv .0,
       λ z n t. l .inv .1 z n
           (sweep-more B (a .contents .now) (a .bit) (a .row .b) f (l .y) (reached (l .r) (l .list)) _ z _ _ n h (k .ensures)
-          (sweep-as B (a .contents .now) (a .bit) (a .row .b) f _ _ (reached (k .result) (k .last .1 .1 .1 .1 .0)) z _ n (members-next B (a .contents .now) (a .row .b) (function-run (c .before .before .before .before .before .before .before .before .before .before .before .function .result)) (c .before .before .before .before .before .before .before .before .before .before .before .before .elements .result) (l .y + 1) (c .next-member2 .result) (c .before .before .before .before .before .before .before .before .before .before .before .function .ensures) (elements-held _ _ (c .before .before .before .before .before .before .before .before .before .before .before .before .elements .ensures) .0) (c .next-member2 .ensures .1)) t)),
+          (sweep-as B (a .contents .now) (a .bit) (a .row .b) f _ _ (reached (k .result) (k .last .1 .1 .1 .1 .0)) z _ n (members-next B (a .contents .now) (a .row .b) (low-function (c .before .before .before .before .before .before .before .before .before .before .before .function-at .result)) (c .before .before .before .before .before .before .before .before .before .before .before .before .before .elements .result) (l .y + 1) (c .next-member2 .result) (function-held _ _ _ (c .before .before .before .before .before .before .before .before .before .before .before .function-at .ensures)) (elements-held _ _ (c .before .before .before .before .before .before .before .before .before .before .before .before .before .elements .ensures) .0) (c .next-member2 .ensures .1)) t)),
     )
 
 each-same-length-2 : (t : ℕ) → each-lts.Need-same-length-2 (claims-each t) (each-at t) each.Post each-Inv-loop each-μ-loop
@@ -192,12 +195,12 @@ each-same-length-2 t c = search needs
 
 each-returns-2 : (t : ℕ) → each-lts.Need-returns-2 (claims-each t) (each-at t) each.Post each-Inv-loop each-μ-loop
 each-returns-2 t c =
-    let a = c .before .before .before .before .before .before .before .before .before .before .before .args in
+    let a = c .before .before .before .before .before .before .before .before .before .before .before .before .args in
     let B = held (a .image .now) in
     let f : ℕ → Walk → Look Walked = body-at (a .image .now) (a .scope .now) (a .depth) (a .row .c) (a .row .a) in
     let l = c .before .loop in
-    let h : B .E ≤ l .y = rw (← elements-held _ _ (c .before .before .before .before .elements .ensures) .0) (c .loop-test .left) in
-    runs-for-all B (a .contents .now) (a .bit) (agent-of (a .scope .now)) (variables-of (a .scope .now)) (a .row .a) (a .row .b) (rule-from (node-at B) (a .depth) (a .row .c)) (a .s) (a .list .now) _ _ _ _ (c .before .before .before .before .before .before .before .before .before .before .before .pre .1) (λ p. c .before .before .before .before .before .before .before .universe .ensures ∙ universe-placed B p (a .contents .now) (a .row .b) (a .bit) (a .readers .now))
+    let h : B .E ≤ l .y = rw (← elements-held _ _ (c .before .before .before .before .before .elements .ensures) .0) (c .loop-test .left) in
+    runs-for-all B (a .contents .now) (a .bit) (agent-of (a .scope .now)) (variables-of (a .scope .now)) (a .row .a) (a .row .b) (rule-from (node-at B) (a .depth) (a .row .c)) (a .s) (a .list .now) _ _ _ _ (c .before .before .before .before .before .before .before .before .before .before .before .before .pre .1) (λ p. c .before .before .before .before .before .before .before .before .universe .ensures ∙ universe-placed B p (a .contents .now) (a .row .b) (a .bit) (a .readers .now))
     (l .inv .1 _ _ (sweep-end B (a .contents .now) (a .bit) (a .row .b) f (l .y) (reached (l .r) (l .list)) (l .readers) h))
 
 import-lowest-requires : (t : ℕ) → import-lts.Need-lowest-requires (claims-import t) (import-at t) import.Post
@@ -464,7 +467,8 @@ pub +each+import+let-in+walk+within-spec : {M : Type 1} → statement M
     each-μ-loop
     (each-universe-requires t)
     (each-elements-requires t)
-    (each-function-requires t)
+    (each-cast-function-at t)
+    (each-function-at-requires t)
     (each-next-member-requires t)
     (each-loop-holds t)
     (each-within-requires t)

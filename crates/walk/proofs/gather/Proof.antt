@@ -3,11 +3,13 @@ use mathlib.Core.Path.{_≡_, refl}
 use mathlib.Core.List.{[], _∷_}
 use native.Mathlib.Omega.{arith}
 use lib.ListN.{length}
+use Rattle.book.specs.declared.Agent.{Agent}
+use Rattle.book.specs.Book.{agent-at}
 use Rattle.book.specs.Image.{held}
+use Rattle.book.proofs.Held.{agent-held}
 use Rattle.giving.specs.Giving.{walk-from}
 use Rattle.giving.proofs.Steps.{reached-going, reached-met}
 use Rattle.walk.specs.Walk.{walk-at}
-use Rattle.pages.specs.Rows.{agent-row}
 use Rattle.walk.proofs.Steps.{runs-from}
 use Rattle.walk.proofs.Kept.{runs-agent, gathered, gathered-back}
 use borrow.Author.Needs.{needs}
@@ -17,8 +19,14 @@ use Rattle.walk.proofs.gather.Tie as tie
 agent-at-requires : tie.Need-agent-at-requires
 agent-at-requires c κs = search needs
 
+low-requires : tie.Need-low-requires
+low-requires c κs = search needs
+
 permanent-requires : tie.Need-permanent-requires
 permanent-requires c κs = search needs
+
+low-requires-2 : tie.Need-low-requires-2
+low-requires-2 c κs = search needs
 
 walk-requires : tie.Need-walk-requires
 walk-requires c κs = search needs
@@ -31,17 +39,18 @@ same-length c = search needs
 
 returns : tie.Need-returns
 returns c =
-    let a = c .before .before .before .before .before .before .before .before .before .before .before .before .before .before .before .args in
+    let a = c .before .before .before .before .before .before .before .before .before .before .before .before .before .before .before .before .before .args in
     let m = a .image .now in
     let B = held m in
-    let who = c .before .before .before .before .before .before .before .before .before .before .before .before .agent-at .result in
+    let who : Agent = record { root = c .before .before .before .before .before .before .before .before .before .before .before .before .before .low .result; element = c .before .before .before .before .before .before .before .before .before .before .before .low2 .result } in
+    let is : who ≡ agent-at B (a .agent) = rw (c .before .before .before .before .before .before .before .before .before .before .before .before .before .low .ensures, c .before .before .before .before .before .before .before .before .before .before .before .low2 .ensures) (agent-held _ _ _ (c .before .before .before .before .before .before .before .before .before .before .before .before .before .before .agent-at .ensures)) in
     let r = c .before .before .before .before .before .before .before .walk .result in
     let l = c .before .before .before .before .before .before .before .walk .last .1 .1 .1 .1 .0 in
     let long : length l ≡ 256 = omega (arith, c .before .ended-arg2 .given) in (
       rw (c .ended .ensures)
           (gathered B (a .contents .now) (a .bit) (a .agent) _ _ _
-          (runs-agent B (a .contents .now) (a .bit) _ _ _ (a .agent) (c .before .before .before .before .before .before .before .before .before .before .before .permanent .result) (agent-row who) (c .before .before .before .before .before .before .before .before .before .before .before .before .agent-at .ensures) (c .before .before .before .before .before .before .before .before .before .before .before .permanent .ensures)
-          (runs-from B (a .contents .now) (a .bit) (walk-at m (0 ∷ 0 ∷ 0 ∷ 0 ∷ 0 ∷ 0 ∷ 0 ∷ 0 ∷ who .element ∷ []) 32 (who .root)) (record { len = 0; label = c .before .before .before .before .before .before .before .before .before .before .before .permanent .result; refused = 0; node = 0 }) (a .list .now) refl _ _ _ (c .before .before .before .before .before .before .before .walk .ensures)))
+          (runs-agent B (a .contents .now) (a .bit) _ _ _ (a .agent) (c .before .before .before .before .before .before .before .before .before .before .before .before .permanent .result) who is (c .before .before .before .before .before .before .before .before .before .before .before .before .permanent .ensures)
+          (runs-from B (a .contents .now) (a .bit) (walk-at m (0 ∷ 0 ∷ 0 ∷ 0 ∷ 0 ∷ 0 ∷ 0 ∷ 0 ∷ who .element ∷ []) 32 (who .root)) (record { len = 0; label = c .before .before .before .before .before .before .before .before .before .before .before .before .permanent .result; refused = 0; node = 0 }) (a .list .now) refl _ _ _ (c .before .before .before .before .before .before .before .walk .ensures)))
           (walk-from r l) (reached-going r l (c .before .before .before .if1 .taken))),
       long,
     )
@@ -57,17 +66,18 @@ same-length-2 c = search needs
 
 returns-2 : tie.Need-returns-2
 returns-2 c =
-    let a = c .before .before .before .before .before .before .before .before .before .before .before .before .before .before .before .before .before .before .before .args in
+    let a = c .before .before .before .before .before .before .before .before .before .before .before .before .before .before .before .before .before .before .before .before .before .args in
     let m = a .image .now in
     let B = held m in
-    let who = c .before .before .before .before .before .before .before .before .before .before .before .before .before .before .before .before .agent-at .result in
+    let who : Agent = record { root = c .before .before .before .before .before .before .before .before .before .before .before .before .before .before .before .before .before .low .result; element = c .before .before .before .before .before .before .before .before .before .before .before .before .before .before .before .low2 .result } in
+    let is : who ≡ agent-at B (a .agent) = rw (c .before .before .before .before .before .before .before .before .before .before .before .before .before .before .before .before .before .low .ensures, c .before .before .before .before .before .before .before .before .before .before .before .before .before .before .before .low2 .ensures) (agent-held _ _ _ (c .before .before .before .before .before .before .before .before .before .before .before .before .before .before .before .before .before .before .agent-at .ensures)) in
     let r = c .before .before .before .before .before .before .before .before .before .before .before .walk .result in
     let l = c .before .before .before .before .before .before .before .before .before .before .before .walk .last .1 .1 .1 .1 .0 in
     let long : length l ≡ 256 = omega (arith, c .before .ended-arg4 .given) in (
       rw (c .ended2 .ensures)
           (gathered-back B (a .contents .now) (a .bit) (a .agent) _ _ _
-          (runs-agent B (a .contents .now) (a .bit) _ _ _ (a .agent) (c .before .before .before .before .before .before .before .before .before .before .before .before .before .before .before .permanent .result) (agent-row who) (c .before .before .before .before .before .before .before .before .before .before .before .before .before .before .before .before .agent-at .ensures) (c .before .before .before .before .before .before .before .before .before .before .before .before .before .before .before .permanent .ensures)
-          (runs-from B (a .contents .now) (a .bit) (walk-at m (0 ∷ 0 ∷ 0 ∷ 0 ∷ 0 ∷ 0 ∷ 0 ∷ 0 ∷ who .element ∷ []) 32 (who .root)) (record { len = 0; label = c .before .before .before .before .before .before .before .before .before .before .before .before .before .before .before .permanent .result; refused = 0; node = 0 }) (a .list .now) refl _ _ _ (c .before .before .before .before .before .before .before .before .before .before .before .walk .ensures)))
+          (runs-agent B (a .contents .now) (a .bit) _ _ _ (a .agent) (c .before .before .before .before .before .before .before .before .before .before .before .before .before .before .before .before .permanent .result) who is (c .before .before .before .before .before .before .before .before .before .before .before .before .before .before .before .before .permanent .ensures)
+          (runs-from B (a .contents .now) (a .bit) (walk-at m (0 ∷ 0 ∷ 0 ∷ 0 ∷ 0 ∷ 0 ∷ 0 ∷ 0 ∷ who .element ∷ []) 32 (who .root)) (record { len = 0; label = c .before .before .before .before .before .before .before .before .before .before .before .before .before .before .before .before .permanent .result; refused = 0; node = 0 }) (a .list .now) refl _ _ _ (c .before .before .before .before .before .before .before .before .before .before .before .walk .ensures)))
           (r .refused) (r .node) _ (reached-met r l (c .before .before .before .before .before .before .before .if1 .left)) (c .before .before .before .before .before .clear .ensures)),
       long,
     )
@@ -77,7 +87,9 @@ gather-spec =
     tie.close
     (tie.spec
     agent-at-requires
+    low-requires
     permanent-requires
+    low-requires-2
     walk-requires
     ended-requires
     same-length

@@ -4,7 +4,7 @@ use mathlib.Core.List.{List}
 use Prim.Native.Nat.{ℕ, _*_, _-_, _<_, _≤_}
 use native.Mathlib.Omega.{arith}
 use lib.ListN.{length, drop}
-use Rattle.book.proofs.Held.{elements-held, functions-held}
+use Rattle.book.proofs.Held.{elements-held, functions-held, function-held}
 use borrow.Author.Needs.{needs}
 use Rattle.book.specs.declared.Function.{Function}
 use Rattle.book.specs.Book.{function-at, size}
@@ -29,11 +29,11 @@ functions-requires c κs = search needs
 loop-holds : tie.Need-loop-holds Inv-loop μ-loop
 loop-holds c = (omega arith, omega arith, refl, refl)
 
-function-requires : tie.Need-function-requires Inv-loop μ-loop
-function-requires c κs = search needs
+cast-function-at : tie.Need-cast-function-at Inv-loop μ-loop
+cast-function-at c = search needs
 
-cast-size : tie.Need-cast-size Inv-loop μ-loop
-cast-size c = search needs
+function-at-requires : tie.Need-function-at-requires Inv-loop μ-loop
+function-at-requires c κs = search needs
 
 size-requires : tie.Need-size-requires Inv-loop μ-loop
 size-requires c κs = search needs
@@ -42,26 +42,26 @@ cast-end : tie.Need-cast-end Inv-loop μ-loop
 cast-end c = search needs
 
 add-end : tie.Need-add-end Inv-loop μ-loop
-add-end c = omega (arith, c .size .ok, c .before .before .before .before .before .functions .ok, c .before .before .before .loop-test .taken)
+add-end c = omega (arith, c .size .ok, c .before .before .before .before .functions .ok, c .before .before .loop-test .taken)
 
 mark-function-requires : tie.Need-mark-function-requires Inv-loop μ-loop
 mark-function-requires c κs = search needs
 
 add-f : tie.Need-add-f Inv-loop μ-loop
-add-f c = omega (arith, c .before .before .before .before .before .before .before .before .before .functions .ok, c .before .before .before .before .before .before .before .loop-test .taken)
+add-f c = omega (arith, c .before .before .before .before .before .before .before .before .functions .ok, c .before .before .before .before .before .before .loop-test .taken)
 
 loop-less : tie.Need-loop-less Inv-loop μ-loop
-loop-less c = omega (arith, c .before .before .before .before .before .before .before .loop-test .taken)
+loop-less c = omega (arith, c .before .before .before .before .before .before .loop-test .taken)
 
 loop-again : tie.Need-loop-again Inv-loop μ-loop
 loop-again c =
-    let a = c .before .before .before .before .before .before .before .before .before .before .before .before .args in
+    let a = c .before .before .before .before .before .before .before .before .before .before .before .args in
     let m = a .image .now in
-    let l = c .before .before .before .before .before .before .before .before .loop in
-    let h : l .f < length (held m .functions) = rw (← functions-held _ _ (c .before .before .before .before .before .before .before .before .before .functions .ensures) .0) (c .before .before .before .before .before .before .before .loop-test .taken) in
-    let e : c .before .before .before .before .size .result ≡ size (held m .E) (function-at (held m) (l .f) .arity) = rw (← c .before .before .before .before .before .before .function .ensures, ← elements-held _ _ (c .before .before .before .before .before .before .before .before .before .before .elements .ensures) .0) (c .before .before .before .before .size .ensures) in
-    let k : c .before .before .before .before .before .before .function .result .kind ≡ function-at (held m) (l .f) .kind = ap (λ (g : Function). g .kind) (c .before .before .before .before .before .before .function .ensures) in
-    (omega (arith, c .before .before .before .before .before .before .before .loop-test .taken), omega (arith, c .before .before .before .before .size .ok), c .before .before .mark-function .kept .0 ∙ l .inv .2, all-step (a .bit) (held m .E) (held m .functions) (l .f) (l .first) (l .readers) (c .before .before .before .before .size .result) (c .before .before .before .before .before .before .function .result .kind) _ h e k (c .before .before .mark-function .ensures) ∙ l .inv .3)
+    let l = c .before .before .before .before .before .before .before .loop in
+    let h : l .f < length (held m .functions) = rw (← functions-held _ _ (c .before .before .before .before .before .before .before .before .functions .ensures) .0) (c .before .before .before .before .before .before .loop-test .taken) in
+    let e : c .before .before .before .before .size .result ≡ size (held m .E) (function-at (held m) (l .f) .arity) = rw (← function-held _ _ _ (c .before .before .before .before .before .function-at .ensures), ← elements-held _ _ (c .before .before .before .before .before .before .before .before .before .elements .ensures) .0) (c .before .before .before .before .size .ensures) in
+    let k : c .before .before .before .before .before .function-at .result .kind ≡ function-at (held m) (l .f) .kind = ap (λ (g : Function). g .kind) (function-held _ _ _ (c .before .before .before .before .before .function-at .ensures)) in
+    (omega (arith, c .before .before .before .before .before .before .loop-test .taken), omega (arith, c .before .before .before .before .size .ok), c .before .before .mark-function .kept .0 ∙ l .inv .2, all-step (a .bit) (held m .E) (held m .functions) (l .f) (l .first) (l .readers) (c .before .before .before .before .size .result) (c .before .before .before .before .before .function-at .result .kind) _ h e k (c .before .before .mark-function .ensures) ∙ l .inv .3)
 
 same-length : tie.Need-same-length Inv-loop μ-loop
 same-length c = search needs
@@ -83,8 +83,8 @@ mark-all-spec =
     elements-requires
     functions-requires
     loop-holds
-    function-requires
-    cast-size
+    cast-function-at
+    function-at-requires
     size-requires
     cast-end
     add-end
