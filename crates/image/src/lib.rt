@@ -116,7 +116,7 @@ pub fn function_at(image: &Image, f: u32) -> Function
     ensures { λ r. ⌜ r ≡ function-at (program-in (now (image .entry))) f ⌝ }
 {
     if f < cap(image[2], book::MOST_FUNCTIONS) {
-        let at = f as usize * 4 + 8;
+        let at = (FUNCTION_ROWS as usize + f as usize) * 4;
         Function {
             first: image[at],
             arity: image[at + 1],
@@ -153,7 +153,7 @@ pub fn node_at(image: &Image, n: u32) -> Node
     if book::MOST_NODES <= n {
         return no_node();
     }
-    let at = n as usize * 4 + 200;
+    let at = (NODE_ROWS as usize + n as usize) * 4;
     Node {
         kind: image[at],
         a: image[at + 1],
@@ -167,7 +167,7 @@ pub fn agent_at(image: &Image, i: u32) -> Agent
     ensures { λ r. ⌜ r ≡ agent-at (program-in (now (image .entry))) i ⌝ }
 {
     if i < cap(image[4], book::MOST_AGENTS) {
-        let at = i as usize * 4 + 136;
+        let at = (AGENT_ROWS as usize + i as usize) * 4;
         Agent {
             root: image[at],
             element: image[at + 1],

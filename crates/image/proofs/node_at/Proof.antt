@@ -2,8 +2,8 @@
 use mathlib.Core.Path.{sym, _∙_}
 use mathlib.Core.Logic.{inl, inr}
 use Rattle.book.specs.Image.{word}
-use Rattle.book.proofs.Image.{node-past}
-use Rattle.image.proofs.Rows.{capped-above, capped-reached, node-in}
+use Rattle.book.proofs.Image.{node-inside, node-past}
+use Rattle.image.proofs.Bounds.{capped-above, capped-reached}
 use borrow.Author.Needs.{needs}
 use Rattle.image.proofs.node_at.Statement.{statement}
 use Rattle.image.proofs.node_at.Tie as tie
@@ -23,11 +23,14 @@ no-node-requires-2 c κs = search needs
 returns-2 : tie.Need-returns-2
 returns-2 c = let a = c .before .before .before .before .args in c .no-node2 .ensures ∙ sym (node-past (a .image .now) (a .n) (capped-reached (a .n) (word (a .image .now) 3) 1024 (inr (c .before .if2 .taken))))
 
-mul-at : tie.Need-mul-at
-mul-at c = search needs
+cast-at : tie.Need-cast-at
+cast-at c = search needs
 
 add-at : tie.Need-add-at
 add-at c = search needs
+
+mul-at : tie.Need-mul-at
+mul-at c = search needs
 
 mul-t8 : tie.Need-mul-t8
 mul-t8 c = search needs
@@ -38,8 +41,8 @@ element-copy-out-t6 c = search needs
 add-t9 : tie.Need-add-t9
 add-t9 c = search needs
 
-mul-t12 : tie.Need-mul-t12
-mul-t12 c = search needs
+mul-t10 : tie.Need-mul-t10
+mul-t10 c = search needs
 
 element-copy-out-t15 : tie.Need-element-copy-out-t15
 element-copy-out-t15 c = search needs
@@ -63,7 +66,7 @@ element-copy-out-t25 : tie.Need-element-copy-out-t25
 element-copy-out-t25 c = search needs
 
 returns-3 : tie.Need-returns-3
-returns-3 c = let a = c .before .before .before .before .before .before .before .args in node-in (a .image .now) (a .n) (capped-above (a .n) (word (a .image .now) 3) 1024 (c .before .before .before .before .before .if1 .left) (c .before .before .before .before .if2 .left))
+returns-3 c = let a = c .before .before .before .before .before .before .before .args in sym (node-inside (a .image .now) (a .n) (capped-above (a .n) (word (a .image .now) 3) 1024 (c .before .before .before .before .before .if1 .left) (c .before .before .before .before .if2 .left)))
 
 pub node-at-spec : {M : Type 1} → statement M
 node-at-spec =
@@ -74,12 +77,13 @@ node-at-spec =
     returns
     no-node-requires-2
     returns-2
-    mul-at
+    cast-at
     add-at
+    mul-at
     mul-t8
     element-copy-out-t6
     add-t9
-    mul-t12
+    mul-t10
     element-copy-out-t15
     add-t16
     mul-t17

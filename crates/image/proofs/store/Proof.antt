@@ -1,6 +1,6 @@
 -- `store` meets its contract.
 use Rattle.book.specs.Image.{stored}
-use Rattle.image.proofs.Rows.{unmapped}
+use Rattle.image.proofs.Bounds.{unmapped}
 use borrow.Author.Needs.{needs}
 use Rattle.image.proofs.store.Statement.{statement}
 use Rattle.image.proofs.store.Tie as tie
