@@ -58,16 +58,6 @@ header-bounded text h e =
     let e3 = found-good _ _ _ _ (good (header-of k l)) h (e1 .1) in
     subst Bounded (good-same (header-of k l) h (e3 .1)) (header-good k l (e3 .0))
 
--- it is what the two header lines say
-pub header-is : (text : List ℕ) (h : Header) → check-header text ≡ good h → header-of (line text 0) (line text 1) ≡ h
-unfolding check-header
-header-is text h e =
-    let k = line text 0 in
-    let l = line text 1 in
-    let e1 = found-good _ _ _ _ _ h e in
-    let e3 = found-good _ _ _ _ (good (header-of k l)) h (e1 .1) in
-    good-same (header-of k l) h (e3 .1)
-
 -- ---- functions
 
 laid-out : (E n : ℕ) (ls : List Line) → Laid E n (lay-out E n ls)

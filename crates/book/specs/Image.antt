@@ -4,7 +4,7 @@ use mathlib.Core.Path.{_≡_}
 use mathlib.Core.List.{List, map}
 use Prim.Native.Nat.{ℕ, zero, suc, _+_, _*_, _%_, _≤_}
 use lib.Dec.{ltb}
-use lib.ListN.{getD, set}
+use lib.ListN.{length, getD, set}
 use Rattle.text.specs.declared.Line.{Line}
 use Rattle.text.specs.Words.{if_then_else_, table}
 use Rattle.text.specs.Text.{line}
@@ -13,7 +13,7 @@ use Rattle.book.specs.declared.Function.{Function}
 use Rattle.book.specs.declared.Node.{Node}
 use Rattle.book.specs.declared.Agent.{Agent}
 use Rattle.book.specs.Book.{Program, L, size}
-use Rattle.book.specs.Lines.{node-of, agent-of, program-of}
+use Rattle.book.specs.Lines.{first-function, node-of, agent-of, program-of}
 
 abbrev pub image-length : ℕ
 image-length = 4296
@@ -40,6 +40,13 @@ program-in m =
       nodes = table (λ n. node-of (row-in m (50 + n))) (capped (word m 3) 1024);
       agents = table (λ i. agent-of (row-in m (34 + i))) (capped (word m 4) 16);
     }
+
+-- where an image says that the contents lines start, and how many there are
+abbrev pub first-entry-in : List ℕ → ℕ
+first-entry-in m = first-function + length (program-in m .functions) + length (program-in m .nodes) + length (program-in m .agents)
+
+abbrev pub entry-count-in : List ℕ → ℕ
+entry-count-in m = capped (word m 5) 65536
 
 -- What the engine takes an image to hold: the program, with first locations, elements and the numbers of nodes in sixteen bits. Of an accepted book it is
 -- the program itself.

@@ -23,14 +23,13 @@ use Rattle.book.specs.Use.{bad-use}
 use Rattle.book.specs.Around.{bad-around}
 use Rattle.book.specs.Contents.{bad-entry}
 use Rattle.book.specs.Check.{check-header, check-present, check-surplus, check-program, check-lines, check-book}
-use Rattle.book.specs.Image.{image-length, word, row-in, capped, program-in, Holds, Room, capped-header}
+use Rattle.book.specs.Image.{image-length, word, row-in, capped, program-in, first-entry-in, entry-count-in, Holds, Room, capped-header}
 use Rattle.book.proofs.Accepted.{header-bounded, lines-book, book-lengths}
 use Rattle.book.proofs.Image.{uncapped, within-bounds, functions-long}
 use Rattle.rows.specs.Rows.{headed, taken, passed, laid, Rows}
 use Rattle.rows.proofs.Rows.{length-headed, length-taken, taken-rows, laid-holds, laid-agent}
 use Rattle.contents.specs.declared.Faults.{Faults}
-use Rattle.contents.specs.Pass.{faults, bad-at, faults-from, first-line}
-use Rattle.contents.specs.Pass.{line-count as contents-count}
+use Rattle.contents.specs.Pass.{faults, bad-at, faults-from}
 use Rattle.book_check.specs.Opened.{Opened, check-text}
 
 -- ---- one check, answered by a, and what follows
@@ -207,22 +206,22 @@ shifted n q first bad (suc k) j =
     go false p = p
 
 module _ (o : List ℕ) (h : Header) (text : List ℕ) (room : Room h) (holds : Holds o h text) where
-  first-is : first-line o ≡ first-entry h
+  first-is : first-entry-in o ≡ first-entry h
   first-is =
       let l = book-lengths h text in
       ap (λ (B : Program). 2 + length (B .functions) + length (B .nodes) + length (B .agents)) (holds .program) ∙ rw (l .0, l .1, l .2)
 
-  count-is : contents-count o ≡ h .contents
+  count-is : entry-count-in o ≡ h .contents
   count-is = ap (λ (n : ℕ). capped n 65536) (holds .contents) ∙ uncapped (h .contents) 65536 (room .contents)
 
   abbrev rule : Found
   rule = least-from (bad-at (program-of h text) text (first-entry h) (h .contents)) (h .contents) (first-entry h)
 
-  found : faults-from (program-in o) text (first-line o) (contents-count o) ≡ faults (contents-form h text) rule
+  found : faults-from (program-in o) text (first-entry-in o) (entry-count-in o) ≡ faults (contents-form h text) rule
   unfolding faults-from
   found = rw (first-is, count-is, holds .program)
 
-  module _ (r : Faults) (is : r ≡ faults-from (program-in o) text (first-line o) (contents-count o)) where
+  module _ (r : Faults) (is : r ≡ faults-from (program-in o) text (first-entry-in o) (entry-count-in o)) where
     pub form-found : r .form ≡ contents-form h text
     form-found = ap (λ (x : Faults). x .form) (is ∙ found)
 
@@ -246,8 +245,8 @@ pub opened-text : (o : List ℕ) (h : Header) (text : List ℕ) → Holds o h te
 opened-text o h text holds b e =
     let r = then-good (check-present h text) (check-surplus h text >> check-lines h text) b e in
     let s = then-good (check-surplus h text) (check-lines h text) b (r .2) in
-    subst (λ (x : Book). (program-in o ≡ x .program) × (word o 6 ≡ L (x .program))) (sym (lines-book text h b (s .2)))
-    (holds .program, holds .locations)
+    subst (λ (x : Book). (program-in o ≡ x .program) × (word o 6 ≡ L (x .program)) × (word o 5 ≡ length (x .entries))) (sym (lines-book text h b (s .2)))
+    (holds .program, holds .locations, holds .contents ∙ sym (book-lengths h text .3))
 
 -- ---- the header
 

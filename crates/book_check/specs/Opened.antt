@@ -1,7 +1,8 @@
--- What a check of a book that passes leaves in the image: the program accepted, and how many locations it has.
+-- What a check of a book that passes leaves in the image: the program accepted, how many locations it has, and how many entries.
 use mathlib.Core.Path.{_≡_}
 use mathlib.Core.List.{List}
 use Prim.Native.Nat.{ℕ}
+use lib.ListN.{length}
 use Rattle.text.specs.Words.{Checked, good, _>>_}
 use Rattle.book.specs.declared.Header.{Header}
 use Rattle.book.specs.Book.{Book, L}
@@ -10,7 +11,7 @@ use Rattle.book.specs.Check.{check-present, check-surplus, check-lines}
 
 -- of a refused book the image may hold anything
 abbrev pub Opened : List ℕ → Checked Book → Type 0
-Opened m r = (b : Book) → r ≡ good b → (program-in m ≡ b .program) × (word m 6 ≡ L (b .program))
+Opened m r = (b : Book) → r ≡ good b → (program-in m ≡ b .program) × (word m 6 ≡ L (b .program)) × (word m 5 ≡ length (b .entries))
 
 -- the check of a book once its header is known
 abbrev pub check-text : Header → List ℕ → Checked Book

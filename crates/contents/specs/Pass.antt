@@ -1,16 +1,13 @@
 -- What a pass over the contents lines finds. A line out of form, wherever it stands, comes before one at fault by 8 (01, "Refused, and how").
 use mathlib.Core.Bool.{Bool}
 use mathlib.Core.List.{List}
-use Prim.Native.Nat.{ℕ, _+_, _-_}
-use lib.ListN.{length}
+use Prim.Native.Nat.{ℕ, _-_}
 use Rattle.text.specs.declared.Found.{Found}
 use Rattle.text.specs.declared.Found.the-variants.{Nowhere, Here}
 use Rattle.text.specs.Words.{least-from}
 use Rattle.text.specs.Text.{bad-line}
 use Rattle.book.specs.Book.{Program}
-use Rattle.book.specs.Lines.{first-function}
 use Rattle.book.specs.Contents.{bad-entry}
-use Rattle.book.specs.Image.{word, capped, program-in}
 use Rattle.contents.specs.declared.Faults.{Faults}
 use Rattle.contents.specs.Roll.{entries-from}
 
@@ -27,10 +24,3 @@ bad-at B text first n i = bad-entry B (entries-from text first n) (i - first)
 
 unfoldable pub faults-from : Program → List ℕ → ℕ → ℕ → Faults
 faults-from B text first n = faults (least-from (bad-line text) n first) (least-from (bad-at B text first n) n first)
-
--- where an image says that the contents lines are, and how many
-abbrev pub first-line : List ℕ → ℕ
-first-line m = first-function + length (program-in m .functions) + length (program-in m .nodes) + length (program-in m .agents)
-
-abbrev pub line-count : List ℕ → ℕ
-line-count m = capped (word m 5) 65536

@@ -14,9 +14,9 @@ ghost use Rattle.text.specs.Text.{bad-line};
 ghost use Rattle.book.specs.Book.{true-element, relation, dynamic, default, offset};
 ghost use Rattle.book.specs.Lines.{entry-of};
 ghost use Rattle.book.specs.Contents.{in-form};
-ghost use Rattle.book.specs.Image.{program-in};
+ghost use Rattle.book.specs.Image.{program-in, first-entry-in, entry-count-in};
 ghost use Rattle.contents.specs.Roll.{marked, untraced-by, Clear};
-ghost use Rattle.contents.specs.Pass.{faults, faults-from, first-line, line-count};
+ghost use Rattle.contents.specs.Pass.{faults, faults-from};
 
 // What the pass finds: the least line out of form, and if there is none the least at fault by 8.
 pub struct Faults {
@@ -182,13 +182,10 @@ fn judge_lines<'a>(
 
 // 1 and 8: the least contents line out of form, or else the least at fault. Most books have few elements, and a small roll is soon cleared.
 pub fn judge<'a>(text: &'a [u8], image: &'a Image) -> Faults
-    ensures { λ r. ⌜ r ≡ faults-from (program-in (now (image .entry))) (now (text .entry)) (first-line (now (image .entry))) (line-count (now (image .entry))) ⌝ }
+    ensures { λ r. ⌜ r ≡ faults-from (program-in (now (image .entry))) (now (text .entry)) (first-entry-in (now (image .entry))) (entry-count-in (now (image .entry))) ⌝ }
 {
-    let first = 2
-        + image::functions(image) as u32
-        + image::nodes(image) as u32
-        + image::agents(image) as u32;
-    let end = first + image::cap(image[5], book::MOST_CONTENTS);
+    let first = image::first_entry(image);
+    let end = first + image::entries(image);
     if image::elements(image) <= 256 {
         let mut roll = [0u8; 256];
         judge_lines(text, image, first, end, &mut roll)

@@ -13,7 +13,7 @@ use Rattle.text.specs.Words.{good, _>>_, must, answer-of}
 use Rattle.text.proofs.Words.{test-good}
 use Rattle.book.specs.Book.{Program, Book, L, start}
 use Rattle.book.specs.Check.{check-book}
-use Rattle.book.specs.Image.{held}
+use Rattle.book.specs.Image.{word, program-in, held}
 use Rattle.order.specs.Pairs.{TwoFound, no-two, two, least-two}
 use Rattle.order.specs.Log.{Log}
 use Rattle.order.specs.Run.{Run, readers, writers, touching, order-checked}
@@ -26,7 +26,7 @@ use Rattle.touch.proofs.Fired.{touching-ordered}
 use Rattle.start.specs.Written.{started}
 use Rattle.start.proofs.Entries.{start-is}
 use Rattle.ends.specs.Ends.{Holds, touch-answer}
-use Rattle.ends.proofs.Marks.{length-readers, length-writers}
+use Rattle.ends.proofs.Marks.{length-readers}
 
 abbrev triple : ℕ → ℕ → ℕ → Answer
 triple n p q = record { number = n; p = p; q = q }
@@ -86,9 +86,9 @@ pub cleared : (s t : List ℕ) (i : ℕ) → i ≡ length s → t ≡ replicate 
 cleared s t i e q = q ∙ rw (e, drop-length s) (append-nil (replicate (length s) 0))
 
 -- written into a table of just the records needed, it is the whole table
-pub only-start : (text : List ℕ) (b : Book) → check-book text ≡ good b → (m c : List ℕ) → held m ≡ b .program → length c ≡ L (b .program)
-    → started (held m) text c ≡ start b
-only-start text b passes m c held e = start-is text b passes m c held (omega arith) ∙ rw (← e, drop-length c) (append-nil (start b))
+pub only-start : (text : List ℕ) (b : Book) → check-book text ≡ good b → (m c : List ℕ) → program-in m ≡ b .program → word m 5 ≡ length (b .entries) → held m ≡ b .program
+    → length c ≡ L (b .program) → started m text c ≡ start b
+only-start text b passes m c is count held e = start-is text b passes m is count c held (omega arith) ∙ rw (← e, drop-length c) (append-nil (start b))
 
 -- ---- 17
 

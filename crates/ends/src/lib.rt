@@ -7,7 +7,6 @@ use text::Answer;
 ghost use mathlib.Core.Path.{_≡_};
 ghost use lib.ListN.{length, replicate};
 ghost use Rattle.text.specs.Words.{answer-of};
-ghost use Rattle.book.specs.Image.{held};
 ghost use Rattle.order.specs.Pairs.{least-two};
 ghost use Rattle.order.specs.Call.{check-lengths};
 ghost use Rattle.start.specs.Written.{started};
@@ -71,7 +70,7 @@ pub fn begin(
     readers: &mut [u64],
     writers: &mut [u64],
 )
-    ensures { λ _. ⌜ now (contents .exit) ≡ started (held (now (image .entry))) (now (book .entry)) (now (contents .entry)) ⌝ }
+    ensures { λ _. ⌜ now (contents .exit) ≡ started (now (image .entry)) (now (book .entry)) (now (contents .entry)) ⌝ }
     ensures { λ _. ⌜ (now (readers .exit) ≡ replicate (length (now (readers .entry))) 0) × (now (writers .exit) ≡ replicate (length (now (writers .entry))) 0) ⌝ }
 {
     start::write_start(book, image, contents);

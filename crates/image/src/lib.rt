@@ -10,7 +10,7 @@ ghost use mathlib.Core.Path.{_≡_};
 ghost use Prim.Native.Nat.{_+_, _≤_};
 ghost use lib.ListN.{length};
 ghost use Rattle.book.specs.Book.{size, no-node, function-at, node-at, agent-at};
-ghost use Rattle.book.specs.Image.{image-length, word, row-in, capped, program-in, Room, capped-header, stored};
+ghost use Rattle.book.specs.Image.{image-length, word, row-in, capped, program-in, first-entry-in, entry-count-in, Room, capped-header, stored};
 
 // The first row of each kind.
 pub const FUNCTION_ROWS: u32 = 2;
@@ -100,6 +100,20 @@ pub fn agents(image: &Image) -> u16
     ensures { λ r. ⌜ r ≡ length (program-in (now (image .entry)) .agents) ⌝ }
 {
     cap(image[4], book::MOST_AGENTS) as u16
+}
+
+// C.
+pub fn entries(image: &Image) -> u32
+    ensures { λ r. ⌜ r ≡ entry-count-in (now (image .entry)) ⌝ }
+{
+    cap(image[5], book::MOST_CONTENTS)
+}
+
+// The line of the text at which the contents lines start.
+pub fn first_entry(image: &Image) -> u32
+    ensures { λ r. ⌜ r ≡ first-entry-in (now (image .entry)) ⌝ }
+{
+    2 + functions(image) as u32 + nodes(image) as u32 + agents(image) as u32
 }
 
 // L, as the book check leaves it.

@@ -218,7 +218,8 @@ module _ (book log : List ℕ) (n : Lengths) where
                   let p = all-parts b h e in
                   let k = reads b (p .0) in
                   let f = log-read (b .program) log h (p .1) in
-                  record { image = held-is book m opened b (p .0); locations = (el, opened b (p .0) .1); moves = k .moves h f; order = k .order h f };
+                  let o = opened b (p .0) in
+                  record { image = held-is book m opened b (p .0); program = o .0; entries = o .2; locations = (el, o .1); moves = k .moves h f; order = k .order h f };
               image = opened;
             }
 

@@ -3,7 +3,7 @@ use mathlib.Core.Path.{_≡_, refl, sym, ap, subst, _∙_}
 use mathlib.Core.Logic.{_≢_}
 use mathlib.Core.Bool.{false≢true}
 use mathlib.Core.List.{List, _++_}
-use Prim.Native.Nat.{ℕ, _≤_, min}
+use Prim.Native.Nat.{ℕ, min}
 use native.Mathlib.Omega.{arith}
 use lib.ListN.{length, take, drop}
 use lib.Seq.{length-take-le}
@@ -57,6 +57,8 @@ module _ (book : List ℕ) (b : Book) (g : Log) (r : Opening) (m o : List ℕ) (
       let s = does b g (record {
         book = all-parts book (p .log) (p .lent) b g (p .checks) .0;
         image = p .holds .image;
+        program = p .holds .program;
+        entries = p .holds .entries;
         runs = runnable book (p .log) (p .lent) b g (p .checks) m o (p .holds .image) (p .holds .order);
         moves = p .holds .moves;
         contents = length-take-le k (t .contents) (omega (arith, j, same, p .contents)) ∙ j;

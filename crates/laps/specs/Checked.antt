@@ -6,7 +6,7 @@ use lib.ListN.{length}
 use Rattle.text.specs.Words.{good, answer-of}
 use Rattle.book.specs.Book.{Book, L, start}
 use Rattle.book.specs.Check.{check-book}
-use Rattle.book.specs.Image.{word, held}
+use Rattle.book.specs.Image.{word, program-in, held}
 use Rattle.order.specs.declared.Lengths.{Lengths}
 use Rattle.order.specs.Log.{Log}
 use Rattle.engine.specs.declared.Instruction.{Instruction}
@@ -20,6 +20,8 @@ use Rattle.laps.specs.declared.Opening.{Opening}
 -- of the book b and the log g, which passed
 pub record Holds (b : Book) (g : Log) (r : Opening) (m o : List ℕ) : Type 0 where
   pub image : held m ≡ b .program
+  pub program : program-in m ≡ b .program
+  pub entries : word m 5 ≡ length (b .entries)
   pub locations : (r .locations ≡ word m 6) × (word m 6 ≡ L (b .program))
   pub moves : r .moves ≡ length (g .moves)
   pub order : Ordered g o

@@ -7,7 +7,7 @@ use Rattle.text.specs.declared.Answer.{Answer}
 use Rattle.text.specs.Words.{good}
 use Rattle.book.specs.Book.{Program, Book, L, start}
 use Rattle.book.specs.Check.{check-book}
-use Rattle.book.specs.Image.{held}
+use Rattle.book.specs.Image.{word, program-in, held}
 use Rattle.book.specs.Sound.{Lawful, Sound}
 use Rattle.order.specs.Log.{Log, most-moves, move-at}
 use Rattle.order.specs.Run.{Run, ran, run, LogAnswer}
@@ -42,6 +42,8 @@ pub record Going (B : Program) (g : Log) (c : List ℕ) (i : ℕ) (d rs ws : Lis
 pub record Startable (text m o : List ℕ) (b : Book) (g : Log) (n : ℕ) (d rs ws : List ℕ) : Type 0 where
   pub book : check-book text ≡ good b
   pub image : held m ≡ b .program
+  pub program : program-in m ≡ b .program
+  pub entries : word m 5 ≡ length (b .entries)
   pub runs : Runnable m o g (start b)
   pub moves : n ≡ length (g .moves)
   pub contents : length d ≡ L (held m)

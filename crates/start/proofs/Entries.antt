@@ -2,7 +2,7 @@
 use mathlib.Core.Path.{_≡_, refl, sym, ap, _∙_}
 use mathlib.Core.Bool.{true, false}
 use mathlib.Core.List.{List, _++_}
-use Prim.Native.Nat.{ℕ, zero, suc, _+_, _-_, _%_, _≤_, _<_}
+use Prim.Native.Nat.{ℕ, zero, suc, _+_, _-_, _≤_, _<_}
 use native.Mathlib.Numerals.{add-one}
 use native.Mathlib.Nat.{mod-eq-of-lt}
 use native.Mathlib.Omega.{arith}
@@ -15,16 +15,17 @@ use Rattle.text.proofs.Words.{so-true, length-table-from, getD-table}
 use Rattle.book.specs.declared.Header.{Header}
 use Rattle.book.specs.declared.Entry.{Entry}
 use Rattle.book.specs.Book.{Program, Book, L, size, function-at, no-entry, entry-at, entry-location, default-at, defaults, enter, start}
-use Rattle.book.specs.Lines.{first-entry, entry-of, entries-of, book-of}
+use Rattle.book.specs.Lines.{first-entry, entry-of, entries-of}
 use Rattle.book.specs.Contents.{in-bounds, bad-entry}
-use Rattle.book.specs.Image.{held}
+use Rattle.book.specs.Image.{word, capped, program-in, first-entry-in, held}
 use Rattle.book.specs.Check.{check-header, check-lines, check-book}
 use Rattle.book.specs.Sound.{Lawful}
-use Rattle.book.proofs.Accepted.{header-bounded, header-is, lines-book, book-lengths, accepted-lines, accepted, accepted-entries}
+use Rattle.book.proofs.Accepted.{header-bounded, lines-book, book-lengths, accepted-lines, accepted, accepted-entries}
 use Rattle.book.proofs.Places.{spot}
 use Rattle.book.proofs.Start.{in-bounds-is}
 use Rattle.pages.proofs.Parts.{between-inside, part-numbered, part-own}
-use Rattle.start.specs.Written.{defaults-in, line-put, lines-put, first-line, contents-lines, started}
+use Rattle.book.proofs.Image.{uncapped}
+use Rattle.start.specs.Written.{defaults-in, line-put, lines-put, contents-lines, started}
 use Rattle.start.proofs.Defaults.{defaults-long}
 
 -- ---- the loop over the lines
@@ -84,15 +85,19 @@ entries-are : (h : Header) (text : List ℕ) → entries-of h text ≡ table (λ
 unfolding entries-of
 entries-are h text = refl
 
-module _ (text : List ℕ) (b : Book) (passes : check-book text ≡ good b) where
+-- m is an image that holds it
+module _ (text : List ℕ) (b : Book) (passes : check-book text ≡ good b) (m : List ℕ) (is : program-in m ≡ b .program) (count : word m 5 ≡ length (b .entries)) where
   abbrev B : Program
   B = b .program
+
+  abbrev at : ℕ → Line
+  at i = line text (first-entry-in m + i)
 
   -- what its text says of it
   record Said : Type 0 where
     pub few : length (B .functions) ≤ 32
-    pub lines : contents-lines text ≡ table (λ i. line text (first-line text + i)) (length (b .entries))
-    pub entries : b .entries ≡ table (λ i. entry-of (line text (first-line text + i))) (length (b .entries))
+    pub lines : contents-lines m text ≡ table at (length (b .entries))
+    pub entries : b .entries ≡ table (λ i. entry-of (at i)) (length (b .entries))
 
   said : Said
   said =
@@ -101,49 +106,36 @@ module _ (text : List ℕ) (b : Book) (passes : check-book text ≡ good b) wher
     where
       go : (h : Header) → check-header text ≡ good h → check-lines h text ≡ good b → Said
       go h p q =
-          let e = header-is text h p in
           let k = header-bounded text h p in
           let s = lines-book text h b q in
           let long = book-lengths h text in
-          let nf : line text 0 .c % 65536 ≡ h .functions =
-          mod-eq-of-lt {n = line text 0 .c} {m = 65536} (omega (arith, ap (λ (x : Header). x .functions) e, k .functions .1)) ∙ ap (λ (x : Header). x .functions) e in
-          let nn : line text 0 .d % 65536 ≡ h .nodes =
-          mod-eq-of-lt {n = line text 0 .d} {m = 65536} (omega (arith, ap (λ (x : Header). x .nodes) e, k .nodes .1)) ∙ ap (λ (x : Header). x .nodes) e in
-          let na : line text 1 .a % 65536 ≡ h .agents =
-          mod-eq-of-lt {n = line text 1 .a} {m = 65536} (omega (arith, ap (λ (x : Header). x .agents) e, k .agents .1)) ∙ ap (λ (x : Header). x .agents) e in
-          let first : first-line text ≡ first-entry h = rw (nf, nn, na) in
+          let first : first-entry-in m ≡ first-entry h =
+          ap (λ (X : Program). 2 + length (X .functions) + length (X .nodes) + length (X .agents)) (is ∙ ap (λ (x : Book). x .program) s) ∙ rw (long .0, long .1, long .2) in
           let many : length (b .entries) ≡ h .contents = ap (λ (x : Book). length (x .entries)) s ∙ long .3 in
           record {
             few = omega (arith, ap (λ (x : Book). length (x .program .functions)) s, long .0, k .functions .1);
-            lines = ap (λ (n : ℕ). table (λ i. line text (first-line text + i)) n) (ap (λ (x : Header). x .contents) e ∙ sym many);
-            entries = said-entries h s first many;
+            lines = ap (table at) (ap (λ (n : ℕ). capped n 65536) count ∙ uncapped (length (b .entries)) 65536 (omega (arith, many, k .contents)));
+            entries =
+                ap (λ (x : Book). x .entries) s ∙ entries-are h text
+                ∙ sym (ap (λ (n : ℕ). table (λ i. entry-of (line text (n + i))) (length (b .entries))) first
+                ∙ ap (λ (n : ℕ). table (λ i. entry-of (line text (first-entry h + i))) n) many);
           }
-        where
-          said-entries : (h : Header) → b ≡ book-of h text → first-line text ≡ first-entry h → length (b .entries) ≡ h .contents
-              → b .entries ≡ table (λ i. entry-of (line text (first-line text + i))) (length (b .entries))
-          said-entries h s first many =
-              ap (λ (x : Book). x .entries) s ∙ entries-are h text
-              ∙ sym (ap (λ (n : ℕ). table (λ i. entry-of (line text (n + i))) (length (b .entries))) first
-              ∙ ap (λ (n : ℕ). table (λ i. entry-of (line text (first-entry h + i))) n) many)
 
-  small : Said → (k : ℕ) → k < length (b .entries) → Small B (line text (first-line text + k))
+  small : Said → (k : ℕ) → k < length (b .entries) → Small B (at k)
   small s k h =
-      let l = line text (first-line text + k) in
-      let e : entry-at (b .entries) k ≡ entry-of l =
-      ap (λ (es : List Entry). getD es k no-entry) (s .entries)
-      ∙ getD-table (λ i. entry-of (line text (first-line text + i))) (length (b .entries)) k no-entry h in
-      let k = in-bounds-is B (entry-of l) (rw e at (in-range B (b .entries) k (accepted-entries text b passes k h))) in
+      let e : entry-at (b .entries) k ≡ entry-of (at k) =
+      ap (λ (es : List Entry). getD es k no-entry) (s .entries) ∙ getD-table (λ i. entry-of (at i)) (length (b .entries)) k no-entry h in
+      let k = in-bounds-is B (entry-of (at k)) (rw e at (in-range B (b .entries) k (accepted-entries text b passes k h))) in
       record { function = k .0; first = k .1; second = k .2; value = k .3 }
 
   -- what is written into a table that is long enough is the start of a run
-  pub start-is : (m c : List ℕ) → held m ≡ B → L B ≤ length c → started (held m) text c ≡ start b ++ drop (L B) c
+  pub start-is : (c : List ℕ) → held m ≡ B → L B ≤ length c → started m text c ≡ start b ++ drop (L B) c
   unfolding defaults start
-  start-is m c held long =
+  start-is c held long =
       let s = said in
       let n : ℕ = length (b .entries) in
       let rest : List ℕ = drop (L B) c in
-      let at : ℕ → Line = λ i. line text (first-line text + i) in
-      ap (λ (X : Program). started X text c) held
+      ap (λ (X : Program). lines-put X (contents-lines m text) (defaults-in X c)) held
       ∙ ap (λ (ls : List Line). lines-put B ls (defaults-in B c)) (s .lines)
       ∙ ap (λ (d : List ℕ). lines-put B (table at n) d) (defaults-long B c long)
       ∙ put-all B (accepted text b passes) (s .few) rest at 0 n (defaults B) (length-table-from (default-at B) 0 (L B))

@@ -7,6 +7,7 @@ use Rattle.text.specs.Words.{if_then_else_, table}
 use Rattle.text.specs.Text.{line}
 use Rattle.book.specs.declared.Function.{Function}
 use Rattle.book.specs.Book.{Program, L, size, location, function-at, defaults}
+use Rattle.book.specs.Image.{first-entry-in, entry-count-in, held}
 use Rattle.pages.specs.Part.{between, put-in}
 
 -- the places from `first` to `end` hold v, the others what they held
@@ -30,13 +31,10 @@ unfoldable pub lines-put : Program → List Line → List ℕ → List ℕ
 lines-put B [] c = c
 lines-put B (l ∷ ls) c = lines-put B ls (line-put B l c)
 
--- where the contents lines of a book's text start, and those lines
-abbrev pub first-line : List ℕ → ℕ
-first-line text = 2 + line text 0 .c % 65536 + line text 0 .d % 65536 + line text 1 .a % 65536
-
-abbrev pub contents-lines : List ℕ → List Line
-contents-lines text = table (λ i. line text (first-line text + i)) (line text 1 .b)
+-- the contents lines of a book's text, where its image says that they are
+abbrev pub contents-lines : List ℕ → List ℕ → List Line
+contents-lines m text = table (λ i. line text (first-entry-in m + i)) (entry-count-in m)
 
 -- the start of a run written into the table c: each function's part filled with its default, then each contents line put at its location
-abbrev pub started : Program → List ℕ → List ℕ → List ℕ
-started B text c = lines-put B (contents-lines text) (defaults-in B c)
+abbrev pub started : List ℕ → List ℕ → List ℕ → List ℕ
+started m text c = lines-put (held m) (contents-lines m text) (defaults-in (held m) c)

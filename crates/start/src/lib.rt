@@ -101,17 +101,12 @@ fn write_line(image: &Image, contents: &mut [Value], l: Line)
     );
 }
 
-// All contents lines, one by one; the header says where they start and how many there are.
+// All contents lines, one by one, from where the image says that they are.
 fn write_entries(book: &[u8], image: &Image, contents: &mut [Value])
-    ensures { λ _. ⌜ now (contents .exit) ≡ lines-put (held (now (image .entry))) (contents-lines (now (book .entry))) (now (contents .entry)) ⌝ }
+    ensures { λ _. ⌜ now (contents .exit) ≡ lines-put (held (now (image .entry))) (contents-lines (now (image .entry)) (now (book .entry))) (now (contents .entry)) ⌝ }
 {
-    let k = text::read_line(book, 0, 0);
-    let l = text::read_line(book, 0, 1);
-    let f = numbers::low(k.c);
-    let n = numbers::low(k.d);
-    let a = numbers::low(l.a);
-    let first = 2 + f as u32 + n as u32 + a as u32;
-    let count = l.b;
+    let first = image::first_entry(image);
+    let count = image::entries(image);
     let mut i: u32 = 0;
     while i < count {
         let entry = text::read_line(book, first, i);
@@ -122,7 +117,7 @@ fn write_entries(book: &[u8], image: &Image, contents: &mut [Value])
 
 // The start of a run of the book whose image it is: every location's default, then the contents lines.
 pub fn write_start(book: &[u8], image: &Image, contents: &mut [Value])
-    ensures { λ _. ⌜ now (contents .exit) ≡ started (held (now (image .entry))) (now (book .entry)) (now (contents .entry)) ⌝ }
+    ensures { λ _. ⌜ now (contents .exit) ≡ started (now (image .entry)) (now (book .entry)) (now (contents .entry)) ⌝ }
 {
     write_defaults(image, contents);
     write_entries(book, image, contents);

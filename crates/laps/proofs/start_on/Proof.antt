@@ -23,7 +23,7 @@ same-length-3 : tie.Need-same-length-3
 same-length-3 c = search needs
 
 returns : tie.Need-returns
-returns c = let a = c .before .before .before .before .before .before .before .before .before .before .before .before .before .before .before .before .before .args in let e = c .before .before .before .before .before .before .before .before .before .begin in let w = c .turn-to in λ b g s. from-none (a .image .now) (a .order .now) b g (a .moves) (w .result) (e .last .1 .1 .0) (e .last .1 .1 .1 .0) (e .last .1 .1 .1 .1 .0) (w .ensures .0 (a .image .now) (start b) (e .last .1 .1 .0) g (s .moves) (starts-run (a .book .now) (a .image .now) (a .order .now) b g (a .moves) (a .contents .now) (a .readers .now) (a .writers .now) s (e .last .1 .1 .0) (e .last .1 .1 .1 .0) (e .last .1 .1 .1 .1 .0) (e .ensures .0 ∙ only-start (a .book .now) b (s .book) (a .image .now) (a .contents .now) (s .image) (s .contents ∙ ap L (s .image))) (e .ensures .1 .0) (e .ensures .1 .1)))
+returns c = let a = c .before .before .before .before .before .before .before .before .before .before .before .before .before .before .before .before .before .args in let e = c .before .before .before .before .before .before .before .before .before .begin in let w = c .turn-to in λ b g s. from-none (a .image .now) (a .order .now) b g (a .moves) (w .result) (e .last .1 .1 .0) (e .last .1 .1 .1 .0) (e .last .1 .1 .1 .1 .0) (w .ensures .0 (a .image .now) (start b) (e .last .1 .1 .0) g (s .moves) (starts-run (a .book .now) (a .image .now) (a .order .now) b g (a .moves) (a .contents .now) (a .readers .now) (a .writers .now) s (e .last .1 .1 .0) (e .last .1 .1 .1 .0) (e .last .1 .1 .1 .1 .0) (e .ensures .0 ∙ only-start (a .book .now) b (s .book) (a .image .now) (a .contents .now) (s .program) (s .entries) (s .image) (s .contents ∙ ap L (s .image))) (e .ensures .1 .0) (e .ensures .1 .1)))
 
 pub start-on-spec : {M : Type 1} → statement M
 start-on-spec =
