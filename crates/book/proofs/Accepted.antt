@@ -193,6 +193,9 @@ book-lawful h text b p =
 pub lines-book : (text : List ℕ) (h : Header) (b : Book) → check-lines h text ≡ good b → b ≡ book-of h text
 lines-book text h b e = sym (passed h text b e .1)
 
+pub lines-nodes : (text : List ℕ) (h : Header) (b : Book) → check-lines h text ≡ good b → (n : ℕ) → n < h .nodes → bad-node (program-of h text) n ≡ false
+lines-nodes text h b e = passed h text b e .0 .nodes
+
 pub lines-lawful : (text : List ℕ) (h : Header) (b : Book) → check-header text ≡ good h → check-lines h text ≡ good b → Lawful (b .program)
 lines-lawful text h b e f =
     let r = passed h text b f in

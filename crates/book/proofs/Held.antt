@@ -62,7 +62,7 @@ module _ (m : List ℕ) where
 
 -- ---- where all of it fits
 
-map-same : {A : Type 0} (f : A → A) (d : A) (xs : List A) → ((i : ℕ) → i < length xs → f (getD xs i d) ≡ getD xs i d) → map f xs ≡ xs
+pub map-same : {A : Type 0} (f : A → A) (d : A) (xs : List A) → ((i : ℕ) → i < length xs → f (getD xs i d) ≡ getD xs i d) → map f xs ≡ xs
 map-same f d [] h = refl
 map-same f d (x ∷ xs) h = ap₂ _∷_ (h 0 (omega arith)) (map-same f d xs (λ i l. h (suc i) (omega arith)))
 

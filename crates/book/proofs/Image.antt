@@ -2,9 +2,9 @@
 use mathlib.Core.Path.{_≡_, refl, sym, _∙_, ap}
 use mathlib.Core.Bool.{Bool, true, false}
 use mathlib.Core.List.{List, _∷_}
-use Prim.Native.Nat.{ℕ, zero, suc, _+_, _-_, _*_, _^_, _<_, _≤_}
+use Prim.Native.Nat.{ℕ, zero, suc, _+_, _-_, _*_, _/_, _%_, _^_, _<_, _≤_}
 use native.Mathlib.Decide.{decLt}
-use native.Mathlib.Nat.{le-of-lt, lt-of-le-of-lt, mul-le-mul-left, mul-le-mul-right, mul-lt-mul-of-pos-right}
+use native.Mathlib.Nat.{le-of-lt, lt-of-le-of-lt, mul-le-mul-left, mul-le-mul-right, mul-lt-mul-of-pos-right, mul-add-div-right, mul-add-mod-self-right, div-eq-of-lt, mod-eq-of-lt}
 use native.Mathlib.Numerals.{add-one}
 use native.Mathlib.Omega.{arith}
 use lib.Pow.{pow-pos, pow-add}
@@ -17,9 +17,10 @@ use Rattle.text.specs.Words.{if_then_else_, table-from, table}
 use Rattle.text.proofs.Words.{length-table-from, getD-table, getD-table-past}
 use Rattle.book.specs.declared.Header.{Header}
 use Rattle.book.specs.declared.Function.{Function}
+use Rattle.book.specs.declared.Node.{Node}
 use Rattle.book.specs.Book.{total, size, function-at, node-at, agent-at, no-function, no-node, no-agent}
-use Rattle.book.specs.Lines.{lay-out, node-of, agent-of}
-use Rattle.book.specs.Image.{word, row-in, capped, function-of, program-in, Room, capped-header, stored, filled, first-of, laid-row}
+use Rattle.book.specs.Lines.{lay-out, agent-of}
+use Rattle.book.specs.Image.{word, row-in, node-place, node-in, capped, function-of, program-in, kept-node, Room, capped-header, stored, node-stored, filled, first-of, laid-row}
 
 -- a count within its bound
 pub uncapped : (n most : ℕ) → n ≤ most → capped n most ≡ n
@@ -41,6 +42,7 @@ pub within-bounds : (h : Header) → Room h → capped-header h ≡ h
 within-bounds h room =
     rw (
       uncapped (h .elements) 10000 (room .elements),
+      uncapped (h .permanent) 10000 (room .permanent),
       uncapped (h .functions) 32 (room .functions),
       uncapped (h .nodes) 1024 (room .nodes),
       uncapped (h .agents) 16 (room .agents),
@@ -83,13 +85,13 @@ module _ (m : List ℕ) where
   unfolding program-in
   function-past f h = getD-table-past (λ f. function-of (row-in m (2 + f))) (capped (word m 2) 32) f no-function h
 
-  pub node-inside : (n : ℕ) → n < capped (word m 3) 1024 → node-at (program-in m) n ≡ node-of (row-in m (50 + n))
+  pub node-inside : (n : ℕ) → n < capped (word m 3) 1024 → node-at (program-in m) n ≡ node-in m n
   unfolding program-in
-  node-inside n h = getD-table (λ n. node-of (row-in m (50 + n))) (capped (word m 3) 1024) n no-node h
+  node-inside n h = getD-table (node-in m) (capped (word m 3) 1024) n no-node h
 
   pub node-past : (n : ℕ) → capped (word m 3) 1024 ≤ n → node-at (program-in m) n ≡ no-node
   unfolding program-in
-  node-past n h = getD-table-past (λ n. node-of (row-in m (50 + n))) (capped (word m 3) 1024) n no-node h
+  node-past n h = getD-table-past (node-in m) (capped (word m 3) 1024) n no-node h
 
   pub agent-inside : (i : ℕ) → i < capped (word m 4) 16 → agent-at (program-in m) i ≡ agent-of (row-in m (34 + i))
   unfolding program-in
@@ -136,6 +138,64 @@ stored-same n l ns h =
     let f : (n * 4 + 2 ≡ n * 4 + 3) → ⊥ = omega arith in
     simp (getD-set-other, getD-set-same)
 
+-- ---- nodes stored
+
+pub length-node-stored : (n : ℕ) (y : Node) (m : List ℕ) → length (node-stored n y m) ≡ length m
+unfolding node-stored
+length-node-stored n y m = simp length-set
+
+-- a number of k bits, above one whose bits are all those of d
+part-high : (d k x : ℕ) → 0 < d → x < d → (k * d + x) / d ≡ k
+part-high d k x p h = mul-add-div-right {m = d} p k x ∙ rw (div-eq-of-lt h) (omega arith)
+
+part-low : (d k x : ℕ) → x < d → (k * d + x) % d ≡ x
+part-low d k x h = mul-add-mod-self-right k d x ∙ mod-eq-of-lt h
+
+pub node-stored-same : (n : ℕ) (y : Node) (m : List ℕ) → n * 2 + 201 < length m → node-in (node-stored n y m) n ≡ kept-node y
+unfolding node-stored
+node-stored-same n y m h =
+    let k = kept-node y in
+    let l0 : node-place n < length m = omega arith in
+    let l1 : node-place n + 1 < length (set m (node-place n) (k .kind * 1048576 + k .a)) = simp length-set (omega arith) in
+    let e : (node-place n ≡ node-place n + 1) → ⊥ = omega arith in
+    simp (
+      getD-set-other,
+      getD-set-same,
+      part-high 1048576 (k .kind) (k .a) (omega arith) (omega (arith, capped-most (y .a) 1048575)),
+      part-low 1048576 (k .kind) (k .a) (omega (arith, capped-most (y .a) 1048575)),
+      part-high 65536 (k .b) (k .c) (omega arith) (omega (arith, capped-most (y .c) 65535)),
+      part-low 65536 (k .b) (k .c) (omega (arith, capped-most (y .c) 65535)),
+    )
+
+node-stored-at :
+    (n : ℕ) (y : Node) (m : List ℕ) (i : ℕ) → (i ≡ node-place n → ⊥) → (i ≡ node-place n + 1 → ⊥) → getD (node-stored n y m) i 0 ≡ getD m i 0
+unfolding node-stored
+node-stored-at n y m i a b = simp getD-set-other
+
+pub node-stored-other : (n : ℕ) (y : Node) (m : List ℕ) (q : ℕ) → (q ≡ n → ⊥) → node-in (node-stored n y m) q ≡ node-in m q
+node-stored-other n y m q e =
+    rw (
+      node-stored-at n y m (node-place q) (λ p. e (omega arith)) (λ p. omega arith),
+      node-stored-at n y m (node-place q + 1) (λ p. omega arith) (λ p. e (omega arith)),
+    )
+
+-- rows and nodes stand apart
+pub node-stored-row : (n : ℕ) (y : Node) (m : List ℕ) (r : ℕ) → r < 50 → row-in (node-stored n y m) r ≡ row-in m r
+node-stored-row n y m r h =
+    rw (
+      node-stored-at n y m (r * 4) (λ p. omega arith) (λ p. omega arith),
+      node-stored-at n y m (r * 4 + 1) (λ p. omega arith) (λ p. omega arith),
+      node-stored-at n y m (r * 4 + 2) (λ p. omega arith) (λ p. omega arith),
+      node-stored-at n y m (r * 4 + 3) (λ p. omega arith) (λ p. omega arith),
+    )
+
+pub stored-node : (r : ℕ) (l : Line) (m : List ℕ) (n : ℕ) → r < 50 → node-in (stored r l m) n ≡ node-in m n
+stored-node r l m n h =
+    rw (
+      stored-at r l m (node-place n) (λ p. omega arith) (λ p. omega arith) (λ p. omega arith) (λ p. omega arith),
+      stored-at r l m (node-place n + 1) (λ p. omega arith) (λ p. omega arith) (λ p. omega arith) (λ p. omega arith),
+    )
+
 -- ---- a run of rows filled
 
 module _ (f : ℕ → Line) (base : ℕ) where
@@ -155,6 +215,12 @@ module _ (f : ℕ → Line) (base : ℕ) where
   filled-above zero i m q h = refl
   filled-above (suc left) i m q h =
       filled-above left (suc i) (stored (base + i) (f i) m) q (omega arith) ∙ stored-other (base + i) (f i) m q (λ e. omega arith)
+
+  pub filled-node : (left i : ℕ) (m : List ℕ) (n : ℕ) → base + i + left ≤ 50 → node-in (filled f base left i m) n ≡ node-in m n
+  unfolding filled
+  filled-node zero i m n h = refl
+  filled-node (suc left) i m n h =
+      filled-node left (suc i) (stored (base + i) (f i) m) n (omega arith) ∙ stored-node (base + i) (f i) m n (omega arith)
 
   pub filled-in :
       (left i : ℕ) (m : List ℕ) → (base + i + left) * 4 ≤ length m → (j : ℕ) → i ≤ j → j < i + left → row-in (filled f base left i m) (base + j) ≡ f j

@@ -7,3 +7,4 @@ pub mod Refusals
 pub mod Claims
 pub mod Image
 pub mod Held
+pub mod Kept

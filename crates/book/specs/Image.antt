@@ -1,8 +1,9 @@
--- The image of a program, which the code holds: rows of four numbers. Rows 0 and 1 are `E P F N` and `A C L 0`; function f is row 2 + f (first, arity,
--- kind), agent i row 34 + i (root, element), node n row 50 + n (kind, a, b, c). A count past its bound counts as the bound: every image holds a program.
+-- The image of a program, which the code holds: words of 32 bits. The first 200 are rows of four. Rows 0 and 1 are `E P F N` and `A C L 0`; function f is
+-- row 2 + f (first, arity, kind), agent i row 34 + i (root, element). After them each node has two words: kind and a, b and c. A count past its bound counts
+-- as the bound: every image holds a program.
 use mathlib.Core.Path.{_≡_}
 use mathlib.Core.List.{List, map}
-use Prim.Native.Nat.{ℕ, zero, suc, _+_, _*_, _%_, _≤_}
+use Prim.Native.Nat.{ℕ, zero, suc, _+_, _*_, _/_, _%_, _≤_}
 use lib.Dec.{ltb}
 use lib.ListN.{length, getD, set}
 use Rattle.text.specs.declared.Line.{Line}
@@ -13,10 +14,10 @@ use Rattle.book.specs.declared.Function.{Function}
 use Rattle.book.specs.declared.Node.{Node}
 use Rattle.book.specs.declared.Agent.{Agent}
 use Rattle.book.specs.Book.{Program, L, size}
-use Rattle.book.specs.Lines.{first-function, node-of, agent-of, program-of}
+use Rattle.book.specs.Lines.{first-function, agent-of, program-of}
 
 abbrev pub image-length : ℕ
-image-length = 4296
+image-length = 2248
 
 abbrev pub word : List ℕ → ℕ → ℕ
 word m i = getD m i 0
@@ -26,6 +27,17 @@ row-in m r = record { a = word m (r * 4); b = word m (r * 4 + 1); c = word m (r 
 
 abbrev pub capped : ℕ → ℕ → ℕ
 capped n most = if ltb n most then n else most
+
+-- where node n starts
+abbrev pub node-place : ℕ → ℕ
+node-place n = 200 + n * 2
+
+-- of the first word a has twenty bits, of the second c has sixteen
+abbrev pub node-in : List ℕ → ℕ → Node
+node-in m n =
+    let v = word m (node-place n) in
+    let w = word m (node-place n + 1) in
+    record { kind = v / 1048576; a = v % 1048576; b = w / 65536; c = w % 65536 }
 
 abbrev pub function-of : Line → Function
 function-of l = record { first = l .a; arity = l .b; kind = l .c }
@@ -37,7 +49,7 @@ program-in m =
       E = capped (word m 0) 10000;
       P = word m 1;
       functions = table (λ f. function-of (row-in m (2 + f))) (capped (word m 2) 32);
-      nodes = table (λ n. node-of (row-in m (50 + n))) (capped (word m 3) 1024);
+      nodes = table (node-in m) (capped (word m 3) 1024);
       agents = table (λ i. agent-of (row-in m (34 + i))) (capped (word m 4) 16);
     }
 
@@ -73,36 +85,50 @@ held m =
       agents = map low-agent (B .agents);
     }
 
+-- What an image keeps of a node: a field that has too few bits becomes the largest number that they hold. No field of a node that passes 5 is so large, and
+-- of a node that does not pass, 5 says the same.
+abbrev pub kept-node : Node → Node
+kept-node y = record { kind = capped (y .kind) 4095; a = capped (y .a) 1048575; b = capped (y .b) 65535; c = capped (y .c) 65535 }
+
+unfoldable pub kept : Program → Program
+kept B = record { E = B .E; P = B .P; functions = B .functions; nodes = map kept-node (B .nodes); agents = B .agents }
+
 -- the image is that of the program that a text says
 pub record Holds (m : List ℕ) (h : Header) (text : List ℕ) : Type 0 where
-  pub program : program-in m ≡ program-of h text
+  pub program : program-in m ≡ kept (program-of h text)
   pub contents : word m 5 ≡ h .contents
   pub locations : word m 6 ≡ L (program-of h text)
 
 -- a header whose program has room in an image
 pub record Room (h : Header) : Type 0 where
   pub elements : h .elements ≤ 10000
+  pub permanent : h .permanent ≤ 10000
   pub functions : h .functions ≤ 32
   pub nodes : h .nodes ≤ 1024
   pub agents : h .agents ≤ 16
   pub contents : h .contents ≤ 65536
 
--- a header with each count that is past its bound at the bound
+-- a header with each number that is past its bound at the bound
 abbrev pub capped-header : Header → Header
 capped-header h =
     record {
       elements = capped (h .elements) 10000;
-      permanent = h .permanent;
+      permanent = capped (h .permanent) 10000;
       functions = capped (h .functions) 32;
       nodes = capped (h .nodes) 1024;
       agents = capped (h .agents) 16;
       contents = capped (h .contents) 65536;
     }
 
--- ---- rows stored
+-- ---- rows and nodes stored
 
 unfoldable pub stored : ℕ → Line → List ℕ → List ℕ
 stored r l m = set (set (set (set m (r * 4) (l .a)) (r * 4 + 1) (l .b)) (r * 4 + 2) (l .c)) (r * 4 + 3) (l .d)
+
+unfoldable pub node-stored : ℕ → Node → List ℕ → List ℕ
+node-stored n y m =
+    let k = kept-node y in
+    set (set m (node-place n) (k .kind * 1048576 + k .a)) (node-place n + 1) (k .b * 65536 + k .c)
 
 -- rows from base + i on, `left` of them, with f i and so on
 unfoldable pub filled : (ℕ → Line) → ℕ → ℕ → ℕ → List ℕ → List ℕ

@@ -13,8 +13,8 @@ pub const MOST_CONTENTS: u32 = 65536;
 
 pub const MOST_LOCATIONS: u32 = 65536;
 
-// The image of a program, as specs/Image lays it out: rows of four words.
-pub type Image = [u32; 4296];
+// The image of a program, as specs/Image lays it out.
+pub type Image = [u32; 2248];
 
 // The header's numbers: E, P, F, N, A and C.
 pub struct Header {

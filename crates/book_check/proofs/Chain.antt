@@ -3,7 +3,7 @@ use mathlib.Core.Path.{_≡_, refl, sym, _∙_, ap, subst}
 use mathlib.Core.Logic.{_≢_}
 use mathlib.Core.Bool.{Bool, true, false, not}
 use mathlib.Core.List.{List}
-use Prim.Native.Nat.{ℕ, zero, suc, _+_, _-_, _≤_}
+use Prim.Native.Nat.{ℕ, zero, suc, _+_, _-_, _≤_, _<_}
 use native.Mathlib.Omega.{arith}
 use lib.Dec.{leb}
 use lib.ListN.{length}
@@ -14,7 +14,7 @@ use Rattle.text.specs.declared.Line.{Line}
 use Rattle.text.specs.Words.{if_then_else_, least-from, least, Checked, good, refused, _>>=_, _>>_, none-at, must, answer-of}
 use Rattle.text.specs.Refusals.{ill-formed, book-text, header-bounds, function-line, node-line, node-use, agent-line, contents-rule}
 use Rattle.text.specs.Text.{line, line-bytes, well-formed, bad-line}
-use Rattle.text.proofs.Words.{least-same, least-first, least-rest, then-good}
+use Rattle.text.proofs.Words.{least-same, least-from-same, least-none, least-first, least-rest, then-good}
 use Rattle.text.proofs.Checks.{Numbered, none-numbered, must-numbered, then-ends, then-stops, then-goes-on}
 use Rattle.book.specs.declared.Header.{Header}
 use Rattle.book.specs.Book.{Program, Book, L}
@@ -23,12 +23,14 @@ use Rattle.book.specs.Use.{bad-use}
 use Rattle.book.specs.Around.{bad-around}
 use Rattle.book.specs.Contents.{bad-entry}
 use Rattle.book.specs.Check.{check-header, check-present, check-surplus, check-program, check-lines, check-book}
-use Rattle.book.specs.Image.{image-length, word, row-in, capped, program-in, first-entry-in, entry-count-in, Holds, Room, capped-header}
-use Rattle.book.proofs.Accepted.{header-bounded, lines-book, book-lengths}
+use Rattle.book.specs.Image.{image-length, word, row-in, capped, program-in, first-entry-in, entry-count-in, kept, Holds, Room, capped-header}
+use Rattle.book.proofs.Accepted.{header-bounded, lines-book, lines-nodes, book-lengths}
 use Rattle.book.proofs.Image.{uncapped, within-bounds, functions-long}
+use Rattle.book.proofs.Kept.{kept-nodes, entry-kept, bad-node-kept, kept-whole}
 use Rattle.rows.specs.Rows.{headed, taken, passed, laid, Rows}
 use Rattle.rows.proofs.Rows.{length-headed, length-taken, taken-rows, laid-holds, laid-agent}
 use Rattle.contents.specs.declared.Faults.{Faults}
+use Rattle.contents.specs.Roll.{entries-from}
 use Rattle.contents.specs.Pass.{faults, bad-at, faults-from}
 use Rattle.book_check.specs.Opened.{Opened, check-text}
 
@@ -85,6 +87,11 @@ module _ (o : List ℕ) where
   abbrev pub from-locations : Checked (Unit {0})
   from-locations = of-locations >> (of-nodes >> (of-use >> (of-around >> of-agents)))
 
+-- after a refusal nothing matters
+stopped : {A : Type 0} (n p : ℕ) (c d : Checked A) → (none-at n 0 0 (Here p) >> c) ≡ (none-at n 0 0 (Here p) >> d)
+unfolding none-at _>>_
+stopped n p c d = refl
+
 module _ (m : List ℕ) (h : Header) (text : List ℕ) (room : Room h) (long : image-length ≤ length m) (rows : Rows m h text) where
   abbrev o : List ℕ
   o = laid m
@@ -103,22 +110,63 @@ module _ (m : List ℕ) (h : Header) (text : List ℕ) (room : Room h) (long : i
       ∙ least-same (λ f. bad-function (row-in m (2 + f)) f) (λ f. bad-function (line text (2 + f)) f) (h .functions)
       (λ f l. ap (λ (r : Line). bad-function r f) (rows .function f l))
 
-  held : (bad : Program → ℕ → Bool) → least (bad (program-in o)) (length (program-in o .nodes)) ≡ least (bad (program-of h text)) (h .nodes)
-  held bad =
-      ap (λ (B : Program). least (bad B) (length (B .nodes))) (holds .program) ∙ ap (least (bad (program-of h text))) (book-lengths h text .1)
+  abbrev B : Program
+  B = program-of h text
 
-  agents-held :
-      least (λ i. bad-agent (program-in o) (row-in o (34 + i)) i) (length (program-in o .agents))
-      ≡ least (λ i. bad-agent (program-of h text) (line text (first-agent h + i)) i) (h .agents)
-  agents-held =
-      ap (λ (B : Program). least (λ i. bad-agent B (row-in o (34 + i)) i) (length (B .agents))) (holds .program)
-      ∙ ap (least (λ i. bad-agent (program-of h text) (row-in o (34 + i)) i)) (book-lengths h text .2)
-      ∙ least-same (λ i. bad-agent (program-of h text) (row-in o (34 + i)) i) (λ i. bad-agent (program-of h text) (line text (first-agent h + i)) i) (h .agents)
-      (λ i l. ap (λ (r : Line). bad-agent (program-of h text) r i) (laid-agent m h text room long rows i l))
+  few-permanent : B .P ≤ 10000
+  unfolding program-of
+  few-permanent = room .permanent
+
+  few-functions : length (B .functions) ≤ 32
+  few-functions = rw (book-lengths h text .0) (room .functions)
+
+  few-nodes : length (B .nodes) ≤ 1024
+  few-nodes = rw (book-lengths h text .1) (room .nodes)
+
+  nodes-held : least (bad-node (program-in o)) (length (program-in o .nodes)) ≡ least (bad-node B) (h .nodes)
+  nodes-held =
+      ap (λ (X : Program). least (bad-node X) (length (X .nodes))) (holds .program)
+      ∙ ap (least (bad-node (kept B))) (kept-nodes B ∙ book-lengths h text .1)
+      ∙ least-same (bad-node (kept B)) (bad-node B) (h .nodes) (λ n l. bad-node-kept B few-permanent few-functions n (omega (arith, room .nodes)))
+
+  -- once no node is at fault, the image holds the program as it stands
+  pub whole : ((n : ℕ) → n < h .nodes → bad-node B n ≡ false) → program-in o ≡ B
+  whole ok = holds .program ∙ kept-whole B few-permanent few-functions few-nodes (λ n l. ok n (rw (book-lengths h text .1) at l))
+
+  module _ (is : program-in o ≡ B) where
+    held : (bad : Program → ℕ → Bool) → least (bad (program-in o)) (length (program-in o .nodes)) ≡ least (bad B) (h .nodes)
+    held bad = ap (λ (X : Program). least (bad X) (length (X .nodes))) is ∙ ap (least (bad B)) (book-lengths h text .1)
+
+    agents-held :
+        least (λ i. bad-agent (program-in o) (row-in o (34 + i)) i) (length (program-in o .agents))
+        ≡ least (λ i. bad-agent B (line text (first-agent h + i)) i) (h .agents)
+    agents-held =
+        ap (λ (X : Program). least (λ i. bad-agent X (row-in o (34 + i)) i) (length (X .agents))) is
+        ∙ ap (least (λ i. bad-agent B (row-in o (34 + i)) i)) (book-lengths h text .2)
+        ∙ least-same (λ i. bad-agent B (row-in o (34 + i)) i) (λ i. bad-agent B (line text (first-agent h + i)) i) (h .agents)
+        (λ i l. ap (λ (r : Line). bad-agent B r i) (laid-agent m h text room long rows i l))
+
+  abbrev after-nodes : Checked (Unit {0})
+  after-nodes = do
+    none-at node-use 0 0 (least (bad-use B) (h .nodes))
+    none-at node-use 0 0 (least (bad-around B) (h .nodes))
+    none-at agent-line 0 0 (least (λ i. bad-agent B (line text (first-agent h + i)) i) (h .agents))
+
+  nodes-on : (of-nodes o >> (of-use o >> (of-around o >> of-agents o))) ≡ (none-at node-line 0 0 (least (bad-node B) (h .nodes)) >> after-nodes)
+  nodes-on =
+      ap (λ (f : Found). none-at node-line 0 0 f >> (of-use o >> (of-around o >> of-agents o))) nodes-held ∙ go (least (bad-node B) (h .nodes)) refl
+    where
+      go :
+          (f : Found) → least (bad-node B) (h .nodes) ≡ f →
+          (none-at node-line 0 0 f >> (of-use o >> (of-around o >> of-agents o))) ≡ (none-at node-line 0 0 f >> after-nodes)
+      go Nowhere e =
+          let is = whole (least-none (bad-node B) (h .nodes) e) in
+          rw (held is bad-use, held is bad-around, agents-held is)
+      go (Here p) e = stopped node-line p (of-use o >> (of-around o >> of-agents o)) after-nodes
 
   pub program-held : (of-functions m >> from-locations o) ≡ check-program h text
   unfolding check-program
-  program-held = rw (functions-held, holds .locations, held bad-node, held bad-use, held bad-around, agents-held)
+  program-held = rw (functions-held, holds .locations, nodes-on)
 
 -- ---- refusals have numbers
 
@@ -207,9 +255,11 @@ shifted n q first bad (suc k) j =
 
 module _ (o : List ℕ) (h : Header) (text : List ℕ) (room : Room h) (holds : Holds o h text) where
   first-is : first-entry-in o ≡ first-entry h
+  unfolding kept
   first-is =
       let l = book-lengths h text in
-      ap (λ (B : Program). 2 + length (B .functions) + length (B .nodes) + length (B .agents)) (holds .program) ∙ rw (l .0, l .1, l .2)
+      ap (λ (B : Program). 2 + length (B .functions) + length (B .nodes) + length (B .agents)) (holds .program)
+      ∙ rw (kept-nodes (program-of h text), l .0, l .1, l .2)
 
   count-is : entry-count-in o ≡ h .contents
   count-is = ap (λ (n : ℕ). capped n 65536) (holds .contents) ∙ uncapped (h .contents) 65536 (room .contents)
@@ -217,9 +267,14 @@ module _ (o : List ℕ) (h : Header) (text : List ℕ) (room : Room h) (holds : 
   abbrev rule : Found
   rule = least-from (bad-at (program-of h text) text (first-entry h) (h .contents)) (h .contents) (first-entry h)
 
+  rule-kept : least-from (bad-at (kept (program-of h text)) text (first-entry h) (h .contents)) (h .contents) (first-entry h) ≡ rule
+  rule-kept =
+      least-from-same (bad-at (kept (program-of h text)) text (first-entry h) (h .contents)) (bad-at (program-of h text) text (first-entry h) (h .contents))
+      (h .contents) (first-entry h) (λ i a b. entry-kept (program-of h text) (entries-from text (first-entry h) (h .contents)) (i - first-entry h))
+
   found : faults-from (program-in o) text (first-entry-in o) (entry-count-in o) ≡ faults (contents-form h text) rule
   unfolding faults-from
-  found = rw (first-is, count-is, holds .program)
+  found = rw (first-is, count-is, holds .program, rule-kept)
 
   module _ (r : Faults) (is : r ≡ faults-from (program-in o) text (first-entry-in o) (entry-count-in o)) where
     pub form-found : r .form ≡ contents-form h text
@@ -240,13 +295,16 @@ module _ (o : List ℕ) (h : Header) (text : List ℕ) (room : Room h) (holds : 
 
 -- ---- what the checks leave in the image
 
--- an image that holds the text's program holds that of the book accepted
-pub opened-text : (o : List ℕ) (h : Header) (text : List ℕ) → Holds o h text → Opened o (check-text h text)
-opened-text o h text holds b e =
+-- the image of an accepted text's rows holds its program
+pub opened-text :
+    (m : List ℕ) (h : Header) (text : List ℕ) → Room h → image-length ≤ length m → Rows m h text → Opened (laid m) (check-text h text)
+opened-text m h text room long rows b e =
+    let holds = laid-holds m h text room long rows in
     let r = then-good (check-present h text) (check-surplus h text >> check-lines h text) b e in
     let s = then-good (check-surplus h text) (check-lines h text) b (r .2) in
-    subst (λ (x : Book). (program-in o ≡ x .program) × (word o 6 ≡ L (x .program)) × (word o 5 ≡ length (x .entries))) (sym (lines-book text h b (s .2)))
-    (holds .program, holds .locations, holds .contents ∙ sym (book-lengths h text .3))
+    subst (λ (x : Book). (program-in (laid m) ≡ x .program) × (word (laid m) 6 ≡ L (x .program)) × (word (laid m) 5 ≡ length (x .entries)))
+    (sym (lines-book text h b (s .2)))
+    (whole m h text room long rows (lines-nodes text h b (s .2)), holds .locations, holds .contents ∙ sym (book-lengths h text .3))
 
 -- ---- the header
 
@@ -297,6 +355,7 @@ module _ (text : List ℕ) where
       let b = header-bounded text header (header-good p q) in
       record {
         elements = b .elements .1;
+        permanent = omega (arith, b .permanent, b .elements);
         functions = b .functions .1;
         nodes = b .nodes .1;
         agents = b .agents .1;

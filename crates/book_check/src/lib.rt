@@ -126,6 +126,6 @@ pub fn check_into(book: &[u8], image: &mut Image) -> Answer
 pub fn check_book(book: &[u8]) -> Answer
     ensures { λ r. ⌜ r ≡ answer-of (check-book (now (book .entry))) ⌝ }
 {
-    let mut image = [0u32; 4296];
+    let mut image = [0u32; 2248];
     check_into(book, &mut image)
 }

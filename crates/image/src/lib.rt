@@ -10,14 +10,20 @@ ghost use mathlib.Core.Path.{_≡_};
 ghost use Prim.Native.Nat.{_+_, _≤_};
 ghost use lib.ListN.{length};
 ghost use Rattle.book.specs.Book.{size, no-node, function-at, node-at, agent-at};
-ghost use Rattle.book.specs.Image.{image-length, word, row-in, capped, program-in, first-entry-in, entry-count-in, Room, capped-header, stored};
+ghost use Rattle.book.specs.Image.{image-length, word, row-in, capped, program-in, first-entry-in, entry-count-in, Room, capped-header, stored, node-stored};
 
 // The first row of each kind.
 pub const FUNCTION_ROWS: u32 = 2;
 
 pub const AGENT_ROWS: u32 = 34;
 
-pub const NODE_ROWS: u32 = 50;
+// The first word of the nodes, which have two each.
+const NODE_WORDS: usize = 200;
+
+// In the first word of a node kind stands above a, in the second b above c.
+const ABOVE_A: u32 = 1048576;
+
+const ABOVE_C: u32 = 65536;
 
 // ---- rows
 
@@ -51,13 +57,22 @@ pub fn cap(n: u32, most: u32) -> u32
     if n < most { n } else { most }
 }
 
-// The header with each count that is past its bound at the bound.
+// Node n is stored. A field that has too few bits becomes the largest number that they hold.
+pub fn store_node(image: &mut Image, n: u32, y: Node)
+    ensures { λ _. ⌜ now (image .exit) ≡ node-stored n y (now (image .entry)) ⌝ }
+{
+    let at = NODE_WORDS + n as usize * 2;
+    numbers::put_word(image, at, cap(y.kind, 4095) * ABOVE_A + cap(y.a, 1048575));
+    numbers::put_word(image, at + 1, cap(y.b, 65535) * ABOVE_C + cap(y.c, 65535));
+}
+
+// The header with each number that is past its bound at the bound.
 pub fn capped(h: Header) -> Header
     ensures { λ r. ⌜ (r ≡ capped-header h) × Room r ⌝ }
 {
     Header {
         elements: cap(h.elements, book::MOST_ELEMENTS),
-        permanent: h.permanent,
+        permanent: cap(h.permanent, book::MOST_ELEMENTS),
         functions: cap(h.functions, book::MOST_FUNCTIONS),
         nodes: cap(h.nodes, book::MOST_NODES),
         agents: cap(h.agents, book::MOST_AGENTS),
@@ -167,12 +182,14 @@ pub fn node_at(image: &Image, n: u32) -> Node
     if book::MOST_NODES <= n {
         return no_node();
     }
-    let at = (NODE_ROWS as usize + n as usize) * 4;
+    let at = NODE_WORDS + n as usize * 2;
+    let v = image[at];
+    let w = image[at + 1];
     Node {
-        kind: image[at],
-        a: image[at + 1],
-        b: image[at + 2],
-        c: image[at + 3],
+        kind: v / ABOVE_A,
+        a: v % ABOVE_A,
+        b: w / ABOVE_C,
+        c: w % ABOVE_C,
     }
 }
 

@@ -52,7 +52,7 @@ pub fn run(
     ensures { λ r. ⌜ Ran (now (book .entry)) (now (log .entry)) (tables (now (contents .entry)) (now (readers .entry)) (now (writers .entry))) (now (instructions .entry)) r (tables (now (contents .exit)) (now (readers .exit)) (now (writers .exit))) (now (instructions .exit)) ⌝ }
 {
     let lent = instructions.len();
-    let mut image = [0u32; 4296];
+    let mut image = [0u32; 2248];
     let mut order = [0u64; 128];
     let t = laps::prepare(
         book,

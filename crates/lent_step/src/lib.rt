@@ -18,7 +18,7 @@ pub fn step(
     ensures { λ r. ⌜ (r ≡ step-call (now (book .entry)) (now (contents .entry)) agent (length (now (instructions .entry))) .answer) × (now (contents .exit) ≡ step-call (now (book .entry)) (now (contents .entry)) agent (length (now (instructions .entry))) .contents) × (now (instructions .exit) ≡ written (step-call (now (book .entry)) (now (contents .entry)) agent (length (now (instructions .entry))) .instructions) (now (instructions .entry))) ⌝ }
 {
     let lent = instructions.len();
-    let mut image = [0u32; 4296];
+    let mut image = [0u32; 2248];
     let mut work = [0u64; 256];
     let p = halves::first_half(book, contents, agent, lent, &mut image, &mut work);
     let count = p.begun.count;

@@ -132,7 +132,7 @@ fn report_parts(book: &[u8], log: &[u8], output: &mut [u8]) -> usize
     requires { ⌜ most-output ≤ length (now output) ⌝ }
     ensures { λ r. ⌜ Shown (print-checked (check-all (now (book .entry)) (now (log .entry)) own-tables)) (now (output .entry)) r (now (output .exit)) ⌝ }
 {
-    let mut image = [0u32; 4296];
+    let mut image = [0u32; 2248];
     let mut order = [0u64; 128];
     let lent = Lengths {
         contents: RECORDS,

@@ -1,6 +1,6 @@
 -- The rows taken from a text are its lines, and an image laid out from them holds the text's program. Assumes nothing.
 use mathlib.Core.Path.{_≡_, refl, sym, _∙_, ap}
-use mathlib.Core.Logic.{dite}
+use mathlib.Core.Logic.{_≢_, dite}
 use mathlib.Core.List.{List}
 use Prim.Native.Nat.{ℕ, zero, suc, _+_, _-_, _<_, _≤_}
 use native.Mathlib.Decide.{ℕ-discrete, decLt}
@@ -9,126 +9,136 @@ use lib.ListN.{length}
 use borrow.Author.Tests.{lt-ltb, le-ltb}
 use Rattle.text.specs.declared.Line.{Line}
 use Rattle.text.specs.Text.{line}
-use Rattle.text.proofs.Words.{table-ext}
+use Rattle.text.proofs.Words.{table-ext, map-table}
 use Rattle.book.specs.declared.Header.{Header}
 use Rattle.book.specs.Lines.{first-function, first-node, first-agent, first-entry, node-of, agent-of, program-of}
-use Rattle.book.specs.Image.{image-length, word, row-in, function-of, program-in, Holds, Room, stored, filled, first-of, laid-row}
-use Rattle.book.proofs.Image.{uncapped, length-stored, stored-other, stored-same, length-filled, filled-below, filled-above, filled-in, laid, total-laid}
-use Rattle.rows.specs.Rows.{row-of, head-row, tail-row, headed, taken, Rows, laid as laid-out}
+use Rattle.book.specs.Image.{image-length, word, row-in, node-in, function-of, program-in, kept-node, kept, Holds, Room, stored, node-stored, filled, first-of, laid-row}
+use Rattle.book.proofs.Image.{uncapped, length-stored, stored-other, stored-same, length-node-stored, node-stored-same, node-stored-other, node-stored-row, stored-node, length-filled, filled-below, filled-above, filled-node, filled-in, laid, total-laid}
+use Rattle.rows.specs.Rows.{line-put, head-row, tail-row, headed, taken, Rows, laid as laid-out}
 
--- ---- lines stored row by row
+-- ---- lines put one by one
 
 module _ (h : Header) where
-  -- the row r of line i is among those of functions, nodes or agents
-  data Stands (i r : ℕ) : Type 0 where
-    function : i < first-node h → r ≡ i → Stands i r
-    node : first-node h ≤ i → i < first-agent h → r ≡ 50 + (i - first-node h) → Stands i r
-    agent : first-agent h ≤ i → r ≡ 34 + (i - first-agent h) → Stands i r
+  -- line i is of a function, a node or an agent
+  data Stands (i : ℕ) (l : Line) (m : List ℕ) : Type 0 where
+    function : i < first-node h → line-put h i l m ≡ stored i l m → Stands i l m
+    node : first-node h ≤ i → i < first-agent h → line-put h i l m ≡ node-stored (i - first-node h) (node-of l) m → Stands i l m
+    agent : first-agent h ≤ i → line-put h i l m ≡ stored (34 + (i - first-agent h)) l m → Stands i l m
 
-  stands : (i : ℕ) → Stands i (row-of h i)
-  stands i = go (decLt i (first-node h)) (decLt i (first-agent h))
+  stands : (i : ℕ) (l : Line) (m : List ℕ) → Stands i l m
+  stands i l m = go (decLt i (first-node h)) (decLt i (first-agent h))
     where
-      go : Dec (i < first-node h) → Dec (i < first-agent h) → Stands i (row-of h i)
+      go : Dec (i < first-node h) → Dec (i < first-agent h) → Stands i l m
       go (yes a) b = function a (rw (lt-ltb i (first-node h) a))
       go (no a) (yes b) = node (omega arith) b (rw (le-ltb i (first-node h) (omega arith), lt-ltb i (first-agent h) b))
       go (no a) (no b) = agent (omega arith) (rw (le-ltb i (first-node h) (omega arith), le-ltb i (first-agent h) (omega arith)))
 
-module _ (h : Header) (room : Room h) where
-  inside : (i : ℕ) → i < first-entry h → row-of h i < 1074
-  inside i l = go (row-of h i) (stands h i)
+  length-put : (i : ℕ) (l : Line) (m : List ℕ) → length (line-put h i l m) ≡ length m
+  length-put i l m = go (stands i l m)
     where
-      go : (r : ℕ) → Stands h i r → r < 1074
-      go r (function a e) = omega arith
-      go r (node a b e) = omega arith
-      go r (agent a e) = omega arith
+      go : Stands i l m → length (line-put h i l m) ≡ length m
+      go (function a e) = rw e (length-stored i l m)
+      go (node a b e) = rw e (length-node-stored (i - first-node h) (node-of l) m)
+      go (agent a e) = rw e (length-stored (34 + (i - first-agent h)) l m)
 
-  above : (i : ℕ) → 2 ≤ i → 2 ≤ row-of h i
-  above i l = go (row-of h i) (stands h i)
+  -- a row that is not line i's
+  row-stays :
+      (i : ℕ) (l : Line) (m : List ℕ) (r : ℕ) → r < 50 → (i < first-node h → i ≢ r) → (first-agent h ≤ i → 34 + (i - first-agent h) ≢ r) →
+      row-in (line-put h i l m) r ≡ row-in m r
+  row-stays i l m r b f g = go (stands i l m)
     where
-      go : (r : ℕ) → Stands h i r → 2 ≤ r
-      go r (function a e) = omega arith
-      go r (node a b e) = omega arith
-      go r (agent a e) = omega arith
+      go : Stands i l m → row-in (line-put h i l m) r ≡ row-in m r
+      go (function a e) = rw e (stored-other i l m r (λ p. f a (sym p)))
+      go (node a c e) = rw e (node-stored-row (i - first-node h) (node-of l) m r b)
+      go (agent a e) = rw e (stored-other (34 + (i - first-agent h)) l m r (λ p. g a (sym p)))
 
-  -- two lines have two rows
-  apart : (i j : ℕ) → i < j → j < first-entry h → row-of h i ≡ row-of h j → ⊥
-  apart i j l g = go (row-of h i) (row-of h j) (stands h i) (stands h j)
+  -- a node that is not line i's
+  node-stays :
+      Room h → (i : ℕ) (l : Line) (m : List ℕ) (n : ℕ) → i < first-entry h → i ≢ first-node h + n → node-in (line-put h i l m) n ≡ node-in m n
+  node-stays room i l m n b f = go (stands i l m)
     where
-      go : (r s : ℕ) → Stands h i r → Stands h j s → r ≡ s → ⊥
-      go r s (function a e) (function b f) q = omega arith
-      go r s (function a e) (node b c f) q = omega arith
-      go r s (function a e) (agent b f) q = omega arith
-      go r s (node a x e) (function b f) q = omega arith
-      go r s (node a x e) (node b c f) q = omega arith
-      go r s (node a x e) (agent b f) q = omega arith
-      go r s (agent a e) (function b f) q = omega arith
-      go r s (agent a e) (node b c f) q = omega arith
-      go r s (agent a e) (agent b f) q = omega arith
+      go : Stands i l m → node-in (line-put h i l m) n ≡ node-in m n
+      go (function a e) = rw e (stored-node i l m n (omega (arith, room .functions)))
+      go (node a c e) = rw e (node-stored-other (i - first-node h) (node-of l) m n (λ p. f (omega arith)))
+      go (agent a e) = rw e (stored-node (34 + (i - first-agent h)) l m n (omega (arith, room .agents)))
 
-  module _ (text m : List ℕ) where
-    pub length-taken : (k : ℕ) → length (taken h text k m) ≡ length m
+module _ (h : Header) (room : Room h) (text m : List ℕ) where
+  pub length-taken : (k : ℕ) → length (taken h text k m) ≡ length m
+  unfolding taken
+  length-taken zero = refl
+  length-taken (suc k) = length-put h (2 + k) (line text (2 + k)) (taken h text k m) ∙ length-taken k
+
+  taken-head : (k q : ℕ) → q < 2 → row-in (taken h text k m) q ≡ row-in m q
+  unfolding taken
+  taken-head zero q l = refl
+  taken-head (suc k) q l =
+      row-stays h (2 + k) (line text (2 + k)) (taken h text k m) q (omega arith) (λ a e. omega arith) (λ a e. omega arith) ∙ taken-head k q l
+
+  module _ (long : image-length ≤ length m) where
+    taken-function : (k f : ℕ) → f < k → f < h .functions → row-in (taken h text k m) (2 + f) ≡ line text (2 + f)
     unfolding taken
-    length-taken zero = refl
-    length-taken (suc k) = length-stored (row-of h (2 + k)) (line text (2 + k)) (taken h text k m) ∙ length-taken k
+    taken-function zero f l g = absurd (omega arith)
+    taken-function (suc k) f l g =
+        dite (ℕ-discrete f k)
+        (λ (e : f ≡ k).
+        rw (e, lt-ltb (2 + k) (first-node h) (omega arith))
+        (stored-same (2 + k) (line text (2 + k)) (taken h text k m) (omega (arith, room .functions, length-taken k))))
+        (λ (e : ¬ (f ≡ k)).
+        row-stays h (2 + k) (line text (2 + k)) (taken h text k m) (2 + f) (omega (arith, room .functions)) (λ a p. omega arith) (λ a p. omega arith)
+        ∙ taken-function k f (omega arith) g)
 
-    taken-head : (k q : ℕ) → q < 2 → row-in (taken h text k m) q ≡ row-in m q
+    taken-node :
+        (k n : ℕ) → h .functions + n < k → 2 + k ≤ first-entry h → n < h .nodes →
+        node-in (taken h text k m) n ≡ kept-node (node-of (line text (first-node h + n)))
     unfolding taken
-    taken-head zero q l = refl
-    taken-head (suc k) q l =
-        stored-other (row-of h (2 + k)) (line text (2 + k)) (taken h text k m) q (λ e. omega (arith, above (2 + k) (omega arith))) ∙ taken-head k q l
+    taken-node zero n l b g = absurd (omega arith)
+    taken-node (suc k) n l b g =
+        dite (ℕ-discrete (h .functions + n) k)
+        (λ (e : h .functions + n ≡ k).
+        let i : 2 + k ≡ first-node h + n = omega arith in
+        let d : first-node h + n - first-node h ≡ n = omega arith in
+        rw (i, le-ltb (first-node h + n) (first-node h) (omega arith), lt-ltb (first-node h + n) (first-agent h) (omega arith), d)
+        (node-stored-same n (node-of (line text (first-node h + n))) (taken h text k m) (omega (arith, room .nodes, length-taken k))))
+        (λ (e : ¬ (h .functions + n ≡ k)).
+        node-stays h room (2 + k) (line text (2 + k)) (taken h text k m) n (omega arith) (λ p. omega arith)
+        ∙ taken-node k n (omega arith) (omega arith) g)
 
-    taken-line : (k j : ℕ) → image-length ≤ length m → j < k → 2 + k ≤ first-entry h → row-in (taken h text k m) (row-of h (2 + j)) ≡ line text (2 + j)
+    taken-agent :
+        (k i : ℕ) → h .functions + h .nodes + i < k → 2 + k ≤ first-entry h → i < h .agents →
+        row-in (taken h text k m) (34 + i) ≡ line text (first-agent h + i)
     unfolding taken
-    taken-line zero j long l g = absurd (omega arith)
-    taken-line (suc k) j long l g =
-        dite (ℕ-discrete j k)
-        (λ (e : j ≡ k).
-        rw e (stored-same (row-of h (2 + k)) (line text (2 + k)) (taken h text k m) (omega (arith, inside (2 + k) (omega arith), length-taken k))))
-        (λ (e : ¬ (j ≡ k)).
-        stored-other (row-of h (2 + k)) (line text (2 + k)) (taken h text k m) (row-of h (2 + j)) (apart (2 + j) (2 + k) (omega arith) (omega arith))
-        ∙ taken-line k j long (omega arith) (omega arith))
+    taken-agent zero i l b g = absurd (omega arith)
+    taken-agent (suc k) i l b g =
+        dite (ℕ-discrete (h .functions + h .nodes + i) k)
+        (λ (e : h .functions + h .nodes + i ≡ k).
+        let j : 2 + k ≡ first-agent h + i = omega arith in
+        let d : first-agent h + i - first-agent h ≡ i = omega arith in
+        rw (j, le-ltb (first-agent h + i) (first-node h) (omega arith), le-ltb (first-agent h + i) (first-agent h) (omega arith), d)
+        (stored-same (34 + i) (line text (first-agent h + i)) (taken h text k m) (omega (arith, room .agents, length-taken k))))
+        (λ (e : ¬ (h .functions + h .nodes + i ≡ k)).
+        row-stays h (2 + k) (line text (2 + k)) (taken h text k m) (34 + i) (omega (arith, room .agents)) (λ a p. omega (arith, room .functions))
+        (λ a p. omega arith)
+        ∙ taken-agent k i (omega arith) (omega arith) g)
 
-  -- all of them
-  pub taken-rows : (text m : List ℕ) → image-length ≤ length m → Rows (taken h text (first-entry h - first-function) (headed h m)) h text
-  unfolding headed
-  taken-rows text m long =
-      let k = first-entry h - first-function in
-      let s = stored 0 (head-row h) m in
-      let n = stored 1 (tail-row (h .agents) (h .contents) 0) s in
-      let long1 : image-length ≤ length s = rw (length-stored 0 (head-row h) m) long in
-      let long2 : image-length ≤ length n = rw (length-stored 1 (tail-row (h .agents) (h .contents) 0) s) long1 in
-      record {
-        head =
-            taken-head text n k 0 (omega arith) ∙ stored-other 1 (tail-row (h .agents) (h .contents) 0) s 0 (λ e. omega arith)
-            ∙ stored-same 0 (head-row h) m (omega arith);
-        tail = taken-head text n k 1 (omega arith) ∙ stored-same 1 (tail-row (h .agents) (h .contents) 0) s (omega arith);
-        function =
-            λ f l. ap (row-in (taken h text k n)) (sym (function-row f l)) ∙ taken-line text n k f long2 (omega arith) (omega arith);
-        node =
-            λ f l.
-            let e : first-node h + f ≡ 2 + (h .functions + f) = omega arith in
-            ap (row-in (taken h text k n)) (sym (node-row f l)) ∙ taken-line text n k (h .functions + f) long2 (omega arith) (omega arith) ∙ ap (line text) (sym e);
-        agent =
-            λ f l.
-            let e : first-agent h + f ≡ 2 + (h .functions + h .nodes + f) = omega arith in
-            ap (row-in (taken h text k n)) (sym (agent-row f l)) ∙ taken-line text n k (h .functions + h .nodes + f) long2 (omega arith) (omega arith)
-            ∙ ap (line text) (sym e);
-      }
-    where
-      function-row : (f : ℕ) → f < h .functions → row-of h (2 + f) ≡ 2 + f
-      function-row f l = rw (lt-ltb (2 + f) (first-node h) (omega arith))
-
-      node-row : (f : ℕ) → f < h .nodes → row-of h (2 + (h .functions + f)) ≡ 50 + f
-      node-row f l =
-          rw (le-ltb (2 + (h .functions + f)) (first-node h) (omega arith), lt-ltb (2 + (h .functions + f)) (first-agent h) (omega arith)) (omega arith)
-
-      agent-row : (f : ℕ) → f < h .agents → row-of h (2 + (h .functions + h .nodes + f)) ≡ 34 + f
-      agent-row f l =
-          rw (
-            le-ltb (2 + (h .functions + h .nodes + f)) (first-node h) (omega arith),
-            le-ltb (2 + (h .functions + h .nodes + f)) (first-agent h) (omega arith),
-          )
-          (omega arith)
+-- all of them
+pub taken-rows :
+    (h : Header) → Room h → (text m : List ℕ) → image-length ≤ length m → Rows (taken h text (first-entry h - first-function) (headed h m)) h text
+unfolding headed
+taken-rows h room text m long =
+    let k = first-entry h - first-function in
+    let s = stored 0 (head-row h) m in
+    let n = stored 1 (tail-row (h .agents) (h .contents) 0) s in
+    let long1 : image-length ≤ length s = rw (length-stored 0 (head-row h) m) long in
+    let long2 : image-length ≤ length n = rw (length-stored 1 (tail-row (h .agents) (h .contents) 0) s) long1 in
+    record {
+      head =
+          taken-head h room text n k 0 (omega arith) ∙ stored-other 1 (tail-row (h .agents) (h .contents) 0) s 0 (λ e. omega arith)
+          ∙ stored-same 0 (head-row h) m (omega arith);
+      tail = taken-head h room text n k 1 (omega arith) ∙ stored-same 1 (tail-row (h .agents) (h .contents) 0) s (omega arith);
+      function = λ f l. taken-function h room text n long2 k f (omega arith) l;
+      node = λ f l. taken-node h room text n long2 k f (omega arith) (omega arith) l;
+      agent = λ i l. taken-agent h room text n long2 k i (omega arith) (omega arith) l;
+    }
 
 pub length-headed : (h : Header) (m : List ℕ) → length (headed h m) ≡ length m
 unfolding headed
@@ -137,7 +147,7 @@ length-headed h m = length-stored 1 (tail-row (h .agents) (h .contents) 0) (stor
 -- one line more
 pub taken-step :
     (h : Header) (text m : List ℕ) (i : ℕ) → first-function ≤ i →
-    taken h text (i + 1 - first-function) m ≡ stored (row-of h i) (line text i) (taken h text (i - first-function) m)
+    taken h text (i + 1 - first-function) m ≡ line-put h i (line text i) (taken h text (i - first-function) m)
 unfolding taken
 taken-step h text m i l =
     let e : i + 1 - 2 ≡ suc (i - 2) = omega arith in
@@ -211,10 +221,9 @@ module _ (m : List ℕ) (h : Header) (text : List ℕ) (room : Room h) (long : i
       ∙ filled-above (laid-row at (h .elements)) 2 (h .functions) 0 m (34 + i) (omega (arith, room .functions))
       ∙ rows .agent i l
 
-  row-node : (n : ℕ) → n < h .nodes → row-in whole (50 + n) ≡ line text (first-node h + n)
+  row-node : (n : ℕ) → n < h .nodes → node-in whole n ≡ kept-node (node-of (line text (first-node h + n)))
   row-node n l =
-      stored-other 1 tail below (50 + n) (λ e. omega arith)
-      ∙ filled-above (laid-row at (h .elements)) 2 (h .functions) 0 m (50 + n) (omega (arith, room .functions))
+      stored-node 1 tail below n (omega arith) ∙ filled-node (laid-row at (h .elements)) 2 (h .functions) 0 m n (omega (arith, room .functions))
       ∙ rows .node n l
 
   word0 : word whole 0 ≡ h .elements
@@ -233,7 +242,7 @@ module _ (m : List ℕ) (h : Header) (text : List ℕ) (room : Room h) (long : i
   word4 = ap (λ (l : Line). l .a) row-tail
 
   whole-holds : Holds whole h text
-  unfolding program-in program-of
+  unfolding program-in program-of kept
   whole-holds =
       record {
         program =
@@ -250,7 +259,8 @@ module _ (m : List ℕ) (h : Header) (text : List ℕ) (room : Room h) (long : i
               table-ext (λ f. function-of (row-in whole (2 + f))) (λ f. function-of (laid-row says (h .elements) f)) (h .functions)
                   (λ f l. ap function-of (row-function f l))
                   ∙ sym (laid says (h .elements) (h .functions)),
-              table-ext (λ n. node-of (row-in whole (50 + n))) (λ n. node-of (line text (first-node h + n))) (h .nodes) (λ n l. ap node-of (row-node n l)),
+              table-ext (node-in whole) (λ n. kept-node (node-of (line text (first-node h + n)))) (h .nodes) row-node
+                  ∙ sym (map-table kept-node (λ n. node-of (line text (first-node h + n))) (h .nodes)),
               table-ext (λ i. agent-of (row-in whole (34 + i))) (λ i. agent-of (line text (first-agent h + i))) (h .agents)
                   (λ i l. ap agent-of (row-agent i l)),
             );

@@ -9,12 +9,15 @@ use Rattle.text.specs.declared.Found.the-variants.{Nowhere, Here}
 use Rattle.text.specs.Words.{if_then_else_}
 use Rattle.text.specs.Text.{line}
 use Rattle.book.specs.declared.Header.{Header}
-use Rattle.book.specs.Lines.{first-function, first-node, first-agent}
-use Rattle.book.specs.Image.{word, row-in, capped, stored, filled, first-of, laid-row}
+use Rattle.book.specs.Lines.{first-function, first-node, first-agent, node-of}
+use Rattle.book.specs.Image.{word, row-in, node-in, capped, kept-node, stored, node-stored, filled, first-of, laid-row}
 
--- the row that line i has
-abbrev pub row-of : Header → ℕ → ℕ
-row-of h i = if ltb i (first-node h) then i else if ltb i (first-agent h) then 50 + (i - first-node h) else 34 + (i - first-agent h)
+-- line i put where it belongs: functions and agents in rows, nodes after them
+abbrev pub line-put : Header → ℕ → Line → List ℕ → List ℕ
+line-put h i l m =
+    if ltb i (first-node h) then stored i l m
+    else if ltb i (first-agent h) then node-stored (i - first-node h) (node-of l) m
+    else stored (34 + (i - first-agent h)) l m
 
 abbrev pub head-row : Header → Line
 head-row h = record { a = h .elements; b = h .permanent; c = h .functions; d = h .nodes }
@@ -26,10 +29,10 @@ tail-row agents contents locations = record { a = agents; b = contents; c = loca
 unfoldable pub headed : Header → List ℕ → List ℕ
 headed h m = stored 1 (tail-row (h .agents) (h .contents) 0) (stored 0 (head-row h) m)
 
--- the rows of the k lines after the header
+-- the k lines after the header
 unfoldable pub taken : Header → List ℕ → ℕ → List ℕ → List ℕ
 taken h text zero m = m
-taken h text (suc k) m = stored (row-of h (first-function + k)) (line text (first-function + k)) (taken h text k m)
+taken h text (suc k) m = line-put h (first-function + k) (line text (first-function + k)) (taken h text k m)
 
 -- how many places from `first` up to `end` come before the one found
 abbrev pub passed : ℕ → ℕ → Found → ℕ
@@ -49,5 +52,5 @@ pub record Rows (m : List ℕ) (h : Header) (text : List ℕ) : Type 0 where
   pub head : row-in m 0 ≡ head-row h
   pub tail : row-in m 1 ≡ tail-row (h .agents) (h .contents) 0
   pub function : (f : ℕ) → f < h .functions → row-in m (2 + f) ≡ line text (first-function + f)
-  pub node : (n : ℕ) → n < h .nodes → row-in m (50 + n) ≡ line text (first-node h + n)
+  pub node : (n : ℕ) → n < h .nodes → node-in m n ≡ kept-node (node-of (line text (first-node h + n)))
   pub agent : (i : ℕ) → i < h .agents → row-in m (34 + i) ≡ line text (first-agent h + i)

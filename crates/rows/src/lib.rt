@@ -1,6 +1,7 @@
-// The rows of an image, taken from the text of a book: each line read once, its form and its numbers together.
+// The rows and nodes of an image, taken from the text of a book: each line read once, its form and its numbers together.
 use book::Header;
 use book::Image;
+use book::Node;
 use numbers::Value;
 use text::Found;
 use text::Line;
@@ -9,23 +10,34 @@ ghost use Prim.Native.Nat.{_+_, _-_, _<_, _≤_};
 ghost use lib.ListN.{length};
 ghost use Rattle.text.specs.Words.{least-from};
 ghost use Rattle.text.specs.Text.{bad-line};
-ghost use Rattle.book.specs.Lines.{first-function, first-entry};
+ghost use Rattle.book.specs.Lines.{first-function, first-entry, node-of};
 ghost use Rattle.book.specs.Image.{image-length, row-in, Room, capped-header, filled, first-of, laid-row};
-ghost use Rattle.rows.specs.Rows.{row-of, headed, taken, passed, laid};
+ghost use Rattle.rows.specs.Rows.{line-put, headed, taken, passed, laid};
 
-// The row that line i has.
-fn row_of(h: Header, i: u32) -> u32
+fn node_of(l: Line) -> Node
+    ensures { λ r. ⌜ r ≡ node-of l ⌝ }
+{
+    Node {
+        kind: l.a,
+        a: l.b,
+        b: l.c,
+        c: l.d,
+    }
+}
+
+// Line i is put where it belongs.
+fn put_line(h: Header, i: u32, l: Line, image: &mut Image)
     requires { ⌜ (Room h) × (i < first-entry h) ⌝ }
-    ensures { λ r. ⌜ r ≡ row-of h i ⌝ }
+    ensures { λ _. ⌜ now (image .exit) ≡ line-put h i l (now (image .entry)) ⌝ }
 {
     let nodes = 2 + h.functions;
     let agents = nodes + h.nodes;
     if i < nodes {
-        i
+        image::store(image, i, l);
     } else if i < agents {
-        image::NODE_ROWS + (i - nodes)
+        image::store_node(image, i - nodes, node_of(l));
     } else {
-        image::AGENT_ROWS + (i - agents)
+        image::store(image, image::AGENT_ROWS + (i - agents), l);
     }
 }
 
@@ -67,7 +79,7 @@ fn take_lines(text: &[u8], h: Header, image: &mut Image) -> Found
         if !l.ok {
             return Found::Here(i);
         }
-        image::store(image, row_of(h, i), l.line);
+        put_line(h, i, l.line, image);
         i += 1;
     }
     Found::Nowhere

@@ -2,6 +2,7 @@
 use mathlib.Core.Path.{_≡_, refl, sym, ap, _∙_}
 use mathlib.Core.Logic.{_⊎_, inl, inr, dite}
 use mathlib.Core.Bool.{Bool, true, false, not, _||_, _&&_, or-true, true≢false, false≢true}
+use mathlib.Core.List.{_∷_, map}
 use Prim.Native.Nat.{ℕ, zero, suc, _+_, _-_, _≤_, _<_}
 use native.Mathlib.Nat.{zero-add, suc-add}
 use native.Mathlib.Numerals.{add-one}
@@ -69,6 +70,15 @@ module _ {A : Type 0} where
   pub table-ext : (f g : ℕ → A) (n : ℕ) → ((i : ℕ) → i < n → f i ≡ g i) → table f n ≡ table g n
   table-ext f g n e = table-from-ext f g 0 n (λ i a b. e i (omega arith))
 
+module _ {A B : Type 0} (g : A → B) (f : ℕ → A) where
+  map-table-from : (i n : ℕ) → map g (table-from f i n) ≡ table-from (λ k. g (f k)) i n
+  unfolding table-from
+  map-table-from i zero = refl
+  map-table-from i (suc n) = ap (_∷_ (g (f i))) (map-table-from (suc i) n)
+
+  pub map-table : (n : ℕ) → map g (table f n) ≡ table (λ k. g (f k)) n
+  map-table n = map-table-from 0 n
+
 -- ---- some place
 
 pub some-below-true : (test : ℕ → Bool) (n : ℕ) → some-below test n ≡ true → (i : ℕ) × (i < n) × (test i ≡ true)
@@ -130,7 +140,7 @@ least-from-here bad (suc n) k i e = go (bad k) refl e (least-from-here bad n (su
 pub least-here : (bad : ℕ → Bool) (n i : ℕ) → least bad n ≡ Here i → (i < n) × (bad i ≡ true) × ((j : ℕ) → j < i → bad j ≡ false)
 least-here bad n i e = let r = least-from-here bad n 0 i e in (omega (arith, r .1), r .2, λ j h. r .3 j (omega arith) h)
 
-least-from-same : (f g : ℕ → Bool) (n j : ℕ) → ((i : ℕ) → j ≤ i → i < j + n → f i ≡ g i) → least-from f n j ≡ least-from g n j
+pub least-from-same : (f g : ℕ → Bool) (n j : ℕ) → ((i : ℕ) → j ≤ i → i < j + n → f i ≡ g i) → least-from f n j ≡ least-from g n j
 unfolding least-from
 least-from-same f g zero j h = refl
 least-from-same f g (suc n) j h =

@@ -26,8 +26,7 @@ holds-are : (c : tie.After-none-at2) → Holds (c .before .before .before .check
 holds-are c = rw (c .before .before .before .check-program .ensures .0) (laid-holds (c .before .before .before .before .before .before .before .before .take .last .1 .1 .0) (c .before .before .before .before .before .before .before .before .before .before .before .args .h) (c .before .before .before .before .before .before .before .before .before .before .before .args .text .now) (c .before .before .before .before .before .before .before .before .before .before .before .pre .0) (c .before .before .before .check-program .ensures .1) (rows-are c))
 
 opened : (c : tie.After-none-at2) → Opened (c .before .before .before .check-program .last .0) (check-text (c .before .before .before .before .before .before .before .before .before .before .before .args .h) (c .before .before .before .before .before .before .before .before .before .before .before .args .text .now))
-opened c =
-    opened-text (c .before .before .before .check-program .last .0) (c .before .before .before .before .before .before .before .before .before .before .before .args .h) (c .before .before .before .before .before .before .before .before .before .before .before .args .text .now) (holds-are c)
+opened c = rw (c .before .before .before .check-program .ensures .0) (opened-text (c .before .before .before .before .before .before .before .before .take .last .1 .1 .0) (c .before .before .before .before .before .before .before .before .before .before .before .args .h) (c .before .before .before .before .before .before .before .before .before .before .before .args .text .now) (c .before .before .before .before .before .before .before .before .before .before .before .pre .0) (c .before .before .before .check-program .ensures .1) (rows-are c))
 
 -- 1 on all lines
 present : (c : tie.After-none-at2) → c .none-at2 .result ≡ answer-of (check-present (c .before .before .before .before .before .before .before .before .before .before .before .args .h) (c .before .before .before .before .before .before .before .before .before .before .before .args .text .now))

@@ -23,50 +23,29 @@ no-node-requires-2 c κs = search needs
 returns-2 : tie.Need-returns-2
 returns-2 c = let a = c .before .before .before .before .args in c .no-node2 .ensures ∙ sym (node-past (a .image .now) (a .n) (capped-reached (a .n) (word (a .image .now) 3) 1024 (inr (c .before .if2 .taken))))
 
-cast-at : tie.Need-cast-at
-cast-at c = search needs
+mul-at : tie.Need-mul-at
+mul-at c = search needs
 
 add-at : tie.Need-add-at
 add-at c = search needs
 
-mul-at : tie.Need-mul-at
-mul-at c = search needs
+mul-v : tie.Need-mul-v
+mul-v c = search needs
 
-mul-t8 : tie.Need-mul-t8
-mul-t8 c = search needs
+element-copy-out-v : tie.Need-element-copy-out-v
+element-copy-out-v c = search needs
 
-element-copy-out-t6 : tie.Need-element-copy-out-t6
-element-copy-out-t6 c = search needs
+add-w : tie.Need-add-w
+add-w c = search needs
 
-add-t9 : tie.Need-add-t9
-add-t9 c = search needs
+mul-w : tie.Need-mul-w
+mul-w c = search needs
 
-mul-t10 : tie.Need-mul-t10
-mul-t10 c = search needs
-
-element-copy-out-t15 : tie.Need-element-copy-out-t15
-element-copy-out-t15 c = search needs
-
-add-t16 : tie.Need-add-t16
-add-t16 c = search needs
-
-mul-t17 : tie.Need-mul-t17
-mul-t17 c = search needs
-
-element-copy-out-t20 : tie.Need-element-copy-out-t20
-element-copy-out-t20 c = search needs
-
-add-t21 : tie.Need-add-t21
-add-t21 c = search needs
-
-mul-t22 : tie.Need-mul-t22
-mul-t22 c = search needs
-
-element-copy-out-t25 : tie.Need-element-copy-out-t25
-element-copy-out-t25 c = search needs
+element-copy-out-w : tie.Need-element-copy-out-w
+element-copy-out-w c = search needs
 
 returns-3 : tie.Need-returns-3
-returns-3 c = let a = c .before .before .before .before .before .before .before .args in sym (node-inside (a .image .now) (a .n) (capped-above (a .n) (word (a .image .now) 3) 1024 (c .before .before .before .before .before .if1 .left) (c .before .before .before .before .if2 .left)))
+returns-3 c = let a = c .before .before .before .before .before .args in sym (node-inside (a .image .now) (a .n) (capped-above (a .n) (word (a .image .now) 3) 1024 (c .before .before .before .if1 .left) (c .before .before .if2 .left)))
 
 pub node-at-spec : {M : Type 1} → statement M
 node-at-spec =
@@ -77,18 +56,11 @@ node-at-spec =
     returns
     no-node-requires-2
     returns-2
-    cast-at
-    add-at
     mul-at
-    mul-t8
-    element-copy-out-t6
-    add-t9
-    mul-t10
-    element-copy-out-t15
-    add-t16
-    mul-t17
-    element-copy-out-t20
-    add-t21
-    mul-t22
-    element-copy-out-t25
+    add-at
+    mul-v
+    element-copy-out-v
+    add-w
+    mul-w
+    element-copy-out-w
     returns-3)

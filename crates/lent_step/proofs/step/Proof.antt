@@ -170,7 +170,7 @@ module _ {M : Type 1} (𝓤 : URA M) (H : Heap 𝓤) (A : Atoms 𝓤) (W : Given
   FirstArg = RefT (List ℕ) × (RefT (List ℕ) × (ℕ × (ℕ × (RefT (List ℕ) × (RefT (List ℕ) × Unit {0})))))
 
   abbrev first-a : GName → GName → GName → ℕ → ℕ → FirstArg
-  first-a γ γ′ γ″ i j = (xb, (contents-at γ cs, (k, (n, (array-at w32 4296 i γ′ (replicate 4296 0), (array-at w64 256 j γ″ (replicate 256 0), tt))))))
+  first-a γ γ′ γ″ i j = (xb, (contents-at γ cs, (k, (n, (array-at w32 2248 i γ′ (replicate 2248 0), (array-at w64 256 j γ″ (replicate 256 0), tt))))))
 
   abbrev first-vals : ℕ → ℕ → List Val × (List Val × (List Val × (List Val × (List Val × (List Val × Unit {0})))))
   first-vals i j = (sb ∷ [], (sc ∷ [], (vint w64 k ∷ [], (vint w64 n ∷ [], (vptr i 0 ∷ [], (vptr j 0 ∷ [], tt))))))
@@ -187,7 +187,7 @@ module _ {M : Type 1} (𝓤 : URA M) (H : Heap 𝓤) (A : Atoms 𝓤) (W : Given
   asked-first : (ν ν′ ν″ : ℕ) (γ γ′ γ″ : GName) (i j : ℕ) → ent 𝓤 (onEntry 𝓤 H A first.signature (first-lfts ν ν′ ν″) first-shares (first-a γ γ′ γ″ i j) (first-vals i j)) (First 𝓤 H A mem run .pre (to-first ν ν′ ν″ γ γ′ γ″ i j))
   asked-first ν ν′ ν″ γ γ′ γ″ i j =
       qed W ((‵ (flft κ₀ q₀) ⊛ ‵ (flft (ν ∷ []) fullShare) ⊛ ‵ (flft (ν′ ∷ []) fullShare) ⊛ ‵ (flft (ν″ ∷ []) fullShare) ⊛ ‵ ftrue)
-      ∷ ‵ (owns (ShrSlice (named 0) κ₀ u8 ∷ ShrSlice (named 1) (ν ∷ []) u16 ∷ usize ∷ usize ∷ MutRef (named 2) (ν′ ∷ []) (Array u32 4296) ∷ MutRef (named 3) (ν″ ∷ []) (Array u64 256) ∷ []) (first-a γ γ′ γ″ i j) (first-vals i j)) ∷ []) ∵ join ! $ frame ! $ done !
+      ∷ ‵ (owns (ShrSlice (named 0) κ₀ u8 ∷ ShrSlice (named 1) (ν ∷ []) u16 ∷ usize ∷ usize ∷ MutRef (named 2) (ν′ ∷ []) (Array u32 2248) ∷ MutRef (named 3) (ν″ ∷ []) (Array u64 256) ∷ []) (first-a γ γ′ γ″ i j) (first-vals i j)) ∷ []) ∵ join ! $ frame ! $ done !
 
   abbrev PassArg : Type 0
   PassArg = RefT (List Record) × (RefT (List ℕ) × (ℕ × Unit {0}))
@@ -211,7 +211,7 @@ module _ {M : Type 1} (𝓤 : URA M) (H : Heap 𝓤) (A : Atoms 𝓤) (W : Given
   SecondArg = RefT (List ℕ) × (RefT (List ℕ) × (RefT (List ℕ) × (Paused × Unit {0})))
 
   abbrev second-a : GName → GName → GName → ℕ → ℕ → List ℕ → List ℕ → Paused → SecondArg
-  second-a γ γ′ γ″ i j mi us p = (contents-at γ cs, (array-at w32 4296 i γ′ mi, (array-at w64 256 j γ″ us, (p, tt))))
+  second-a γ γ′ γ″ i j mi us p = (contents-at γ cs, (array-at w32 2248 i γ′ mi, (array-at w64 256 j γ″ us, (p, tt))))
 
   abbrev second-vals : ℕ → ℕ → Paused → List Val × (List Val × (List Val × (List Val × Unit {0})))
   second-vals i j p = (sc ∷ [], (vptr i 0 ∷ [], (vptr j 0 ∷ [], (mach p ∷ [], tt))))
@@ -226,7 +226,7 @@ module _ {M : Type 1} (𝓤 : URA M) (H : Heap 𝓤) (A : Atoms 𝓤) (W : Given
       → ent 𝓤 (onEntry 𝓤 H A second.signature (second-lfts ν ν′ ν″) (fullShare, (fullShare, (fullShare, tt))) (second-a γ γ′ γ″ i j mi us p) (second-vals i j p)) (Second 𝓤 H A mem run .pre (to-second ν ν′ ν″ γ γ′ γ″ i j mi us p))
   asked-second ν ν′ ν″ γ γ′ γ″ i j mi us p =
       qed W ((‵ (flft (ν ∷ []) fullShare) ⊛ ‵ (flft (ν′ ∷ []) fullShare) ⊛ ‵ (flft (ν″ ∷ []) fullShare) ⊛ ‵ ftrue)
-      ∷ ‵ (owns (MutSlice (named 0) (ν ∷ []) u16 ∷ ShrRef (named 1) (ν′ ∷ []) (Array u32 4296) ∷ ShrRef (named 2) (ν″ ∷ []) (Array u64 256) ∷ P.the-row ∷ []) (second-a γ γ′ γ″ i j mi us p) (second-vals i j p)) ∷ []) ∵ join ! $ frame ! $ done !
+      ∷ ‵ (owns (MutSlice (named 0) (ν ∷ []) u16 ∷ ShrRef (named 1) (ν′ ∷ []) (Array u32 2248) ∷ ShrRef (named 2) (ν″ ∷ []) (Array u64 256) ∷ P.the-row ∷ []) (second-a γ γ′ γ″ i j mi us p) (second-vals i j p)) ∷ []) ∵ join ! $ frame ! $ done !
 
   module _ (C : Calls 𝓤 H) (Λ : Loops 𝓤 H) (fm : FmC 𝓤 H (W .laws) C) (known-first : Triple 𝓤 (C #halves·first-half) (First 𝓤 H A mem run)) (known-pass : Triple 𝓤 (C #lent·pass) (Pass 𝓤 H A mem run)) (known-second : Triple 𝓤 (C #halves·second-half) (Second 𝓤 H A mem run)) where
     walk : ent 𝓤 (onEntry 𝓤 H A step.signature κs qs a vals) (WpFn 𝓤 H C Λ code.function (sb ∷ sc ∷ vint w64 k ∷ sl ∷ []) Post)
@@ -235,8 +235,8 @@ module _ {M : Type 1} (𝓤 : URA M) (H : Heap 𝓤) (A : Atoms 𝓤) (W : Given
         alloc1 ! (λ l₀. alloc1 ! (λ l₁. alloc1 ! (λ l₂. alloc1 ! (λ l₃. alloc1 ! (λ l₄. alloc1 ! (λ l₅. alloc1 ! (λ l₆. alloc1 ! (λ l₇. alloc1 ! (λ l₈. alloc1 ! (λ l₉. alloc1 ! (λ l₁₀. alloc1 ! (λ l₁₁. alloc1 ! (λ l₁₂. alloc1 ! (λ l₁₃. alloc1 ! (λ l₁₄. alloc1 ! (λ l₁₅. alloc1 ! (λ l₁₆. alloc1 ! (λ l₁₇. alloc1 ! (λ l₁₈. alloc1 ! (λ l₁₉. alloc1 ! (λ l₂₀. alloc1 ! (λ l₂₁. alloc1 ! (λ l₂₂. alloc0 ! $ params1 ! $
         pass1 ! (init ! 42 refl (tt, (tt, (record { fits = room-b .0 }, tt)))) $ pass1 ! (init ! 40 refl (tt, (tt, (record { fits = room-c .0 }, tt)))) $ pass1 ! (init ! 38 refl (tt, record { fits = k-fits })) $ pass1 ! (init ! 36 refl (tt, (tt, (record { fits = room-l .0 }, tt)))) $ pass0 ! $
         assigns ! (of-opd ! (load ! (from ! (fld ! refl (stop !))) (look-in ! 36 (sub ! 1 refl (whole !))))) (from ! (stop !)) (init ! 34 refl (tt, record { fits = room-l .0 })) $
-        assigns ! (rep ! 4296 (lit ! tt)) (from ! (stop !)) (init ! 32 refl (fresh-typed 𝓤 H A W w32 4296 0 (lit< tt))) $
-        move ! (32 ∷ []) $ use1 W (‵ (partAt (Array (UInt w32) 4296) fullShare (replicate 4296 0) l₆ 0)) (begins 𝓤 H A W w32 4296 l₆ 0 (lit< tt)) $
+        assigns ! (rep ! 2248 (lit ! tt)) (from ! (stop !)) (init ! 32 refl (fresh-typed 𝓤 H A W w32 2248 0 (lit< tt))) $
+        move ! (32 ∷ []) $ use1 W (‵ (partAt (Array (UInt w32) 2248) fullShare (replicate 2248 0) l₆ 0)) (begins 𝓤 H A W w32 2248 l₆ 0 (lit< tt)) $
         assigns ! (rep ! 256 (lit ! tt)) (from ! (stop !)) (init ! 31 refl (fresh-typed 𝓤 H A W w64 256 0 (lit< tt))) $
         move ! (31 ∷ []) $ use1 W (‵ (partAt (Array (UInt w64) 256) fullShare (replicate 256 0) l₇ 0)) (begins 𝓤 H A W w64 256 l₇ 0 (lit< tt)) $
         -- what is had on entry: the contents are opened
@@ -249,7 +249,7 @@ module _ {M : Type 1} (𝓤 : URA M) (H : Heap 𝓤) (A : Atoms 𝓤) (W : Given
         assigns ! (addr ! (from ! (stop !))) (from ! (stop !)) (init ! 28 refl (tt, tt)) $
         -- `first_half`
         lft-new ! tt (λ ν₁. move ! (1 ∷ []) $ use1 W (later (some (λ (γ₁ : GName). ‵ (ShrSlice (named 1) (ν₁ ∷ []) u16 .own (ref-at u16 bc oc γ₁ cs) (sliceVal (bc, oc) (length cs) ∷ [])) ⊛ ‵ (LentShr u16 bc oc (ν₁ ∷ []) cs)))) (lend-shr u16 bc oc 𝓤 H A W (ν₁ ∷ []) cs (named 1) room-c) $ await ! tt $ pick ! (λ γ₁. split ! $
-        lft-new ! tt (λ ν₂. move ! (12 ∷ []) $ use1 W (later (some (λ (γ₂ : GName). ‵ (MutRef (named 2) (ν₂ ∷ []) (Array (UInt w32) 4296) .own (array-at w32 4296 l₆ γ₂ (replicate 4296 0)) (vptr l₆ 0 ∷ [])) ⊛ ‵ (LentArray w32 4296 (ν₂ ∷ []) l₆ γ₂)))) (lend-array 𝓤 H A W w32 4296 l₆ (named 2) (ν₂ ∷ []) (replicate 4296 0)) $ await ! tt $ pick ! (λ γ₂. split ! $
+        lft-new ! tt (λ ν₂. move ! (12 ∷ []) $ use1 W (later (some (λ (γ₂ : GName). ‵ (MutRef (named 2) (ν₂ ∷ []) (Array (UInt w32) 2248) .own (array-at w32 2248 l₆ γ₂ (replicate 2248 0)) (vptr l₆ 0 ∷ [])) ⊛ ‵ (LentArray w32 2248 (ν₂ ∷ []) l₆ γ₂)))) (lend-array 𝓤 H A W w32 2248 l₆ (named 2) (ν₂ ∷ []) (replicate 2248 0)) $ await ! tt $ pick ! (λ γ₂. split ! $
         lft-new ! tt (λ ν₃. move ! (14 ∷ []) $ use1 W (later (some (λ (γ₃ : GName). ‵ (MutRef (named 3) (ν₃ ∷ []) (Array (UInt w64) 256) .own (array-at w64 256 l₇ γ₃ (replicate 256 0)) (vptr l₇ 0 ∷ [])) ⊛ ‵ (LentArray w64 256 (ν₃ ∷ []) l₇ γ₃)))) (lend-array 𝓤 H A W w64 256 l₇ (named 3) (ν₃ ∷ []) (replicate 256 0)) $ await ! tt $ pick ! (λ γ₃. split ! $
         move ! (13 ∷ []) $ use1 W (‵ Program ⊛ ‵ Program) (shr-slice-copy 𝓤 H A W (named 0) κ₀ u8 .twice xb (sb ∷ [])) $ split ! $
         nothing ! $ move ! (5 ∷ 0 ∷ []) $ join ! $ move ! (7 ∷ 0 ∷ []) $ join ! $ move ! (9 ∷ 0 ∷ []) $ join ! $ move ! (14 ∷ 0 ∷ []) $ join ! $ nothing ! $ move ! (4 ∷ 0 ∷ []) $ fjoin ! $ move ! (5 ∷ 0 ∷ []) $ fjoin ! $ owned ! usize (Is usize) (uint-makes 𝓤 H A W w64) n _ (refl, room-l .0) $ fjoin ! $ owned ! usize (Is usize) (uint-makes 𝓤 H A W w64) k _ (refl, k-fits) $ fjoin ! $ move ! (6 ∷ 0 ∷ []) $ fjoin ! $ move ! (3 ∷ 0 ∷ []) $ fjoin ! $
@@ -265,7 +265,7 @@ module _ {M : Type 1} (𝓤 : URA M) (H : Heap 𝓤) (A : Atoms 𝓤) (W : Given
         land ! (from ! (stop !)) (init ! 41 refl (LL.lawful P.the-type P′.the-laws 𝓤 H A W .typed p _ is .0)) $ rewrite ! 41 (λ (u : Val). ‵ (fat fullShare P′.mir l₈ 0 u)) (ap only (LL.tells P.the-type P′.the-laws p _ is)) refl $
         drop ! $ split ! $ move ! (1 ∷ []) $ split ! $ move ! (1 ∷ []) $ split ! $ move ! (1 ∷ []) $ split ! $ move ! (1 ∷ []) $ drop ! $
         move ! (2 ∷ []) $ lft-end ! tt $ move ! (0 ∷ 9 ∷ []) $ use2 W (later (‵ (row u16 fullShare cs bc oc))) (shr-back u16 bc oc 𝓤 H A W (ν₁ ∷ []) cs) $ await ! tt $
-        move ! (2 ∷ []) $ lft-end ! tt $ move ! (0 ∷ 8 ∷ 5 ∷ []) $ use3 W (later (‵ (partAt (Array (UInt w32) 4296) fullShare (zs .1 .1 .1 .1 .0) l₆ 0))) (array-back 𝓤 H A W w32 4296 l₆ (ν₂ ∷ []) γ₂ (zs .1 .1 .1 .1 .0)) $ await ! tt $
+        move ! (2 ∷ []) $ lft-end ! tt $ move ! (0 ∷ 8 ∷ 5 ∷ []) $ use3 W (later (‵ (partAt (Array (UInt w32) 2248) fullShare (zs .1 .1 .1 .1 .0) l₆ 0))) (array-back 𝓤 H A W w32 2248 l₆ (ν₂ ∷ []) γ₂ (zs .1 .1 .1 .1 .0)) $ await ! tt $
         move ! (2 ∷ []) $ lft-end ! tt $ move ! (0 ∷ 6 ∷ 4 ∷ []) $ use3 W (later (‵ (partAt (Array (UInt w64) 256) fullShare (zs .1 .1 .1 .1 .1 .0) l₇ 0))) (array-back 𝓤 H A W w64 256 l₇ (ν₃ ∷ []) γ₃ (zs .1 .1 .1 .1 .1 .0)) $ await ! tt $
         assigns ! (of-opd ! (load ! (from ! (fld ! refl (fld ! refl (stop !)))) (look-in ! 38 (sub ! 1 refl (sub ! 1 refl (whole !)))))) (from ! (stop !)) (init ! 36 refl (tt, record { fits = counts .1 .0 .1 })) $
         assigns ! (addr ! (from ! (fld ! refl (hop ! (look-in ! 44 (sub ! 0 refl (whole !))) (stop !))))) (from ! (stop !)) (init ! 24 refl (tt, tt)) $
@@ -291,7 +291,7 @@ module _ {M : Type 1} (𝓤 : URA M) (H : Heap 𝓤) (A : Atoms 𝓤) (W : Given
         assigns ! (addr ! (from ! (stop !))) (from ! (stop !)) (init ! 10 refl (tt, tt)) $
         -- `second_half`
         lft-new ! tt (λ ν₅. move ! (5 ∷ []) $ use1 W (later (some (λ (γ₅ : GName). ‵ (MutSlice (named 0) (ν₅ ∷ []) u16 .own (ref-at u16 bc oc γ₅ cs) (sliceVal (bc, oc) (length cs) ∷ [])) ⊛ ‵ (LentMut u16 bc oc (ν₅ ∷ []) (length cs) γ₅)))) (lend-mut u16 bc oc 𝓤 H A W (ν₅ ∷ []) cs (named 0) room-c) $ await ! tt $ pick ! (λ γ₅. split ! $
-        lft-new ! tt (λ ν₆. move ! (7 ∷ []) $ use1 W (later (some (λ (γ₆ : GName). ‵ (ShrRef (named 1) (ν₆ ∷ []) (Array (UInt w32) 4296) .own (array-at w32 4296 l₆ γ₆ (zs .1 .1 .1 .1 .0)) (vptr l₆ 0 ∷ [])) ⊛ ‵ (flent (ν₆ ∷ []) (partAt (Array (UInt w32) 4296) fullShare (zs .1 .1 .1 .1 .0) l₆ 0))))) (share-array 𝓤 H A W w32 4296 l₆ (named 1) (ν₆ ∷ []) (zs .1 .1 .1 .1 .0)) $ await ! tt $ pick ! (λ γ₆. split ! $
+        lft-new ! tt (λ ν₆. move ! (7 ∷ []) $ use1 W (later (some (λ (γ₆ : GName). ‵ (ShrRef (named 1) (ν₆ ∷ []) (Array (UInt w32) 2248) .own (array-at w32 2248 l₆ γ₆ (zs .1 .1 .1 .1 .0)) (vptr l₆ 0 ∷ [])) ⊛ ‵ (flent (ν₆ ∷ []) (partAt (Array (UInt w32) 2248) fullShare (zs .1 .1 .1 .1 .0) l₆ 0))))) (share-array 𝓤 H A W w32 2248 l₆ (named 1) (ν₆ ∷ []) (zs .1 .1 .1 .1 .0)) $ await ! tt $ pick ! (λ γ₆. split ! $
         lft-new ! tt (λ ν₇. move ! (7 ∷ []) $ use1 W (later (some (λ (γ₇ : GName). ‵ (ShrRef (named 2) (ν₇ ∷ []) (Array (UInt w64) 256) .own (array-at w64 256 l₇ γ₇ (ls .1 .0)) (vptr l₇ 0 ∷ [])) ⊛ ‵ (flent (ν₇ ∷ []) (partAt (Array (UInt w64) 256) fullShare (ls .1 .0) l₇ 0))))) (share-array 𝓤 H A W w64 256 l₇ (named 2) (ν₇ ∷ []) (ls .1 .0)) $ await ! tt $ pick ! (λ γ₇. split ! $
         nothing ! $ move ! (3 ∷ 0 ∷ []) $ join ! $ move ! (5 ∷ 0 ∷ []) $ join ! $ move ! (7 ∷ 0 ∷ []) $ join ! $ nothing ! $ owned ! P.the-row (Is P.the-row) (LL.makes P.the-type P′.the-plain 𝓤 H A) p _ is-p $ fjoin ! $ move ! (2 ∷ 0 ∷ []) $ fjoin ! $ move ! (3 ∷ 0 ∷ []) $ fjoin ! $ move ! (4 ∷ 0 ∷ []) $ fjoin ! $
         move ! (1 ∷ 0 ∷ []) $ use2 W (raw (Second 𝓤 H A mem run .pre (to-second ν₅ ν₆ ν₇ γ₅ γ₆ γ₇ l₆ l₇ (zs .1 .1 .1 .1 .0) (ls .1 .0) p))) (asked-second ν₅ ν₆ ν₇ γ₅ γ₆ γ₇ l₆ l₇ (zs .1 .1 .1 .1 .0) (ls .1 .0) p) $
@@ -306,7 +306,7 @@ module _ {M : Type 1} (𝓤 : URA M) (H : Heap 𝓤) (A : Atoms 𝓤) (W : Given
         move ! (2 ∷ []) $ lft-end ! tt $ move ! (0 ∷ 4 ∷ []) $ lent-back ! tt $
         move ! (2 ∷ []) $ lft-end ! tt $ move ! (0 ∷ 3 ∷ []) $ lent-back ! tt $
         move ! (2 ∷ 7 ∷ 8 ∷ 9 ∷ []) $ closes-slice ! tt u16 cs (ds .0) lc bc oc $
-        move ! (4 ∷ []) $ use1 W (‵ (froom (tyArray (tyInt w32) 4296) l₆ 0)) (over 𝓤 H A W w32 4296 l₆ (zs .1 .1 .1 .1 .0)) $
+        move ! (4 ∷ []) $ use1 W (‵ (froom (tyArray (tyInt w32) 2248) l₆ 0)) (over 𝓤 H A W w32 2248 l₆ (zs .1 .1 .1 .1 .0)) $
         move ! (4 ∷ []) $ use1 W (‵ (froom (tyArray (tyInt w64) 256) l₇ 0)) (over 𝓤 H A W w64 256 l₇ (ls .1 .0)) $
         returns ! (look ! 51 refl) $ forget ! 51 refl $ forget ! 49 refl $ forget ! 47 refl $ forget ! 45 refl $ forget ! 43 refl $ forget ! 41 refl $ forget ! 37 refl $ forget ! 35 refl $ forget ! 33 refl $ forget ! 31 refl $ forget ! 29 refl $ forget ! 27 refl $ forget ! 25 refl $ forget ! 23 refl $ forget ! 21 refl $ forget ! 19 refl $ forget ! 17 refl $ forget ! 15 refl $ forget ! 13 refl $ forget ! 11 refl $ forget ! 9 refl $
         move ! (51 ∷ 52 ∷ []) $ free1 ! $ move ! (49 ∷ 50 ∷ []) $ free1 ! $ move ! (47 ∷ 48 ∷ []) $ free1 ! $ move ! (45 ∷ 46 ∷ []) $ free1 ! $ move ! (43 ∷ 44 ∷ []) $ free1 ! $ move ! (41 ∷ 42 ∷ []) $ free1 ! $ move ! (1 ∷ 40 ∷ []) $ free1 ! $ move ! (0 ∷ 38 ∷ []) $ free1 ! $ move ! (35 ∷ 36 ∷ []) $ free1 ! $ move ! (33 ∷ 34 ∷ []) $ free1 ! $ move ! (31 ∷ 32 ∷ []) $ free1 ! $ move ! (29 ∷ 30 ∷ []) $ free1 ! $ move ! (27 ∷ 28 ∷ []) $ free1 ! $ move ! (25 ∷ 26 ∷ []) $ free1 ! $ move ! (23 ∷ 24 ∷ []) $ free1 ! $ move ! (21 ∷ 22 ∷ []) $ free1 ! $ move ! (19 ∷ 20 ∷ []) $ free1 ! $ move ! (17 ∷ 18 ∷ []) $ free1 ! $ move ! (15 ∷ 16 ∷ []) $ free1 ! $ move ! (13 ∷ 14 ∷ []) $ free1 ! $ move ! (11 ∷ 12 ∷ []) $ free1 ! $ move ! (9 ∷ 10 ∷ []) $ free1 ! $ move ! (7 ∷ 8 ∷ []) $ free1 ! $ free0 ! $

@@ -39,11 +39,8 @@ parse-requires c κs = search needs
 returns : tie.Need-returns Inv-loop μ-loop
 returns c = let a = c .before .before .before .before .before .before .before .before .before .args in let l = c .before .before .before .before .loop in let w = parsed-ok (a .text .now) (l .i) _ (c .before .before .parse .ensures) in (least-stop (bad-line (a .text .now)) (first-entry (a .h)) (l .i) (c .before .before .before .loop-test .taken) (ap not (sym w) ∙ c .if1 .taken) (l .inv .2), l .inv .3)
 
-row-of-requires : tie.Need-row-of-requires Inv-loop μ-loop
-row-of-requires c κs = search needs
-
-store-requires : tie.Need-store-requires Inv-loop μ-loop
-store-requires c κs = search needs
+put-line-requires : tie.Need-put-line-requires Inv-loop μ-loop
+put-line-requires c κs = search needs
 
 add-i : tie.Need-add-i Inv-loop μ-loop
 add-i c = search needs
@@ -52,7 +49,7 @@ loop-less : tie.Need-loop-less Inv-loop μ-loop
 loop-less c = search needs
 
 loop-again : tie.Need-loop-again Inv-loop μ-loop
-loop-again c = let a = c .before .before .before .before .before .before .before .before .before .before .before .before .args in let l = c .before .before .before .before .before .before .before .loop in let w = parsed-ok (a .text .now) (l .i) _ (c .before .before .before .before .before .parse .ensures) in let t = c .before .before .before .if1 .left in (search needs, search needs, least-pass (bad-line (a .text .now)) (first-entry (a .h)) (l .i) (c .before .before .before .before .before .before .loop-test .taken) (ap not (sym w) ∙ t) (l .inv .2), c .store .ensures .0 ∙ rw (c .before .row-of .ensures, parsed-line (a .text .now) (l .i) _ (c .before .before .before .before .before .parse .ensures) (not-false _ t), l .inv .3) (sym (taken-step (a .h) (a .text .now) (a .image .now) (l .i) (l .inv .0))))
+loop-again c = let a = c .before .before .before .before .before .before .before .before .before .before .before .args in let l = c .before .before .before .before .before .before .loop in let w = parsed-ok (a .text .now) (l .i) _ (c .before .before .before .before .parse .ensures) in let t = c .before .before .if1 .left in (search needs, search needs, least-pass (bad-line (a .text .now)) (first-entry (a .h)) (l .i) (c .before .before .before .before .before .loop-test .taken) (ap not (sym w) ∙ t) (l .inv .2), c .put-line .ensures ∙ rw (parsed-line (a .text .now) (l .i) _ (c .before .before .before .before .parse .ensures) (not-false _ t), l .inv .3) (sym (taken-step (a .h) (a .text .now) (a .image .now) (l .i) (l .inv .0))))
 
 returns-2 : tie.Need-returns-2 Inv-loop μ-loop
 returns-2 c = let a = c .before .before .before .before .before .before .args in let l = c .before .loop in let e : l .i ≡ first-entry (a .h) = omega arith in (least-end (bad-line (a .text .now)) (first-entry (a .h)) (l .i) (c .loop-test .left) (l .inv .2), l .inv .3 ∙ rw e)
@@ -69,8 +66,7 @@ take-lines-spec =
     loop-holds
     parse-requires
     returns
-    row-of-requires
-    store-requires
+    put-line-requires
     add-i
     loop-less
     loop-again
