@@ -11,7 +11,8 @@ use lib.Seq.{getD-take, getD-drop}
 use Rattle.text.specs.Words.{if_then_else_}
 use Rattle.book.specs.declared.Function.{Function}
 use Rattle.book.specs.Book.{Program, size, function-at, place}
-use Rattle.pages.specs.Part.{between}
+use Rattle.pages.specs.declared.Owner.{Owner}
+use Rattle.pages.specs.Part.{between, part-from}
 use Rattle.pages.proofs.Parts.{between-before, between-inside, between-after}
 use Rattle.pages.proofs.Places.{From, from-start, from-at, from-next, from-past}
 use Rattle.sweep.specs.Marks.{mark}
@@ -83,16 +84,18 @@ module _ (B : Program) (x bit : ℕ) (c₀ ms₀ : List ℕ) where
   pub upto-start : Upto 0 0 c₀ ms₀
   upto-start = record { contents = sweep-start wipe c₀; marks = sweep-start note ms₀; at = from-start B }
 
-  module _ (first g end : ℕ) (c ms : List ℕ) (u : Upto first g c ms) (more : g < length (B .functions))
-      (ends : end ≡ first + size (B .E) (function-at B g .arity)) where
+  module _ (first g : ℕ) (c ms : List ℕ) (u : Upto first g c ms) (more : g < length (B .functions)) where
+    abbrev end : ℕ
+    end = first + size (B .E) (function-at B g .arity)
+
     -- a location of the run stands in this function
     here : (k : ℕ) → first ≤ k → k < end → place B k ≡ record { function = function-at B g; index = k - first }
     here k h l = from-at B g first (u .at) more k h (omega arith)
 
-    pub upto-next :
-        (c′ ms′ : List ℕ) → B .E ≤ 10000 → c′ ≡ run-cleared (B .E) (function-at B g) x first end c →
-        ms′ ≡ run-marked bit (B .E) (function-at B g) x first end c ms → Upto end (g + 1) c′ ms′
-    upto-next c′ ms′ low p q =
+    upto-function :
+        (c′ ms′ : List ℕ) → c′ ≡ run-cleared (B .E) (function-at B g) x first end c → ms′ ≡ run-marked bit (B .E) (function-at B g) x first end c ms →
+        Upto end (g + 1) c′ ms′
+    upto-function c′ ms′ p q =
         record {
           contents =
               sweep-run wipe (λ (l v : ℕ). if between first end l then wiped-in (B .E) (function-at B g) x (l - first) v else v) first end c₀ c c′
@@ -106,8 +109,13 @@ module _ (B : Program) (x bit : ℕ) (c₀ ms₀ : List ℕ) where
               (λ k h l v. rw (between-before first end k h))
               (λ k h l m. rw (between-inside first end k h l, here k h l, u .contents .left k h, u .contents .same))
               (λ k h l v. rw (between-after first end k h));
-          at = rw ends (from-next B g first (u .at) more low);
+          at = from-next B g first (u .at) more;
         }
+
+    pub upto-next :
+        (own : Owner) (c′ ms′ : List ℕ) → own ≡ part-from B g first → c′ ≡ run-cleared (B .E) (own .function) x (own .first) (own .end) c →
+        ms′ ≡ run-marked bit (B .E) (own .function) x (own .first) (own .end) c ms → Upto (own .end) (g + 1) c′ ms′
+    upto-next own c′ ms′ is p q = rw is (upto-function c′ ms′ (rw is at p) (rw is at q))
 
   pub upto-end : (first g : ℕ) (c ms : List ℕ) → Upto first g c ms → length (B .functions) ≤ g → (c ≡ cleared B x c₀) × (ms ≡ clear-marked bit B x c₀ ms₀)
   upto-end first g c ms u done = (

@@ -1,8 +1,8 @@
 // The traces of released labels cleared, function after function.
-use book::Function;
 use book::Image;
 use engine::Instruction;
 use numbers::Value;
+use pages::Owner;
 ghost use mathlib.Core.Path.{_≡_};
 ghost use Prim.Native.Nat.{_≤_};
 ghost use Rattle.book.specs.Image.{held};
@@ -10,27 +10,25 @@ ghost use Rattle.records.specs.Code.{items};
 ghost use Rattle.clearing.specs.Steps.{run-cleared, run-marked, cleared, clear-marked, clear-of, clear-marks-of, clears, clear-marks};
 
 // The function's own part is lent, from its first location; so are its marks.
-fn clear_run(
-    contents: &mut [Value],
-    writers: &mut [u64],
-    e: u16,
-    f: Function,
-    x: u16,
-    bit: u64,
-    first: usize,
-    end: usize,
-)
-    requires { ⌜ first ≤ end ⌝ }
-    ensures { λ _. ⌜ now (contents .exit) ≡ run-cleared e f x first end (now (contents .entry)) ⌝ }
-    ensures { λ _. ⌜ now (writers .exit) ≡ run-marked bit e f x first end (now (contents .entry)) (now (writers .entry)) ⌝ }
+fn clear_run(contents: &mut [Value], writers: &mut [u64], e: u16, own: Owner, x: u16, bit: u64)
+    requires { ⌜ own .first ≤ own .end ⌝ }
+    ensures { λ _. ⌜ now (contents .exit) ≡ run-cleared e (own .function) x (own .first) (own .end) (now (contents .entry)) ⌝ }
+    ensures { λ _. ⌜ now (writers .exit) ≡ run-marked bit e (own .function) x (own .first) (own .end) (now (contents .entry)) (now (writers .entry)) ⌝ }
 {
     let n = contents.len();
-    let a = numbers::smaller(first, n);
-    let b = numbers::smaller(end, n);
+    let a = numbers::smaller(own.first, n);
+    let b = numbers::smaller(own.end, n);
     let m = writers.len();
-    let p = numbers::smaller(first, m);
-    let q = numbers::smaller(end, m);
-    sweep::clear_part(&mut contents[a..b], &mut writers[p..q], e, f, x, bit);
+    let p = numbers::smaller(own.first, m);
+    let q = numbers::smaller(own.end, m);
+    sweep::clear_part(
+        &mut contents[a..b],
+        &mut writers[p..q],
+        e,
+        own.function,
+        x,
+        bit,
+    );
 }
 
 // The traces of x in all functions.
@@ -40,13 +38,12 @@ fn clear(image: &Image, contents: &mut [Value], writers: &mut [u64], x: u16, bit
 {
     let e = image::elements(image);
     let n = image::functions(image);
-    let mut first: usize = 0;
+    let mut first: u32 = 0;
     let mut g: u16 = 0;
     while g < n {
-        let f = pages::function_at(image, g);
-        let end = first + image::size(e, f.arity) as usize;
-        clear_run(contents, writers, e, f, x, bit, first, end);
-        first = end;
+        let own = pages::part_from(image, g, first);
+        clear_run(contents, writers, e, own, x, bit);
+        first = own.end as u32;
         g = g + 1;
     }
 }

@@ -6,17 +6,17 @@ use Prim.Native.Nat.{ℕ, _+_, _-_, _<_, _≤_, min}
 use native.Mathlib.Omega.{arith}
 use borrow.Author.Tests.{ltb-true, ltb-false, lt-ltb, le-ltb, lt-leb, le-leb}
 use lib.Dec.{ltb, leb}
-use lib.ListN.{length, set, take, drop, length-take, length-drop, take-append-drop, drop-of-length-le}
+use lib.ListN.{length, set, take, drop, length-take, length-drop, take-append-drop, drop-of-length-le, List·getD-eq-default}
 use lib.Seq.{set-out, take-set-le, take-set-lt, drop-set-lt, drop-set-add}
 use Rattle.text.specs.Words.{if_then_else_}
 use Rattle.book.specs.declared.Function.{Function}
-use Rattle.book.specs.Book.{Program, L, size, total, offset, location, function-at, Place, place-in, place}
+use Rattle.book.specs.Book.{Program, L, size, total, no-function, offset, location, function-at, Place, place-in, place}
 use Rattle.book.specs.Sound.{Lawful}
 use Rattle.book.proofs.Places.{spot}
 use Rattle.pages.specs.declared.Part.{Part}
 use Rattle.pages.specs.declared.Owner.{Owner}
-use Rattle.pages.specs.Part.{between, put-in, part-from, part-of, owner-of}
-use Rattle.pages.proofs.Places.{functions-from, place-past}
+use Rattle.pages.specs.Part.{between, put-in, part-from, part-in, part-of, owner-of}
+use Rattle.pages.proofs.Places.{functions-from, place-past, From, from-start, from-at, from-past, part-ends, part-after}
 
 -- ---- the locations from a up to e
 
@@ -41,28 +41,28 @@ module _ (E : ℕ) where
     pub reached : p .first ≤ l
     pub ordered : p .first ≤ p .end
 
-  starts : (n : ℕ) (fs : List Function) (l : ℕ) → n ≤ l → Starts n l (part-from E n fs l)
-  unfolding part-from
+  starts : (n : ℕ) (fs : List Function) (l : ℕ) → n ≤ l → Starts n l (part-in E n fs l)
+  unfolding part-in
   starts n [] l h = record { low = omega arith; reached = h; ordered = omega arith }
   starts n (f ∷ fs) l h = go (ltb l (next n f)) refl (λ k. starts (next n f) fs l k)
     where
-      go : (b : Bool) → ltb l (next n f) ≡ b → (next n f ≤ l → Starts (next n f) l (part-from E (next n f) fs l))
-          → Starts n l (if b then record { first = n; end = next n f } else part-from E (next n f) fs l)
+      go : (b : Bool) → ltb l (next n f) ≡ b → (next n f ≤ l → Starts (next n f) l (part-in E (next n f) fs l))
+          → Starts n l (if b then record { first = n; end = next n f } else part-in E (next n f) fs l)
       go true e r = record { low = omega arith; reached = h; ordered = omega arith }
       go false e r = let s = r (ltb-false l (next n f) e) in record { low = omega (arith, s .low); reached = s .reached; ordered = s .ordered }
 
   -- its locations all have the same part
-  alike : (n : ℕ) (fs : List Function) (l k : ℕ) → n ≤ l → part-from E n fs l .first ≤ k → k < part-from E n fs l .end → part-from E n fs k ≡ part-from E n fs l
-  unfolding part-from
+  alike : (n : ℕ) (fs : List Function) (l k : ℕ) → n ≤ l → part-in E n fs l .first ≤ k → k < part-in E n fs l .end → part-in E n fs k ≡ part-in E n fs l
+  unfolding part-in
   alike n [] l k h a b = refl
   alike n (f ∷ fs) l k h a b = go (ltb l (next n f)) refl a b (λ m. starts (next n f) fs l m .low) (λ m a b. alike (next n f) fs l k m a b)
     where
       go : (t : Bool) → ltb l (next n f) ≡ t
-          → (if t then record { first = n; end = next n f } else part-from E (next n f) fs l) .first ≤ k
-          → k < (if t then record { first = n; end = next n f } else part-from E (next n f) fs l) .end
-          → (next n f ≤ l → next n f ≤ part-from E (next n f) fs l .first)
-          → (next n f ≤ l → part-from E (next n f) fs l .first ≤ k → k < part-from E (next n f) fs l .end → part-from E (next n f) fs k ≡ part-from E (next n f) fs l)
-          → (if ltb k (next n f) then record { first = n; end = next n f } else part-from E (next n f) fs k) ≡ (if t then record { first = n; end = next n f } else part-from E (next n f) fs l)
+          → (if t then record { first = n; end = next n f } else part-in E (next n f) fs l) .first ≤ k
+          → k < (if t then record { first = n; end = next n f } else part-in E (next n f) fs l) .end
+          → (next n f ≤ l → next n f ≤ part-in E (next n f) fs l .first)
+          → (next n f ≤ l → part-in E (next n f) fs l .first ≤ k → k < part-in E (next n f) fs l .end → part-in E (next n f) fs k ≡ part-in E (next n f) fs l)
+          → (if ltb k (next n f) then record { first = n; end = next n f } else part-in E (next n f) fs k) ≡ (if t then record { first = n; end = next n f } else part-in E (next n f) fs l)
       go true e a b low r = rw (lt-ltb k (next n f) b)
       go false e a b low r = let m = ltb-false l (next n f) e in rw (le-ltb k (next n f) (omega (arith, low m))) (r m a b)
 
@@ -72,13 +72,13 @@ module _ (E : ℕ) where
     pub long : p .end ≡ p .first + size E (s .function .arity)
     pub inside : l < p .end
 
-  numbered : (n : ℕ) (fs : List Function) (l : ℕ) → n ≤ l → l < n + total E fs → Numbered l (part-from E n fs l) (place-in E fs (l - n))
-  unfolding part-from place-in total
+  numbered : (n : ℕ) (fs : List Function) (l : ℕ) → n ≤ l → l < n + total E fs → Numbered l (part-in E n fs l) (place-in E fs (l - n))
+  unfolding part-in place-in total
   numbered n [] l h k = absurd (omega arith)
   numbered n (f ∷ fs) l h k = go (ltb l (next n f)) refl (λ m. numbered (next n f) fs l m (omega arith))
     where
-      go : (b : Bool) → ltb l (next n f) ≡ b → (next n f ≤ l → Numbered l (part-from E (next n f) fs l) (place-in E fs (l - next n f)))
-          → Numbered l (if b then record { first = n; end = next n f } else part-from E (next n f) fs l) (if ltb (l - n) (size E (f .arity)) then record { function = f; index = l - n } else place-in E fs (l - n - size E (f .arity)))
+      go : (b : Bool) → ltb l (next n f) ≡ b → (next n f ≤ l → Numbered l (part-in E (next n f) fs l) (place-in E fs (l - next n f)))
+          → Numbered l (if b then record { first = n; end = next n f } else part-in E (next n f) fs l) (if ltb (l - n) (size E (f .arity)) then record { function = f; index = l - n } else place-in E fs (l - n - size E (f .arity)))
       go true e r =
           let m = ltb-true l (next n f) e in
           rw (lt-ltb (l - n) (size E (f .arity)) (omega arith)) (record { number = omega arith; long = refl; inside = m })
@@ -87,8 +87,8 @@ module _ (E : ℕ) where
           let q : l - n - size E (f .arity) ≡ l - next n f = omega arith in
           rw (le-ltb (l - n) (size E (f .arity)) (omega arith), q) (r m)
 
-  past : (n : ℕ) (fs : List Function) (l : ℕ) → n + total E fs ≤ l → part-from E n fs l ≡ record { first = n + total E fs; end = n + total E fs }
-  unfolding part-from total
+  past : (n : ℕ) (fs : List Function) (l : ℕ) → n + total E fs ≤ l → part-in E n fs l ≡ record { first = n + total E fs; end = n + total E fs }
+  unfolding part-in total
   past n [] l h = let e : n + 0 ≡ n = omega arith in rw e
   past n (f ∷ fs) l h =
       let e : n + (size E (f .arity) + total E fs) ≡ next n f + total E fs = omega arith in
@@ -118,31 +118,46 @@ module _ (B : Program) where
       let g : p .end ≡ function-at B f .first + size (B .E) (function-at B f .arity) = omega (arith, r .long, e) in
       ap₂ (λ (u v : ℕ). record { first = u; end = v }) e g
 
--- ---- the search for l's part: it is not among the functions before g, whose locations are those below first
+-- ---- the search for l's owner: it is not among the functions before g, whose locations are those below first
 
 module _ (B : Program) (l : ℕ) where
   abbrev pub Sought : ℕ → ℕ → Type 0
-  Sought g first = part-of B l ≡ part-from (B .E) first (drop g (B .functions)) l
+  Sought g first = From B g first × (first ≤ l) × (part-of B l ≡ part-in (B .E) first (drop g (B .functions)) l)
 
-  module _ (g first end : ℕ) (at : Sought g first) (more : g < length (B .functions)) (ends : end ≡ first + size (B .E) (function-at B g .arity)) where
-    pub part-here : l < end → record { first = first; end = end } ≡ part-of B l
-    unfolding part-from
-    part-here h = sym (at ∙ rw (functions-from B g more, ← ends, lt-ltb l end h))
-
-    pub part-next : end ≤ l → Sought (g + 1) end
-    unfolding part-from
-    part-next h = at ∙ rw (functions-from B g more, ← ends, le-ltb l end h)
-
-  pub part-none : (g first : ℕ) → Sought g first → length (B .functions) ≤ g → record { first = first; end = first } ≡ part-of B l
-  unfolding part-from
-  part-none g first at done = sym (at ∙ rw (drop-of-length-le (B .functions) {i = g} done))
-
--- ---- the function that a location belongs to
-
-module _ (B : Program) (l : ℕ) where
-  pub owner-is : (f : Function) (i first end : ℕ) → place B l ≡ record { function = f; index = i } → _≡_ {A = Part} (record { first = first; end = end }) (part-of B l)
+  owner-is : (f : Function) (i first end : ℕ) → place B l ≡ record { function = f; index = i } → _≡_ {A = Part} (record { first = first; end = end }) (part-of B l)
       → _≡_ {A = Owner} (record { function = f; first = first; end = end }) (owner-of B l)
   owner-is f i first end p q = rw (p, ← q)
+
+  pub owner-start : Sought 0 0
+  owner-start = (from-start B, omega arith, refl)
+
+  module _ (g first : ℕ) (own : Owner) (at : Sought g first) (is : own ≡ part-from B g first) (more : g < length (B .functions)) where
+    abbrev end : ℕ
+    end = first + size (B .E) (function-at B g .arity)
+
+    part-here : l < end → record { first = first; end = end } ≡ part-of B l
+    unfolding part-in
+    part-here h = sym (at .2 ∙ rw (functions-from B g more, lt-ltb l end h))
+
+    pub owner-here : l < own .end → own ≡ owner-of B l
+    owner-here h =
+        let k : l < end = omega (arith, part-ends B g first own is, h) in
+        is ∙ owner-is (function-at B g) (l - first) first end (from-at B g first (at .0) more l (at .1) k) (part-here k)
+
+    pub owner-next : own .end ≤ l → Sought (g + 1) (own .end)
+    unfolding part-in
+    owner-next h = (
+      part-after B g first own is (at .0) more,
+      h,
+      at .2 ∙ rw (functions-from B g more, ← part-ends B g first own is, le-ltb l (own .end) h),
+    )
+
+  pub owner-none : (g first : ℕ) (f : Function) → Sought g first → length (B .functions) ≤ g → f ≡ function-at B (length (B .functions))
+      → record { function = f; first = first; end = first } ≡ owner-of B l
+  unfolding part-in
+  owner-none g first f at done is =
+      let none : f ≡ no-function = is ∙ List·getD-eq-default (B .functions) no-function {n = length (B .functions)} (omega arith) in
+      owner-is f 0 first first (from-past B g first (at .0) done l (at .1) ∙ rw none) (sym (at .2 ∙ rw (drop-of-length-le (B .functions) {i = g} done)))
 
   -- the location's number within its function, counted from the part's first; past L it is 0
   pub owner-index : place B l .index ≡ (if ltb l (owner-of B l .end) then l - owner-of B l .first else 0)

@@ -10,6 +10,8 @@ use lib.Seq.{drop-cons}
 use Rattle.book.specs.declared.Function.{Function}
 use Rattle.book.specs.Book.{Program, L, size, total, no-function, function-at, place-in, place}
 use Rattle.book.specs.Image.{held}
+use Rattle.pages.specs.declared.Owner.{Owner}
+use Rattle.pages.specs.Part.{part-from}
 use Rattle.book.proofs.Image.{size-most, elements-most, functions-most}
 use Rattle.book.proofs.Held.{held-elements, held-functions}
 
@@ -40,10 +42,9 @@ module _ (B : Program) where
   pub record From (g first : ℕ) : Type 0 where
     pub sum : first + total (B .E) (drop g (B .functions)) ≡ L B
     pub places : (l : ℕ) → first ≤ l → place B l ≡ place-in (B .E) (drop g (B .functions)) (l - first)
-    pub low : first ≤ g * 100000000
 
   pub from-start : From 0 0
-  from-start = record { sum = omega arith; places = λ l h. ap (place-in (B .E) (B .functions)) (omega arith); low = omega arith }
+  from-start = record { sum = omega arith; places = λ l h. ap (place-in (B .E) (B .functions)) (omega arith) }
 
   module _ (g first : ℕ) (at : From g first) (more : g < length (B .functions)) where
     cons : drop g (B .functions) ≡ function-at B g ∷ drop (g + 1) (B .functions)
@@ -63,9 +64,9 @@ module _ (B : Program) where
     pub from-at : (l : ℕ) → first ≤ l → l < first + n → place B l ≡ record { function = function-at B g; index = l - first }
     from-at l h k = let e : first + (l - first) ≡ l = omega arith in rw e at (from-here (l - first) (omega arith))
 
-    pub from-next : B .E ≤ 10000 → From (g + 1) (first + n)
+    pub from-next : From (g + 1) (first + n)
     unfolding place-in total
-    from-next low =
+    from-next =
         record {
           sum =
               let e : total (B .E) (drop g (B .functions)) ≡ n + total (B .E) (drop (g + 1) (B .functions)) = rw cons in
@@ -74,7 +75,6 @@ module _ (B : Program) where
               λ l h.
               let e : l - first - n ≡ l - (first + n) = omega arith in
               at .places l (omega arith) ∙ rw (cons, le-ltb (l - first) n (omega arith), e);
-          low = omega (arith, at .low, size-most (B .E) (function-at B g .arity) low);
         }
 
     pub from-fits : first + n ≤ L B
@@ -94,3 +94,18 @@ module _ (B : Program) where
     pub from-past : (l : ℕ) → first ≤ l → place B l ≡ record { function = no-function; index = 0 }
     unfolding place-in
     from-past l h = at .places l h ∙ rw (drop-of-length-le (B .functions) {i = g} done)
+
+-- function g's part, found from where the one before it ends
+module _ (B : Program) (g first : ℕ) (own : Owner) (is : own ≡ part-from B g first) where
+  pub part-ends : own .end ≡ first + size (B .E) (function-at B g .arity)
+  part-ends = ap (λ (o : Owner). o .end) is
+
+  pub part-ordered : own .first ≤ own .end
+  part-ordered = rw is (omega arith)
+
+  pub part-after : From B g first → g < length (B .functions) → From B (g + 1) (own .end)
+  part-after at more = rw part-ends (from-next B g first at more)
+
+-- in the book of an image it ends where a word of 32 bits can say
+pub part-fits : (m : List ℕ) (g first : ℕ) (own : Owner) → own ≡ part-from (held m) g first → From (held m) g first → g < length (held m .functions) → own .end < 2 ^ 32
+part-fits m g first own is at more = omega (arith, part-ends (held m) g first own is, from-fits (held m) g first at more, locations-fit m)

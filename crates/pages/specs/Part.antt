@@ -6,7 +6,7 @@ use lib.Dec.{ltb, leb}
 use lib.ListN.{set}
 use Rattle.text.specs.Words.{if_then_else_}
 use Rattle.book.specs.declared.Function.{Function}
-use Rattle.book.specs.Book.{Program, size, place}
+use Rattle.book.specs.Book.{Program, size, function-at, place}
 use Rattle.pages.specs.declared.Part.{Part}
 use Rattle.pages.specs.declared.Owner.{Owner}
 
@@ -17,16 +17,20 @@ between first end l = leb first l && ltb l end
 abbrev pub put-in : ℕ → ℕ → ℕ → ℕ → List ℕ → List ℕ
 put-in first end l v c = if between first end l then set c l v else c
 
+-- function g and its part, which starts at `first`: where the part of the function before it ends
+abbrev pub part-from : Program → ℕ → ℕ → Owner
+part-from B g first = record { function = function-at B g; first = first; end = first + size (B .E) (function-at B g .arity) }
+
 -- the part that l is in, the functions' parts following each other from `first` on; past the last one an empty part
-unfoldable pub part-from : ℕ → ℕ → List Function → ℕ → Part
-part-from E first [] l = record { first = first; end = first }
-part-from E first (f ∷ fs) l =
+unfoldable pub part-in : ℕ → ℕ → List Function → ℕ → Part
+part-in E first [] l = record { first = first; end = first }
+part-in E first (f ∷ fs) l =
     let end = first + size E (f .arity) in
-    let r = part-from E end fs l in
+    let r = part-in E end fs l in
     if ltb l end then record { first = first; end = end } else r
 
 abbrev pub part-of : Program → ℕ → Part
-part-of B l = part-from (B .E) 0 (B .functions) l
+part-of B l = part-in (B .E) 0 (B .functions) l
 
 -- the function that l belongs to, with that part
 abbrev pub owner-of : Program → ℕ → Owner

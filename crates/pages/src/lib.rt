@@ -5,7 +5,7 @@ use numbers::Value;
 ghost use mathlib.Core.Path.{_≡_};
 ghost use Rattle.book.specs.Book.{relation, dynamic, default, function-at, node-at};
 ghost use Rattle.book.specs.Image.{held};
-ghost use Rattle.pages.specs.Part.{part-of, owner-of};
+ghost use Rattle.pages.specs.Part.{part-from, part-of, owner-of};
 ghost use Rattle.pages.specs.Rows.{node-row};
 
 // ---- what the engine takes from an image, in its own width
@@ -83,32 +83,38 @@ pub struct Owner {
     pub end: usize,
 }
 
+// Function g and its part, which starts at `first`: where the part of the function before it ends.
+pub fn part_from(image: &Image, g: u16, first: u32) -> Owner
+    ensures { λ r. ⌜ r ≡ part-from (held (now (image .entry))) g first ⌝ }
+{
+    let f = function_at(image, g);
+    let size = image::size(image::elements(image), f.arity);
+    Owner {
+        function: f,
+        first: first as usize,
+        end: first as usize + size as usize,
+    }
+}
+
 // The function that location l belongs to, and its part of the contents table; past L there is none, and the part is empty.
 pub fn owner_of(image: &Image, l: usize) -> Owner
     ensures { λ r. ⌜ r ≡ owner-of (held (now (image .entry))) l ⌝ }
 {
-    let e = image::elements(image);
     let n = image::functions(image);
-    let mut first: usize = 0;
+    let mut first: u32 = 0;
     let mut g: u16 = 0;
     while g < n {
-        let f = function_at(image, g);
-        let end = first + image::size(e, f.arity) as usize;
-        if l < end {
-            return Owner {
-                function: f,
-                first: first,
-                end: end,
-            };
+        let own = part_from(image, g, first);
+        if l < own.end {
+            return own;
         }
-        first = end;
+        first = own.end as u32;
         g = g + 1;
     }
-    let none = function_at(image, n);
     Owner {
-        function: none,
-        first: first,
-        end: first,
+        function: function_at(image, n),
+        first: first as usize,
+        end: first as usize,
     }
 }
 

@@ -12,7 +12,8 @@ use borrow.Author.Tests.{ltb-true, ltb-false}
 use Rattle.text.specs.Words.{if_then_else_, table}
 use Rattle.text.proofs.Words.{length-table-from, getD-table}
 use Rattle.book.specs.Book.{Program, L, size, default, default-at, function-at, Place, defaults}
-use Rattle.pages.specs.Part.{between}
+use Rattle.pages.specs.declared.Owner.{Owner}
+use Rattle.pages.specs.Part.{between, part-from}
 use Rattle.pages.proofs.Parts.{between-before, between-inside, between-after}
 use Rattle.pages.proofs.Places.{From, from-start, from-at, from-next, from-end}
 use Rattle.start.specs.Written.{run-filled, defaults-in}
@@ -128,22 +129,21 @@ module _ (B : Program) (c₀ : List ℕ) where
   pub filled-none : Filled 0 0 c₀
   filled-none = record { same = refl; done = λ k l h. absurd (omega arith); left = λ k l h. refl; at = from-start B }
 
-  module _ (first g end : ℕ) (c d : List ℕ) (p : Filled first g c) (more : g < length (B .functions))
-      (ends : end ≡ first + size (B .E) (function-at B g .arity)) (low : B .E ≤ 10000) where
-    next-at : From B (g + 1) end
-    next-at = rw ends (from-next B g first (p .at) more low)
+  module _ (first g : ℕ) (c d : List ℕ) (p : Filled first g c) (more : g < length (B .functions)) where
+    abbrev end : ℕ
+    end = first + size (B .E) (function-at B g .arity)
 
     here : (k : ℕ) → first ≤ k → k < end → default (function-at B g) ≡ default-at B k
     here k h l = ap (λ (x : Place). default (x .function)) (sym (from-at B g first (p .at) more k h (omega arith)))
 
-    pub filled-function : d ≡ run-filled first end (default (function-at B g)) c → Filled end (g + 1) d
-    filled-function e =
+    filled-to : d ≡ run-filled first end (default (function-at B g)) c → Filled end (g + 1) d
+    filled-to e =
         let w : ℕ = default (function-at B g) in
         record {
           same = ap length e ∙ filled-long first end w c ∙ p .same;
           done = λ k h l. ap (λ (s : List ℕ). getD s k 0) e ∙ early k (omega (arith, p .same)) l (ltb k first) refl;
           left = λ k h l. ap (λ (s : List ℕ). getD s k 0) e ∙ filled-after first end w c k (omega (arith, p .same)) l ∙ p .left k h (omega arith);
-          at = next-at;
+          at = from-next B g first (p .at) more;
         }
       where
         early : (k : ℕ) → k < length c → k < end → (b : Bool) → ltb k first ≡ b → getD (run-filled first end (default (function-at B g)) c) k 0 ≡ default-at B k
@@ -153,6 +153,9 @@ module _ (B : Program) (c₀ : List ℕ) where
         early k h l false b =
             let m : first ≤ k = ltb-false k first b in
             filled-inside first end (default (function-at B g)) c k h m l ∙ here k m l
+
+    pub filled-function : (own : Owner) → own ≡ part-from B g first → d ≡ run-filled (own .first) (own .end) (default (own .function)) c → Filled (own .end) (g + 1) d
+    filled-function own is e = rw is (filled-to (rw is at e))
 
   pub filled-all : (first g : ℕ) (c : List ℕ) → Filled first g c → length (B .functions) ≤ g → c ≡ defaults-in B c₀
   unfolding defaults

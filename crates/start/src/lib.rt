@@ -36,15 +36,14 @@ fn fill_run(contents: &mut [Value], first: usize, end: usize, v: u16)
 fn write_defaults(image: &Image, contents: &mut [Value])
     ensures { λ _. ⌜ now (contents .exit) ≡ defaults-in (held (now (image .entry))) (now (contents .entry)) ⌝ }
 {
-    let e = image::elements(image);
     let n = image::functions(image);
-    let mut first: usize = 0;
+    let mut first: u32 = 0;
     let mut f: u16 = 0;
     while f < n {
-        let g = pages::function_at(image, f);
-        let end = first + image::size(e, g.arity) as usize;
-        fill_run(contents, first, end, pages::default_of(g));
-        first = end;
+        let own = pages::part_from(image, f, first);
+        let v = pages::default_of(own.function);
+        fill_run(contents, own.first, own.end, v);
+        first = own.end as u32;
         f += 1;
     }
 }
@@ -86,19 +85,14 @@ fn put_in(contents: &mut [Value], first: usize, end: usize, i: usize, v: u16)
 fn write_line(image: &Image, contents: &mut [Value], l: Line)
     ensures { λ _. ⌜ now (contents .exit) ≡ line-put (held (now (image .entry))) l (now (contents .entry)) ⌝ }
 {
+    let f = numbers::low(l.a);
     let x = numbers::low(l.b);
     let y = numbers::low(l.c);
     let e = image::elements(image);
-    let g = pages::function_at(image, numbers::low(l.a));
-    let first = g.first as usize;
-    let end = first + image::size(e, g.arity) as usize;
-    put_in(
-        contents,
-        first,
-        end,
-        offset(e, g.arity, x, y),
-        numbers::low(l.d),
-    );
+    let g = pages::function_at(image, f);
+    let own = pages::part_from(image, f, g.first);
+    let i = offset(e, g.arity, x, y);
+    put_in(contents, own.first, own.end, i, numbers::low(l.d));
 }
 
 // All contents lines, one by one, from where the image says that they are.

@@ -1,14 +1,19 @@
 -- The least place at fault, function after function. Assumes nothing.
 use mathlib.Core.Path.{_≡_, refl, sym, _∙_}
 use mathlib.Core.Bool.{Bool, true, false}
+use mathlib.Core.List.{List}
 use Prim.Native.Nat.{ℕ, zero, suc, _+_, _-_, _<_, _≤_}
 use native.Mathlib.Omega.{arith}
 use lib.ListN.{length}
 use Rattle.text.specs.Words.{if_then_else_, least-from, least}
+use Rattle.text.specs.declared.Found.{Found}
 use Rattle.text.specs.declared.Found.the-variants.{Nowhere, Here}
-use Rattle.book.specs.declared.Function.{Function}
-use Rattle.book.specs.Book.{Program, function-at}
-use Rattle.pages.proofs.Places.{From, from-here}
+use Rattle.text.proofs.Words.{least-here}
+use Rattle.book.specs.Book.{Program, L, size, function-at}
+use Rattle.book.specs.Contents.{bad-value}
+use Rattle.pages.specs.declared.Owner.{Owner}
+use Rattle.pages.specs.Part.{part-from}
+use Rattle.pages.proofs.Places.{From, from-here, from-fits, part-ends}
 use Rattle.table.specs.Part.{Part}
 
 module _ (bad : ℕ → Bool) where
@@ -48,7 +53,7 @@ module _ (bad : ℕ → Bool) where
           rw (a, q, b) (r e m)
 
   -- a part with none at fault is passed
-  pub part-pass :
+  part-pass :
       (all first n : ℕ) → first + n ≤ all → least (λ i. bad (first + i)) n ≡ Nowhere → least-from bad (all - first) first ≡ least bad all →
       least-from bad (all - (first + n)) (first + n) ≡ least bad all
   part-pass all first n h e p =
@@ -58,7 +63,7 @@ module _ (bad : ℕ → Bool) where
       sym (rw (a, b) at q) ∙ p
 
   -- the least of a part is the least of all
-  pub part-stop :
+  part-stop :
       (all first n i : ℕ) → first + n ≤ all → least (λ i. bad (first + i)) n ≡ Here i → least-from bad (all - first) first ≡ least bad all →
       Here (first + i) ≡ least bad all
   part-stop all first n i h e p =
@@ -67,9 +72,24 @@ module _ (bad : ℕ → Bool) where
       let q = part-here n first 0 i e (all - (first + n)) in
       sym (rw (a, b) at q) ∙ p
 
--- a book with these E and P has function g's part where its locations start
-pub part-of :
-    (B : Program) (g first E P : ℕ) (f : Function) → From B g first → g < length (B .functions) → E ≡ B .E → P ≡ B .P → f ≡ function-at B g →
-    Part B E P f first
-part-of B g first E P f at more e p q =
-    record { elements = sym e; permanent = sym p; places = λ i h. rw q (from-here B g first at more i (rw (e, q) at h)) }
+-- function g's part: r is its least place at fault, counted from its first, and no place before the part is at fault
+module _ (B : Program) (c : List ℕ) (E P g first : ℕ) (own : Owner) (r : Found) (e : E ≡ B .E) (p : P ≡ B .P) (is : own ≡ part-from B g first)
+    (at : From B g first) (more : g < length (B .functions)) (below : least-from (bad-value B c) (L B - first) first ≡ least (bad-value B c) (L B))
+    (found : (B : Program) → Part B E P (own .function) first (own .end) → r ≡ least (λ i. bad-value B c (first + i)) (size E (own .function .arity))) where
+  abbrev n : ℕ
+  n = size (B .E) (function-at B g .arity)
+
+  own-part : Part B E P (own .function) first (own .end)
+  own-part = record { elements = sym e; permanent = sym p; long = rw (is, e); places = λ i h. rw is (from-here B g first at more i (rw (e, is) at h)) }
+
+  least-is : r ≡ least (λ i. bad-value B c (first + i)) n
+  least-is = found B own-part ∙ rw (is, e)
+
+  pub own-low : (i : ℕ) → r ≡ Here i → first + i < own .end
+  own-low i h = omega (arith, least-here (λ i. bad-value B c (first + i)) n i (sym least-is ∙ h) .0, part-ends B g first own is)
+
+  pub own-stop : (i : ℕ) → r ≡ Here i → Here (first + i) ≡ least (bad-value B c) (L B)
+  own-stop i h = part-stop (bad-value B c) (L B) first n i (from-fits B g first at more) (sym least-is ∙ h) below
+
+  pub own-pass : r ≡ Nowhere → least-from (bad-value B c) (L B - own .end) (own .end) ≡ least (bad-value B c) (L B)
+  own-pass h = rw (part-ends B g first own is) (part-pass (bad-value B c) (L B) first n (from-fits B g first at more) (sym least-is ∙ h) below)

@@ -23,7 +23,7 @@ least-skip bad n i (suc k) h none p =
     (least-pass bad n (i + k) (omega arith) (none (i + k) (omega arith) (omega arith))
     (least-skip bad n i k (omega arith) (λ j a b. none j a (omega arith)) p))
 
-module _ (B : Program) (c : List ℕ) (E P : ℕ) (f : Function) (first : ℕ) (part : Part B E P f first) where
+module _ (B : Program) (c : List ℕ) (E P : ℕ) (f : Function) (first end : ℕ) (part : Part B E P f first end) where
   abbrev n : ℕ
   n = size E (f .arity)
 
@@ -40,30 +40,30 @@ module _ (B : Program) (c : List ℕ) (E P : ℕ) (f : Function) (first : ℕ) (
 
   module _ (l : ℕ) (from : first ≤ l) (p : Passed l) where
     -- those that hold what is blameless
-    pub scan-skip : (v r : ℕ) → Blameless c E f v → Past c v l (first + n) r → Passed r
+    pub scan-skip : (v r : ℕ) → Blameless c E f v → Past c v l end r → Passed r
     scan-skip v r fine h =
         let e : l - first + (r - l) ≡ r - first = omega (arith, h .from) in
         rw e at
-        (least-skip bad n (l - first) (r - l) (omega (arith, h .from, h .to))
+        (least-skip bad n (l - first) (r - l) (omega (arith, h .from, h .to, part .long))
         (λ j a b.
-        fine B (first + j) (part .elements) (ap (λ (q : Place). q .function) (part .places j (omega (arith, h .from, h .to))))
+        fine B (first + j) (part .elements) (ap (λ (q : Place). q .function) (part .places j (omega (arith, h .from, h .to, part .long))))
         (h .held (first + j) (omega arith) (omega (arith, h .from))))
         p)
 
-    place-is : l < first + n → place B l ≡ record { function = f; index = l - first }
-    place-is h = let e : first + (l - first) ≡ l = omega arith in rw e at (part .places (l - first) (omega arith))
+    place-is : l < end → place B l ≡ record { function = f; index = l - first }
+    place-is h = let e : first + (l - first) ≡ l = omega arith in rw e at (part .places (l - first) (omega (arith, part .long)))
 
     -- one that is judged
-    pub scan-pass : (r : Bool) → l < first + n → (place B l ≡ record { function = f; index = l - first } → r ≡ bad-value B c l) → r ≡ false → Passed (l + 1)
+    pub scan-pass : (r : Bool) → l < end → (place B l ≡ record { function = f; index = l - first } → r ≡ bad-value B c l) → r ≡ false → Passed (l + 1)
     scan-pass r h k q =
         let e : first + (l - first) ≡ l = omega arith in
         let d : l - first + 1 ≡ l + 1 - first = omega arith in
-        rw d at (least-pass bad n (l - first) (omega arith) (rw e (sym (k (place-is h)) ∙ q)) p)
+        rw d at (least-pass bad n (l - first) (omega (arith, part .long)) (rw e (sym (k (place-is h)) ∙ q)) p)
 
-    pub scan-stop : (r : Bool) → l < first + n → (place B l ≡ record { function = f; index = l - first } → r ≡ bad-value B c l) → r ≡ true → Here (l - first) ≡ least bad n
+    pub scan-stop : (r : Bool) → l < end → (place B l ≡ record { function = f; index = l - first } → r ≡ bad-value B c l) → r ≡ true → Here (l - first) ≡ least bad n
     scan-stop r h k q =
         let e : first + (l - first) ≡ l = omega arith in
-        least-stop bad n (l - first) (omega arith) (rw e (sym (k (place-is h)) ∙ q)) p
+        least-stop bad n (l - first) (omega (arith, part .long)) (rw e (sym (k (place-is h)) ∙ q)) p
 
-    pub scan-end : first + n ≤ l → Nowhere ≡ least bad n
-    scan-end h = least-end bad n (l - first) (omega arith) p
+    pub scan-end : end ≤ l → Nowhere ≡ least bad n
+    scan-end h = least-end bad n (l - first) (omega (arith, part .long)) p

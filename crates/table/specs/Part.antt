@@ -24,8 +24,9 @@ pub record Past (c : List ℕ) (v l end r : ℕ) : Type 0 where
   pub to : r ≤ end
   pub held : (k : ℕ) → l ≤ k → k < r → getD c k 0 ≡ v
 
--- in the book B, with these E and P, the locations from `first` on are those of f
-pub record Part (B : Program) (E P : ℕ) (f : Function) (first : ℕ) : Type 0 where
+-- in the book B, with these E and P, the locations from `first` to `end` are those of f
+pub record Part (B : Program) (E P : ℕ) (f : Function) (first end : ℕ) : Type 0 where
   pub elements : B .E ≡ E
   pub permanent : B .P ≡ P
+  pub long : end ≡ first + size E (f .arity)
   pub places : (i : ℕ) → i < size E (f .arity) → place B (first + i) ≡ record { function = f; index = i }

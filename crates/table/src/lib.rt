@@ -130,11 +130,10 @@ fn past(contents: &[Value], v: u32, l: u32, end: u32) -> u32
 }
 
 // The least location at fault of f's part, counted from its first. Nearly all are blameless, and only the others are judged.
-fn bad_part(contents: &[Value], e: u16, p: u16, f: Function, first: u32) -> Found
-    requires { ⌜ (e ≤ 10000) × (first ≤ 3200000000) ⌝ }
-    ensures { λ r. ⌜ ((B : Program) → Part B e p f first → r ≡ least (λ i. bad-value B (now (contents .entry)) (first + i)) (size e (f .arity))) ⌝ }
+fn bad_part(contents: &[Value], e: u16, p: u16, f: Function, first: u32, end: u32) -> Found
+    requires { ⌜ first ≤ end ⌝ }
+    ensures { λ r. ⌜ ((B : Program) → Part B e p f first end → r ≡ least (λ i. bad-value B (now (contents .entry)) (first + i)) (size e (f .arity))) ⌝ }
 {
-    let end = first + image::size(e, f.arity);
     let v = blameless(contents, e, f);
     let mut l = past(contents, v, first, end);
     while l < end {
@@ -156,12 +155,13 @@ pub fn bad_value(image: &Image, contents: &[Value]) -> Found
     let mut first: u32 = 0;
     let mut g: u16 = 0;
     while g < n {
-        let f = pages::function_at(image, g);
-        let found = bad_part(contents, e, p, f, first);
+        let own = pages::part_from(image, g, first);
+        let end = own.end as u32;
+        let found = bad_part(contents, e, p, own.function, first, end);
         if let Found::Here(i) = found {
             return Found::Here(first + i);
         }
-        first = first + image::size(e, f.arity);
+        first = end;
         g = g + 1;
     }
     Found::Nowhere

@@ -3,15 +3,15 @@ use mathlib.Core.Path.{_≡_, refl, sym, ap, _∙_}
 use mathlib.Core.Bool.{Bool, true, false}
 use mathlib.Core.List.{List, [], _∷_, _++_}
 use Prim.Native.Nat.{ℕ, zero, suc, _+_, _-_, _≤_, _<_}
-use native.Mathlib.Numerals.{add-one}
 use native.Mathlib.Omega.{arith}
-use lib.Dec.{leb}
-use lib.ListN.{length, getD, drop, drop-of-length-le}
-use lib.Seq.{drop-cons}
+use lib.ListN.{length, drop, drop-of-length-le}
 use borrow.Author.Tests.{lt-ltb, le-ltb}
 use Rattle.text.specs.Words.{if_then_else_, table-from}
 use Rattle.book.specs.declared.Function.{Function}
-use Rattle.book.specs.Book.{Program, L, total, size, dynamic, no-function, place-in, dynamic-at}
+use Rattle.book.specs.Book.{Program, L, total, size, dynamic, function-at, place-in, dynamic-at}
+use Rattle.pages.specs.declared.Owner.{Owner}
+use Rattle.pages.specs.Part.{part-from}
+use Rattle.pages.proofs.Places.{functions-from}
 use Rattle.engine.specs.Move.{dynamic-among, all-dynamic}
 use Rattle.term.specs.Marks.{marked}
 use Rattle.term.proofs.Marking.{marked-append}
@@ -84,26 +84,27 @@ all-dynamic-is B =
     sym (dynamic-is B (run 0 (L B)) ∙ among-same (dynamic-at B) (λ l. dynamic (place-in (B .E) (B .functions) (l - 0) .function)) 0 (L B) (λ l h i. let e : l - 0 ≡ l = omega arith in rw e) ∙ all-from-is (B .E) (B .functions) 0)
 
 -- one function more
-module _ (bit E : ℕ) (fs : List Function) (f first : ℕ) (m : List ℕ) where
+module _ (bit : ℕ) (B : Program) (f first : ℕ) (m : List ℕ) where
+  abbrev n : ℕ
+  n = size (B .E) (function-at B f .arity)
+
   either-way : (b : Bool) (k : ℕ) (ls : List ℕ)
       → marked bit ((if b then run first k else []) ++ ls) m ≡ marked bit ls (if b then marked bit (run first k) m else m)
   either-way true k ls = marked-append bit (run first k) ls m
   either-way false k ls = refl
 
-  all-more : f < length fs
-      → marked bit (all-from E (drop f fs) first) m
-      ≡ marked bit (all-from E (drop (f + 1) fs) (first + size E (getD fs f no-function .arity)))
-      (if dynamic (getD fs f no-function) then marked bit (run first (size E (getD fs f no-function .arity))) m else m)
+  all-more : f < length (B .functions)
+      → marked bit (all-from (B .E) (drop f (B .functions)) first) m
+      ≡ marked bit (all-from (B .E) (drop (f + 1) (B .functions)) (first + n)) (if dynamic (function-at B f) then marked bit (run first n) m else m)
   unfolding all-from
   all-more h =
-      rw (add-one f, drop-cons fs f no-function h)
-      (either-way (dynamic (getD fs f no-function)) (size E (getD fs f no-function .arity)) (all-from E (drop (suc f) fs) (first + size E (getD fs f no-function .arity))))
+      rw (functions-from B f h) (either-way (dynamic (function-at B f)) n (all-from (B .E) (drop (f + 1) (B .functions)) (first + n)))
 
-  pub all-step : (s kind : ℕ) (n : List ℕ) → f < length fs → s ≡ size E (getD fs f no-function .arity) → kind ≡ getD fs f no-function .kind
-      → n ≡ (if leb 2 kind then marked bit (run first (first + s - first)) m else m)
-      → marked bit (all-from E (drop (f + 1) fs) (first + s)) n ≡ marked bit (all-from E (drop f fs) first) m
-  all-step s kind n h e k p = let q : first + s - first ≡ s = omega arith in rw (p, q, e, k) (sym (all-more h))
+  pub all-step : (own : Owner) (k : List ℕ) → f < length (B .functions) → own ≡ part-from B f first
+      → k ≡ (if dynamic (own .function) then marked bit (run (own .first) (own .end - own .first)) m else m)
+      → marked bit (all-from (B .E) (drop (f + 1) (B .functions)) (own .end)) k ≡ marked bit (all-from (B .E) (drop f (B .functions)) first) m
+  all-step own k h is p = let q : first + n - first ≡ n = omega arith in rw (p, is, q) (sym (all-more h))
 
-  pub all-end : length fs ≤ f → marked bit (all-from E (drop f fs) first) m ≡ m
+  pub all-end : length (B .functions) ≤ f → marked bit (all-from (B .E) (drop f (B .functions)) first) m ≡ m
   unfolding all-from marked
-  all-end h = rw (drop-of-length-le fs {i = f} h)
+  all-end h = rw (drop-of-length-le (B .functions) {i = f} h)

@@ -279,15 +279,13 @@ pub fn gather(
 pub fn mark_all(image: &Image, readers: &mut [u64], bit: u64)
     ensures { λ _. ⌜ now (readers .exit) ≡ marked bit (all-dynamic (held (now (image .entry)))) (now (readers .entry)) ⌝ }
 {
-    let e = image::elements(image);
     let count = image::functions(image);
-    let mut first: usize = 0;
+    let mut first: u32 = 0;
     let mut f: u16 = 0;
     while f < count {
-        let g = image::function_at(image, f as u32);
-        let end = first + image::size(e, g.arity) as usize;
-        marking::mark_function(readers, bit, g.kind, first, end);
-        first = end;
+        let own = pages::part_from(image, f, first);
+        marking::mark_function(readers, bit, own.function.kind, own.first, own.end);
+        first = own.end as u32;
         f += 1;
     }
 }

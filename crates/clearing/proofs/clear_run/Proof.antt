@@ -1,9 +1,8 @@
+-- `clear_run` meets its contract.
 use Rattle.clearing.proofs.Runs.{run-contents, run-marks}
 use borrow.Author.Needs.{needs}
 use Rattle.clearing.proofs.clear_run.Statement.{statement}
 use Rattle.clearing.proofs.clear_run.Tie as tie
-use Rattle.clearing.proofs.clear_run.Reads as reads
-use Rattle.clearing.proofs.clear_run.Lts as lts
 
 smaller-requires : tie.Need-smaller-requires
 smaller-requires c κs = search needs
@@ -51,7 +50,17 @@ same-length-2 : tie.Need-same-length-2
 same-length-2 c = search needs
 
 returns : tie.Need-returns
-returns c = let a = c .before .before .before .before .before .before .before .before .before .before .before .before .before .args in let p = c .before .before .before .before .before .before .before .before .before .before .before .before .before .pre in (run-contents (a .e) (a .f) (a .x) (a .bit) (a .first) (a .end) (a .contents .now) (a .writers .now) p (c .before .before .before .before .before .before .before .before .before .before .smaller .result) (c .before .before .before .before .before .before .before .before .before .smaller2 .result) (c .before .before .before .before .before .before .before .before .before .before .smaller .ensures) (c .before .before .before .before .before .before .before .before .before .smaller2 .ensures) (c .before .before .before .before .clear-part .last .0) (c .before .before .before .before .clear-part .ensures .0), run-marks (a .e) (a .f) (a .x) (a .bit) (a .first) (a .end) (a .contents .now) (a .writers .now) p (c .before .before .before .before .before .before .before .before .before .before .smaller .result) (c .before .before .before .before .before .before .before .before .before .smaller2 .result) (c .before .before .before .before .before .before .before .before .before .before .smaller .ensures) (c .before .before .before .before .before .before .before .before .before .smaller2 .ensures) (c .before .before .before .before .before .before .before .before .smaller3 .result) (c .before .before .before .before .before .before .before .smaller4 .result) (c .before .before .before .before .clear-part .last .1 .0) (c .before .before .before .before .before .before .before .before .smaller3 .ensures) (c .before .before .before .before .before .before .before .smaller4 .ensures) (c .before .before .before .before .clear-part .ensures .1))
+returns c =
+    let s = c .before .before .before .before .before .before .before .before .before .before .before .before .before in
+    let a = s .args in
+    let first = c .before .before .before .before .before .before .before .before .before .before .smaller in
+    let end = c .before .before .before .before .before .before .before .before .before .smaller2 in
+    let start = c .before .before .before .before .before .before .before .before .smaller3 in
+    let stop = c .before .before .before .before .before .before .before .smaller4 in
+    let part = c .before .before .before .before .clear-part in (
+      run-contents (a .e) (a .own .function) (a .x) (a .bit) (a .own .first) (a .own .end) (a .contents .now) (a .writers .now) (s .pre) (first .result) (end .result) (first .ensures) (end .ensures) (part .last .0) (part .ensures .0),
+      run-marks (a .e) (a .own .function) (a .x) (a .bit) (a .own .first) (a .own .end) (a .contents .now) (a .writers .now) (s .pre) (first .result) (end .result) (first .ensures) (end .ensures) (start .result) (stop .result) (part .last .1 .0) (start .ensures) (stop .ensures) (part .ensures .1),
+    )
 
 pub clear-run-spec : {M : Type 1} → statement M
 clear-run-spec =

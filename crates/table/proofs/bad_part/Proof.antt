@@ -2,25 +2,18 @@
 use Prim.Native.Nat.{_+_, _-_, _≤_}
 use native.Mathlib.Omega.{arith}
 use borrow.Author.Needs.{needs}
-use Rattle.book.specs.Book.{Program, size}
-use Rattle.pages.proofs.Laws.{size-low}
-use Rattle.table.specs.Part.{Past, Part}
+use Rattle.book.specs.Book.{Program}
+use Rattle.table.specs.Part.{Part}
 use Rattle.table.proofs.Scan.{Passed, scan-start, scan-skip, scan-pass, scan-stop, scan-end}
 use Rattle.table.proofs.bad_part.Statement.{statement}
 use Rattle.table.proofs.bad_part.Tie as tie
 
 abbrev Inv-loop : tie.InvT-loop
 Inv-loop contents e p f first end v l₀ l =
-    (first ≤ l) × (l ≤ end) × ((B : Program) (k : Part B e p f first) → Passed B contents e p f first k l)
+    (first ≤ l) × (l ≤ end) × ((B : Program) (k : Part B e p f first end) → Passed B contents e p f first end k l)
 
 abbrev μ-loop : tie.MeasureT-loop
 μ-loop contents e p f first end v l₀ l = end - l
-
-size-requires : tie.Need-size-requires Inv-loop μ-loop
-size-requires c κs = search needs
-
-add-end : tie.Need-add-end Inv-loop μ-loop
-add-end c = record { fits = omega (arith, c .before .before .pre, size-low (c .size .result) (c .before .before .args .e) (c .before .before .args .f .arity) (c .size .ensures) (c .before .before .pre .0)) }
 
 blameless-requires : tie.Need-blameless-requires Inv-loop μ-loop
 blameless-requires c κs = search needs
@@ -30,12 +23,12 @@ past-requires c κs = search needs
 
 loop-holds : tie.Need-loop-holds Inv-loop μ-loop
 loop-holds c =
-    let a = c .before .before .before .before .args in
-    let n = c .before .before .size in
-    let h : Past (a .contents .now) (c .before .blameless .result) (a .first) (a .first + size (a .e) (a .f .arity)) (c .past .result) = rw (← n .ensures) (c .past .ensures) in (
+    let a = c .before .before .before .args in
+    let v = c .before .blameless in
+    let h = c .past .ensures in (
       h .from,
-      c .past .ensures .to,
-      λ B k. scan-skip B (a .contents .now) (a .e) (a .p) (a .f) (a .first) k (a .first) (omega arith) (scan-start B (a .contents .now) (a .e) (a .p) (a .f) (a .first) k) (c .before .blameless .result) (c .past .result) (c .before .blameless .ensures) h,
+      h .to,
+      λ B k. scan-skip B (a .contents .now) (a .e) (a .p) (a .f) (a .first) (a .end) k (a .first) (omega arith) (scan-start B (a .contents .now) (a .e) (a .p) (a .f) (a .first) (a .end) k) (v .result) (c .past .result) (v .ensures) h,
     )
 
 sub-is-bad : tie.Need-sub-is-bad Inv-loop μ-loop
@@ -44,19 +37,19 @@ sub-is-bad c = search needs
 is-bad-requires : tie.Need-is-bad-requires Inv-loop μ-loop
 is-bad-requires c κs = search needs
 
-sub-t13 : tie.Need-sub-t13 Inv-loop μ-loop
-sub-t13 c = search needs
+sub-t12 : tie.Need-sub-t12 Inv-loop μ-loop
+sub-t12 c = search needs
 
 returns : tie.Need-returns Inv-loop μ-loop
 returns c =
     λ B k.
-    let a = c .before .before .before .before .before .before .before .before .args in
+    let a = c .before .before .before .before .before .before .before .args in
     let l = c .before .before .before .loop in
     let j = c .before .is-bad in
-    scan-stop B (a .contents .now) (a .e) (a .p) (a .f) (a .first) k (l .l) (l .inv .0) (l .inv .2 B k) (j .result) (omega (arith, c .before .before .loop-test .taken, c .before .before .before .before .before .before .size .ensures)) (j .ensures B (k .elements) (k .permanent)) (c .if1 .taken)
+    scan-stop B (a .contents .now) (a .e) (a .p) (a .f) (a .first) (a .end) k (l .l) (l .inv .0) (l .inv .2 B k) (j .result) (c .before .before .loop-test .taken) (j .ensures B (k .elements) (k .permanent)) (c .if1 .taken)
 
 add-past : tie.Need-add-past Inv-loop μ-loop
-add-past c = record { fits = omega (arith, c .before .before .loop-test .taken, c .before .before .before .before .before .before .before .before .pre, size-low (c .before .before .before .before .before .before .size .result) (c .before .before .before .before .before .before .before .before .args .e) (c .before .before .before .before .before .before .before .before .args .f .arity) (c .before .before .before .before .before .before .size .ensures) (c .before .before .before .before .before .before .before .before .pre .0)) }
+add-past c = search needs
 
 past-requires-2 : tie.Need-past-requires-2 Inv-loop μ-loop
 past-requires-2 c κs = search needs
@@ -66,23 +59,22 @@ loop-less c = omega (arith, c .past2 .ensures .from, c .before .before .before .
 
 loop-again : tie.Need-loop-again Inv-loop μ-loop
 loop-again c =
-    let a = c .before .before .before .before .before .before .before .before .before .args in
+    let a = c .before .before .before .before .before .before .before .before .args in
     let l = c .before .before .before .before .loop in
-    let n = c .before .before .before .before .before .before .before .size in
     let j = c .before .before .is-bad in
     let v = c .before .before .before .before .before .before .blameless in
-    let h : Past (a .contents .now) (v .result) (l .l + 1) (a .first + size (a .e) (a .f .arity)) (c .past2 .result) = rw (← n .ensures) (c .past2 .ensures) in (
+    let h = c .past2 .ensures in (
       omega (arith, l .inv .0, h .from),
-      c .past2 .ensures .to,
-      λ B k. scan-skip B (a .contents .now) (a .e) (a .p) (a .f) (a .first) k (l .l + 1) (omega (arith, l .inv .0)) (scan-pass B (a .contents .now) (a .e) (a .p) (a .f) (a .first) k (l .l) (l .inv .0) (l .inv .2 B k) (j .result) (omega (arith, c .before .before .before .loop-test .taken, n .ensures)) (j .ensures B (k .elements) (k .permanent)) (c .before .if1 .left)) (v .result) (c .past2 .result) (v .ensures) h,
+      h .to,
+      λ B k. scan-skip B (a .contents .now) (a .e) (a .p) (a .f) (a .first) (a .end) k (l .l + 1) (omega (arith, l .inv .0)) (scan-pass B (a .contents .now) (a .e) (a .p) (a .f) (a .first) (a .end) k (l .l) (l .inv .0) (l .inv .2 B k) (j .result) (c .before .before .before .loop-test .taken) (j .ensures B (k .elements) (k .permanent)) (c .before .if1 .left)) (v .result) (c .past2 .result) (v .ensures) h,
     )
 
 returns-2 : tie.Need-returns-2 Inv-loop μ-loop
 returns-2 c =
     λ B k.
-    let a = c .before .before .before .before .before .before .args in
+    let a = c .before .before .before .before .before .args in
     let l = c .before .loop in
-    scan-end B (a .contents .now) (a .e) (a .p) (a .f) (a .first) k (l .l) (l .inv .0) (l .inv .2 B k) (omega (arith, c .loop-test .left, c .before .before .before .before .size .ensures))
+    scan-end B (a .contents .now) (a .e) (a .p) (a .f) (a .first) (a .end) k (l .l) (l .inv .0) (l .inv .2 B k) (c .loop-test .left)
 
 pub bad-part-spec : {M : Type 1} → statement M
 bad-part-spec =
@@ -90,14 +82,12 @@ bad-part-spec =
     (tie.spec
     Inv-loop
     μ-loop
-    size-requires
-    add-end
     blameless-requires
     past-requires
     loop-holds
     sub-is-bad
     is-bad-requires
-    sub-t13
+    sub-t12
     returns
     add-past
     past-requires-2
