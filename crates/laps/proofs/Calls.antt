@@ -1,30 +1,24 @@
 -- A call on tables of any length: the first records are those that its run is made on, and the others stay.
 use mathlib.Core.Path.{_≡_, refl, sym, ap, subst, _∙_}
-use mathlib.Core.Bool.{Bool, true, false, false≢true}
-use mathlib.Core.List.{List, [], _∷_, _++_}
-use Prim.Native.Nat.{ℕ, suc, _+_, _-_, _^_, _≤_, _<_, min}
+use mathlib.Core.Bool.{true, false≢true}
+use mathlib.Core.List.{List, [], _++_}
+use Prim.Native.Nat.{ℕ, _≤_, min}
 use native.Mathlib.Omega.{arith}
 use lib.ListN.{length, take, drop}
 use lib.Seq.{length-take-le, length-front, take-append-seam, drop-append-seam}
+use Rattle.text.specs.declared.Answer.{Answer}
 use Rattle.book.specs.Book.{L}
 use Rattle.book.specs.Image.{word, held}
 use Rattle.engine.specs.declared.Instruction.{Instruction}
-use Rattle.engine.specs.Rule.{Walked as Outcome}
+use Rattle.engine.specs.Rule.{most-instructions}
 use Rattle.engine.specs.Single.{over}
-use Rattle.records.specs.Code.{items}
-use Rattle.walk.specs.Walk.{outcome}
-use Rattle.walk.specs.Gather.{Gathered}
-use Rattle.moves.specs.declared.Begun.{Begun}
-use Rattle.moves.proofs.Count.{given-few, same-outcome}
 use Rattle.order.specs.Log.{Log}
 use Rattle.order.specs.Run.{LogAnswer, run-from}
 use Rattle.order.specs.Call.{Tables, left-in}
-use Rattle.order.specs.Lists.{lists-from}
-use Rattle.order.specs.Table.{agent-in}
 use Rattle.laps.specs.declared.Turn.{Turn}
 use Rattle.laps.specs.Turns.{answered}
-use Rattle.laps.specs.Laps.{Next, Stage, Walked, Kept, On, Lap, Midway}
-use Rattle.laps.proofs.Laps.{walked-lists, lists-some}
+use Rattle.laps.specs.Laps.{Next, Stage, Kept, Lap}
+use Rattle.laps.proofs.Laps.{over-with}
 
 -- ---- tables whose first k records are d
 
@@ -112,113 +106,19 @@ module _
       };
     }
 
--- ---- a move that is next
+-- ---- the moves that are left
 
-is-cons : (is : List Instruction) (rest : List (List Instruction)) → is ∷ rest ≡ [] → ⊥
-is-cons is rest e = let z : suc (length rest) ≡ 0 = ap length e in absurd (omega (arith, z))
-
-abbrev tail-of : List (List Instruction) → List (List Instruction)
-tail-of [] = []
-tail-of (is ∷ rest) = rest
-
-abbrev head-of : List (List Instruction) → List Instruction
-head-of [] = []
-head-of (is ∷ rest) = is
-
--- while there is more to give there is a move
-pub is-on : (lent : Tables) (n : ℕ) (whole : LogAnswer) (m o : List ℕ) (is : List Instruction) (rest : List (List Instruction)) (t : Turn) (d rs ws : List ℕ)
-    → Lap lent n whole m o (is ∷ rest) t d rs ws → t .more ≡ true
-is-on lent n whole m o is rest t d rs ws h = go (t .more) refl
-  where
-    go : (v : Bool) → t .more ≡ v → t .more ≡ true
-    go true e = e
-    go false e = absurd (is-cons is rest (h .over e .0))
-
--- a move that is next gives something
-pub on-some : (lent : Tables) (n : ℕ) (whole : LogAnswer) (m o : List ℕ) (rest : List (List Instruction)) (t : Turn) (d rs ws : List ℕ) → Lap lent n whole m o rest t d rs ws → t .more ≡ true
-    → (is : List Instruction) × (more : List (List Instruction)) × (rest ≡ is ∷ more)
-on-some lent n whole m o rest t d rs ws h y =
-    let K = h .on y in
-    let q = lists-some m o (K .g) (K .c) t (take (L (held m)) d) (take (L (held m)) rs) (take (L (held m)) ws) (K .next) in
-    (q .0, q .1, K .lists ∙ q .2)
-
-module _ (lent : Tables) (n : ℕ) (whole : LogAnswer) (m o : List ℕ) (is : List Instruction) (rest : List (List Instruction)) (t : Turn) (C R W : List ℕ) (h : Lap lent n whole m o (is ∷ rest) t C R W) where
-  here : On lent n whole m o (is ∷ rest) t C R W
-  here = h .on (is-on lent n whole m o is rest t C R W h)
-
-  -- it is begun, on the first k records
-  pub midway : (k : ℕ) → k ≡ min (word m 6) (min (length C) (length R)) → (s : Begun) (x rs : List ℕ) → length rs ≡ length (take k R)
-      → ((g : Log) (c ws : List ℕ) → Next m o g c t (take k C) (take k R) ws → Walked m o g c t s x (take k C) rs ws)
-      → Midway lent n whole m o is rest t s x C (rs ++ drop k R) W
-  midway k ek s x rs lr does =
-      let K = here .kept in
-      let j : k ≡ L (held m) = omega (arith, ek, K .locations, K .contents .0, K .readers .0) in
-      let hr : k ≤ length R = omega (arith, ek) in
-      let pr : drop k R ≡ drop k (lent .readers) = same-past k (L (held m)) R (lent .readers) j (K .readers .1) in
-      let ws = take (L (held m)) W in
-      let next = subst (λ (q : ℕ). Next m o (here .g) (here .c) t (take q C) (take q R) ws) (sym j) (here .next) in
-      let w = does (here .g) (here .c) ws next in
-      let all = here .lists ∙ walked-lists m o (here .g) (here .c) t s x (take k C) rs ws w in
-      record {
-        g = here .g;
-        c = here .c;
-        kept = record {
-          records = K .records;
-          locations = K .locations;
-          contents = K .contents;
-          readers = cut-kept k R (lent .readers) rs hr pr lr (L (held m)) j;
-          writers = K .writers;
-          call = K .call;
-        };
-        walked = subst (λ (y : List ℕ). Walked m o (here .g) (here .c) t s x (take (L (held m)) C) y ws) (sym (cut-first k R (lent .readers) rs hr pr lr (L (held m)) j))
-            (subst (λ (q : ℕ). Walked m o (here .g) (here .c) t s x (take q C) rs ws) j w);
-        gives = ap head-of all;
-        lists = here .lists;
-      }
-
--- ---- a move that is begun
-
-module _ (lent : Tables) (n : ℕ) (whole : LogAnswer) (m o : List ℕ) (is : List Instruction) (rest : List (List Instruction)) (t : Turn) (s : Begun) (x C R W : List ℕ) (h : Midway lent n whole m o is rest t s x C R W) where
-  -- no more is given than fits
-  pub mid-few : (s .count ≤ 256) × (s .count ≤ n)
-  mid-few =
-      let e = h .walked .count in
-      (omega (arith, e, given-few (s .walk)), omega (arith, e, given-few (s .walk), h .kept .records))
-
-  -- any list that holds the same will do
-  pub mid-passed : (x′ : List ℕ) → length x′ ≡ 256 → items x′ (s .count) ≡ items x (s .count) → Midway lent n whole m o is rest t s x′ C R W
-  mid-passed x′ e q =
-      let w = h .walked in
-      let i : outcome (s .walk) x′ ≡ outcome (s .walk) x = same-outcome (s .walk) x x′ (w .room) e (subst (λ (j : ℕ). items x′ j ≡ items x j) (w .count) q) in
-      record {
-        g = h .g;
-        c = h .c;
-        kept = h .kept;
-        walked = record {
-          old = w .old;
-          next = w .next;
-          after = record {
-            fit = w .after .fit;
-            contents = w .after .contents;
-            readers = subst (λ (y : Outcome). Gathered (held m) (w .old .contents) (2 ^ t .at) (agent-in o (t .at)) y (w .old .readers) (take (L (held m)) R)) (sym i) (w .after .readers);
-            writers = w .after .writers;
-          };
-          room = e;
-          count = w .count;
-        };
-        gives = h .gives ∙ sym q;
-        lists = h .lists;
-      }
-
-  -- it is finished, on the first k records
-  pub lap-next : (k : ℕ) → k ≡ min (word m 6) (min (length C) (min (length R) (length W))) → (r : Turn) (d rs ws : List ℕ)
-      → length d ≡ length (take k C) → length rs ≡ length (take k R) → length ws ≡ length (take k W)
-      → ((g : Log) (c : List ℕ) → Walked m o g c t s x (take k C) (take k R) (take k W) → Stage m o g c (lists-from (held m) g c (t .moves - (t .at + 1)) (t .at + 1)) r d rs ws)
-      → Lap lent n whole m o rest r (d ++ drop k C) (rs ++ drop k R) (ws ++ drop k W)
-  lap-next k ek r d rs ws ld lr lw does =
-      let K = h .kept in
-      let j : k ≡ L (held m) = omega (arith, ek, K .locations, K .contents .0, K .readers .0, K .writers .0) in
-      let w = subst (λ (q : ℕ). Walked m o (h .g) (h .c) t s x (take q C) (take q R) (take q W)) (sym j) (h .walked) in
-      let all = h .lists ∙ walked-lists m o (h .g) (h .c) t s x (take k C) (take k R) (take k W) w in
-      lap-at lent n whole m o (h .g) (h .c) C R W K k j d rs ws ld lr lw rest r
-      (subst (λ (y : List (List Instruction)). Stage m o (h .g) (h .c) y r d rs ws) (sym (ap tail-of all)) (does (h .g) (h .c) w))
+-- they are made on the first k records: what they leave there, and the others, is what the call leaves
+pub ends-call : (lent : Tables) (n : ℕ) (whole : LogAnswer) (m o : List ℕ) (rest : List (List Instruction)) (t : Turn) (C R W : List ℕ) → Lap lent n whole m o rest t C R W → t .more ≡ true
+    → (k : ℕ) → k ≡ min (word m 6) (min (length C) (min (length R) (length W)))
+    → (a : Answer) (d rs ws : List ℕ) → length d ≡ length (take k C) → length rs ≡ length (take k R) → length ws ≡ length (take k W)
+    → (P : Type 0) → ((g : Log) (c : List ℕ) → most-instructions ≤ n → Stage m o g c rest t (take k C) (take k R) (take k W) → (answered a d rs ws ≡ run-from (held m) g c) × P)
+    → (answered a (d ++ drop k C) (rs ++ drop k R) (ws ++ drop k W) ≡ whole) × P
+ends-call lent n whole m o rest t C R W h y k ek a d rs ws ld lr lw P does =
+    let on = h .on y in
+    let K = on .kept in
+    let j : k ≡ L (held m) = omega (arith, ek, K .locations, K .contents .0, K .readers .0, K .writers .0) in
+    let next = subst (λ (q : ℕ). Next m o (on .g) (on .c) t (take q C) (take q R) (take q W)) (sym j) (on .next) in
+    let left = does (on .g) (on .c) (K .records) (record { over = λ z. absurd (false≢true (sym z ∙ y)); next = λ _. next; lists = λ _. on .lists }) in
+    let lap = lap-at lent n whole m o (on .g) (on .c) C R W K k j d rs ws ld lr lw [] (over-with a) (record { over = λ _. (refl, left .0); next = λ z. absurd (false≢true z); lists = λ z. absurd (false≢true z) }) in
+    (lap .over refl .1, left .1)

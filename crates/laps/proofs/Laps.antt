@@ -8,17 +8,18 @@ use native.Mathlib.Numerals.{add-one}
 use native.Mathlib.Omega.{arith}
 use lib.ListN.{length, replicate}
 use Rattle.text.specs.declared.Answer.{Answer}
-use Rattle.book.specs.Book.{Program, Book, L, start}
+use Rattle.book.specs.Book.{Program, Book, start}
 use Rattle.book.specs.Image.{held}
 use Rattle.engine.specs.declared.Instruction.{Instruction}
 use Rattle.engine.specs.Move.{walked, made-by}
+use Rattle.engine.specs.Rule.{Walked as Outcome}
 use Rattle.records.specs.Code.{items}
 use Rattle.walk.specs.Walk.{outcome}
 use Rattle.walk.specs.Gather.{Gathered}
 use Rattle.moves.specs.declared.Begun.{Begun}
 use Rattle.moves.specs.Effect.{Tables, tables, Fit, Effect, After}
 use Rattle.moves.specs.Count.{given-of}
-use Rattle.moves.proofs.Count.{made-of}
+use Rattle.moves.proofs.Count.{made-of, given-few, same-outcome}
 use Rattle.order.specs.Pairs.{TwoFound, no-two, two, least-two}
 use Rattle.order.specs.Log.{Log, move-at}
 use Rattle.order.specs.Run.{Run, ran, halted, run, touching, order-checked, finish, run-from}
@@ -130,15 +131,6 @@ module _ (m o : List ℕ) (g : Log) (c : List ℕ) where
       count = ec;
     }
 
-    -- it gives something
-    pub lists-some : (is : List Instruction) × (rest : List (List Instruction)) × (lists-from A g c (t .moves - i) i ≡ is ∷ rest)
-    lists-some =
-        let e : t .moves - i ≡ suc (t .moves - suc i) = omega (arith, to .at, to .moves) in (
-          made-by (walked A (to .before .going .state .contents) (move-at g i)),
-          lists-from A g c (t .moves - suc i) (suc i),
-          ap (λ (n : ℕ). lists-from A g c n i) e ∙ lists-on A g c (t .moves - suc i) i (to .before .going .state) (to .before .going .goes),
-        )
-
   -- ---- a move that is begun
 
   module _ (t : Turn) (s : Begun) (x d rs ws : List ℕ) (w : Walked m o g c t s x d rs ws) where
@@ -160,6 +152,27 @@ module _ (m o : List ℕ) (g : Log) (c : List ℕ) where
         ∙ lists-on A g c j (t .at) (now .before .going .state) (now .before .going .goes)
         ∙ ap (λ (is : List Instruction). is ∷ lists-from A g c j (suc (t .at))) (sym (ap (items x) (w .count) ∙ made-of (s .walk) x (w .room) ∙ ap made-by (w .after .readers .outcome ∙ as-listed)))
         ∙ ap (λ (n : ℕ). items x (s .count) ∷ lists-from A g c j n) f
+
+    -- no more is given than fits
+    pub walked-few : s .count ≤ 256
+    walked-few = omega (arith, w .count, given-few (s .walk))
+
+    -- any list that holds the same will do
+    pub walked-passed : (x′ : List ℕ) → length x′ ≡ 256 → items x′ (s .count) ≡ items x (s .count) → Walked m o g c t s x′ d rs ws
+    walked-passed x′ e q =
+        let i : outcome (s .walk) x′ ≡ outcome (s .walk) x = same-outcome (s .walk) x x′ (w .room) e (subst (λ (j : ℕ). items x′ j ≡ items x j) (w .count) q) in
+        record {
+          old = w .old;
+          next = w .next;
+          after = record {
+            fit = w .after .fit;
+            contents = w .after .contents;
+            readers = subst (λ (y : Outcome). Gathered A (w .old .contents) (2 ^ t .at) (agent-in o (t .at)) y (w .old .readers) rs) (sym i) (w .after .readers);
+            writers = w .after .writers;
+          };
+          room = e;
+          count = w .count;
+        }
 
     module _ (a : Answer) (d′ rs′ ws′ : List ℕ) (bit : ℕ) (eb : bit ≡ 2 ^ t .at)
         (does : (j : ℕ) (u : Tables) → After A j bit u (s .walk) x (tables d rs ws) → Effect A j bit (t .at) u a (tables d′ rs′ ws′))

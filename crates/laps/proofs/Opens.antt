@@ -10,7 +10,7 @@ use lib.Seq.{length-take-le}
 use Rattle.text.specs.declared.Answer.{Answer}
 use Rattle.text.specs.Words.{good}
 use Rattle.book.specs.Book.{Program, Book, L, start}
-use Rattle.book.specs.Image.{held}
+use Rattle.book.specs.Image.{word, held}
 use Rattle.engine.specs.declared.Instruction.{Instruction}
 use Rattle.order.specs.Log.{Log}
 use Rattle.order.specs.Run.{run-from, run-log, LogAnswer}
@@ -28,9 +28,6 @@ use Rattle.laps.proofs.Checks.{all-parts, all-good, call-off, call-on, 
 -- ---- the start, on the first k records of the tables
 
 module _ (book : List ℕ) (b : Book) (g : Log) (r : Opening) (m o : List ℕ) (t : Tables) (n : ℕ) (p : Passed book b g r m o t n) where
-  locations : r .locations ≡ L (held m)
-  locations = p .holds .locations .0 ∙ p .holds .locations .1 ∙ sym (ap L (p .holds .image))
-
   same : L (b .program) ≡ L (held m)
   same = sym (ap L (p .holds .image))
 
@@ -40,20 +37,20 @@ module _ (book : List ℕ) (b : Book) (g : Log) (r : Opening) (m o : List ℕ) (
   kept : Kept t n whole m g (start b) (t .contents) (t .readers) (t .writers)
   kept = record {
     records = p .records;
-    locations = sym (p .holds .locations .0) ∙ locations;
+    locations = p .holds .locations .1 ∙ same;
     contents = (omega (arith, same, p .contents), refl);
     readers = (omega (arith, same, p .readers), refl);
     writers = (omega (arith, same, p .writers), refl);
     call = ap (λ (B : Program). left-in t (run-from B g (start b))) (p .holds .image);
   }
 
-  pub starts : (k : ℕ) → k ≡ min (r .locations) (min (length (t .contents)) (min (length (t .readers)) (length (t .writers)))) → (u : Turn) (d rs ws : List ℕ)
+  pub starts : (k : ℕ) → k ≡ min (word m 6) (min (length (t .contents)) (min (length (t .readers)) (length (t .writers)))) → (u : Turn) (d rs ws : List ℕ)
       → length d ≡ length (take k (t .contents)) → length rs ≡ length (take k (t .readers)) → length ws ≡ length (take k (t .writers))
       → ((b : Book) (g : Log) → Startable book m o b g (r .moves) (take k (t .contents)) (take k (t .readers)) (take k (t .writers))
       → Stage m o g (start b) (lists-from (held m) g (start b) (r .moves) 0) u d rs ws)
       → Lap t n whole m o (run-lists b g) u (d ++ drop k (t .contents)) (rs ++ drop k (t .readers)) (ws ++ drop k (t .writers))
   starts k ek u d rs ws ld lr lw does =
-      let j : k ≡ L (held m) = omega (arith, ek, locations, same, p .contents, p .readers, p .writers) in
+      let j : k ≡ L (held m) = omega (arith, ek, kept .locations, same, p .contents, p .readers, p .writers) in
       let s = does b g (record {
         book = all-parts book (p .log) (p .lent) b g (p .checks) .0;
         image = p .holds .image;

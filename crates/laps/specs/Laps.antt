@@ -1,15 +1,14 @@
 -- A log's run move by move: what holds before a move, when it is begun, and when all is over.
 use mathlib.Core.Path.{_≡_}
 use mathlib.Core.Bool.{true, false}
-use mathlib.Core.List.{List, [], _∷_}
+use mathlib.Core.List.{List, []}
 use lib.ListN.{length, take, drop}
-use Prim.Native.Nat.{ℕ, suc, _+_, _-_, _^_, _≤_, _<_}
+use Prim.Native.Nat.{ℕ, suc, _-_, _^_, _≤_, _<_}
 use Rattle.text.specs.Words.{if_then_else_}
 use Rattle.book.specs.Book.{L}
 use Rattle.book.specs.Image.{word, held}
 use Rattle.engine.specs.declared.Instruction.{Instruction}
 use Rattle.engine.specs.Rule.{most-instructions}
-use Rattle.records.specs.Code.{items}
 use Rattle.moves.specs.Effect as effect
 use Rattle.moves.specs.declared.Begun.{Begun}
 use Rattle.moves.specs.Count.{given-of}
@@ -76,12 +75,3 @@ pub record On (lent : Tables) (n : ℕ) (whole : LogAnswer) (m o : List ℕ) (re
 pub record Lap (lent : Tables) (n : ℕ) (whole : LogAnswer) (m o : List ℕ) (rest : List (List Instruction)) (t : Turn) (d rs ws : List ℕ) : Type 0 where
   pub over : t .more ≡ false → (rest ≡ []) × (answered (t .answer) d rs ws ≡ whole)
   pub on : t .more ≡ true → On lent n whole m o rest t d rs ws
-
--- its move t.at is begun, and gives `is`
-pub record Midway (lent : Tables) (n : ℕ) (whole : LogAnswer) (m o : List ℕ) (is : List Instruction) (rest : List (List Instruction)) (t : Turn) (s : Begun) (x d rs ws : List ℕ) : Type 0 where
-  pub g : Log
-  pub c : List ℕ
-  pub kept : Kept lent n whole m g c d rs ws
-  pub walked : Walked m o g c t s x (take (L (held m)) d) (take (L (held m)) rs) (take (L (held m)) ws)
-  pub gives : is ≡ items x (s .count)
-  pub lists : is ∷ rest ≡ lists-from (held m) g c (t .moves - t .at) (t .at)

@@ -7,18 +7,17 @@ use order::Order;
 use text::Answer;
 ghost use mathlib.Core.Path.{_≡_};
 ghost use mathlib.Core.Bool.{false};
-ghost use mathlib.Core.List.{List, _∷_};
-ghost use Prim.Native.Nat.{ℕ, _+_, _-_, _^_, _<_, _≤_};
+ghost use mathlib.Core.List.{List};
+ghost use Prim.Native.Nat.{ℕ, _+_, _-_, _^_, _<_, _≤_, min};
 ghost use lib.ListN.{length};
 ghost use Rattle.book.specs.Book.{Book, start};
-ghost use Rattle.book.specs.Image.{held};
-ghost use Rattle.engine.specs.declared.Instruction.{Instruction};
+ghost use Rattle.book.specs.Image.{word, held};
 ghost use Rattle.order.specs.Log.{Log};
-ghost use Rattle.order.specs.Run.{LogAnswer, run-log};
+ghost use Rattle.order.specs.Run.{run-log};
 ghost use Rattle.order.specs.Lists.{lists-from, call-lists};
-ghost use Rattle.order.specs.Call.{Tables, left-in, log-call};
+ghost use Rattle.order.specs.Call.{left-in, log-call};
 ghost use Rattle.laps.specs.Turns.{tables, Startable};
-ghost use Rattle.laps.specs.Laps.{turns-left, Before, Stage, Walked, Lap, Midway};
+ghost use Rattle.laps.specs.Laps.{turns-left, Before, Next, Stage, Walked, Lap};
 ghost use Rattle.laps.specs.Checked.{Opened, Passed, run-lists};
 
 // Moves in a log, at most.
@@ -149,7 +148,57 @@ fn start_on(
     turn_to(readers, writers, order, moves, 0)
 }
 
+// The move that is next is begun, on tables of just the records needed.
+pub fn begin(
+    contents: &[Value],
+    readers: &mut [u64],
+    image: &Image,
+    order: &Order,
+    list: &mut [u64; 256],
+    t: Turn,
+) -> Begun
+    ensures { λ r. ⌜ ((g : Log) (c ws : List ℕ) → Next (now (image .entry)) (now (order .entry)) g c t (now (contents .entry)) (now (readers .entry)) ws → Walked (now (image .entry)) (now (order .entry)) g c t r (now (list .exit)) (now (contents .entry)) (now (readers .exit)) ws) ⌝ }
+{
+    let i = t.at;
+    let bit = bit_of(i);
+    let agent = log::agent_at(order, i);
+    moves::begin(image, contents, readers, bit, list, agent)
+}
+
+// The move that is begun is finished, on tables of just the records needed; then the next one's turn.
+pub fn finish(
+    contents: &mut [Value],
+    readers: &mut [u64],
+    writers: &mut [u64],
+    image: &Image,
+    order: &Order,
+    list: &[u64; 256],
+    t: Turn,
+    s: Begun,
+) -> Turn
+    ensures { λ r. ⌜ ((g : Log) (c : List ℕ) → Walked (now (image .entry)) (now (order .entry)) g c t s (now (list .entry)) (now (contents .entry)) (now (readers .entry)) (now (writers .entry)) → Stage (now (image .entry)) (now (order .entry)) g c (lists-from (held (now (image .entry))) g c (t .moves - (t .at + 1)) (t .at + 1)) r (now (contents .exit)) (now (readers .exit)) (now (writers .exit))) × (turns-left r ≤ 64 - t .at) ⌝ }
+{
+    let i = t.at;
+    let bit = bit_of(i);
+    let walk = s.walk;
+    let answer = moves::finish(image, contents, readers, writers, bit, list, walk, i);
+    if answer.number != 0 {
+        return ended(answer);
+    }
+    let next = following(i);
+    turn_to(readers, writers, order, t.moves, next)
+}
+
 // ---- a call, on tables of any length
+
+// How many records of each table a run is made on: one for each location, or no more than a table has.
+pub fn records_used(image: &Image, contents: usize, readers: usize, writers: usize) -> usize
+    ensures { λ r. ⌜ r ≡ min (word (now (image .entry)) 6) (min contents (min readers writers)) ⌝ }
+{
+    let all = image::locations(image) as usize;
+    let two = numbers::smaller(readers, writers);
+    numbers::smaller(all, numbers::smaller(contents, two))
+}
 
 // The start of a call that passed its checks: its contents written and its marks cleared; move 0 is next.
 pub fn start(
@@ -163,9 +212,7 @@ pub fn start(
 ) -> Turn
     ensures { λ r. ⌜ ((b : Book) (g : Log) (n : ℕ) → Passed (now (book .entry)) b g checked (now (image .entry)) (now (order .entry)) (tables (now (contents .entry)) (now (readers .entry)) (now (writers .entry))) n → Lap (tables (now (contents .entry)) (now (readers .entry)) (now (writers .entry))) n (left-in (tables (now (contents .entry)) (now (readers .entry)) (now (writers .entry))) (run-log b g)) (now (image .entry)) (now (order .entry)) (run-lists b g) r (now (contents .exit)) (now (readers .exit)) (now (writers .exit))) ⌝ }
 {
-    let all = checked.locations as usize;
-    let two = numbers::smaller(readers.len(), writers.len());
-    let n = numbers::smaller(all, numbers::smaller(contents.len(), two));
+    let n = records_used(image, contents.len(), readers.len(), writers.len());
     start_on(
         book,
         image,
@@ -202,76 +249,4 @@ pub fn prepare(
         return ended(answer);
     }
     start(book, contents, readers, writers, image, order, checked)
-}
-
-// The move that is next is begun.
-pub fn begin(
-    contents: &[Value],
-    readers: &mut [u64],
-    image: &Image,
-    order: &Order,
-    list: &mut [u64; 256],
-    t: Turn,
-) -> Begun
-    ensures { λ r. ⌜ ((lent : Tables) (n : ℕ) (whole : LogAnswer) (ws : List ℕ) (is : List Instruction) (rest : List (List Instruction)) → Lap lent n whole (now (image .entry)) (now (order .entry)) (is ∷ rest) t (now (contents .entry)) (now (readers .entry)) ws → Midway lent n whole (now (image .entry)) (now (order .entry)) is rest t r (now (list .exit)) (now (contents .entry)) (now (readers .exit)) ws) ⌝ }
-{
-    let i = t.at;
-    let bit = bit_of(i);
-    let agent = log::agent_at(order, i);
-    let all = image::locations(image) as usize;
-    let n = numbers::smaller(all, numbers::smaller(contents.len(), readers.len()));
-    moves::begin(image, &contents[..n], &mut readers[..n], bit, list, agent)
-}
-
-// The move that is begun is finished, on tables of just the records needed; then the next one's turn.
-fn finish_on(
-    contents: &mut [Value],
-    readers: &mut [u64],
-    writers: &mut [u64],
-    image: &Image,
-    order: &Order,
-    list: &[u64; 256],
-    t: Turn,
-    s: Begun,
-) -> Turn
-    ensures { λ r. ⌜ ((g : Log) (c : List ℕ) → Walked (now (image .entry)) (now (order .entry)) g c t s (now (list .entry)) (now (contents .entry)) (now (readers .entry)) (now (writers .entry)) → Stage (now (image .entry)) (now (order .entry)) g c (lists-from (held (now (image .entry))) g c (t .moves - (t .at + 1)) (t .at + 1)) r (now (contents .exit)) (now (readers .exit)) (now (writers .exit))) ⌝ }
-    ensures { λ r. ⌜ turns-left r ≤ 64 - t .at ⌝ }
-{
-    let i = t.at;
-    let bit = bit_of(i);
-    let walk = s.walk;
-    let answer = moves::finish(image, contents, readers, writers, bit, list, walk, i);
-    if answer.number != 0 {
-        return ended(answer);
-    }
-    let next = following(i);
-    turn_to(readers, writers, order, t.moves, next)
-}
-
-// The move that is begun is finished; then the next one's turn.
-pub fn finish(
-    contents: &mut [Value],
-    readers: &mut [u64],
-    writers: &mut [u64],
-    image: &Image,
-    order: &Order,
-    list: &[u64; 256],
-    t: Turn,
-    s: Begun,
-) -> Turn
-    ensures { λ r. ⌜ ((lent : Tables) (n : ℕ) (whole : LogAnswer) (is : List Instruction) (rest : List (List Instruction)) → Midway lent n whole (now (image .entry)) (now (order .entry)) is rest t s (now (list .entry)) (now (contents .entry)) (now (readers .entry)) (now (writers .entry)) → Lap lent n whole (now (image .entry)) (now (order .entry)) rest r (now (contents .exit)) (now (readers .exit)) (now (writers .exit))) × (turns-left r ≤ 64 - t .at) ⌝ }
-{
-    let all = image::locations(image) as usize;
-    let two = numbers::smaller(readers.len(), writers.len());
-    let n = numbers::smaller(all, numbers::smaller(contents.len(), two));
-    finish_on(
-        &mut contents[..n],
-        &mut readers[..n],
-        &mut writers[..n],
-        image,
-        order,
-        list,
-        t,
-        s,
-    )
 }

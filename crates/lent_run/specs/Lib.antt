@@ -1,1 +1,2 @@
+pub mod MovesMade
 pub mod Ran

@@ -14,10 +14,34 @@ ghost use Rattle.order.specs.Call.{Tables};
 ghost use Rattle.lent.specs.Written.{all-written};
 ghost use Rattle.laps.specs.Turns.{answered, tables};
 ghost use Rattle.laps.specs.Laps.{Lap};
+ghost use Rattle.lent_run.specs.MovesMade.{MovesMade};
 ghost use Rattle.lent_run.specs.Ran.{Ran};
 
-// The moves of a log from the one that is next: each is begun, its instructions are written into the list and read
-// from there, and it is finished; then 17.
+// The moves of a log from the one that is next, on tables of just the records needed: each is begun, its instructions are
+// written into the list and read from there, and it is finished; then 17.
+fn make_moves(
+    contents: &mut [Value],
+    readers: &mut [u64],
+    writers: &mut [u64],
+    instructions: &mut [Record],
+    image: &Image,
+    order: &Order,
+    first: Turn,
+) -> Answer
+    ensures { λ r. ⌜ MovesMade (now (image .entry)) (now (order .entry)) first (now (contents .entry)) (now (readers .entry)) (now (writers .entry)) (now (instructions .entry)) r (now (contents .exit)) (now (readers .exit)) (now (writers .exit)) (now (instructions .exit)) ⌝ }
+{
+    let mut work = [0u64; 256];
+    let mut t = first;
+    while t.more {
+        let s = laps::begin(contents, readers, image, order, &mut work, t);
+        let count = s.count;
+        lent::pass(instructions, &mut work, count);
+        t = laps::finish(contents, readers, writers, image, order, &work, t, s);
+    }
+    t.answer
+}
+
+// The moves of a log from the one that is next: the tables are cut to the records needed, once, and the moves made on these.
 pub fn go_on(
     contents: &mut [Value],
     readers: &mut [u64],
@@ -29,15 +53,16 @@ pub fn go_on(
 ) -> Answer
     ensures { λ r. ⌜ ((lent : Tables) (whole : LogAnswer) (rest : List (List Instruction)) → Lap lent (length (now (instructions .entry))) whole (now (image .entry)) (now (order .entry)) rest first (now (contents .entry)) (now (readers .entry)) (now (writers .entry)) → (answered r (now (contents .exit)) (now (readers .exit)) (now (writers .exit)) ≡ whole) × (now (instructions .exit) ≡ all-written rest (now (instructions .entry)))) ⌝ }
 {
-    let mut work = [0u64; 256];
-    let mut t = first;
-    while t.more {
-        let s = laps::begin(contents, readers, image, order, &mut work, t);
-        let count = s.count;
-        lent::pass(instructions, &mut work, count);
-        t = laps::finish(contents, readers, writers, image, order, &work, t, s);
-    }
-    t.answer
+    let n = laps::records_used(image, contents.len(), readers.len(), writers.len());
+    make_moves(
+        &mut contents[..n],
+        &mut readers[..n],
+        &mut writers[..n],
+        instructions,
+        image,
+        order,
+        first,
+    )
 }
 
 // A log's run: a book, a log, the tables, and a list of instruction records.
