@@ -17,13 +17,13 @@ struct Spot {
     location: u32,
     function: Function,
     index: usize,
-    held: u16,
+    held: Value,
 }
 
 // ---- one location
 
 // It is a trace of x.
-fn is_trace(e: u16, s: Spot, x: u16) -> bool
+fn is_trace(e: Value, s: Spot, x: Value) -> bool
     ensures { λ r. ⌜ r ≡ trace-in e (s .function) (s .index) (s .held) x ⌝ }
 {
     let i = s.index;
@@ -52,7 +52,7 @@ fn spot_of(image: &Image, contents: &[Value], l: u32) -> Spot
 }
 
 // An instruction gives the location a value other than w.
-fn against(e: u16, s: Spot, w: u16, what: Instruction) -> bool
+fn against(e: Value, s: Spot, w: Value, what: Instruction) -> bool
     ensures { λ r. ⌜ r ≡ other w (gives e s what) ⌝ }
 {
     match what {
@@ -75,7 +75,7 @@ fn against(e: u16, s: Spot, w: u16, what: Instruction) -> bool
 }
 
 // An instruction of the list does.
-fn other_at(e: u16, list: &[u64], len: usize, s: Spot, w: u16) -> bool
+fn other_at(e: Value, list: &[u64], len: usize, s: Spot, w: Value) -> bool
     ensures { λ r. ⌜ r ≡ any (λ i. other w (gives e s i)) (items (now (list .entry)) len) ⌝ }
 {
     let n = numbers::smaller(len, list.len());
@@ -91,7 +91,7 @@ fn other_at(e: u16, list: &[u64], len: usize, s: Spot, w: u16) -> bool
 }
 
 // An instruction releases the label.
-fn releases(what: Instruction, x: u16) -> bool
+fn releases(what: Instruction, x: Value) -> bool
     ensures { λ r. ⌜ r ≡ has (label-of what []) x ⌝ }
 {
     match what {
@@ -104,7 +104,7 @@ fn releases(what: Instruction, x: u16) -> bool
 }
 
 // An instruction of the list does.
-fn is_released(list: &[u64], len: usize, x: u16) -> bool
+fn is_released(list: &[u64], len: usize, x: Value) -> bool
     ensures { λ r. ⌜ r ≡ has (released (items (now (list .entry)) len)) x ⌝ }
 {
     let n = numbers::smaller(len, list.len());

@@ -10,7 +10,7 @@ ghost use Rattle.records.specs.Code.{items};
 ghost use Rattle.clearing.specs.Steps.{run-cleared, run-marked, cleared, clear-marked, clear-of, clear-marks-of, clears, clear-marks};
 
 // The function's own part is lent, from its first location; so are its marks.
-fn clear_run(contents: &mut [Value], writers: &mut [u64], e: u16, own: Owner, x: u16, bit: u64)
+fn clear_run(contents: &mut [Value], writers: &mut [u64], e: Value, own: Owner, x: Value, bit: u64)
     requires { ⌜ own .first ≤ own .end ⌝ }
     ensures { λ _. ⌜ now (contents .exit) ≡ run-cleared e (own .function) x (own .first) (own .end) (now (contents .entry)) ⌝ }
     ensures { λ _. ⌜ now (writers .exit) ≡ run-marked bit e (own .function) x (own .first) (own .end) (now (contents .entry)) (now (writers .entry)) ⌝ }
@@ -32,7 +32,7 @@ fn clear_run(contents: &mut [Value], writers: &mut [u64], e: u16, own: Owner, x:
 }
 
 // The traces of x in all functions.
-fn clear(image: &Image, contents: &mut [Value], writers: &mut [u64], x: u16, bit: u64)
+fn clear(image: &Image, contents: &mut [Value], writers: &mut [u64], x: Value, bit: u64)
     ensures { λ _. ⌜ now (contents .exit) ≡ cleared (held (now (image .entry))) x (now (contents .entry)) ⌝ }
     ensures { λ _. ⌜ now (writers .exit) ≡ clear-marked bit (held (now (image .entry))) x (now (contents .entry)) (now (writers .entry)) ⌝ }
 {

@@ -57,7 +57,7 @@ fn has_change(n: u32, contents: &[Value], list: &[u64], len: usize) -> bool
 // ---- firing
 
 // Place i of a part gets v.
-fn put(part: &mut [Value], i: usize, v: u16)
+fn put(part: &mut [Value], i: usize, v: Value)
     requires { ⌜ i < length (now part) ⌝ }
     ensures { λ _. ⌜ now (part .exit) ≡ set (now (part .entry)) i v ⌝ }
 {
@@ -82,7 +82,7 @@ fn put_in(
     first: usize,
     end: usize,
     at: usize,
-    v: u16,
+    v: Value,
     bit: u64,
 )
     requires { ⌜ first ≤ at ⌝ }

@@ -1,6 +1,7 @@
 // The instructions that a walk gives: how far it is, one instruction more, or a refusal.
 use book::Image;
 use engine::Instruction;
+use numbers::Value;
 ghost use mathlib.Core.Path.{_≡_};
 ghost use mathlib.Core.List.{List};
 ghost use Prim.Native.Nat.{ℕ, _<_};
@@ -15,7 +16,7 @@ ghost use Rattle.giving.specs.Giving.{reached, refused-by, setting, free
 // its refusal (0 for none) and the refusal's node. Eight bytes go from node to node in a register.
 pub struct Pace {
     pub len: u16,
-    pub label: u16,
+    pub label: Value,
     pub refused: u16,
     pub node: u16,
 }
@@ -83,7 +84,7 @@ pub fn update(
     n: u16,
     f: u16,
     at: u32,
-    x: u16,
+    x: Value,
 ) -> Pace
     ensures { λ r. ⌜ reached r (now (list .exit)) ≡ (reached s (now (list .entry)) then setting (held (now (image .entry))) f at x n) ⌝ }
 {
@@ -115,7 +116,7 @@ pub fn update(
 }
 
 // The two updates by which an import at node n takes label x into universe u.
-fn take(image: &Image, list: &mut [u64; 256], s: Pace, n: u16, u: u16, x: u16) -> Pace
+fn take(image: &Image, list: &mut [u64; 256], s: Pace, n: u16, u: u16, x: Value) -> Pace
     requires { ⌜ x < 65535 ⌝ }
     ensures { λ r. ⌜ reached r (now (list .exit)) ≡ (reached s (now (list .entry)) then taking (held (now (image .entry))) u x n) ⌝ }
 {
@@ -147,7 +148,7 @@ fn take(image: &Image, list: &mut [u64; 256], s: Pace, n: u16, u: u16, x: u16) -
 }
 
 // The same if x is an element; 13 if not, as no label is left.
-pub fn enroll(image: &Image, list: &mut [u64; 256], s: Pace, n: u16, u: u16, x: u16) -> Pace
+pub fn enroll(image: &Image, list: &mut [u64; 256], s: Pace, n: u16, u: u16, x: Value) -> Pace
     ensures { λ r. ⌜ reached r (now (list .exit)) ≡ (reached s (now (list .entry)) then enrolling (held (now (image .entry))) u x n) ⌝ }
 {
     if x < image::elements(image) {
@@ -158,7 +159,7 @@ pub fn enroll(image: &Image, list: &mut [u64; 256], s: Pace, n: u16, u: u16, x: 
 }
 
 // Releases x, Reserve there being v; 12 if x is no label or in Reserve.
-pub fn free(image: &Image, list: &mut [u64; 256], s: Pace, n: u16, x: u16, v: u16) -> Pace
+pub fn free(image: &Image, list: &mut [u64; 256], s: Pace, n: u16, x: Value, v: Value) -> Pace
     ensures { λ r. ⌜ reached r (now (list .exit)) ≡ (reached s (now (list .entry)) then freeing (held (now (image .entry))) x v n) ⌝ }
 {
     if x < pages::permanent(image) {

@@ -60,7 +60,13 @@ pub fn mark_function(readers: &mut [u64], bit: u64, kind: u32, first: usize, end
 // ---- labels and Reserve
 
 // The lowest label of Reserve from `from` on, or E; the labels tried are marked.
-pub fn lowest(image: &Image, contents: &[Value], readers: &mut [u64], bit: u64, from: u16) -> u16
+pub fn lowest(
+    image: &Image,
+    contents: &[Value],
+    readers: &mut [u64],
+    bit: u64,
+    from: Value,
+) -> Value
     ensures { λ r. ⌜ Runs (held (now (image .entry))) (now (contents .entry)) bit (lowest from (held (now (image .entry)) .E - from)) (found-below (held (now (image .entry)) .E) r) (now (readers .entry)) (now (readers .exit)) ⌝ }
 {
     let e = image::elements(image);
@@ -76,7 +82,7 @@ pub fn lowest(image: &Image, contents: &[Value], readers: &mut [u64], bit: u64, 
 }
 
 // Whether location x, Reserve's while x is an element, is dynamic.
-fn roll(image: &Image, x: u16) -> bool
+fn roll(image: &Image, x: Value) -> bool
     ensures { λ r. ⌜ (Placed (held (now (image .entry))) → r ≡ dynamic-at (held (now (image .entry))) x) ⌝ }
 {
     if x < image::elements(image) {
@@ -86,7 +92,7 @@ fn roll(image: &Image, x: u16) -> bool
 }
 
 // Marks Reserve at x.
-fn note_roll(image: &Image, readers: &mut [u64], bit: u64, x: u16)
+fn note_roll(image: &Image, readers: &mut [u64], bit: u64, x: Value)
     ensures { λ _. ⌜ (Placed (held (now (image .entry))) → now (readers .exit) ≡ noted (held (now (image .entry))) bit x (now (readers .entry))) ⌝ }
 {
     if roll(image, x) {
@@ -95,7 +101,13 @@ fn note_roll(image: &Image, readers: &mut [u64], bit: u64, x: u16)
 }
 
 // The value of Reserve at x.
-pub fn read_roll(image: &Image, contents: &[Value], readers: &mut [u64], bit: u64, x: u16) -> u16
+pub fn read_roll(
+    image: &Image,
+    contents: &[Value],
+    readers: &mut [u64],
+    bit: u64,
+    x: Value,
+) -> Value
     ensures { λ r. ⌜ Runs (held (now (image .entry))) (now (contents .entry)) bit (read (reserve x)) r (now (readers .entry)) (now (readers .exit)) ⌝ }
 {
     note_roll(image, readers, bit, x);
@@ -105,10 +117,10 @@ pub fn read_roll(image: &Image, contents: &[Value], readers: &mut [u64], bit: u6
 // ---- universes
 
 // Marks a function at the elements below e, location by location.
-fn mark_each(readers: &mut [u64], bit: u64, f: Function, e: u16)
+fn mark_each(readers: &mut [u64], bit: u64, f: Function, e: Value)
     ensures { λ _. ⌜ now (readers .exit) ≡ marked bit (table (λ y. low (f .first) + offset e (f .arity) y 0) e) (now (readers .entry)) ⌝ }
 {
-    let mut y: u16 = 0;
+    let mut y: Value = 0;
     while y < e {
         let at = term::locate(f, e, y, 0);
         term::mark(readers, bit, at as usize);
@@ -117,7 +129,7 @@ fn mark_each(readers: &mut [u64], bit: u64, f: Function, e: u16)
 }
 
 // The same; the locations of a unary function, as every universe is, are one part.
-fn mark_run(readers: &mut [u64], bit: u64, f: Function, e: u16)
+fn mark_run(readers: &mut [u64], bit: u64, f: Function, e: Value)
     ensures { λ _. ⌜ now (readers .exit) ≡ marked bit (table (λ y. low (f .first) + offset e (f .arity) y 0) e) (now (readers .entry)) ⌝ }
 {
     if f.arity == 1 {
@@ -143,7 +155,7 @@ pub fn universe(image: &Image, readers: &mut [u64], bit: u64, u: u16)
 }
 
 // The least member of a universe from `from` on, or e; f is the universe.
-pub fn next_member(contents: &[Value], f: Function, e: u16, from: u16) -> u16
+pub fn next_member(contents: &[Value], f: Function, e: Value, from: Value) -> Value
     ensures { λ r. ⌜ (from ≤ r) × (r ≡ next (member (now (contents .entry)) (low-function f) e) from (e - from)) ⌝ }
 {
     let mut y = from;

@@ -64,7 +64,7 @@ pub fn is_dynamic(f: Function) -> bool
     2 <= f.kind
 }
 
-pub fn default_of(f: Function) -> u16
+pub fn default_of(f: Function) -> Value
     ensures { λ r. ⌜ r ≡ default f ⌝ }
 {
     if is_relation(f) { 1 } else { 0 }

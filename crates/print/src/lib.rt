@@ -20,7 +20,7 @@ fn default_of(f: Function) -> u32
 }
 
 // The line of location i of function k, which is f and holds v there. Only what is printed is divided.
-fn line_of(e: Value, f: Function, k: u32, i: u32, v: u16) -> Line
+fn line_of(e: Value, f: Function, k: u32, i: u32, v: Value) -> Line
     requires { ⌜ i < size e (f .arity) ⌝ }
     ensures { λ r. ⌜ r ≡ line-for e f k i v ⌝ }
 {
@@ -53,7 +53,7 @@ fn line_of(e: Value, f: Function, k: u32, i: u32, v: u16) -> Line
 }
 
 // Prints that line after n others, unless v is the default. Says how many lines there are then.
-fn print_location(e: Value, f: Function, k: u32, i: u32, v: u16, n: u32, out: &mut [u8]) -> u32
+fn print_location(e: Value, f: Function, k: u32, i: u32, v: Value, n: u32, out: &mut [u8]) -> u32
     requires { ⌜ (i < size e (f .arity)) × (n < 4294967295) ⌝ }
     ensures { λ r. ⌜ (r ≡ n + length (shown e f k i v)) × (now (out .exit) ≡ lines-put n (shown e f k i v) (now (out .entry))) ⌝ }
 {

@@ -1,5 +1,6 @@
 // A move's instructions as the code holds them: each is one number.
 use engine::Instruction;
+use numbers::Value;
 ghost use mathlib.Core.Path.{_≡_};
 ghost use Rattle.records.specs.Code.{decode-of};
 
@@ -19,11 +20,11 @@ pub fn decode(c: u64) -> Instruction
     if c < 281474976710656 {
         Instruction::Update {
             location: (c / 65536) as u32,
-            value: (c % 65536) as u16,
+            value: (c % 65536) as Value,
         }
     } else {
         Instruction::Release {
-            label: (c % 65536) as u16,
+            label: (c % 65536) as Value,
         }
     }
 }

@@ -11,7 +11,7 @@ ghost use Rattle.pages.specs.Part.{put-in};
 ghost use Rattle.start.specs.Written.{run-filled, defaults-in, line-put, lines-put, contents-lines, started};
 
 // Every place of a part gets v.
-fn fill(part: &mut [Value], v: u16)
+fn fill(part: &mut [Value], v: Value)
     ensures { λ _. ⌜ now (part .exit) ≡ replicate (length (now (part .entry))) v ⌝ }
 {
     let mut i: usize = 0;
@@ -22,7 +22,7 @@ fn fill(part: &mut [Value], v: u16)
 }
 
 // The locations from `first` to `end` get v, as far as the table goes.
-fn fill_run(contents: &mut [Value], first: usize, end: usize, v: u16)
+fn fill_run(contents: &mut [Value], first: usize, end: usize, v: Value)
     requires { ⌜ first ≤ end ⌝ }
     ensures { λ _. ⌜ now (contents .exit) ≡ run-filled first end v (now (contents .entry)) ⌝ }
 {
@@ -49,7 +49,7 @@ fn write_defaults(image: &Image, contents: &mut [Value])
 }
 
 // A location's number within its function.
-fn offset(e: u16, arity: u32, x: u16, y: u16) -> usize
+fn offset(e: Value, arity: u32, x: Value, y: Value) -> usize
     ensures { λ r. ⌜ r ≡ offset e arity x y ⌝ }
 {
     if arity == 0 {
@@ -62,7 +62,7 @@ fn offset(e: u16, arity: u32, x: u16, y: u16) -> usize
 }
 
 // Past the end nothing is put.
-fn put(part: &mut [Value], i: usize, v: u16)
+fn put(part: &mut [Value], i: usize, v: Value)
     ensures { λ _. ⌜ now (part .exit) ≡ set (now (part .entry)) i v ⌝ }
 {
     if i < part.len() {
@@ -71,7 +71,7 @@ fn put(part: &mut [Value], i: usize, v: u16)
 }
 
 // A function's own part is lent, from its first location, as far as the table goes; place i of it gets v.
-fn put_in(contents: &mut [Value], first: usize, end: usize, i: usize, v: u16)
+fn put_in(contents: &mut [Value], first: usize, end: usize, i: usize, v: Value)
     requires { ⌜ first ≤ end ⌝ }
     ensures { λ _. ⌜ now (contents .exit) ≡ put-in first end (first + i) v (now (contents .entry)) ⌝ }
 {

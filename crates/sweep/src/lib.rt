@@ -19,14 +19,14 @@ pub fn or_at(s: &mut [u64], i: usize, bit: u64)
 }
 
 // The row and the column of the place after i.
-fn next_row(e: u16, i: usize, row: usize, col: usize) -> usize
+fn next_row(e: Value, i: usize, row: usize, col: usize) -> usize
     requires { ⌜ (i < 9223372036854775808) × (row ≡ i / e) × (col ≡ i % e) ⌝ }
     ensures { λ r. ⌜ r ≡ (i + 1) / e ⌝ }
 {
     if col + 1 == e as usize { row + 1 } else { row }
 }
 
-fn next_col(e: u16, i: usize, col: usize) -> usize
+fn next_col(e: Value, i: usize, col: usize) -> usize
     requires { ⌜ (i < 9223372036854775808) × (col ≡ i % e) ⌝ }
     ensures { λ r. ⌜ r ≡ (i + 1) % e ⌝ }
 {
@@ -37,9 +37,9 @@ fn next_col(e: u16, i: usize, col: usize) -> usize
 fn clear_one(
     part: &mut [Value],
     marks: &mut [u64],
-    e: u16,
+    e: Value,
     f: Function,
-    x: u16,
+    x: Value,
     bit: u64,
     i: usize,
     row: usize,
@@ -57,7 +57,7 @@ fn clear_one(
 }
 
 // The traces of x in f's part.
-pub fn clear_part(part: &mut [Value], marks: &mut [u64], e: u16, f: Function, x: u16, bit: u64)
+pub fn clear_part(part: &mut [Value], marks: &mut [u64], e: Value, f: Function, x: Value, bit: u64)
     ensures { λ _. ⌜ now (part .exit) ≡ part-cleared e f x (now (part .entry)) ⌝ }
     ensures { λ _. ⌜ now (marks .exit) ≡ part-marked bit e f x (now (part .entry)) (now (marks .entry)) ⌝ }
 {

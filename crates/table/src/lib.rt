@@ -14,7 +14,7 @@ ghost use Rattle.book.specs.Image.{held};
 ghost use Rattle.book.specs.Contents.{some-on-roll, all-permanent, bad-value};
 ghost use Rattle.table.specs.Part.{arguments-by, Blameless, Past, Part};
 
-fn is_boolean(v: u16) -> bool
+fn is_boolean(v: Value) -> bool
     ensures { λ r. ⌜ r ≡ boolean v ⌝ }
 {
     (v == 1) | (v == 2)
@@ -23,14 +23,14 @@ fn is_boolean(v: u16) -> bool
 // ---- 8
 
 // x is on the roll.
-fn on_roll(contents: &[Value], e: u16, x: u32) -> bool
+fn on_roll(contents: &[Value], e: Value, x: u32) -> bool
     ensures { λ r. ⌜ r ≡ (ltb x e && eqb (getD (now (contents .entry)) x 0) true-element) ⌝ }
 {
     (x < e as u32) & (numbers::fetch(contents, x as usize) == 2)
 }
 
 // The arguments are all permanent.
-fn all_permanent(p: u16, arity: u32, i: u32, row: u32, col: u32) -> bool
+fn all_permanent(p: Value, arity: u32, i: u32, row: u32, col: u32) -> bool
     ensures { λ r. ⌜ r ≡ all-permanent p (arguments-by arity i row col) ⌝ }
 {
     if arity == 0 {
@@ -43,7 +43,7 @@ fn all_permanent(p: u16, arity: u32, i: u32, row: u32, col: u32) -> bool
 }
 
 // A value that f may hold if it is static: its default, or a permanent one at permanent arguments.
-fn is_static_fine(p: u16, f: Function, v: u16, i: u32, row: u32, col: u32) -> bool
+fn is_static_fine(p: Value, f: Function, v: Value, i: u32, row: u32, col: u32) -> bool
     ensures { λ r. ⌜ r ≡ (dynamic f || eqb v (default f) || all-permanent p (arguments-by (f .arity) i row col) && ltb v p) ⌝ }
 {
     if pages::is_dynamic(f) {
@@ -53,7 +53,7 @@ fn is_static_fine(p: u16, f: Function, v: u16, i: u32, row: u32, col: u32) -> bo
 }
 
 // One of the arguments is on the roll.
-fn some_on_roll(contents: &[Value], e: u16, arity: u32, i: u32, row: u32, col: u32) -> bool
+fn some_on_roll(contents: &[Value], e: Value, arity: u32, i: u32, row: u32, col: u32) -> bool
     ensures { λ r. ⌜ ((B : Program) → B .E ≡ e → r ≡ some-on-roll B (now (contents .entry)) (arguments-by arity i row col)) ⌝ }
 {
     if arity == 0 {
@@ -66,7 +66,7 @@ fn some_on_roll(contents: &[Value], e: u16, arity: u32, i: u32, row: u32, col: u
 }
 
 // The row and the column of location i of a binary function.
-fn row_of(e: u16, arity: u32, i: u32) -> u32
+fn row_of(e: Value, arity: u32, i: u32) -> u32
     ensures { λ r. ⌜ (1 < arity → r ≡ i / e) ⌝ }
 {
     if (arity < 2) | (e == 0) {
@@ -75,7 +75,7 @@ fn row_of(e: u16, arity: u32, i: u32) -> u32
     i / e as u32
 }
 
-fn col_of(e: u16, arity: u32, i: u32) -> u32
+fn col_of(e: Value, arity: u32, i: u32) -> u32
     ensures { λ r. ⌜ (1 < arity → r ≡ i % e) ⌝ }
 {
     if (arity < 2) | (e == 0) {
@@ -85,7 +85,7 @@ fn col_of(e: u16, arity: u32, i: u32) -> u32
 }
 
 // Location l, which is number i of f, is at fault.
-fn is_bad(contents: &[Value], e: u16, p: u16, f: Function, l: u32, i: u32) -> bool
+fn is_bad(contents: &[Value], e: Value, p: Value, f: Function, l: u32, i: u32) -> bool
     ensures { λ r. ⌜ ((B : Program) → B .E ≡ e → B .P ≡ p → place B l ≡ record { function = f; index = i } → r ≡ bad-value B (now (contents .entry)) l) ⌝ }
 {
     let row = row_of(e, f.arity, i);
@@ -103,7 +103,7 @@ fn is_bad(contents: &[Value], e: u16, p: u16, f: Function, l: u32, i: u32) -> bo
 }
 
 // What a location of f may hold without fault: its default, if that is an element and not on the roll; else a number that none holds.
-fn blameless(contents: &[Value], e: u16, f: Function) -> u32
+fn blameless(contents: &[Value], e: Value, f: Function) -> u32
     ensures { λ r. ⌜ Blameless (now (contents .entry)) e f r ⌝ }
 {
     let v = pages::default_of(f);
@@ -130,7 +130,7 @@ fn past(contents: &[Value], v: u32, l: u32, end: u32) -> u32
 }
 
 // The least location at fault of f's part, counted from its first. Nearly all are blameless, and only the others are judged.
-fn bad_part(contents: &[Value], e: u16, p: u16, f: Function, first: u32, end: u32) -> Found
+fn bad_part(contents: &[Value], e: Value, p: Value, f: Function, first: u32, end: u32) -> Found
     requires { ⌜ first ≤ end ⌝ }
     ensures { λ r. ⌜ ((B : Program) → Part B e p f first end → r ≡ least (λ i. bad-value B (now (contents .entry)) (first + i)) (size e (f .arity))) ⌝ }
 {

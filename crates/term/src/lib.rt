@@ -14,7 +14,7 @@ ghost use Rattle.book.specs.Image.{low, held};
 ghost use Rattle.term.specs.Marks.{mark-one, dynamic-of, Runs};
 
 // The location of a function at x and y: counted from its first, the argument, or first × E + second.
-pub fn locate(f: Function, e: u16, x: u16, y: u16) -> u32
+pub fn locate(f: Function, e: Value, x: Value, y: Value) -> u32
     ensures { λ r. ⌜ r ≡ low (f .first) + offset e (f .arity) x y ⌝ }
 {
     let arity = f.arity;
@@ -27,7 +27,7 @@ pub fn locate(f: Function, e: u16, x: u16, y: u16) -> u32
 }
 
 // The location of function f at x and y.
-pub fn location(image: &Image, f: u16, x: u16, y: u16) -> u32
+pub fn location(image: &Image, f: u16, x: Value, y: Value) -> u32
     ensures { λ r. ⌜ r ≡ location (held (now (image .entry))) f x y ⌝ }
 {
     locate(
@@ -47,7 +47,7 @@ pub fn dynamic_at(image: &Image, l: u32) -> bool
 }
 
 // The same of function f's location at x and y, which its kind tells if they are elements.
-pub fn dynamic(image: &Image, f: u16, x: u16, y: u16) -> bool
+pub fn dynamic(image: &Image, f: u16, x: Value, y: Value) -> bool
     ensures { λ r. ⌜ r ≡ dynamic-of (held (now (image .entry))) f x y ⌝ }
 {
     if image::functions(image) <= f {
@@ -73,7 +73,7 @@ pub fn mark(readers: &mut [u64], bit: u64, at: usize)
 }
 
 // Marks function f's location at x and y, which is `at`, if it is dynamic.
-fn note(image: &Image, readers: &mut [u64], bit: u64, f: u16, x: u16, y: u16, at: u32)
+fn note(image: &Image, readers: &mut [u64], bit: u64, f: u16, x: Value, y: Value, at: u32)
     ensures { λ _. ⌜ now (readers .exit) ≡ (if dynamic-of (held (now (image .entry))) f x y then mark-one bit at (now (readers .entry)) else now (readers .entry)) ⌝ }
 {
     if dynamic(image, f, x, y) {
@@ -88,9 +88,9 @@ fn read(
     readers: &mut [u64],
     bit: u64,
     f: u16,
-    x: u16,
-    y: u16,
-) -> u16
+    x: Value,
+    y: Value,
+) -> Value
     ensures { λ r. ⌜ Runs (held (now (image .entry))) (now (contents .entry)) bit (read (location (held (now (image .entry))) f x y)) r (now (readers .entry)) (now (readers .exit)) ⌝ }
 {
     let at = location(image, f, x, y);
@@ -98,14 +98,14 @@ fn read(
     numbers::fetch(contents, at as usize)
 }
 
-fn truth(t: bool) -> u16
+fn truth(t: bool) -> Value
     ensures { λ r. ⌜ r ≡ truth t ⌝ }
 {
     if t { 2 } else { 1 }
 }
 
 // Whether x is false or true.
-pub fn boolean(x: u16) -> bool
+pub fn boolean(x: Value) -> bool
     ensures { λ r. ⌜ r ≡ boolean x ⌝ }
 {
     match x {
@@ -116,13 +116,13 @@ pub fn boolean(x: u16) -> bool
 }
 
 // Whether x is a number of the book.
-fn number(p: u16, x: u16) -> bool
+fn number(p: Value, x: Value) -> bool
     ensures { λ r. ⌜ r ≡ number p x ⌝ }
 {
     if 3 <= x { x < p } else { false }
 }
 
-fn not(x: u16) -> u16
+fn not(x: Value) -> Value
     ensures { λ r. ⌜ r ≡ negate x ⌝ }
 {
     match x {
@@ -132,7 +132,7 @@ fn not(x: u16) -> u16
     }
 }
 
-fn and(x: u16, y: u16) -> u16
+fn and(x: Value, y: Value) -> Value
     ensures { λ r. ⌜ r ≡ apply 0 both x y ⌝ }
 {
     if boolean(x) {
@@ -146,7 +146,7 @@ fn and(x: u16, y: u16) -> u16
     }
 }
 
-fn or(x: u16, y: u16) -> u16
+fn or(x: Value, y: Value) -> Value
     ensures { λ r. ⌜ r ≡ apply 0 either x y ⌝ }
 {
     if boolean(x) {
@@ -160,13 +160,13 @@ fn or(x: u16, y: u16) -> u16
     }
 }
 
-fn plus(p: u16, x: u16, y: u16) -> u16
+fn plus(p: Value, x: Value, y: Value) -> Value
     ensures { λ r. ⌜ r ≡ apply p plus x y ⌝ }
 {
     if number(p, x) {
         if number(p, y) {
             let sum = x as u32 + y as u32 - 3;
-            if sum < p as u32 { sum as u16 } else { 0 }
+            if sum < p as u32 { sum as Value } else { 0 }
         } else {
             0
         }
@@ -175,7 +175,7 @@ fn plus(p: u16, x: u16, y: u16) -> u16
     }
 }
 
-fn minus(p: u16, x: u16, y: u16) -> u16
+fn minus(p: Value, x: Value, y: Value) -> Value
     ensures { λ r. ⌜ r ≡ apply p minus x y ⌝ }
 {
     if number(p, x) {
@@ -189,7 +189,7 @@ fn minus(p: u16, x: u16, y: u16) -> u16
     }
 }
 
-fn less(p: u16, x: u16, y: u16) -> u16
+fn less(p: Value, x: Value, y: Value) -> Value
     ensures { λ r. ⌜ r ≡ apply p less x y ⌝ }
 {
     if number(p, x) {
@@ -200,7 +200,7 @@ fn less(p: u16, x: u16, y: u16) -> u16
 }
 
 // The value of a term of two operands from theirs.
-fn operate(p: u16, k: u16, x: u16, y: u16) -> u16
+fn operate(p: Value, k: u16, x: Value, y: Value) -> Value
     ensures { λ r. ⌜ r ≡ operated p (getD shapes k no-term) x y ⌝ }
 {
     match k {
@@ -215,7 +215,7 @@ fn operate(p: u16, k: u16, x: u16, y: u16) -> u16
 }
 
 // The value of variable a; a scope has the eight variables and then the agent's element.
-fn variable(scope: &[u16; 9], a: u16) -> u16
+fn variable(scope: &[Value; 9], a: u16) -> Value
     ensures { λ r. ⌜ r ≡ getD (variables-of (now (scope .entry))) a undef ⌝ }
 {
     if a < 8 { scope[a as usize] } else { 0 }
@@ -227,10 +227,10 @@ pub fn eval(
     contents: &[Value],
     readers: &mut [u64],
     bit: u64,
-    scope: &[u16; 9],
+    scope: &[Value; 9],
     depth: usize,
     n: u16,
-) -> u16
+) -> Value
     ensures { λ r. ⌜ Runs (held (now (image .entry))) (now (contents .entry)) bit (value-at (now (image .entry)) (now (scope .entry)) depth n) r (now (readers .entry)) (now (readers .exit)) ⌝ }
 {
     if depth == 0 {
@@ -271,7 +271,7 @@ pub fn aim(
     contents: &[Value],
     readers: &mut [u64],
     bit: u64,
-    scope: &[u16; 9],
+    scope: &[Value; 9],
     depth: usize,
     n: u16,
 ) -> u32

@@ -1,6 +1,7 @@
 // What an instruction is about: its own location and value, and the traces of a label that it releases.
 use book::Function;
 use engine::Instruction;
+use numbers::Value;
 ghost use mathlib.Core.Path.{_≡_};
 ghost use Rattle.text.specs.Words.{has};
 ghost use Rattle.table.specs.Part.{arguments-by};
@@ -16,7 +17,7 @@ pub fn own_location(what: Instruction) -> u32
     }
 }
 
-pub fn own_value(what: Instruction) -> u16
+pub fn own_value(what: Instruction) -> Value
     ensures { λ r. ⌜ r ≡ gets what ⌝ }
 {
     match what {
@@ -26,7 +27,7 @@ pub fn own_value(what: Instruction) -> u16
 }
 
 // x is an argument of location i of a function; row and col are those of i.
-fn has_argument(arity: u32, i: usize, row: usize, col: usize, x: u16) -> bool
+fn has_argument(arity: u32, i: usize, row: usize, col: usize, x: Value) -> bool
     ensures { λ r. ⌜ r ≡ has (arguments-by arity i row col) x ⌝ }
 {
     let y = x as usize;
@@ -40,7 +41,7 @@ fn has_argument(arity: u32, i: usize, row: usize, col: usize, x: u16) -> bool
 }
 
 // Location i of f, which holds the value, is a trace of x.
-pub fn is_trace_at(f: Function, i: usize, row: usize, col: usize, held: u16, x: u16) -> bool
+pub fn is_trace_at(f: Function, i: usize, row: usize, col: usize, held: Value, x: Value) -> bool
     ensures { λ r. ⌜ r ≡ trace-by f i row col held x ⌝ }
 {
     pages::is_dynamic(f) & (has_argument(f.arity, i, row, col, x) | (held == x))

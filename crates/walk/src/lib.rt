@@ -22,13 +22,13 @@ ghost use Rattle.walk.specs.Walk.{outcome, rule-from, walk-at, body-at};
 // its refusal (0 for none) and the refusal's node.
 pub struct State {
     pub len: usize,
-    pub label: u16,
+    pub label: Value,
     pub refused: u32,
     pub node: u16,
 }
 
 // Puts variable a at x.
-fn bind(scope: &mut [u16; 9], a: u16, x: u16)
+fn bind(scope: &mut [Value; 9], a: u16, x: Value)
     ensures { λ _. ⌜ (variables-of (now (scope .exit)) ≡ set (variables-of (now (scope .entry))) a x) × (agent-of (now (scope .exit)) ≡ agent-of (now (scope .entry))) ⌝ }
 {
     if a < 8 {
@@ -37,7 +37,7 @@ fn bind(scope: &mut [u16; 9], a: u16, x: u16)
 }
 
 // The branch that a guard takes: b where it is true, else c.
-fn branch(x: u16, b: u16, c: u16) -> u16
+fn branch(x: Value, b: u16, c: u16) -> u16
     ensures { λ r. ⌜ r ≡ (if eqb x 2 then b else c) ⌝ }
 {
     if x == 2 { b } else { c }
@@ -50,7 +50,7 @@ fn assign(
     readers: &mut [u64],
     bit: u64,
     list: &mut [u64; 256],
-    scope: &[u16; 9],
+    scope: &[Value; 9],
     depth: usize,
     s: Pace,
     n: u16,
@@ -72,7 +72,7 @@ fn release(
     readers: &mut [u64],
     bit: u64,
     list: &mut [u64; 256],
-    scope: &[u16; 9],
+    scope: &[Value; 9],
     depth: usize,
     s: Pace,
     n: u16,
@@ -94,7 +94,7 @@ fn walk(
     readers: &mut [u64],
     bit: u64,
     list: &mut [u64; 256],
-    scope: &[u16; 9],
+    scope: &[Value; 9],
     depth: usize,
     s: Pace,
     n: u16,
@@ -142,11 +142,11 @@ fn within(
     readers: &mut [u64],
     bit: u64,
     list: &mut [u64; 256],
-    scope: &[u16; 9],
+    scope: &[Value; 9],
     depth: usize,
     s: Pace,
     row: Row,
-    x: u16,
+    x: Value,
 ) -> Pace
     ensures { λ r. ⌜ Runs (held (now (image .entry))) (now (contents .entry)) bit (after (reached s (now (list .entry))) (body-at (now (image .entry)) (now (scope .entry)) depth (row .c) (row .a) x)) (reached r (now (list .exit))) (now (readers .entry)) (now (readers .exit)) ⌝ }
 {
@@ -162,7 +162,7 @@ fn let_in(
     readers: &mut [u64],
     bit: u64,
     list: &mut [u64; 256],
-    scope: &[u16; 9],
+    scope: &[Value; 9],
     depth: usize,
     s: Pace,
     row: Row,
@@ -181,7 +181,7 @@ fn each(
     readers: &mut [u64],
     bit: u64,
     list: &mut [u64; 256],
-    scope: &[u16; 9],
+    scope: &[Value; 9],
     depth: usize,
     s: Pace,
     row: Row,
@@ -211,7 +211,7 @@ fn import(
     readers: &mut [u64],
     bit: u64,
     list: &mut [u64; 256],
-    scope: &[u16; 9],
+    scope: &[Value; 9],
     depth: usize,
     s: Pace,
     n: u16,
