@@ -7,17 +7,11 @@ use text::Line;
 ghost use mathlib.Core.Path.{_≡_};
 ghost use Prim.Native.Nat.{_+_, _<_, _≤_};
 ghost use lib.ListN.{length};
-ghost use Rattle.book.specs.Book.{size, default};
+ghost use Rattle.book.specs.Book.{size};
 ghost use Rattle.book.specs.Image.{program-in};
 ghost use Rattle.report.specs.Report.{contents-lines};
 ghost use Rattle.print.specs.Print.{line-for, shown, function-lines, lines-put, Prints};
-ghost use Rattle.print.specs.Split.{book-length, in-bounds};
-
-fn default_of(f: Function) -> u32
-    ensures { λ r. ⌜ r ≡ default f ⌝ }
-{
-    if (f.kind == 1) | (f.kind == 3) { 1 } else { 0 }
-}
+ghost use Rattle.print.specs.Split.{book-length};
 
 // The line of location i of function k, which is f and holds v there. Only what is printed is divided.
 fn line_of(e: Value, f: Function, k: u32, i: u32, v: Value) -> Line
@@ -57,8 +51,7 @@ fn print_location(e: Value, f: Function, k: u32, i: u32, v: Value, n: u32, out: 
     requires { ⌜ (i < size e (f .arity)) × (n < 4294967295) ⌝ }
     ensures { λ r. ⌜ (r ≡ n + length (shown e f k i v)) × (now (out .exit) ≡ lines-put n (shown e f k i v) (now (out .entry))) ⌝ }
 {
-    let usual = default_of(f);
-    if v as u32 == usual {
+    if v == pages::default_of(f) {
         return n;
     }
     let l = line_of(e, f, k, i, v);
@@ -125,34 +118,22 @@ pub fn print_answer(image: &Image, contents: &[Value], answer: Answer, out: &mut
     }
 }
 
-// The header, whose lines are k and l, is within its bounds.
-fn bounded(k: Line, l: Line) -> bool
-    ensures { λ r. ⌜ r ≡ in-bounds k l ⌝ }
-{
-    ((4 <= k.a) & (k.a <= 10000))
-        & ((4 <= k.b) & (k.b <= k.a))
-        & ((1 <= k.c) & (k.c <= 32))
-        & ((1 <= k.d) & (k.d <= 1024))
-        & ((1 <= l.a) & (l.a <= 16))
-        & (l.b <= 65536)
-        & (l.c == 0)
-        & (l.d == 0)
-}
-
 // How many bytes of an input are its book, by its header; all, where the header is refused.
 pub fn book_bytes(input: &[u8]) -> usize
     ensures { λ r. ⌜ r ≡ book-length (now (input .entry)) ⌝ }
 {
     let n = input.len();
-    if text::sound(input, 0) & text::sound(input, 1) {
-        let k = text::read_line(input, 0, 0);
-        let l = text::read_line(input, 0, 1);
-        if bounded(k, l) {
-            let lines = 2 + k.c as usize + k.d as usize + l.a as usize + l.b as usize;
-            if text::LINE * lines < n {
-                return text::LINE * lines;
-            }
-        }
+    let first = text::parse(input, 0);
+    let second = text::parse(input, 1);
+    if !(first.ok & second.ok) {
+        return n;
     }
-    n
+    let k = first.line;
+    let l = second.line;
+    let bounds = text::none_at(text::HEADER_BOUNDS, 0, header::bad_header(k, l));
+    if bounds.number != 0 {
+        return n;
+    }
+    let lines = 2 + k.c as usize + k.d as usize + l.a as usize + l.b as usize;
+    numbers::smaller(text::LINE * lines, n)
 }

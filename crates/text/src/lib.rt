@@ -319,7 +319,7 @@ pub fn parse(text: &[u8], i: u32) -> Parsed
 }
 
 // Line i is whole and in form.
-pub fn sound(text: &[u8], i: u32) -> bool
+fn sound(text: &[u8], i: u32) -> bool
     ensures { λ r. ⌜ r ≡ well-formed (line-bytes (now (text .entry)) i) ⌝ }
 {
     let l = parse(text, i);

@@ -1,29 +1,30 @@
 -- `book_bytes` meets its contract.
-use mathlib.Core.Path.{_≡_, sym, _∙_}
-use Prim.Native.Nat.{_*_, min}
-use lib.ListN.{length}
-use native.Mathlib.Omega.{arith}
-use native.Mathlib.Nat.{min-eq-left, min-eq-right}
-use Rattle.book.specs.Lines.{header-of, line-count}
-use Rattle.print.proofs.Split.{length-passed, length-unbounded, length-formless}
+use mathlib.Core.Path.{_∙_, ap}
+use borrow.Author.Tests.{not-true, not-false}
+use Rattle.text.specs.declared.Found.{Found}
+use Rattle.text.specs.Words.{none-at, answer-of}
+use Rattle.print.proofs.Split.{length-formless, length-unbounded, length-bounded}
 use borrow.Author.Needs.{needs}
 use Rattle.print.proofs.book_bytes.Statement.{statement}
 use Rattle.print.proofs.book_bytes.Tie as tie
 
-sound-requires : tie.Need-sound-requires
-sound-requires c κs = search needs
+parse-requires : tie.Need-parse-requires
+parse-requires c κs = search needs
 
-sound-requires-2 : tie.Need-sound-requires-2
-sound-requires-2 c κs = search needs
+parse-requires-2 : tie.Need-parse-requires-2
+parse-requires-2 c κs = search needs
 
-read-line-requires : tie.Need-read-line-requires
-read-line-requires c κs = search needs
+returns : tie.Need-returns
+returns c = length-formless (c .before .before .before .before .before .before .args .input .now) (c .before .before .before .before .parse .result) (c .before .before .before .parse2 .result) (c .before .before .before .before .parse .ensures) (c .before .before .before .parse2 .ensures) (not-true _ (c .if1 .taken))
 
-read-line-requires-2 : tie.Need-read-line-requires-2
-read-line-requires-2 c κs = search needs
+bad-header-requires : tie.Need-bad-header-requires
+bad-header-requires c κs = search needs
 
-bounded-requires : tie.Need-bounded-requires
-bounded-requires c κs = search needs
+none-at-requires : tie.Need-none-at-requires
+none-at-requires c κs = search needs
+
+returns-2 : tie.Need-returns-2
+returns-2 c = length-unbounded (c .before .before .before .before .before .before .before .before .before .before .before .before .args .input .now) (c .before .before .before .before .before .before .before .before .before .before .parse .result) (c .before .before .before .before .before .before .before .before .before .parse2 .result) (c .before .before .before .before .before .before .before .before .before .before .parse .ensures) (c .before .before .before .before .before .before .before .before .before .parse2 .ensures) (not-false _ (c .before .before .before .before .before .before .if1 .left)) (c .before .before .none-at .result) (c .before .before .none-at .ensures ∙ ap (λ (f : Found). answer-of (none-at 3 0 0 f)) (c .before .before .before .bad-header .ensures)) (c .if2 .taken)
 
 cast-lines : tie.Need-cast-lines
 cast-lines c = search needs
@@ -49,33 +50,25 @@ cast-lines-4 c = search needs
 add-lines-4 : tie.Need-add-lines-4
 add-lines-4 c = search needs
 
-mul-if3 : tie.Need-mul-if3
-mul-if3 c = search needs
+mul-smaller : tie.Need-mul-smaller
+mul-smaller c = search needs
 
-mul-result : tie.Need-mul-result
-mul-result c = search needs
-
-returns : tie.Need-returns
-returns c = let t = c .before .before .before .before .before .before .before .before .before .before .before .before .before .args .input .now in let k = c .before .before .before .before .before .before .before .before .read-line .result in let l = c .before .before .before .before .before .before .before .read-line2 .result in let p = length-passed t (c .before .before .before .before .before .before .before .before .before .before .before .sound .result) (c .before .before .before .before .before .before .before .before .before .before .sound2 .result) (c .before .before .before .before .before .before .bounded .result) k l (c .before .before .before .before .before .before .before .before .before .before .before .sound .ensures) (c .before .before .before .before .before .before .before .before .before .before .sound2 .ensures) (c .before .before .before .before .before .before .before .before .read-line .ensures) (c .before .before .before .before .before .before .before .read-line2 .ensures) (c .before .before .before .before .before .before .bounded .ensures) (c .before .before .before .before .before .before .before .before .before .if1 .taken) (c .before .before .before .before .before .if2 .taken) in let e : min (25 * line-count (header-of k l)) (length t) ≡ 25 * line-count (header-of k l) = min-eq-left (omega arith) in sym (p ∙ e)
-
-returns-2 : tie.Need-returns-2
-returns-2 c = let t = c .before .before .before .before .before .before .before .before .before .before .before .before .before .args .input .now in let k = c .before .before .before .before .before .before .before .before .read-line .result in let l = c .before .before .before .before .before .before .before .read-line2 .result in let p = length-passed t (c .before .before .before .before .before .before .before .before .before .before .before .sound .result) (c .before .before .before .before .before .before .before .before .before .before .sound2 .result) (c .before .before .before .before .before .before .bounded .result) k l (c .before .before .before .before .before .before .before .before .before .before .before .sound .ensures) (c .before .before .before .before .before .before .before .before .before .before .sound2 .ensures) (c .before .before .before .before .before .before .before .before .read-line .ensures) (c .before .before .before .before .before .before .before .read-line2 .ensures) (c .before .before .before .before .before .before .bounded .ensures) (c .before .before .before .before .before .before .before .before .before .if1 .taken) (c .before .before .before .before .before .if2 .taken) in let e : min (25 * line-count (header-of k l)) (length t) ≡ length t = min-eq-right (omega arith) in sym (p ∙ e)
+smaller-requires : tie.Need-smaller-requires
+smaller-requires c κs = search needs
 
 returns-3 : tie.Need-returns-3
-returns-3 c = let t = c .before .before .before .before .before .before .before .before .args .input .now in length-unbounded t (c .before .before .before .before .before .before .sound .result) (c .before .before .before .before .before .sound2 .result) (c .before .bounded .result) (c .before .before .before .read-line .result) (c .before .before .read-line2 .result) (c .before .before .before .before .before .before .sound .ensures) (c .before .before .before .before .before .sound2 .ensures) (c .before .before .before .read-line .ensures) (c .before .before .read-line2 .ensures) (c .before .bounded .ensures) (c .before .before .before .before .if1 .taken) (c .if2 .left)
-
-returns-4 : tie.Need-returns-4
-returns-4 c = let t = c .before .before .before .before .args .input .now in length-formless t (c .before .before .sound .result) (c .before .sound2 .result) (c .before .before .sound .ensures) (c .before .sound2 .ensures) (c .if1 .left)
+returns-3 c = c .smaller .ensures ∙ length-bounded (c .before .before .before .before .before .before .before .before .before .before .before .before .before .before .before .before .before .args .input .now) (c .before .before .before .before .before .before .before .before .before .before .before .before .before .before .before .parse .result) (c .before .before .before .before .before .before .before .before .before .before .before .before .before .before .parse2 .result) (c .before .before .before .before .before .before .before .before .before .before .before .before .before .before .before .parse .ensures) (c .before .before .before .before .before .before .before .before .before .before .before .before .before .before .parse2 .ensures) (not-false _ (c .before .before .before .before .before .before .before .before .before .before .before .if1 .left)) (c .before .before .before .before .before .before .before .none-at .result) (c .before .before .before .before .before .before .before .none-at .ensures ∙ ap (λ (f : Found). answer-of (none-at 3 0 0 f)) (c .before .before .before .before .before .before .before .before .bad-header .ensures)) (c .before .before .before .before .before .if2 .left)
 
 pub book-bytes-spec : {M : Type 1} → statement M
 book-bytes-spec =
     tie.close
     (tie.spec
-    sound-requires
-    sound-requires-2
-    read-line-requires
-    read-line-requires-2
-    bounded-requires
+    parse-requires
+    parse-requires-2
+    returns
+    bad-header-requires
+    none-at-requires
+    returns-2
     cast-lines
     add-lines
     cast-lines-2
@@ -84,9 +77,6 @@ book-bytes-spec =
     add-lines-3
     cast-lines-4
     add-lines-4
-    mul-if3
-    mul-result
-    returns
-    returns-2
-    returns-3
-    returns-4)
+    mul-smaller
+    smaller-requires
+    returns-3)
