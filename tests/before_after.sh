@@ -1,7 +1,9 @@
 #!/usr/bin/env bash
 # Measures two static libraries of the proved code, row by row in turns, and prints a Markdown table: each row before and after, and its ratio
 # to the independent implementation. The last line names the rows that take more than 1.05 times before. With --instructions the table is in
-# instructions (valgrind counts them). Both libraries are linked with the benchmarks as they are here. All files go to a temporary folder.
+# instructions (valgrind counts them). Both libraries are linked with the benchmarks as they are here, each function at a multiple of 64 bytes: a
+# function that grows or shrinks moves those after it, and where a loop starts in a cache line alone can be a tenth of a row. All files go to a
+# temporary folder.
 # Usage: tests/before_after.sh [--instructions] OLD.a NEW.a [WORD]; with a word, only the rows whose name has it.
 set -eu
 
@@ -20,18 +22,28 @@ while [ $# -gt 0 ]; do
     shift
 done
 if [ $# -lt 2 ] || [ ! -f "$1" ] || [ ! -f "$2" ]; then usage; fi
-old=$1
-new=$2
+old=$(realpath "$1")
+new=$(realpath "$2")
 shift 2
 
 tests=$(cd "$(dirname "$0")" && pwd)
 work=$(mktemp -d)
 trap 'rm -rf "$work"' EXIT
 
+# align LIBRARY TARGET: the same library, its functions at multiples of 64 bytes
+align() {
+    local parts=$work/parts
+    mkdir "$parts"
+    (cd "$parts" && ar x "$1")
+    for part in "$parts"/*.o; do objcopy --set-section-alignment '.text*=64' "$part"; done
+    ar rcs "$2" "$parts"/*.o
+    rm -r "$parts"
+}
+
 # build NAME LIBRARY: the program `bench` over a library, as $work/NAME/bench
 build() {
     mkdir "$work/$1"
-    cp "$2" "$work/$1/libfor_c.a"
+    align "$2" "$work/$1/libfor_c.a"
     RENTAL_LIBRARY="$work/$1" cargo build --offline --release --quiet --manifest-path "$tests/Cargo.toml" \
         --target-dir "$work/target" -p compare --bin bench
     cp "$work/target/release/bench" "$work/$1/bench"

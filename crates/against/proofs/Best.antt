@@ -10,7 +10,7 @@ use lib.ListN.{length, getD}
 use Rattle.text.specs.Words.{if_then_else_, has, least}
 use Rattle.text.specs.declared.Found.{Found}
 use Rattle.text.specs.declared.Found.the-variants.{Nowhere, Here}
-use Rattle.text.proofs.Words.{or-no, least-none, least-all, least-here}
+use Rattle.text.proofs.Words.{refuted, or-no, least-none, least-all, least-here}
 use Rattle.book.specs.Book.{Program, L, dynamic-at, default-at, concerns}
 use Rattle.engine.specs.declared.Instruction.{Instruction}
 use Rattle.engine.specs.declared.Instruction.the-variants.{Update, Release}
@@ -19,7 +19,7 @@ use Rattle.engine.proofs.EqualReads.{has-append}
 use Rattle.engine.proofs.Values.{length-updates, updates-at}
 use Rattle.traces.specs.Traces.{own, gets, any}
 use Rattle.against.specs.Steps.{doomed, trouble, better, best}
-use Rattle.traces.proofs.Laws.{and-none, no, other-append, own-given}
+use Rattle.traces.proofs.Laws.{and-none, other-append, own-given}
 
 -- ---- tests
 
@@ -237,20 +237,22 @@ module _ (B : Program) (c : List ℕ) (all : List Instruction) where
   unfolding clashes
   clashes-at l h = rw (updates-at B c all l h)
 
-  abbrev found : ℕ
-  found = best B c all all (L B)
+  -- begun from a number k that is no location
+  module _ (k : ℕ) (k-high : L B ≤ k) where
+    abbrev found : ℕ
+    found = best B c all all k
 
-  -- one below L is the least location that clashes
-  pub best-least : found < L B → Here found ≡ least (clashes all (updates B c all)) (length (updates B c all))
-  best-least h =
-      rw (length-updates B c all)
-      (least-is (clashes all (updates B c all)) (L B) found h
-      (clashes-at found h ∙ best-clashes all (λ t k. k) (L B) (L B) (λ k. absurd (omega arith)) h)
-      (λ l k. clashes-at l (omega arith) ∙ no (Bad l) (λ e. omega (arith, best-here all (L B) l (clash-trouble l e)))))
+    -- one below L is the least location that clashes
+    pub best-least : found < L B → Here found ≡ least (clashes all (updates B c all)) (length (updates B c all))
+    best-least h =
+        rw (length-updates B c all)
+        (least-is (clashes all (updates B c all)) (L B) found h
+        (clashes-at found h ∙ best-clashes all (λ t e. e) k k (λ e. absurd (omega arith)) (omega arith))
+        (λ l e. clashes-at l (omega arith) ∙ refuted (Bad l) (λ b. omega (arith, best-here all k l (clash-trouble l b)))))
 
-  -- else none does
-  pub best-none : L B ≤ found → Nowhere ≡ least (clashes all (updates B c all)) (length (updates B c all))
-  best-none h =
-      rw (length-updates B c all)
-      (sym (least-all (clashes all (updates B c all)) (L B)
-      (λ l k. clashes-at l k ∙ no (Bad l) (λ e. omega (arith, best-here all (L B) l (clash-trouble l e))))))
+    -- else none does
+    pub best-none : L B ≤ found → Nowhere ≡ least (clashes all (updates B c all)) (length (updates B c all))
+    best-none h =
+        rw (length-updates B c all)
+        (sym (least-all (clashes all (updates B c all)) (L B)
+        (λ l e. clashes-at l e ∙ refuted (Bad l) (λ b. omega (arith, best-here all k l (clash-trouble l b))))))

@@ -12,7 +12,7 @@ use borrow.Author.Tests.{ltb-true, leb-true, lt-ltb, le-ltb, le-leb, lt-leb}
 use Rattle.text.specs.declared.Answer.{Answer}
 use Rattle.text.specs.declared.Found.the-variants.{Nowhere, Here}
 use Rattle.text.specs.Words.{Checked, good, refused, _>>_, none-at, must, answer-of, least}
-use Rattle.text.proofs.Words.{then-good, none-good, test-good}
+use Rattle.text.proofs.Words.{then-good, test-good}
 use Rattle.book.specs.Book.{Program, L}
 use Rattle.book.specs.Contents.{bad-value}
 use Rattle.engine.specs.Single.{check-agent, check-step-lengths, check-lent-step, check-contents}
@@ -106,7 +106,6 @@ pub record Passed (B : Program) (c : List ℕ) (k n : ℕ) : Type 0 where
   pub agent : k < length (B .agents)
   pub long : L B ≤ length c
   pub records : 256 ≤ n
-  pub fine : least (bad-value B (take (L B) c)) (L B) ≡ Nowhere
 
 pub call-passed : (B : Program) (locations : ℕ) (c : List ℕ) (k n : ℕ) → locations ≡ L B → (u : Unit {0}) → check-call B locations c k n ≡ good u → Passed B c k n
 unfolding check-call check-agent check-contents _>>_
@@ -118,5 +117,4 @@ call-passed B locations c k n same u e =
       agent = ltb-true k (length (B .agents)) (e9 .0);
       long = rw (← same) (leb-true locations (length c) (e0 .0));
       records = leb-true 256 n (test-good (leb 256 n) 2 256 3 (good u) u (ap (λ (x : Checked (Unit {0})). x >> good u) (e0 .1)) .0);
-      fine = ap (λ (i : ℕ). least (bad-value B (take i c)) (L B)) (sym same) ∙ none-good 8 0 0 (least (bad-value B (take locations c)) (L B)) u (e2 .2);
     }

@@ -13,7 +13,7 @@ use lib.Dec.{eqb, ltb, leb}
 use lib.ListN.{length, getD, take, set, replicate, length-set, length-replicate, getD-replicate}
 use lib.Seq.{take-suc, getD-set-same, getD-set-other}
 use Rattle.text.specs.Words.{if_then_else_, has, some-below}
-use Rattle.text.proofs.Words.{and-cases, some-below-true, some-below-from}
+use Rattle.text.proofs.Words.{and-cases, refuted, some-below-true, some-below-from}
 use Rattle.book.specs.Book.{Program}
 use Rattle.engine.specs.declared.Instruction.{Instruction}
 use Rattle.engine.specs.declared.Instruction.the-variants.{Update}
@@ -24,7 +24,6 @@ use Rattle.against.specs.Steps.{spot, gives, best}
 use Rattle.clash.specs.Steps.{releases, location-of, slot-of, Last, Linked, Chain, nearer}
 use Rattle.traces.proofs.Laws.{or-assoc}
 use Rattle.against.proofs.Laws.{other-any, has-any}
-use Rattle.traces.proofs.Laws.{no}
 use Rattle.against.proofs.Best.{bad-one, best-le, best-here, best-trouble}
 
 slot-low : (c : ℕ) → slot-of c < 512
@@ -303,7 +302,7 @@ module _ (B : Program) (c : List ℕ) {list : List ℕ} {n b j least : ℕ} (fit
   none-released : (x : ℕ) → has (released all) x ≡ false
   none-released x =
       has-any x all ∙ any-some (λ i. has (label-of i []) x) list n fits
-      ∙ no (some-below (λ k. has (label-of (decode-of (getD list k 0)) []) x) n)
+      ∙ refuted (some-below (λ k. has (label-of (decode-of (getD list k 0)) []) x) n)
       (λ e.
       let s = some-below-true (λ k. has (label-of (decode-of (getD list k 0)) []) x) n e in
       false≢true (sym (ap (λ (i : Instruction). has (label-of i []) x) (is-update (s .0) (s .1))) ∙ s .2))

@@ -1,8 +1,10 @@
 -- The claims of specs/Claims hold.
 use mathlib.Core.Path.{_∙_}
-use Rattle.engine.specs.Claims.{MovesReadEqual, MovesLeave, ImportsRead, TreesWhole}
+use Rattle.engine.specs.Claims.{MovesReadEqual, MovesLeave, IdleMovesLeave, MovesRefuse, StepsAnswer, ImportsRead, TreesWhole}
 use Rattle.engine.proofs.EqualReads.{same-instructions, same-refusal}
-use Rattle.engine.proofs.Moves.{fire-length, fired-frame, fired-static, fired-keep, one-value}
+use Rattle.engine.proofs.Moves.{fire-length, fired-frame, fired-static, fired-keep, one-value, idle-leaves, leaves-idle}
+use Rattle.engine.proofs.Numbers.{move-number}
+use Rattle.engine.proofs.Refusals.{step-small}
 use Rattle.engine.proofs.Import.{lowest-reads}
 use Rattle.engine.proofs.Fuel.{same-root}
 
@@ -20,6 +22,15 @@ moves-leave B ok c s i f e = record {
   static = fired-static B ok c s i f e;
   sound = fired-keep B ok c s i f e;
 }
+
+pub idle-moves-leave : IdleMovesLeave
+idle-moves-leave B ok c s i f e = (idle-leaves c (f .updates), leaves-idle B ok c s i f e)
+
+pub moves-refuse : MovesRefuse
+moves-refuse B c i n q e = let r = move-number B c i n q e in (r .0, r .1)
+
+pub steps-answer : StepsAnswer
+steps-answer book c k n = step-small book c k n .not-16
 
 pub imports-read : ImportsRead
 imports-read c x n y e = lowest-reads c x n y e .2

@@ -1,5 +1,5 @@
 -- A move that fires: its updates and no others change the contents, static locations are never written, all that sound contents have, the roll rule
--- with it, is kept, and contents that agree on its reads and writes give the same move.
+-- with it, is kept, and contents that agree on its reads give the same move. An idle one leaves the contents as they are.
 use mathlib.Core.Path.{_≡_, refl, sym, ap, subst, _∙_}
 use mathlib.Core.Logic.{_⊎_, inl, inr, dite, _≢_}
 use mathlib.Core.Bool.{Bool, true, false, not, or-true, true≢false, false≢true}
@@ -8,24 +8,24 @@ use Prim.Native.Nat.{ℕ, zero, suc, _+_, _≤_, _<_}
 use native.Mathlib.Omega.{arith}
 use native.Mathlib.Decide.{ℕ-discrete, decLt}
 use lib.Dec.{eqb}
-use lib.ListN.{length, getD, replicate}
+use lib.ListN.{length, getD, replicate, List·getD-eq-default}
 use lib.Seq.{ext-getD}
-use borrow.Author.Tests.{eq-eqb}
+use borrow.Author.Tests.{eq-eqb, eqb-true, not-false}
 use Rattle.text.specs.Words.{if_then_else_, has, table-from, table, some-below, least}
 use Rattle.text.specs.declared.Found.{Found}
 use Rattle.text.specs.declared.Found.the-variants.{Nowhere, Here}
-use Rattle.text.proofs.Words.{or-no, least-none, table-ext}
+use Rattle.text.proofs.Words.{or-no, least-none, some-below-true, some-below-from, table-ext, refuted}
 use Rattle.book.specs.Book.{Program, L, true-element, false-element, boolean, node-at, agent-at, place, relation-at, dynamic-at, default-at, arguments-at}
 use Rattle.book.specs.Sound.{Lawful, at, Argument, OnRoll, Sound}
 use Rattle.book.proofs.Places.{roll-place, roll-inside, roll-argument, default-low}
 use Rattle.engine.specs.declared.Instruction.{Instruction}
 use Rattle.engine.specs.declared.Instruction.the-variants.{Update, Release}
 use Rattle.engine.specs.Rule.{Walk, Walked, going, met, agent-walk, rule-at, no-variables}
-use Rattle.engine.specs.Move.{given, values, updates, values-at, released, other, two-values, clashes, idle, new-value, fire, writes, all-dynamic, extra-reads, Input, Fired, fires, unless-clash, unless-idle, walked, looked, fired-of, judged, settle, move, reads}
+use Rattle.engine.specs.Move.{given, values, updates, values-at, released, other, two-values, clashes, idle, new-value, fire, writes, all-dynamic, extra-reads, Input, Fired, fires, unless-clash, walked, looked, fired-of, judged, settle, move, reads}
 use Rattle.engine.proofs.EqualReads.{has-append, has-dynamic, same-instructions}
 use Rattle.engine.specs.Claims.{SameStatic}
 use Rattle.engine.proofs.Decode.{proper-rule}
-use Rattle.engine.proofs.Values.{Sets, Frees, frees-has, set-to-none, Cleared, Origin, origin, sets-values, frees-values, length-updates, updates-at, updates-past, new-cases, only-value, fire-at}
+use Rattle.engine.proofs.Values.{Sets, Frees, frees-has, set-to-none, Cleared, Origin, origin, sets-values, frees-values, length-updates, updates-at, updates-past, new-cases, only-value, fire-inside, fire-at}
 use Rattle.engine.proofs.Walks.{Fine, sets-fine, frees-fine, Made, Comes, walk-comes, low-clean}
 
 pub fire-length : (us : List (List ℕ)) (c : List ℕ) → length (fire us c) ≡ length c
@@ -42,12 +42,10 @@ pub record Firing (B : Program) (c : List ℕ) (i : Input) (f : Fired) : Type 0 
   pub went : walked B c i ≡ going walk
   pub gave : fired-of B c (looked B c i) (walk .made) ≡ f
   pub no-clash : least (clashes (f .instructions) (f .updates)) (length (f .updates)) ≡ Nowhere
-  pub changes : idle c (f .updates) ≡ false
 
-settled : (o : Found) (b : Bool) (g f : Fired) → unless-clash o (unless-idle b (fires g)) ≡ fires f → (o ≡ Nowhere) × (b ≡ false) × (g ≡ f)
-settled (Here l) b g f e = let z : _≡_ {A = ℕ} 0 1 = cc in absurd (omega arith)
-settled Nowhere true g f e = let z : _≡_ {A = ℕ} 0 1 = cc in absurd (omega arith)
-settled Nowhere false g f e = (refl, refl, (cc))
+settled : (o : Found) (g f : Fired) → unless-clash o (fires g) ≡ fires f → (o ≡ Nowhere) × (g ≡ f)
+settled (Here l) g f e = let z : _≡_ {A = ℕ} 0 1 = cc in absurd (omega arith)
+settled Nowhere g f e = (refl, cc)
 
 pub firing : (B : Program) (c : List ℕ) (i : Input) (f : Fired) → move B c i ≡ fires f → Firing B c i f
 unfolding move settle judged
@@ -57,13 +55,12 @@ firing B c i f e = go (walked B c i) refl e
     go (met n q) p h = let z : _≡_ {A = ℕ} 0 1 = cc in absurd (omega arith)
     go (going w) p h =
         let g = fired-of B c (looked B c i) (w .made) in
-        let s = settled (least (clashes (g .instructions) (g .updates)) (length (g .updates))) (idle c (g .updates)) g f h in
+        let s = settled (least (clashes (g .instructions) (g .updates)) (length (g .updates))) g f h in
         record {
           walk = w;
           went = p;
-          gave = s .2;
-          no-clash = subst (λ (k : Fired). least (clashes (k .instructions) (k .updates)) (length (k .updates)) ≡ Nowhere) (s .2) (s .0);
-          changes = subst (λ (k : Fired). idle c (k .updates) ≡ false) (s .2) (s .1);
+          gave = s .1;
+          no-clash = subst (λ (k : Fired). least (clashes (k .instructions) (k .updates)) (length (k .updates)) ≡ Nowhere) (s .1) (s .0);
         }
 
 module _ (B : Program) (c : List ℕ) (i : Input) (f : Fired) (moves : move B c i ≡ fires f) where
@@ -101,7 +98,7 @@ no-value v = go 8 v
     go (suc n) (suc v) = go n v
 
 module _ (B : Program) (B-ok : Lawful B) (c : List ℕ) (c-ok : Sound B c) (i : Input) where
-  pub walked-made : (w : Walk) → walked B c i ≡ going w → Made B c w
+  walked-made : (w : Walk) → walked B c i ≡ going w → Made B c w
   unfolding agent-walk
   walked-made w e =
       let g = agent-at B (i .agent) in
@@ -311,20 +308,6 @@ kept-updates : (B : Program) (c d : List ℕ) (is : List Instruction) → releas
 unfolding updates
 kept-updates B c d is f = table-ext (λ l. values B c l is) (λ l. values B d l is) (L B) (λ l h. kept B c d l is f)
 
-some-same : (f g : ℕ → Bool) (n : ℕ) → ((i : ℕ) → f i ≡ g i) → some-below f n ≡ some-below g n
-unfolding some-below
-some-same f g zero h = refl
-some-same f g (suc n) h = rw (some-same f g n h, h n)
-
-idle-same : (c d : List ℕ) (us : List (List ℕ)) → ((l : ℕ) → writes us l ≡ true → at c l ≡ at d l) → idle c us ≡ idle d us
-unfolding idle other
-idle-same c d us h = ap not (some-same (λ l. other (at c l) (values-at us l)) (λ l. other (at d l) (values-at us l)) (length us)
-    (λ l. go l (values-at us l) refl))
-  where
-    go : (l : ℕ) (ws : List ℕ) → values-at us l ≡ ws → other (at c l) ws ≡ other (at d l) ws
-    go l [] e = refl
-    go l (w ∷ ws) e = rw (h l (rw e))
-
 has-table : (i n l : ℕ) → i ≤ l → l < i + n → has (table-from (λ k. k) i n) l ≡ true
 unfolding table-from
 has-table i zero l h k = absurd (omega arith)
@@ -355,13 +338,10 @@ module _ (B : Program) (c d : List ℕ) (i : Input) (t : SameStatic B c d) (f : 
       go l h false q = t .static l h q
       go l h true q = agree l (all-read y ys e l h q)
 
-  same-move : ((l : ℕ) → writes (f .updates) l ≡ true → at c l ≡ at d l) → move B d i ≡ fires f
+  pub fired-same : move B d i ≡ fires f
   unfolding w move settle judged
-  same-move x = go (released (w .made)) refl
+  fired-same = go (released (w .made)) refl
     where
-      settles : idle d (f .updates) ≡ false → judged d f ≡ fires f
-      settles e = rw (firing B c i f moves .no-clash, e)
-
       -- with none it is settled alike
       apiece : released (w .made) ≡ [] → move B d i ≡ fires f
       apiece e =
@@ -371,14 +351,41 @@ module _ (B : Program) (c d : List ℕ) (i : Input) (t : SameStatic B c d) (f : 
           ap (λ (us : List (List ℕ)). record { instructions = s .walk .made; updates = us; reads = looked B c i ++ extra-reads B (s .walk .made) us })
           (sym (kept-updates B c d (s .walk .made) e))
           ∙ s .gave in
-          rw (r .0, r .1) (ap (judged d) u ∙ settles (sym (idle-same c d (f .updates) x) ∙ s .changes))
+          rw (r .0, r .1) (ap judged u ∙ rw (s .no-clash))
 
       go : (ys : List ℕ) → released (w .made) ≡ ys → move B d i ≡ fires f
       go [] e = apiece e
       go (y ∷ ys) e = subst (λ (z : List ℕ). move B z i ≡ fires f) (at-once y ys e) moves
 
-pub fired-same : (B : Program) → Lawful B → (c d : List ℕ) → Sound B c → Sound B d → (i : Input) (f : Fired) → move B c i ≡ fires f
-    → ((l : ℕ) → has (f .reads) l ≡ true → at c l ≡ at d l) → ((l : ℕ) → writes (f .updates) l ≡ true → at c l ≡ at d l)
-    → ((l : ℕ) → dynamic-at B l ≡ false → at c l ≡ at d l) → move B d i ≡ fires f
-fired-same B ok c d s t i f e reads writes static =
-    same-move B c d i (record { long = s .long; as-long = t .long; static = λ l h. static l }) f e reads writes
+-- ---- an idle move
+
+-- updates that would change no location leave the contents as they are
+pub idle-leaves : (c : List ℕ) (us : List (List ℕ)) → idle c us ≡ true → fire us c ≡ c
+unfolding idle other
+idle-leaves c us e = ext-getD 0 (fire us c) c (fire-length us c) (λ l h. fire-inside us c l (omega (arith, fire-length us c)) ∙ go l (values-at us l) refl (dite (decLt l (length us))
+    (λ k. refuted (other (at c l) (values-at us l)) (λ q. true≢false (sym e ∙ rw (some-below-from (λ l. other (at c l) (values-at us l)) (length us) l k q))))
+    (λ (k : ¬ (l < length us)). rw (List·getD-eq-default us [] {n = l} (omega arith)))))
+  where
+    go : (l : ℕ) (ws : List ℕ) → values-at us l ≡ ws → other (at c l) (values-at us l) ≡ false → new-value (at c l) ws ≡ at c l
+    go l [] q n = refl
+    go l (w ∷ ws) q n = eqb-true w (at c l) (not-false (eqb w (at c l)) (or-no (not (eqb w (at c l))) (other (at c l) ws) (rw q at n) .0))
+
+other-none : (x : ℕ) (ws : List ℕ) → ((v : ℕ) → has ws v ≡ true → v ≡ x) → other x ws ≡ false
+unfolding other
+other-none x [] h = refl
+other-none x (w ∷ ws) h =
+    rw (eq-eqb w x (h w (rw (eq-eqb w w refl))), other-none x ws (λ v e. h v (rw e (or-true (eqb w v)))))
+
+-- and those of a move that fires, if they leave them so, would change none
+pub leaves-idle : (B : Program) → Lawful B → (c : List ℕ) → Sound B c → (i : Input) (f : Fired) → move B c i ≡ fires f
+    → fire (f .updates) c ≡ c → idle c (f .updates) ≡ true
+unfolding idle
+leaves-idle B ok c s i f moves e = rw (refuted (some-below test (length (f .updates))) (λ q. let r = some-below-true test (length (f .updates)) q in true≢false (sym (r .2) ∙ still (r .0))))
+  where
+    test : ℕ → Bool
+    test l = other (at c l) (values-at (f .updates) l)
+
+    still : (l : ℕ) → test l ≡ false
+    still l =
+        let kept : new-value (at c l) (values-at (f .updates) l) ≡ at c l = sym (fired-frame B ok c s i f moves l) ∙ ap (λ (d : List ℕ). at d l) e in
+        other-none (at c l) (values-at (f .updates) l) (λ v h. sym (one-value B c i f moves l v h) ∙ kept)

@@ -1,4 +1,4 @@
--- The numbers of the refusals inside a move, 11 to 16, and their q: a node of the book, a location or 0.
+-- The numbers of the refusals inside a move, 11 to 15, and their q: a node of the book or a location.
 use mathlib.Core.Path.{_≡_, refl, subst}
 use mathlib.Core.Logic.{dite}
 use mathlib.Core.Bool.{Bool, true, false}
@@ -20,7 +20,7 @@ use Rattle.engine.specs.declared.Instruction.the-variants.{Update, Relea
 use Rattle.engine.specs.Look.{Look, gives}
 use Rattle.engine.specs.Term.{eval, target}
 use Rattle.engine.specs.Rule.{Rule, skip, assign, pair, test, bind, for-all, import, free, Walk, Walked, going, met, _then_, after, most-instructions, give, take-label, refuse-if, members, each, lowest, import-of, not-boolean, not-free, walk, agent-walk, rule-tree, rule-at, RuleShape, a-skip, an-assign, a-pair, a-test, a-bind, a-for-all, an-import, a-free, no-rule, rule-shape, no-variables}
-use Rattle.engine.specs.Move.{Input, Fired, Moved, fires, stopped, unless-clash, unless-idle, updates, clashes, idle, fired-of, walked, looked, judged, settle, move}
+use Rattle.engine.specs.Move.{Input, Fired, Moved, fires, stopped, unless-clash, updates, clashes, fired-of, walked, looked, judged, settle, move}
 use Rattle.engine.proofs.Look.{gives-bind}
 
 -- ---- the nodes that a rule can be refused at
@@ -131,12 +131,12 @@ module _ (N : ℕ) (B : Program) (c : List ℕ) (me : ℕ) where
       (refuse-says N (not-free B (gives c (eval B me vs t)) (getD c (gives c (eval B me vs t)) 0)) not-releasable n w (omega arith))
       (λ v. give-says N n (Release (gives c (eval B me vs t))) v h))
 
--- ---- 11 to 16
+-- ---- 11 to 15
 
 -- q is at most N
 abbrev Inside : ℕ → Moved → Type 0
 Inside N (fires f) = Unit {0}
-Inside N (stopped n q) = (11 ≤ n) × (n ≤ 16) × (q ≤ N)
+Inside N (stopped n q) = (11 ≤ n) × (n ≤ 15) × (q ≤ N)
 
 move-inside : (B : Program) (c : List ℕ) (i : Input) → Inside (length (B .nodes) + L B) (move B c i)
 unfolding move settle judged agent-walk updates
@@ -144,10 +144,9 @@ move-inside B c i =
     let g = agent-at B (i .agent) in
     go (walked B c i) (walk-says (length (B .nodes)) B c (g .element) (rule-at (node-at B) (g .root)) no-variables (record { made = []; next = B .P }) (tree-below B most-depth (g .root)))
   where
-    settled : (o : Found) (b : Bool) (f : Fired) → ((l : ℕ) → o ≡ Here l → l < L B) → Inside (length (B .nodes) + L B) (unless-clash o (unless-idle b (fires f)))
-    settled (Here l) b f h = omega (arith, h l refl)
-    settled Nowhere true f h = omega arith
-    settled Nowhere false f h = tt
+    settled : (o : Found) (f : Fired) → ((l : ℕ) → o ≡ Here l → l < L B) → Inside (length (B .nodes) + L B) (unless-clash o (fires f))
+    settled (Here l) f h = omega (arith, h l refl)
+    settled Nowhere f h = tt
 
     go : (o : Walked) → Says (length (B .nodes)) o → Inside (length (B .nodes) + L B) (settle B c (looked B c i) o)
     go (met n q) h = omega arith
@@ -155,7 +154,7 @@ move-inside B c i =
         let f = fired-of B c (looked B c i) (w .made) in
         let bad = clashes (f .instructions) (f .updates) in
         let long : length (f .updates) ≡ L B = length-table-from _ 0 (L B) in
-        settled (least bad (length (f .updates))) (idle c (f .updates)) f (λ l e. omega (arith, long, least-here bad (length (f .updates)) l e .0))
+        settled (least bad (length (f .updates))) f (λ l e. omega (arith, long, least-here bad (length (f .updates)) l e .0))
 
-pub move-number : (B : Program) (c : List ℕ) (i : Input) (n q : ℕ) → move B c i ≡ stopped n q → (11 ≤ n) × (n ≤ 16) × (q ≤ length (B .nodes) + L B)
+pub move-number : (B : Program) (c : List ℕ) (i : Input) (n q : ℕ) → move B c i ≡ stopped n q → (11 ≤ n) × (n ≤ 15) × (q ≤ length (B .nodes) + L B)
 move-number B c i n q e = subst (Inside (length (B .nodes) + L B)) e (move-inside B c i)

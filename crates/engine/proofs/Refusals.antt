@@ -25,12 +25,12 @@ pub step-small : (text c : List ℕ) (k n : ℕ) → Small (step-call text c k n
 unfolding step-call
 step-small text c k n = go (check-step text c k n) (step-ends text c k n)
   where
-    moved : (d : List ℕ) (is : List Instruction) (o : Moved) → ((m q : ℕ) → o ≡ stopped m q → (m ≤ 16) × (q < 2 ^ 24)) → Small (stepped c d is o .answer)
-    moved d is (fires f) h = record { number = omega arith; p = omega arith; q = omega arith }
-    moved d is (stopped m q) h = let r = h m q refl in record { number = omega (arith, r .0); p = omega arith; q = r .1 }
+    moved : (d : List ℕ) (is : List Instruction) (o : Moved) → ((m q : ℕ) → o ≡ stopped m q → (m ≤ 15) × (q < 2 ^ 24)) → Small (stepped c d is o .answer)
+    moved d is (fires f) h = record { number = omega arith; not-16 = λ e. omega (arith, e); p = omega arith; q = omega arith }
+    moved d is (stopped m q) h = let r = h m q refl in record { number = omega (arith, r .0); not-16 = λ e. omega (arith, r .0, e); p = omega arith; q = r .1 }
 
     go : (x : Checked Program) → Ends Fits Before x → Small (step-answer c k x .answer)
-    go (refused m p q) (off h) = record { number = omega arith; p = h .2; q = h .3 }
+    go (refused m p q) (off h) = record { number = omega arith; not-16 = λ e. omega (arith, h .1, e); p = h .2; q = h .3 }
     go (good B) (on fits) =
         let d = take (L B) c in
         let i : Input = record { agent = k } in

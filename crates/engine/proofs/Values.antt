@@ -169,6 +169,13 @@ only-value v (x ∷ ws) w e h = go (or-cases (eqb x w) (has ws w) h)
 
 -- ---- what updates leave: the old values and the new ones, and no others
 
+pub fire-inside : (us : List (List ℕ)) (c : List ℕ) (l : ℕ) → l < length c → at (fire us c) l ≡ new-value (at c l) (values-at us l)
+unfolding fire
+fire-inside us [] l h = absurd (omega arith)
+fire-inside [] (v ∷ c) l h = refl
+fire-inside (ws ∷ us) (v ∷ c) zero h = refl
+fire-inside (ws ∷ us) (v ∷ c) (suc l) h = fire-inside us c l (omega arith)
+
 pub fire-at : (us : List (List ℕ)) (c : List ℕ) (l : ℕ) → length us ≤ length c → at (fire us c) l ≡ new-value (at c l) (values-at us l)
 unfolding fire
 fire-at [] [] l h = refl

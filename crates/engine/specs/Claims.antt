@@ -1,8 +1,9 @@
--- What is claimed of single moves, and proved in proofs/Claims: equal reads, the frame, the roll rule, what an import reads, and that trees are whole
--- (01, "What a move does", "Node kinds").
+-- What is claimed of single moves, and proved in proofs/Claims: equal reads, the frame, the roll rule, idle moves, refusals, what an import reads, and that
+-- trees are whole (01, "What a move does", "Node kinds"; 02, F-1).
 use mathlib.Core.Path.{_≡_}
+use mathlib.Core.Logic.{_↔_, _≢_}
 use mathlib.Core.Bool.{true, false}
-use mathlib.Core.List.{List, _∷_}
+use mathlib.Core.List.{List}
 use Prim.Native.Nat.{ℕ, suc, _+_, _-_, _≤_, _<_}
 use lib.ListN.{length}
 use Rattle.text.specs.declared.Found.the-variants.{Here}
@@ -12,7 +13,8 @@ use Rattle.book.specs.Around.{most-depth}
 use Rattle.book.specs.Sound.{Lawful, at, Sound}
 use Rattle.engine.specs.Look.{gives, seen}
 use Rattle.engine.specs.Rule.{Walk, going, met, lowest, rule-shape, rule-tree, rule-at}
-use Rattle.engine.specs.Move.{Input, Fired, fires, move, walked, reads, values-at, new-value, fire, writes}
+use Rattle.engine.specs.Move.{Input, Fired, fires, stopped, idle, move, walked, reads, values-at, new-value, fire, writes}
+use Rattle.engine.specs.Single.{step-call}
 
 -- ---- equal reads
 
@@ -48,6 +50,18 @@ MovesReadEqual = (B : Program) (c d : List ℕ) (i : Input) → SameStatic B c d
 
 abbrev pub MovesLeave : Type 0
 MovesLeave = (B : Program) → Lawful B → (c : List ℕ) → Sound B c → (i : Input) (f : Fired) → move B c i ≡ fires f → Leaves B c f
+
+-- a move that fires is idle exactly when the contents after it are those before
+abbrev pub IdleMovesLeave : Type 0
+IdleMovesLeave = (B : Program) → Lawful B → (c : List ℕ) → Sound B c → (i : Input) (f : Fired) → move B c i ≡ fires f
+    → (idle c (f .updates) ≡ true) ↔ (fire (f .updates) c ≡ c)
+
+-- a move is refused by one of 11 to 15, and no single-move call gets 16
+abbrev pub MovesRefuse : Type 0
+MovesRefuse = (B : Program) (c : List ℕ) (i : Input) (n q : ℕ) → move B c i ≡ stopped n q → (11 ≤ n) × (n ≤ 15)
+
+abbrev pub StepsAnswer : Type 0
+StepsAnswer = (book c : List ℕ) (k n : ℕ) → step-call book c k n .answer .number ≢ 16
 
 -- an import that looks from label x on and takes y has looked at Reserve from x to y, and nowhere else
 abbrev pub ImportsRead : Type 0

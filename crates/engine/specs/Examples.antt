@@ -1,22 +1,23 @@
--- Single moves and what they leave and read, as a table under the lemma of Quoted: 01's plausible misreadings, and 11 to 16.
+-- Single moves and what they leave and read, as a table under the lemma of Quoted: 01's plausible misreadings, 02's F-1, and 11 to 15.
 use mathlib.Core.Path.{_≡_, refl}
 use mathlib.Core.Bool.{true}
 use mathlib.Core.List.{List, [], _∷_, _++_}
 use Prim.Native.Nat.{ℕ, _<_}
 use lib.ListN.{length, getD, replicate}
-use Rattle.text.specs.Words.{Checked, good, refused}
+use Rattle.text.specs.Words.{if_then_else_, table, Checked, good, refused}
 use Rattle.text.specs.Quoted.{padded, Case, case, all-right, each-right}
 use Rattle.book.specs.Book.{Book}
 use Rattle.book.specs.Check.{check-book}
 use Rattle.book.specs.Examples.{triple}
-use Rattle.engine.specs.Move.{reads}
+use Rattle.engine.specs.Move.{values-at, idle, Moved, fires, stopped, move, reads}
 use Rattle.engine.specs.Single.{Stepped, step-call}
 use Rattle.engine.specs.Open.{open-engine}
 
--- a book, contents and agent 0: what the single-move entry answers and leaves; what the move reads
+-- a book, contents and agent 0: what the single-move entry answers and leaves; what the move reads; whether it is idle, and what it gives
 pub data Question : Type 0 where
   leaves : List ℕ → List ℕ → Question
   reads-in : List ℕ → List ℕ → Question
+  gives-in : List ℕ → List ℕ → Question
 
 abbrev pub shown : Stepped → List ℕ
 shown s = triple (s .answer) ++ s .contents
@@ -25,9 +26,19 @@ abbrev pub read-by : List ℕ → Checked Book → List ℕ
 read-by c (good b) = reads (b .program) c (record { agent = 0 })
 read-by c (refused n p q) = []
 
+-- 1 if it is idle, else 0, then how many values each location is given
+abbrev pub weighed : List ℕ → Moved → List ℕ
+weighed c (fires f) = (if idle c (f .updates) then 1 else 0) ∷ table (λ l. length (values-at (f .updates) l)) (length (f .updates))
+weighed c (stopped n q) = []
+
+abbrev pub given-by : List ℕ → Checked Book → List ℕ
+given-by c (good b) = weighed c (move (b .program) c (record { agent = 0 }))
+given-by c (refused n p q) = []
+
 abbrev pub asked : Question → List ℕ
 asked (leaves book c) = shown (step-call book c 0 256)
 asked (reads-in book c) = read-by c (check-book book)
+asked (gives-in book c) = given-by c (check-book book)
 
 -- s and t are functions 1 and 2, of no argument, at locations 6 and 7
 abbrev pub swap-book : List ℕ
@@ -54,7 +65,12 @@ examples =
     case (leaves swap-book (none ++ (3 ∷ 4 ∷ []))) (0 ∷ 0 ∷ 0 ∷ none ++ (4 ∷ 3 ∷ []))
     -- a guard is read whatever it gives; the branch not taken reads nothing
     ∷ case (reads-in guard-book (none ++ (3 ∷ 0 ∷ []))) (6 ∷ [])
-    ∷ case (leaves guard-book (none ++ (3 ∷ 0 ∷ []))) (16 ∷ 0 ∷ 0 ∷ none ++ (3 ∷ 0 ∷ []))
+    -- a move that changes nothing fires: one with no instructions writes nothing, and one that sets s and t to what they are writes both
+    ∷ case (leaves guard-book (none ++ (3 ∷ 0 ∷ []))) (0 ∷ 0 ∷ 0 ∷ none ++ (3 ∷ 0 ∷ []))
+    ∷ case (leaves swap-book (none ++ (3 ∷ 3 ∷ []))) (0 ∷ 0 ∷ 0 ∷ none ++ (3 ∷ 3 ∷ []))
+    ∷ case (gives-in guard-book (none ++ (3 ∷ 0 ∷ []))) (1 ∷ replicate 8 0)
+    ∷ case (gives-in swap-book (none ++ (3 ∷ 3 ∷ []))) (1 ∷ replicate 6 0 ++ (1 ∷ 1 ∷ []))
+    ∷ case (gives-in swap-book (none ++ (3 ∷ 4 ∷ []))) (0 ∷ replicate 6 0 ++ (1 ∷ 1 ∷ []))
     -- a release clears arguments and values: 4 is a member, has a value and is one
     ∷ case (leaves release-book (none ++ ((1 ∷ 1 ∷ 1 ∷ 1 ∷ 2 ∷ 1 ∷ []) ++ (0 ∷ 0 ∷ 0 ∷ 4 ∷ 3 ∷ 0 ∷ []))))
     (0 ∷ 0 ∷ 0 ∷ (1 ∷ 1 ∷ 1 ∷ 1 ∷ 2 ∷ 1 ∷ []) ++ (none ++ replicate 6 0))

@@ -1,12 +1,12 @@
--- A move: the updates that its instructions give, 15 and 16, the contents that it leaves, what it reads and what it writes
--- (01, "What a move does"; idle after 003, 2.5).
+-- A move: the updates that its instructions give, 15, the contents that it leaves, what it reads and what it writes
+-- (01, "What a move does"; 02, F-1; idle after 003, 2.5).
 use mathlib.Core.Bool.{Bool, true, false, _&&_, _||_, not}
 use mathlib.Core.List.{List, [], _∷_, _++_}
 use Prim.Native.Nat.{ℕ}
 use lib.Dec.{eqb}
 use lib.ListN.{length, getD}
 use Rattle.text.specs.Words.{if_then_else_, has, table, some-below, least}
-use Rattle.text.specs.Refusals.{clash, idle-move}
+use Rattle.text.specs.Refusals.{clash}
 use Rattle.text.specs.declared.Found.{Found}
 use Rattle.text.specs.declared.Found.the-variants.{Nowhere, Here}
 use Rattle.book.specs.Book.{true-element, Program, L, dynamic-at, default-at, concerns, reserve}
@@ -70,7 +70,7 @@ set-to-label xs l (i ∷ is) = sets-label xs l i || set-to-label xs l is
 unfoldable pub clashes : List Instruction → List (List ℕ) → ℕ → Bool
 clashes is us l = two-values (values-at us l) || set-to-label (released is) l is
 
--- ---- 16: no location would change
+-- ---- idle: no location would change. Such a move fires like any other (02, F-1)
 
 unfoldable pub idle : List ℕ → List (List ℕ) → Bool
 idle c us = not (some-below (λ l. other (getD c l 0) (values-at us l)) (length us))
@@ -133,10 +133,6 @@ abbrev pub unless-clash : Found → Moved → Moved
 unless-clash Nowhere m = m
 unless-clash (Here l) m = stopped clash l
 
-abbrev pub unless-idle : Bool → Moved → Moved
-unless-idle false m = m
-unless-idle true m = stopped idle-move 0
-
 -- the walk of a move in the contents c, and the dynamic locations that it looks at there: all terms are read in the contents before the move
 abbrev pub walked : Program → List ℕ → Input → Walked
 walked B c i = gives c (agent-walk B (i .agent))
@@ -155,15 +151,14 @@ fired-of B c ls is =
     let us = updates B c is in
     record { instructions = is; updates = us; reads = ls ++ extra-reads B is us }
 
--- 15, then 16
-unfoldable pub judged : List ℕ → Fired → Moved
-judged c f =
-    unless-clash (least (clashes (f .instructions) (f .updates)) (length (f .updates))) (unless-idle (idle c (f .updates)) (fires f))
+-- 15, or it fires
+unfoldable pub judged : Fired → Moved
+judged f = unless-clash (least (clashes (f .instructions) (f .updates)) (length (f .updates))) (fires f)
 
--- 11 to 14 as met, then the rest
+-- 11 to 14 as met, then 15
 unfoldable pub settle : Program → List ℕ → List ℕ → Walked → Moved
 settle B c ls (met n q) = stopped n q
-settle B c ls (going w) = judged c (fired-of B c ls (w .made))
+settle B c ls (going w) = judged (fired-of B c ls (w .made))
 
 unfoldable pub move : Program → List ℕ → Input → Moved
 move B c i = settle B c (looked B c i) (walked B c i)

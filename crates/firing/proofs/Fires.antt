@@ -2,9 +2,9 @@
 use mathlib.Core.Path.{_≡_, refl, sym, ap, ap₂, _∙_}
 use mathlib.Core.Bool.{Bool, true, false, _&&_, _||_, not, or-true, or-false}
 use mathlib.Core.List.{List, [], _∷_, _++_}
-use Prim.Native.Nat.{ℕ, _+_, _*_, _/_, _%_, _<_, _≤_, max}
+use Prim.Native.Nat.{ℕ, _+_, _*_, _/_, _%_, _<_, _≤_, min, max}
 use native.Mathlib.Omega.{arith}
-use borrow.Author.Tests.{eqb-true, eqb-false, ltb-true, ltb-false, eq-eqb, lt-ltb, le-ltb, not-false}
+use borrow.Author.Tests.{eqb-true, eqb-false, ltb-true, ltb-false, eq-eqb, ne-eqb, lt-ltb, le-ltb, not-false}
 use lib.Dec.{eqb, ltb}
 use lib.Bits.{bitOr, or-step, or-self}
 use lib.Arith.{bin-ind}
@@ -14,10 +14,11 @@ use Rattle.text.specs.Words.{if_then_else_, least}
 use Rattle.text.specs.declared.Found.the-variants.{Nowhere}
 use Rattle.text.proofs.Words.{or-no, least-none}
 use Rattle.book.specs.Book.{Program, L, true-element, default-at}
+use Rattle.pages.proofs.Places.{place-past}
 use Rattle.engine.specs.declared.Instruction.{Instruction}
 use Rattle.engine.specs.declared.Instruction.the-variants.{Update, Release}
 use Rattle.engine.specs.Move.{given, values, updates, values-at, released, other, two-values, set-to-label, clashes, new-value, fire, is-some, writes}
-use Rattle.engine.proofs.Values.{length-updates, updates-at, updates-past, fire-at}
+use Rattle.engine.proofs.Values.{length-updates, updates-at, updates-past, fire-inside}
 use Rattle.engine.proofs.Moves.{fire-length}
 use Rattle.sweep.specs.Marks.{each, mark}
 use Rattle.firing.specs.Outcome.{marked}
@@ -83,6 +84,22 @@ module _ (B : Program) (l : ℕ) where
   unfoldable note-by : ℕ → List Instruction → ℕ → ℕ → ℕ
   note-by bit [] v m = m
   note-by bit (i ∷ is) v m = note-by bit is (wipe-of i v) (note-of bit i v m)
+
+  -- past the last location there are no traces
+  past-trace : L B ≤ l → (v x : ℕ) → trace B l v x ≡ false
+  past-trace h v x = rw (place-past B l h)
+
+  past-traces : L B ≤ l → (v : ℕ) (is : List Instruction) → any (trace-of v) is ≡ false
+  unfolding any
+  past-traces h v [] = refl
+  past-traces h v (Update k w ∷ is) = past-traces h v is
+  past-traces h v (Release x ∷ is) = rw (past-trace h v x) (past-traces h v is)
+
+  past-wipe : L B ≤ l → (is : List Instruction) (v : ℕ) → wipe-by is v ≡ v
+  unfolding wipe-by
+  past-wipe h [] v = refl
+  past-wipe h (Update k w ∷ is) v = past-wipe h is v
+  past-wipe h (Release x ∷ is) v = rw (past-trace h v x) (past-wipe h is v)
 
   wiped-true : (x v : ℕ) → trace B l v x ≡ true → wiped B x l v ≡ rest
   wiped-true x v e = rw e
@@ -258,10 +275,15 @@ unfolding clears
 length-clears B [] c = refl
 length-clears B (i ∷ is) c = length-clears B is (clear-of B i c) ∙ length-clear-of B i c
 
-length-puts : (is : List Instruction) (c : List ℕ) → length (puts is c) ≡ length c
+length-put : (b : Bool) (c : List ℕ) (k v : ℕ) → length (if b then set c k v else c) ≡ length c
+length-put true c k v = length-set c k v
+length-put false c k v = refl
+
+length-puts : (n : ℕ) (is : List Instruction) (c : List ℕ) → length (puts n is c) ≡ length c
 unfolding puts
-length-puts [] c = refl
-length-puts (i ∷ is) c = length-puts is (set c (own i) (gets i)) ∙ length-set c (own i) (gets i)
+length-puts n [] c = refl
+length-puts n (i ∷ is) c =
+    length-puts n is (if ltb (own i) n then set c (own i) (gets i) else c) ∙ length-put (ltb (own i) n) c (own i) (gets i)
 
 length-clear-marks-of : (bit : ℕ) (B : Program) (i : Instruction) (c ms : List ℕ) → length (clear-marks-of bit B i c ms) ≡ length ms
 length-clear-marks-of bit B (Update k w) c ms = refl
@@ -296,12 +318,26 @@ set-at c k v l h = step (eqb k l) refl
     step true e = let f : l ≡ k = sym (eqb-true k l e) in rw f (getD-set-same c k v 0 (omega arith))
     step false e = getD-set-other c k l v 0 (λ g. eqb-false k l e (sym g))
 
-puts-at : (B : Program) (is : List Instruction) (c : List ℕ) (l : ℕ) → l < length c → getD (puts is c) l 0 ≡ put-by B l is (getD c l 0)
+puts-at : (B : Program) (n : ℕ) (is : List Instruction) (c : List ℕ) (l : ℕ) → l < length c → l < n → getD (puts n is c) l 0 ≡ put-by B l is (getD c l 0)
 unfolding puts put-by
-puts-at B [] c l h = refl
-puts-at B (i ∷ is) c l h =
-    puts-at B is (set c (own i) (gets i)) l (omega (arith, length-set c (own i) (gets i)))
-    ∙ ap (put-by B l is) (set-at c (own i) (gets i) l h)
+puts-at B n [] c l h k = refl
+puts-at B n (i ∷ is) c l h k =
+    puts-at B n is (if ltb (own i) n then set c (own i) (gets i) else c) l (omega (arith, length-put (ltb (own i) n) c (own i) (gets i))) k
+    ∙ ap (put-by B l is) (step (ltb (own i) n) refl)
+  where
+    step : (b : Bool) → ltb (own i) n ≡ b → getD (if b then set c (own i) (gets i) else c) l 0 ≡ (if eqb (own i) l then gets i else getD c l 0)
+    step true e = set-at c (own i) (gets i) l h
+    step false e = rw (ne-eqb (own i) l (λ o. omega (arith, ltb-false (own i) n e)))
+
+-- past the book's last location nothing is put
+puts-past : (n : ℕ) (is : List Instruction) (c : List ℕ) (l : ℕ) → n ≤ l → getD (puts n is c) l 0 ≡ getD c l 0
+unfolding puts
+puts-past n [] c l k = refl
+puts-past n (i ∷ is) c l k = puts-past n is (if ltb (own i) n then set c (own i) (gets i) else c) l k ∙ step (ltb (own i) n) refl
+  where
+    step : (b : Bool) → ltb (own i) n ≡ b → getD (if b then set c (own i) (gets i) else c) l 0 ≡ getD c l 0
+    step true e = getD-set-other c (own i) l (gets i) 0 (λ o. omega (arith, ltb-true (own i) n e))
+    step false e = refl
 
 clear-marks-of-at :
     (bit : ℕ) (B : Program) (i : Instruction) (c ms : List ℕ) (l : ℕ) → l < length ms →
@@ -350,41 +386,57 @@ put-marks-at bit n (i ∷ is) ms l h =
 
 -- ---- both together
 
-module _ (B : Program) (is : List Instruction) (c : List ℕ) (long : length c ≡ L B) where
-  unclashed : least (clashes is (updates B c is)) (length (updates B c is)) ≡ Nowhere → (l : ℕ) → l < length c → two-values (values B c l is) ≡ false
+module _ (B : Program) (is : List Instruction) (c : List ℕ) where
+  unclashed : least (clashes is (updates B c is)) (length (updates B c is)) ≡ Nowhere → (l : ℕ) → l < L B → two-values (values B c l is) ≡ false
   unfolding clashes
   unclashed h l k =
       let e = least-none (clashes is (updates B c is)) (length (updates B c is)) h l (omega (arith, length-updates B c is)) in
-      rw (updates-at B c is l (omega arith)) at (or-no (two-values (values-at (updates B c is) l)) (set-to-label (released is) l is) e .0)
+      rw (updates-at B c is l k) at (or-no (two-values (values-at (updates B c is) l)) (set-to-label (released is) l is) e .0)
 
   -- a move that does not clash: the contents after
-  pub fired-is : least (clashes is (updates B c is)) (length (updates B c is)) ≡ Nowhere → puts is (clears B is c) ≡ fire (updates B c is) c
+  pub fired-is : least (clashes is (updates B c is)) (length (updates B c is)) ≡ Nowhere → puts (L B) is (clears B is c) ≡ fire (updates B c is) c
   fired-is h =
-      let n : length (puts is (clears B is c)) ≡ length c = length-puts is (clears B is c) ∙ length-clears B is c in
-      ext-getD 0 (puts is (clears B is c)) (fire (updates B c is) c) (n ∙ sym (fire-length (updates B c is) c))
-      (λ l k.
-      let m : l < length c = omega arith in
-      puts-at B is (clears B is c) l (omega (arith, length-clears B is c))
-      ∙ ap (put-by B l is) (clears-at B is c l m)
-      ∙ after-is B l c is (unclashed h l m)
-      ∙ sym (fire-at (updates B c is) c l (omega (arith, length-updates B c is)) ∙ rw (updates-at B c is l (omega arith))))
+      let n : length (puts (L B) is (clears B is c)) ≡ length c = length-puts (L B) is (clears B is c) ∙ length-clears B is c in
+      ext-getD 0 (puts (L B) is (clears B is c)) (fire (updates B c is) c) (n ∙ sym (fire-length (updates B c is) c))
+      (λ l k. let m : l < length c = omega arith in step l m (ltb l (L B)) refl ∙ sym (fire-inside (updates B c is) c l m))
+    where
+      step : (l : ℕ) → l < length c → (b : Bool) → ltb l (L B) ≡ b
+          → getD (puts (L B) is (clears B is c)) l 0 ≡ new-value (getD c l 0) (values-at (updates B c is) l)
+      step l m true e =
+          let i : l < L B = ltb-true l (L B) e in
+          puts-at B (L B) is (clears B is c) l (omega (arith, length-clears B is c)) i
+          ∙ ap (put-by B l is) (clears-at B is c l m)
+          ∙ after-is B l c is (unclashed h l i)
+          ∙ rw (updates-at B c is l i)
+      step l m false e =
+          let o : L B ≤ l = ltb-false l (L B) e in
+          puts-past (L B) is (clears B is c) l o
+          ∙ clears-at B is c l m
+          ∙ past-wipe B l o is (getD c l 0)
+          ∙ rw (updates-past B c is l o)
 
   -- and the marks
-  pub marked-is : (bit : ℕ) (ms : List ℕ) → put-marks bit (length (clears B is c)) is (clear-marks bit B is c ms) ≡ marked bit (updates B c is) ms
+  abbrev n : ℕ
+  n = min (L B) (length (clears B is c))
+
+  pub marked-is : (bit : ℕ) (ms : List ℕ)
+      → put-marks bit n is (clear-marks bit B is c ms) ≡ marked bit (length c) (updates B c is) ms
   marked-is bit ms =
-      each-is (λ (l m : ℕ). mark bit (writes (updates B c is) l) m) ms (put-marks bit (length (clears B is c)) is (clear-marks bit B is c ms))
-      (length-put-marks bit (length (clears B is c)) is (clear-marks bit B is c ms) ∙ length-clear-marks bit B is c ms)
-      (λ l k. put-marks-at bit (length (clears B is c)) is (clear-marks bit B is c ms) l (omega (arith, length-clear-marks bit B is c ms))
-      ∙ ap (λ (n : ℕ). mark bit (ltb l n && any (about B l) is) (getD (clear-marks bit B is c ms) l 0)) (length-clears B is c)
-      ∙ step l k (ltb l (length c)) refl)
+      each-is (λ (l m : ℕ). mark bit (ltb l (length c) && writes (updates B c is) l) m) ms (put-marks bit n is (clear-marks bit B is c ms))
+      (length-put-marks bit n is (clear-marks bit B is c ms) ∙ length-clear-marks bit B is c ms)
+      (λ l k. put-marks-at bit n is (clear-marks bit B is c ms) l (omega (arith, length-clear-marks bit B is c ms))
+      ∙ step l k (ltb l n) refl (ltb l (length c)) refl)
     where
-      step : (l : ℕ) → l < length ms → (t : Bool) → ltb l (length c) ≡ t
-          → mark bit (t && any (about B l) is) (getD (clear-marks bit B is c ms) l 0) ≡ mark bit (writes (updates B c is) l) (getD ms l 0)
-      step l k true e =
-          let h : l < length c = ltb-true l (length c) e in
-          ap (mark bit (any (about B l) is)) (clear-marks-at bit B is c ms l k h ∙ note-is B l bit is (getD c l 0) (getD ms l 0))
+      step : (l : ℕ) → l < length ms → (t : Bool) → ltb l n ≡ t → (u : Bool) → ltb l (length c) ≡ u
+          → mark bit (t && any (about B l) is) (getD (clear-marks bit B is c ms) l 0) ≡ mark bit (u && writes (updates B c is) l) (getD ms l 0)
+      step l k true e true f =
+          let h : l < L B = omega (arith, ltb-true l n e) in
+          ap (mark bit (any (about B l) is)) (clear-marks-at bit B is c ms l k (ltb-true l (length c) f) ∙ note-is B l bit is (getD c l 0) (getD ms l 0))
           ∙ mark-mark bit (any (about B l) is) (any (trace-of B l (getD c l 0)) is) (getD ms l 0)
-          ∙ ap (λ (b : Bool). mark bit b (getD ms l 0)) (sym (ap is-some (updates-at B c is l (omega arith)) ∙ some-values B l c is))
-      step l k false e =
-          let h : length c ≤ l = ltb-false l (length c) e in
-          clear-marks-out bit B is c ms l k h ∙ ap (λ (b : Bool). mark bit b (getD ms l 0)) (sym (ap is-some (updates-past B c is l (omega arith))))
+          ∙ ap (λ (b : Bool). mark bit b (getD ms l 0)) (sym (ap is-some (updates-at B c is l h) ∙ some-values B l c is))
+      step l k true e false f = absurd (omega (arith, ltb-true l n e, ltb-false l (length c) f, length-clears B is c))
+      step l k false e true f =
+          let h : L B ≤ l = omega (arith, ltb-false l n e, ltb-true l (length c) f, length-clears B is c) in
+          clear-marks-at bit B is c ms l k (ltb-true l (length c) f) ∙ note-is B l bit is (getD c l 0) (getD ms l 0)
+          ∙ rw (past-traces B l h (getD c l 0) is, updates-past B c is l h)
+      step l k false e false f = clear-marks-out bit B is c ms l k (ltb-false l (length c) f)

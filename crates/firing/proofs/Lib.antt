@@ -1,5 +1,3 @@
-pub mod Idle
 pub mod Fires
 pub mod Judged
 pub mod Own
-pub mod Ready

@@ -5,10 +5,10 @@ use mathlib.Core.List.{List, _++_}
 use Prim.Native.Nat.{ℕ, _-_, _<_, _≤_, min}
 use native.Mathlib.Nat.{add-sub-of-le}
 use native.Mathlib.Omega.{arith}
-use borrow.Author.Tests.{ltb-true, ltb-false, leb-true, le-ltb}
+use borrow.Author.Tests.{ltb-true, ltb-false, leb-true, lt-ltb, le-ltb}
 use lib.Dec.{ltb, leb}
 use lib.ListN.{length, getD, set, take, drop}
-use lib.Seq.{getD-take, getD-drop, set-out, set-getD}
+use lib.Seq.{getD-take, getD-drop, set-getD}
 use Rattle.text.specs.Words.{if_then_else_}
 use Rattle.book.specs.Book.{Program, L}
 use Rattle.pages.specs.declared.Part.{Part}
@@ -38,21 +38,32 @@ module _ (B : Program) where
   pub own-part : (l : ℕ) → Whole (part-of B l)
   own-part l k a b = part-alike B l k a b
 
+  -- a location of the book is one of its part
+  pub part-has : (l : ℕ) → ltb l (part-of B l .end) ≡ ltb l (L B)
+  part-has l = go (ltb l (L B)) refl
+    where
+      go : (b : Bool) → ltb l (L B) ≡ b → ltb l (part-of B l .end) ≡ b
+      go true e = lt-ltb l (part-of B l .end) (part-numbered B l (ltb-true l (L B) e) .inside)
+      go false e = let h = ltb-false l (L B) e in rw (part-past B l h, le-ltb l (L B) h)
+
   -- ---- put in the part of a location, put in the table
 
-  pub put-own : (l v : ℕ) (c : List ℕ) → (L B ≤ l → set c l v ≡ c) → put-in (part-of B l .first) (part-of B l .end) l v c ≡ set c l v
-  put-own l v c out = go (ltb l (L B)) refl
+  pub put-value : (l v : ℕ) (c : List ℕ) → put-in (part-of B l .first) (part-of B l .end) l v c ≡ (if ltb l (L B) then set c l v else c)
+  put-value l v c = go (ltb l (L B)) refl
     where
-      go : (t : Bool) → ltb l (L B) ≡ t → put-in (part-of B l .first) (part-of B l .end) l v c ≡ set c l v
+      go : (t : Bool) → ltb l (L B) ≡ t → put-in (part-of B l .first) (part-of B l .end) l v c ≡ (if t then set c l v else c)
       go true e = rw (between-inside (part-of B l .first) (part-of B l .end) l (part-starts B l .0) (part-numbered B l (ltb-true l (L B) e) .inside))
-      go false e = let h = ltb-false l (L B) e in rw (part-past B l h, between-after (L B) (L B) l h) (sym (out h))
+      go false e = let h = ltb-false l (L B) e in rw (part-past B l h, between-after (L B) (L B) l h)
 
-  pub put-value : (l v : ℕ) (c : List ℕ) → length c ≡ L B → put-in (part-of B l .first) (part-of B l .end) l v c ≡ set c l v
-  put-value l v c long = put-own l v c (λ h. set-out c l v (omega arith))
-
-  pub put-mark : (l bit n : ℕ) (ms : List ℕ) → n ≡ L B
-      → put-in (part-of B l .first) (part-of B l .end) l (mark bit (ltb l n) (getD ms l 0)) ms ≡ set ms l (mark bit (ltb l n) (getD ms l 0))
-  put-mark l bit n ms long = put-own l (mark bit (ltb l n) (getD ms l 0)) ms (λ h. rw (le-ltb l n (omega arith)) (set-getD ms l 0))
+  pub put-mark : (l bit n : ℕ) (ms : List ℕ)
+      → put-in (part-of B l .first) (part-of B l .end) l (mark bit (ltb l n) (getD ms l 0)) ms ≡ set ms l (mark bit (ltb l (min (L B) n)) (getD ms l 0))
+  put-mark l bit n ms = put-value l (mark bit (ltb l n) (getD ms l 0)) ms ∙ go (ltb l (L B)) refl (ltb l n) refl
+    where
+      go : (t : Bool) → ltb l (L B) ≡ t → (u : Bool) → ltb l n ≡ u
+          → (if t then set ms l (mark bit u (getD ms l 0)) else ms) ≡ set ms l (mark bit (ltb l (min (L B) n)) (getD ms l 0))
+      go true e true f = rw (lt-ltb l (min (L B) n) (omega (arith, ltb-true l (L B) e, ltb-true l n f)))
+      go true e false f = rw (le-ltb l (min (L B) n) (omega (arith, ltb-false l n f)))
+      go false e u f = rw (le-ltb l (min (L B) n) (omega (arith, ltb-false l (L B) e))) (sym (set-getD ms l 0))
 
 -- ---- the part from `first` to `end`, as far as the table goes, is lent; one place of it is stored, and it is put back
 

@@ -1,8 +1,7 @@
--- What the code does, step by step: an instruction's own location changed, its own value put.
-use mathlib.Core.Bool.{Bool, _&&_, not}
+-- What the code does, step by step: each instruction's own value put.
 use mathlib.Core.List.{List, [], _∷_}
 use Prim.Native.Nat.{ℕ}
-use lib.Dec.{eqb, ltb}
+use lib.Dec.{ltb}
 use lib.ListN.{getD, set}
 use Rattle.text.specs.Words.{if_then_else_}
 use Rattle.book.specs.Book.{Program}
@@ -12,23 +11,16 @@ use Rattle.engine.specs.declared.Instruction.{Instruction}
 use Rattle.traces.specs.Traces.{own, gets}
 use Rattle.sweep.specs.Marks.{mark}
 
--- ---- 16
-
--- an instruction changes its own location, one of n
-abbrev pub change : ℕ → List ℕ → Instruction → Bool
-change n c i = ltb (own i) n && not (eqb (getD c (own i) 0) (gets i))
-
--- ---- each instruction's own value put
-
 -- the part that l is in, the one that is held being tried first
 abbrev pub part-after : Program → Part → ℕ → Part
 part-after B held l = if between (held .first) (held .end) l then held else part-of B l
 
-unfoldable pub puts : List Instruction → List ℕ → List ℕ
-puts [] c = c
-puts (i ∷ is) c = puts is (set c (own i) (gets i))
+-- n: how many locations the book has
+unfoldable pub puts : ℕ → List Instruction → List ℕ → List ℕ
+puts n [] c = c
+puts n (i ∷ is) c = puts n is (if ltb (own i) n then set c (own i) (gets i) else c)
 
--- n: how many locations there are
+-- n: how many of the book's locations the contents have
 unfoldable pub put-marks : ℕ → ℕ → List Instruction → List ℕ → List ℕ
 put-marks bit n [] ms = ms
 put-marks bit n (i ∷ is) ms = put-marks bit n is (set ms (own i) (mark bit (ltb (own i) n) (getD ms (own i) 0)))

@@ -1,11 +1,9 @@
-// The firing of a move: whether it clashes or is idle, and the contents and the writer marks after it.
+// The firing of a move: whether it clashes, and the contents and the writer marks after it.
 use book::Image;
-use engine::Instruction;
 use numbers::Value;
 use pages::Part;
 ghost use mathlib.Core.Path.{_≡_};
-ghost use mathlib.Core.List.{List};
-ghost use Prim.Native.Nat.{ℕ, _≤_, _<_};
+ghost use Prim.Native.Nat.{_≤_, _<_, min};
 ghost use lib.Bits.{bitOr};
 ghost use lib.Dec.{ltb};
 ghost use lib.ListN.{length, getD, set};
@@ -15,43 +13,32 @@ ghost use Rattle.book.specs.Image.{held};
 ghost use Rattle.pages.specs.Part.{put-in};
 ghost use Rattle.engine.specs.Move.{fire};
 ghost use Rattle.records.specs.Code.{items};
-ghost use Rattle.traces.specs.Traces.{any};
 ghost use Rattle.clash.specs.Clash.{updates-by, clash-by};
 ghost use Rattle.sweep.specs.Marks.{mark};
-ghost use Rattle.firing.specs.Outcome.{move-by, marked, Ready, Settled};
-ghost use Rattle.firing.specs.Steps.{change, part-after, puts, put-marks};
+ghost use Rattle.firing.specs.Outcome.{move-by, marked, Settled};
+ghost use Rattle.firing.specs.Steps.{part-after, puts, put-marks};
 
 // What becomes of a move.
 pub enum Outcome {
     Fired,
     Clash { location: u32 },
-    Idle,
 }
 
-// ---- 16
+// ---- 15
 
-// An instruction changes the location that it is about, one of the first n.
-fn changes_own(n: u32, contents: &[Value], what: Instruction) -> bool
-    ensures { λ r. ⌜ r ≡ change n (now (contents .entry)) what ⌝ }
-{
-    let l = traces::own_location(what);
-    (l < n) & (numbers::fetch(contents, l as usize) != traces::own_value(what))
-}
+// No book has a location of this number: the search for the least clash begins from it.
+const NO_LOCATION: u32 = 4294967295;
 
-// An instruction of the list does.
-fn has_change(n: u32, contents: &[Value], list: &[u64], len: usize) -> bool
-    ensures { λ r. ⌜ r ≡ any (change n (now (contents .entry))) (items (now (list .entry)) len) ⌝ }
+// l is one of the book's locations.
+fn is_location(image: &Image, l: u32) -> bool
+    ensures { λ r. ⌜ r ≡ ltb l (L (held (now (image .entry)))) ⌝ }
 {
-    let m = numbers::smaller(len, list.len());
-    let mut j: usize = 0;
-    while j < m {
-        let what = records::decode(list[j]);
-        if changes_own(n, contents, what) {
-            return true;
-        }
-        j = j + 1;
+    if l == NO_LOCATION {
+        return false;
     }
-    false
+    let at = l as usize;
+    let part = pages::part_of(image, at);
+    at < part.end
 }
 
 // ---- firing
@@ -116,8 +103,8 @@ fn put_all(
     len: usize,
     bit: u64,
 )
-    ensures { λ _. ⌜ (length (now (contents .entry)) ≡ L (held (now (image .entry))) → now (contents .exit) ≡ puts (items (now (list .entry)) len) (now (contents .entry))) ⌝ }
-    ensures { λ _. ⌜ (length (now (contents .entry)) ≡ L (held (now (image .entry))) → now (writers .exit) ≡ put-marks bit (length (now (contents .entry))) (items (now (list .entry)) len) (now (writers .entry))) ⌝ }
+    ensures { λ _. ⌜ now (contents .exit) ≡ puts (L (held (now (image .entry)))) (items (now (list .entry)) len) (now (contents .entry)) ⌝ }
+    ensures { λ _. ⌜ now (writers .exit) ≡ put-marks bit (min (L (held (now (image .entry)))) (length (now (contents .entry)))) (items (now (list .entry)) len) (now (writers .entry)) ⌝ }
 {
     let n = numbers::smaller(len, list.len());
     let mut part = Part { first: 0, end: 0 };
@@ -148,8 +135,8 @@ fn fire(
     len: usize,
     bit: u64,
 )
-    ensures { λ _. ⌜ (length (now (contents .entry)) ≡ L (held (now (image .entry))) → clash-by (now (image .entry)) (now (contents .entry)) (now (list .entry)) len ≡ Nowhere → now (contents .exit) ≡ fire (updates-by (now (image .entry)) (now (contents .entry)) (now (list .entry)) len) (now (contents .entry))) ⌝ }
-    ensures { λ _. ⌜ (length (now (contents .entry)) ≡ L (held (now (image .entry))) → now (writers .exit) ≡ marked bit (updates-by (now (image .entry)) (now (contents .entry)) (now (list .entry)) len) (now (writers .entry))) ⌝ }
+    ensures { λ _. ⌜ (clash-by (now (image .entry)) (now (contents .entry)) (now (list .entry)) len ≡ Nowhere → now (contents .exit) ≡ fire (updates-by (now (image .entry)) (now (contents .entry)) (now (list .entry)) len) (now (contents .entry))) ⌝ }
+    ensures { λ _. ⌜ now (writers .exit) ≡ marked bit (length (now (contents .entry))) (updates-by (now (image .entry)) (now (contents .entry)) (now (list .entry)) len) (now (writers .entry)) ⌝ }
 {
     clearing::clear_all(image, contents, writers, list, len, bit);
     put_all(image, contents, writers, list, len, bit);
@@ -157,11 +144,7 @@ fn fire(
 
 // ---- the move
 
-// What a location's number can be, and more than any book has.
-const MOST_LOCATIONS: usize = 4294967295;
-
-// 15, then 16, else it fires. A refused move leaves contents and marks as they were. A release always changes Reserve at its label, so whether a location
-// would change is seen at the instructions' own ones.
+// 15, else it fires. A refused move leaves contents and marks as they were.
 pub fn settle(
     image: &Image,
     contents: &mut [Value],
@@ -170,16 +153,11 @@ pub fn settle(
     len: usize,
     bit: u64,
 ) -> Outcome
-    ensures { λ r. ⌜ (Ready (held (now (image .entry))) (now (contents .entry)) (items (now (list .entry)) len) → (ls : List ℕ) → Settled (move-by (now (image .entry)) (now (contents .entry)) (now (list .entry)) len ls) bit (now (contents .entry)) (now (writers .entry)) r (now (contents .exit)) (now (writers .exit))) ⌝ }
+    ensures { λ r. ⌜ Settled (move-by (now (image .entry)) (now (contents .entry)) (now (list .entry)) len) bit (now (contents .entry)) (now (writers .entry)) r (now (contents .exit)) (now (writers .exit)) ⌝ }
 {
-    let all = numbers::smaller(contents.len(), MOST_LOCATIONS) as u32;
-    let at = clash::first_clash(image, contents, list, len, all);
-    let idle = !has_change(all, contents, list, len);
-    if at < all {
+    let at = clash::first_clash(image, contents, list, len, NO_LOCATION);
+    if is_location(image, at) {
         return Outcome::Clash { location: at };
-    }
-    if idle {
-        return Outcome::Idle;
     }
     fire(image, contents, writers, list, len, bit);
     Outcome::Fired

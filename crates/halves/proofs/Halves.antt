@@ -9,20 +9,22 @@ use lib.ListN.{length, take, drop}
 use Rattle.text.specs.declared.Answer.{Answer}
 use Rattle.book.specs.Book.{Program, L}
 use Rattle.book.specs.Image.{word, held}
-use Rattle.engine.specs.Move.{Moved, fires, stopped, walked, made-by, move}
+use Rattle.engine.specs.Move.{Input, Moved, fires, stopped, walked, looked, made-by, move}
 use Rattle.engine.specs.Single.{Stepped, stepped, step-move, step-call}
 use Rattle.records.specs.Code.{items}
-use Rattle.traces.proofs.Laws.{take-min}
+use Rattle.traces.proofs.Laws.{take-min, drop-min}
 use Rattle.walk.specs.Walk.{outcome}
 use Rattle.walk.specs.Gather.{Gathered}
 use Rattle.moves.specs.declared.Begun.{Begun}
 use Rattle.moves.specs.Count.{given-of}
-use Rattle.moves.specs.Effect.{Tables, tables, Effect, After}
+use Rattle.firing.specs.Outcome.{contents-after}
+use Rattle.moves.specs.Effect.{tables, move-answer}
+use Rattle.moves.specs.Close.{Completed}
 use Rattle.moves.proofs.Count.{given-few, made-of, same-outcome}
 use Rattle.halves.specs.declared.Paused.{Paused}
 use Rattle.halves.specs.Stages.{Tells}
-use Rattle.halves.specs.Halves.{Walked, Halfway}
-use Rattle.halves.proofs.Fired.{fit, moved-step}
+use Rattle.halves.specs.Halves.{Walked, Halfway, Concluded}
+use Rattle.halves.proofs.Fired.{moved-step}
 use Rattle.halves.proofs.Whole.{Cleared}
 
 -- ---- the first half
@@ -55,7 +57,6 @@ module _ (text c : List ℕ) (k n : ℕ) (m l : List ℕ) (p : Paused) where
       lent = e .passed .records;
       locations = e .locations;
       long = e .passed .long;
-      ready = e .ready;
       walked = subst (λ (i : ℕ). Walked (held m) (take i c) k l (p .begun)) (e .locations) w;
       whole = e .moved;
     };
@@ -105,25 +106,36 @@ module _ (text c : List ℕ) (k n : ℕ) (m l : List ℕ) (p : Paused) (h : Half
           lent = w .lent;
           locations = w .locations;
           long = w .long;
-          ready = w .ready;
           walked = record { walk = rw i (o .walk); count = o .count; room = e };
           whole = w .whole;
         };
   }
 
-  -- ---- the second half
+  -- ---- after the second half
 
-  pub second-stops : p .answer .number ≢ 0 → Tells (p .answer) (p .begun .count) l c (step-call text c k n)
-  second-stops z = let t = h .stops z .1 in half-tells (p .answer) c (t .answer, t .contents)
-
-  pub second-moves : p .answer .number ≡ 0 → (j : ℕ) → j ≡ min (word m 6) (length c) → (r : Answer) (d rs ws : List ℕ)
-      → ((i : ℕ) (t : Tables) → After A i 1 t (p .begun .walk) l (tables (take j c) [] []) → Effect A i 1 0 t r (tables d rs ws))
-      → Tells r (p .begun .count) l (d ++ drop j c) (step-call text c k n)
-  second-moves z j ej r d rs ws does =
+  concluded-moves : p .answer .number ≡ 0 → (r : Answer) (d : List ℕ) → Concluded m c l p r d → (r ≡ step-move A c k .answer) × (d ≡ step-move A c k .contents)
+  unfolding move
+  concluded-moves z r d s =
       let w = h .moves z in
-      let e : j ≡ L A = omega (arith, ej, w .locations, w .long) in
-      let after : After A k 1 (tables (take j c) [] []) (p .begun .walk) l (tables (take j c) [] []) =
-      subst (λ (i : ℕ). After A k 1 (tables (take i c) [] []) (p .begun .walk) l (tables (take i c) [] [])) (sym e)
-      (record { fit = fit A (take (L A) c) k (w .ready); contents = refl; readers = w .walked .walk; writers = refl }) in
-      let t = moved-step A c k j e (omega (arith, e, w .long)) r d rs ws (does k (tables (take j c) [] []) after) in
-      half-tells r (d ++ drop j c) (t .0 ∙ ap (λ (s : Stepped). s .answer) (w .whole), t .1 ∙ ap (λ (s : Stepped). s .contents) (w .whole))
+      let i : Input = record { agent = k } in
+      let t : (r ≡ move-answer 0 (move A (take (L A) c) i)) × (d ≡ contents-after (take (L A) c) (move A (take (L A) c) i) ++ drop (L A) c) =
+      rw (w .locations, w .walked .walk .outcome) at (s .moves z (looked A (take (L A) c) i)) in
+      moved-step A c k (w .long) r d (t .0) (t .1)
+
+  -- the answer, the instructions and the contents are the call's
+  pub half-concluded : (r : Answer) (d : List ℕ) → Concluded m c l p r d → Tells r (p .begun .count) l d (step-call text c k n)
+  half-concluded r d s = dite (ℕ-discrete (p .answer .number) 0)
+      (λ (z : p .answer .number ≡ 0).
+      let t = concluded-moves z r d s in
+      let e = h .moves z .whole in
+      half-tells r d (t .0 ∙ ap (λ (x : Stepped). x .answer) e, t .1 ∙ ap (λ (x : Stepped). x .contents) e))
+      (λ (z : p .answer .number ≢ 0). let t = h .stops z .1 in let q = s .stops z in half-tells r d (q .0 ∙ t .answer, q .1 ∙ t .contents))
+
+-- what `finish` says of the first j records of the table, said of the whole
+pub concluded-first : (m c l : List ℕ) (p : Paused) (j : ℕ) → j ≡ min (word m 6) (length c) → p .answer .number ≡ 0 → (r : Answer) (d rs ws : List ℕ)
+    → Completed (held m) 1 0 (outcome (p .begun .walk) l) (tables (take j c) [] []) r (tables d rs ws) → Concluded m c l p r (d ++ drop j c)
+concluded-first m c l p j e z r d rs ws does = record {
+  stops = λ h. absurd (h z);
+  moves = λ y ls.
+      rw (← take-min c j (word m 6) e, ← drop-min c j (word m 6) e) (does .answer ls, ap (λ (x : List ℕ). x ++ drop j c) (does .contents ls));
+}

@@ -1,21 +1,17 @@
 -- The whole call from its stages: a refusal of the book, a refusal of 9, 2 or 8, and the move.
-use mathlib.Core.Path.{_≡_, refl, sym, ap, subst, _∙_}
+use mathlib.Core.Path.{_≡_, refl, sym, ap, _∙_}
 use mathlib.Core.Logic.{_≢_}
 use mathlib.Core.List.{List}
 use Prim.Native.Nat.{ℕ}
 use lib.ListN.{take}
-use lib.Seq.{length-take-le}
 use Rattle.text.specs.declared.Answer.{Answer}
 use Rattle.text.specs.Words.{Checked, good, refused, _>>=_, _>>_, answer-of}
 use Rattle.book.specs.Book.{Program, Book, L}
 use Rattle.book.specs.Check.{check-book}
 use Rattle.book.specs.Image.{word, held}
-use Rattle.book.specs.Sound.{Lawful}
-use Rattle.book.proofs.Accepted.{accepted}
-use Rattle.book.proofs.Claims.{accepted-table}
 use Rattle.engine.specs.Single.{check-agent, check-step-lengths, check-contents, check-step, step-move, step-answer, step-call}
 use Rattle.calls.specs.Call.{check-call}
-use Rattle.halves.specs.Stages.{Ready, Tells}
+use Rattle.halves.specs.Stages.{Tells}
 use Rattle.book_check.specs.Opened.{Opened}
 use Rattle.book_check.proofs.Fits.{held-is}
 use Rattle.calls.proofs.Numbered.{book-numbered, call-numbered, accepts}
@@ -41,7 +37,6 @@ module _ (c l : List ℕ) (k : ℕ) where
 pub record Cleared (text c : List ℕ) (k n : ℕ) (m : List ℕ) : Type 0 where
   pub passed : Passed (held m) c k n
   pub locations : word m 6 ≡ L (held m)
-  pub ready : Ready (held m) (take (L (held m)) c) k
   pub moved : step-move (held m) c k ≡ step-call text c k n
 
 joined : {A : Type 0} (x y z : Checked (Unit {0})) (w : Checked A) → (x >> (y >> (z >> w))) ≡ ((x >> (y >> z)) >> w)
@@ -102,16 +97,6 @@ module _ (text c l : List ℕ) (k n : ℕ) where
       shown : Passed (held m) c k n
       shown = call-passed (held m) (word m 6) c k n locations (goes .0) (goes .1)
 
-      lawful : Lawful (held m)
-      lawful = subst Lawful (sym is-held) (accepted text (accepted-as .0) (accepted-as .1))
-
-      ready : Ready (held m) (take (L (held m)) c) k
-      ready = record {
-        lawful = lawful;
-        sound = accepted-table (held m) lawful (take (L (held m)) c) (length-take-le (L (held m)) c (shown .long)) (shown .fine);
-        agent = shown .agent;
-      }
-
       moved : step-move (held m) c k ≡ step-call text c k n
       moved =
           ap (λ (A : Program). step-move A c k) is-held
@@ -119,4 +104,4 @@ module _ (text c l : List ℕ) (k n : ℕ) where
           ∙ sym whole
 
       pub cleared : Cleared text c k n m
-      cleared = record { passed = shown; locations = locations; ready = ready; moved = moved }
+      cleared = record { passed = shown; locations = locations; moved = moved }

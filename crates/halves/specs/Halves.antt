@@ -1,19 +1,23 @@
 -- The single-move entry in two halves, between which the move's instructions go through the lent list.
 use mathlib.Core.Path.{_≡_}
 use mathlib.Core.Logic.{_≢_}
-use mathlib.Core.List.{List, []}
+use mathlib.Core.List.{List, [], _++_}
 use Prim.Native.Nat.{ℕ, _≤_}
-use lib.ListN.{length, take}
+use lib.ListN.{length, take, drop}
+use Rattle.text.specs.declared.Answer.{Answer}
 use Rattle.book.specs.Book.{Program, L}
 use Rattle.book.specs.Image.{word, held}
 use Rattle.engine.specs.Rule.{most-instructions}
+use Rattle.engine.specs.Move.{settle}
 use Rattle.engine.specs.Single.{step-move, step-call}
 use Rattle.walk.specs.Walk.{outcome}
 use Rattle.walk.specs.Gather.{Gathered}
 use Rattle.moves.specs.declared.Begun.{Begun}
+use Rattle.firing.specs.Outcome.{contents-after}
 use Rattle.moves.specs.Count.{given-of}
+use Rattle.moves.specs.Effect.{move-answer}
 use Rattle.halves.specs.declared.Paused.{Paused}
-use Rattle.halves.specs.Stages.{Ready, Tells}
+use Rattle.halves.specs.Stages.{Tells}
 
 -- agent k's move is begun in the contents c, with no marks: its walk came to s, with its instructions in the list l
 pub record Walked (B : Program) (c : List ℕ) (k : ℕ) (l : List ℕ) (s : Begun) : Type 0 where
@@ -26,7 +30,6 @@ pub record Moves (text c : List ℕ) (k n : ℕ) (m l : List ℕ) (s : Begun) : 
   pub lent : most-instructions ≤ n
   pub locations : word m 6 ≡ L (held m)
   pub long : L (held m) ≤ length c
-  pub ready : Ready (held m) (take (L (held m)) c) k
   pub walked : Walked (held m) (take (L (held m)) c) k l s
   pub whole : step-move (held m) c k ≡ step-call text c k n
 
@@ -34,3 +37,12 @@ pub record Moves (text c : List ℕ) (k n : ℕ) (m l : List ℕ) (s : Begun) : 
 pub record Halfway (text c : List ℕ) (k n : ℕ) (m l : List ℕ) (p : Paused) : Type 0 where
   pub stops : p .answer .number ≢ 0 → (p .begun .count ≡ 0) × Tells (p .answer) 0 l c (step-call text c k n)
   pub moves : p .answer .number ≡ 0 → Moves text c k n m l (p .begun)
+
+-- The second half, whatever came before: an answer that refuses stays, and the contents with it; else the move is settled by its walk's end and the list l,
+-- on the first records of the table c, as many as the image m notes as L.
+pub record Concluded (m c l : List ℕ) (p : Paused) (r : Answer) (d : List ℕ) : Type 0 where
+  pub stops : p .answer .number ≢ 0 → (r ≡ p .answer) × (d ≡ c)
+  pub moves : p .answer .number ≡ 0 → (ls : List ℕ) → (
+      let o = settle (held m) (take (word m 6) c) ls (outcome (p .begun .walk) l) in
+      (r ≡ move-answer 0 o) × (d ≡ contents-after (take (word m 6) c) o ++ drop (word m 6) c)
+      )

@@ -6,13 +6,9 @@ use numbers::Value;
 use text::Answer;
 use walk::State;
 ghost use mathlib.Core.Path.{_≡_};
-ghost use mathlib.Core.List.{List};
-ghost use Prim.Native.Nat.{ℕ};
 ghost use lib.ListN.{take};
 ghost use Rattle.book.specs.Image.{word, held};
-ghost use Rattle.engine.specs.Single.{step-call};
-ghost use Rattle.halves.specs.Halves.{Walked, Halfway};
-ghost use Rattle.halves.specs.Stages.{Tells};
+ghost use Rattle.halves.specs.Halves.{Walked, Halfway, Concluded};
 
 // A call up to the list: the answer of its checks, and its move begun if they pass.
 pub struct Paused {
@@ -78,7 +74,7 @@ pub fn first_half(
 
 // The move is finished, by the instructions that came back from the list.
 pub fn second_half(contents: &mut [Value], image: &Image, work: &[u64; 256], p: Paused) -> Answer
-    ensures { λ r. ⌜ ((text : List ℕ) (k n : ℕ) → Halfway text (now (contents .entry)) k n (now (image .entry)) (now (work .entry)) p → Tells r (p .begun .count) (now (work .entry)) (now (contents .exit)) (step-call text (now (contents .entry)) k n)) ⌝ }
+    ensures { λ r. ⌜ Concluded (now (image .entry)) (now (contents .entry)) (now (work .entry)) p r (now (contents .exit)) ⌝ }
 {
     let answer = p.answer;
     if answer.number != 0 {

@@ -17,9 +17,11 @@ use Rattle.records.specs.Code.{items}
 use Rattle.walk.specs.Walk.{outcome}
 use Rattle.walk.specs.Gather.{Gathered}
 use Rattle.moves.specs.declared.Begun.{Begun}
-use Rattle.moves.specs.Effect.{Tables, tables, Fit, Effect, After}
+use Rattle.moves.specs.Effect.{tables, Fit, Effect}
+use Rattle.moves.specs.Close.{Completed}
 use Rattle.moves.specs.Count.{given-of}
 use Rattle.moves.proofs.Count.{made-of, given-few, same-outcome}
+use Rattle.moves.proofs.Effect.{finished-effect}
 use Rattle.order.specs.Pairs.{TwoFound, no-two, two, least-two}
 use Rattle.order.specs.Log.{Log, move-at}
 use Rattle.order.specs.Run.{Run, ran, halted, run, touching, order-checked, finish, run-from}
@@ -175,12 +177,12 @@ module _ (m o : List ℕ) (g : Log) (c : List ℕ) where
         }
 
     module _ (a : Answer) (d′ rs′ ws′ : List ℕ) (bit : ℕ) (eb : bit ≡ 2 ^ t .at)
-        (does : (j : ℕ) (u : Tables) → After A j bit u (s .walk) x (tables d rs ws) → Effect A j bit (t .at) u a (tables d′ rs′ ws′))
+        (does : Completed A bit (t .at) (outcome (s .walk) x) (tables d rs ws) a (tables d′ rs′ ws′))
       where
         effect : Effect A (agent-in o (t .at)) (2 ^ t .at) (t .at) (w .old) a (tables d′ rs′ ws′)
         effect =
-            subst (λ (z : ℕ). After A (agent-in o (t .at)) z (w .old) (s .walk) x (tables d rs ws) → Effect A (agent-in o (t .at)) z (t .at) (w .old) a (tables d′ rs′ ws′)) eb
-            (does (agent-in o (t .at)) (w .old)) (w .after)
+            finished-effect A (agent-in o (t .at)) (2 ^ t .at) (t .at) (w .old) (s .walk) x d rs ws (w .after) a (tables d′ rs′ ws′)
+            (subst (λ (z : ℕ). Completed A z (t .at) (outcome (s .walk) x) (tables d rs ws) a (tables d′ rs′ ws′)) eb does)
 
         here : agent-in o (t .at) ≡ move-at g (t .at) .agent
         here = is t (w .old .contents) (w .old .readers) (w .old .writers) now

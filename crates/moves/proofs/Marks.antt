@@ -1,4 +1,4 @@
--- Marks put in one by one are the marks joined where the list has the location; and every lawful book has its locations where its rows say.
+-- Marks put in one by one are the marks joined where the list has the location.
 use mathlib.Core.Path.{_≡_, refl, sym, ap, _∙_}
 use mathlib.Core.Bool.{Bool, true, false, _||_, or-true, or-false}
 use mathlib.Core.List.{List, [], _∷_}
@@ -10,21 +10,11 @@ use lib.Dec.{eqb}
 use lib.ListN.{length, getD, length-set}
 use lib.Seq.{getD-set-same, getD-set-other}
 use Rattle.text.specs.Words.{has}
-use Rattle.book.specs.Book.{Program}
-use Rattle.book.specs.Sound.{Lawful}
-use Rattle.book.proofs.Places.{spot, roll-place}
-use Rattle.term.specs.Marks.{mark-one, marked, Placed}
+use Rattle.term.specs.Marks.{mark-one, marked}
 use Rattle.sweep.specs.Marks.{mark}
 use Rattle.sweep.proofs.Sweep.{each-is}
 use Rattle.firing.proofs.Fires.{mark-mark}
 use Rattle.moves.specs.Effect.{joined}
-
-pub placed : (B : Program) → Lawful B → Placed B
-placed B ok =
-    record {
-      own = λ f x y h a b. rw (spot B ok f x y h a b .where-at);
-      roll = λ x h. rw (roll-place B ok x h, ok .reserve);
-    }
 
 length-marked : (bit : ℕ) (ls m : List ℕ) → length (marked bit ls m) ≡ length m
 unfolding marked

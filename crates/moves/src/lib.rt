@@ -6,18 +6,19 @@ use numbers::Value;
 use text::Answer;
 use walk::State;
 ghost use mathlib.Core.Path.{_≡_};
-ghost use mathlib.Core.List.{List, []};
+ghost use mathlib.Core.List.{[]};
 ghost use Prim.Native.Nat.{ℕ};
 ghost use lib.ListN.{length};
 ghost use Rattle.book.specs.Image.{held};
-ghost use Rattle.engine.specs.Move.{label-of, released, is-some, if-releasing};
+ghost use Rattle.engine.specs.Rule.{going};
+ghost use Rattle.engine.specs.Move.{Fired, label-of, released, is-some, if-releasing};
 ghost use Rattle.records.specs.Code.{items};
-ghost use Rattle.firing.specs.Outcome.{Ready, move-by};
+ghost use Rattle.firing.specs.Outcome.{moved-by};
 ghost use Rattle.term.specs.Marks.{marked};
 ghost use Rattle.walk.specs.Gather.{cleared, Gathered};
 ghost use Rattle.walk.specs.Walk.{outcome};
-ghost use Rattle.moves.specs.Effect.{Effect, Tables, tables, After};
-ghost use Rattle.moves.specs.Close.{told, outcome-answer, closed, Finished};
+ghost use Rattle.moves.specs.Effect.{move-answer, tables};
+ghost use Rattle.moves.specs.Close.{told, closed, Completed};
 ghost use Rattle.moves.specs.Count.{given-of};
 
 // Instructions of a move, at most.
@@ -121,8 +122,8 @@ fn close(
     at: u32,
     what: Outcome,
 ) -> Answer
-    ensures { λ r. ⌜ r ≡ outcome-answer at what ⌝ }
-    ensures { λ _. ⌜ now (readers .exit) ≡ closed (held (now (image .entry))) bit (items (now (list .entry)) len) what (now (readers .entry)) ⌝ }
+    ensures { λ r. ⌜ ((f : Fired) → r ≡ move-answer at (moved-by f what)) ⌝ }
+    ensures { λ _. ⌜ ((f : Fired) → now (readers .exit) ≡ closed (held (now (image .entry))) bit (items (now (list .entry)) len) (moved-by f what) (now (readers .entry))) ⌝ }
 {
     match what {
         Outcome::Fired => {
@@ -134,7 +135,6 @@ fn close(
             }
         }
         Outcome::Clash { location } => refuse(readers, bit, text::CLASH, at, location),
-        Outcome::Idle => refuse(readers, bit, text::IDLE_MOVE, at, 0),
     }
 }
 
@@ -149,7 +149,7 @@ fn settle_listed(
     len: usize,
     at: u32,
 ) -> Answer
-    ensures { λ r. ⌜ (Ready (held (now (image .entry))) (now (contents .entry)) (items (now (list .entry)) len) → (ls : List ℕ) → Finished (held (now (image .entry))) (items (now (list .entry)) len) (move-by (now (image .entry)) (now (contents .entry)) (now (list .entry)) len ls) bit at (now (contents .entry)) (now (readers .entry)) (now (writers .entry)) r (now (contents .exit)) (now (readers .exit)) (now (writers .exit))) ⌝ }
+    ensures { λ r. ⌜ ((next : ℕ) → Completed (held (now (image .entry))) bit at (going (record { made = items (now (list .entry)) len; next = next })) (tables (now (contents .entry)) (now (readers .entry)) (now (writers .entry))) r (tables (now (contents .exit)) (now (readers .exit)) (now (writers .exit)))) ⌝ }
 {
     let what = firing::settle(image, contents, writers, list, len, bit);
     close(image, readers, bit, list, len, at, what)
@@ -166,7 +166,7 @@ pub fn finish(
     s: State,
     at: u32,
 ) -> Answer
-    ensures { λ r. ⌜ ((k : ℕ) (t : Tables) → After (held (now (image .entry))) k bit t s (now (list .entry)) (tables (now (contents .entry)) (now (readers .entry)) (now (writers .entry))) → Effect (held (now (image .entry))) k bit at t r (tables (now (contents .exit)) (now (readers .exit)) (now (writers .exit)))) ⌝ }
+    ensures { λ r. ⌜ Completed (held (now (image .entry))) bit at (outcome s (now (list .entry))) (tables (now (contents .entry)) (now (readers .entry)) (now (writers .entry))) r (tables (now (contents .exit)) (now (readers .exit)) (now (writers .exit))) ⌝ }
 {
     if s.refused != 0 {
         return Answer {

@@ -1,5 +1,5 @@
 -- The claims of specs/Claims hold.
-use mathlib.Core.Path.{_≡_, refl, sym, ap, _∙_}
+use mathlib.Core.Path.{_≡_, refl, sym, _∙_}
 use mathlib.Core.Logic.{_↔_}
 use mathlib.Core.Bool.{true}
 use mathlib.Core.List.{List}
@@ -13,12 +13,13 @@ use Rattle.order.specs.Log.{Log}
 use Rattle.order.specs.Run.{Run, Ran, ran, halted, run, reads-at, writes-at, fired-at}
 use Rattle.order.specs.Orders.{Reads, Writes, listed}
 use Rattle.order.specs.Demand.{moves-of}
-use Rattle.order.specs.Claims.{OrdersAgree, MovesSwap, RowsAreOrder, Did, Marked, RunsLeave}
+use Rattle.order.specs.Claims.{OrdersAgree, MovesSwap, RowsAreOrder, Did, Marked, RunsLeave, RunsAnswer}
 use Rattle.order.specs.Claims as claims
 use Rattle.order.proofs.Listed.{agrees}
 use Rattle.order.proofs.Swap.{laws, writes-value}
 use Rattle.order.proofs.Rows.{rows-set}
 use Rattle.order.proofs.Marks.{readers-bit, writers-bit, Left, run-left, run-halted, halted-number}
+use Rattle.order.proofs.Numbers.{log-small}
 
 pub orders-agree : OrdersAgree
 orders-agree S law start m pair log is k = agrees S law start m pair log is k
@@ -66,3 +67,6 @@ runs-leave B g c n = go (run B g c n) refl
         let r = run-halted B g c n a p q s e in
         let m = halted-number B g c n a p q s e in
         (r .0, marked B g c p s (r .1), r .2, m .0, m .1)
+
+pub runs-answer : RunsAnswer
+runs-answer book log t n = log-small book log t n .not-16

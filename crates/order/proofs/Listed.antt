@@ -11,9 +11,10 @@ use lib.Dec.{eqb}
 use lib.ListN.{length}
 use borrow.Author.Tests.{eqb-true, eqb-false}
 use Rattle.text.specs.Words.{has}
+use Rattle.text.proofs.Words.{refuted}
 use Rattle.order.specs.Claims.{Listing}
 use Rattle.order.specs.Orders.{Moves, Laws, Touch, run, listed, Before, from, Keeps, Agrees}
-use Rattle.order.proofs.Order.{not-true, has-head}
+use Rattle.order.proofs.Order.{has-head}
 use Rattle.order.proofs.Free.{choose, act, act-none, Accepted, free, in-turn}
 
 touch-sym : (S : Moves) (a b : S .Act) → Touch S a b → Touch S b a
@@ -53,7 +54,7 @@ pub keeps-upto : (m : ℕ) (pair : ℕ → ℕ → Type 0) → ((i j : ℕ) → 
 keeps-upto m pair up = record {
   all = λ i. refl;
   once = λ p i q e. let s = from-split p i q 0 m e in
-      not-true (has p i) (λ h. let g = has-upto (length p) i .0 (ap (λ (x : List ℕ). has x i) (sym (s .1)) ∙ h) in omega arith);
+      refuted (has p i) (λ h. let g = has-upto (length p) i .0 (ap (λ (x : List ℕ). has x i) (sym (s .1)) ∙ h) in omega arith);
   pairs = λ a b r p q e. let s = from-split p b q 0 m e in
       ap (λ (x : List ℕ). has x a) (s .1) ∙ has-upto (length p) a .1 (omega (arith, up a b r));
 }

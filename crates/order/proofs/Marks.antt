@@ -152,6 +152,6 @@ module _ (B : Program) (g : Log) (c : List ℕ) where
       go (ran t) k e r = one t (run-left n t k) (move B (t .contents) (move-at g n)) refl e
       go (halted b x d t) k e r = let h = r (k ∙ e) in (omega (arith, h .0), h .1, h .2)
 
-  -- The number of a move's refusal is one of 11 to 16, and its q a node, a location or 0.
-  pub halted-number : (n a p q : ℕ) (s : Run) → run B g c n ≡ halted a p q s → (11 ≤ a) × (a ≤ 16) × (q ≤ length (B .nodes) + L B)
+  -- The number of a move's refusal is one of 11 to 15, and its q a node or a location.
+  pub halted-number : (n a p q : ℕ) (s : Run) → run B g c n ≡ halted a p q s → (11 ≤ a) × (a ≤ 15) × (q ≤ length (B .nodes) + L B)
   halted-number n a p q s e = move-number B (listed S c p) (move-at g p) a q (run-halted n a p q s e .2)

@@ -1,5 +1,5 @@
--- The checks before the first move refuse with 1 to 10; and the answer of a log's call fits one number, for all inputs: its number is at most 17,
--- its p and its q are below 2^24.
+-- The checks before the first move refuse with 1 to 10; and the answer of a log's call fits one number, for all inputs: its number is at most 17
+-- and never 16, its p and its q are below 2^24.
 use mathlib.Core.Path.{_≡_, refl}
 use mathlib.Core.Bool.{Bool}
 use mathlib.Core.List.{List}
@@ -95,14 +95,14 @@ unfolding run-from finish
 run-small B g c fits few = go (run B g c (count g)) refl
   where
     two-way : (s : Run) (o : TwoFound) → ((i j : ℕ) → o ≡ two i j → (i < count g) × (j < count g)) → Small (order-checked B s o .answer)
-    two-way s no-two h = record { number = omega arith; p = omega arith; q = omega arith }
-    two-way s (two i j) h = let r = h i j refl in record { number = omega arith; p = omega (arith, r .0); q = omega (arith, r .1) }
+    two-way s no-two h = record { number = omega arith; not-16 = λ e. omega (arith, e); p = omega arith; q = omega arith }
+    two-way s (two i j) h = let r = h i j refl in record { number = omega arith; not-16 = λ e. omega (arith, e); p = omega (arith, r .0); q = omega (arith, r .1) }
 
     go : (o : Ran) → run B g c (count g) ≡ o → Small (finish B g o .answer)
     go (ran s) e = two-way s (touching B g (s .fired)) (found-pair _ (count g))
     go (halted a p q s) e =
         let m = halted-number B g c (count g) a p q s e in
-        record { number = omega (arith, m .1); p = omega (arith, run-halted B g c (count g) a p q s e .0); q = omega (arith, m .2) }
+        record { number = omega (arith, m .1); not-16 = λ x. omega (arith, m .1, x); p = omega (arith, run-halted B g c (count g) a p q s e .0); q = omega (arith, m .2) }
 
 pub log-small : (book log : List ℕ) (t : Tables) (n : ℕ) → Small (log-call book log t n .answer)
 unfolding log-call
@@ -110,4 +110,4 @@ log-small book log t n = go (check-all book log (lengths t n)) (all-early book l
   where
     go : (o : Checked (Book × Log)) → Early o → Small (log-answer t o .answer)
     go (good x) (on h) = run-small (x .0 .program) (x .1) (start (x .0)) (h .0) (h .1)
-    go (refused a p q) (off h) = record { number = omega arith; p = h .2; q = h .3 }
+    go (refused a p q) (off h) = record { number = omega arith; not-16 = λ e. omega (arith, h .1, e); p = h .2; q = h .3 }

@@ -8,17 +8,13 @@ use lib.Dec.{eqb}
 use borrow.Author.Tests.{eqb-true, eq-eqb}
 use Rattle.text.specs.Words.{has}
 use Rattle.order.specs.Orders.{Before, one, more, Keeps}
-use Rattle.text.proofs.Words.{or-cases}
+use Rattle.text.proofs.Words.{refuted, or-cases}
 
 -- ---- what a list has
 
 has-append : (p q : List ℕ) (i : ℕ) → has (p ++ q) i ≡ (has p i || has q i)
 has-append [] q i = refl
 has-append (j ∷ p) q i = rw (has-append p q i) (sym (or-assoc (eqb j i) (has p i) (has q i)))
-
-pub not-true : (b : Bool) → ¬ (b ≡ true) → b ≡ false
-not-true true n = absurd (n refl)
-not-true false n = refl
 
 pub has-left : (p q : List ℕ) (i : ℕ) → has p i ≡ true → has (p ++ q) i ≡ true
 has-left p q i h = rw (has-append, h)
@@ -139,5 +135,5 @@ module _ (pair : ℕ → ℕ → Type 0) (p : List ℕ) (i : ℕ) (q ys : List �
   left-same k = go (eqb i k) refl
     where
       go : (b : Bool) → eqb i k ≡ b → has ys k ≡ has (p ++ q) k
-      go true h = rw (← eqb-true i k h, not-true (has (p ++ q) i) gone) (not-true (has ys i) (λ g. uy .0 i g .0 refl))
+      go true h = rw (← eqb-true i k h, refuted (has (p ++ q) i) gone) (refuted (has ys i) (λ g. uy .0 i g .0 refl))
       go false h = rw h at (e k) ∙ has-append p (i ∷ q) k ∙ rw h (sym (has-append p q k))

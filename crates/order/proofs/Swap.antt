@@ -12,10 +12,10 @@ use Rattle.book.specs.Book.{Program, dynamic-at}
 use Rattle.book.specs.Sound.{Lawful, Sound, at}
 use Rattle.engine.specs.Move.{Fired, Moved, fires, stopped, move, fire, values-at, new-value, writes, is-some}
 use Rattle.engine.proofs.Moves.{fired-frame, fired-static, fired-keep, fired-same}
+use Rattle.text.proofs.Words.{refuted}
 use Rattle.order.specs.Log.{Log, move-at}
 use Rattle.order.specs.Orders.{Moves, Laws, put, Touch}
 use Rattle.order.specs.Demand.{act-of, value-of, moves-of}
-use Rattle.order.proofs.Order.{not-true}
 
 -- ---- acts
 
@@ -52,16 +52,16 @@ module _ (B : Program) (lawful : Lawful B) (g : Log) where
   kept : (i : ℕ) (c : List ℕ) (a : Fired) → Sound B c → S .does i c ≡ some a → (l : ℕ) → ¬ (writes (a .updates) l ≡ true) → at (fire (a .updates) c) l ≡ at c l
   kept i c a s e l n =
       fired-frame B lawful c s (move-at g i) a (fired-act i c a e) l
-      ∙ new-none (values-at (a .updates) l) (at c l) (not-true (writes (a .updates) l) n)
+      ∙ new-none (values-at (a .updates) l) (at c l) (refuted (writes (a .updates) l) n)
 
   static : (i : ℕ) (c : List ℕ) (a : Fired) → Sound B c → S .does i c ≡ some a → (l : ℕ) → dynamic-at B l ≡ false → ¬ (writes (a .updates) l ≡ true)
   static i c a s e l h w = true≢false (sym w ∙ fired-static B lawful c s (move-at g i) a (fired-act i c a e) l h)
 
-  -- a move that fires does the same where what it reads, what it writes and the static functions are equal
+  -- a move that fires does the same where what it reads and the static functions are equal
   same : (i : ℕ) (c d : List ℕ) (a : Fired) → Sound B c → Sound B d → S .does i c ≡ some a
-      → ((l : ℕ) → has (a .reads) l ≡ true → at c l ≡ at d l) → ((l : ℕ) → writes (a .updates) l ≡ true → at c l ≡ at d l)
-      → ((l : ℕ) → dynamic-at B l ≡ false → at c l ≡ at d l) → S .does i d ≡ some a
-  same i c d a sc sd e r w t = rw (fired-same B lawful c d sc sd (move-at g i) a (fired-act i c a e) r w t)
+      → ((l : ℕ) → has (a .reads) l ≡ true → at c l ≡ at d l) → ((l : ℕ) → dynamic-at B l ≡ false → at c l ≡ at d l) → S .does i d ≡ some a
+  same i c d a sc sd e r t =
+      rw (fired-same B c d (move-at g i) (record { long = sc .long; as-long = sd .long; static = λ l h. t l }) a (fired-act i c a e) r)
 
   swap : (i j : ℕ) (c : List ℕ) (a b : Fired) → Sound B c → S .does i c ≡ some a → S .does j (fire (a .updates) c) ≡ some b → ¬ Touch S a b
       → (S .does j c ≡ some b) × (S .does i (fire (b .updates) c) ≡ some a)
@@ -71,14 +71,12 @@ module _ (B : Program) (lawful : Lawful B) (g : Log) where
       let ka = kept i c a s da in
       let eb = same j (fire (a .updates) c) c b sa s db
       (λ l r. ka l (λ o. n (l, inl (w a l o, inl r))))
-      (λ l y. ka l (λ o. n (l, inl (w a l o, inr (w b l y)))))
       (λ l h. ka l (static i c a s da l h)) in
       let kb = kept j c b s eb in
       let sb = fired-keep B lawful c s (move-at g j) b (fired-act j c b eb) in (
         eb,
         same i c (fire (b .updates) c) a s sb da
             (λ l r. sym (kb l (λ o. n (l, inr (w b l o, inl r)))))
-            (λ l y. sym (kb l (λ o. n (l, inr (w b l o, inr (w a l y))))))
             (λ l h. sym (kb l (static j c b s eb l h))),
       )
 

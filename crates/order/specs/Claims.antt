@@ -1,6 +1,6 @@
 -- What is claimed of orders, marks and runs beside demand 3, and proved in proofs/Claims (01, "What a move does", "Book and log text").
 use mathlib.Core.Path.{_≡_}
-use mathlib.Core.Logic.{_↔_}
+use mathlib.Core.Logic.{_↔_, _≢_}
 use mathlib.Core.Bool.{true}
 use mathlib.Core.List.{List}
 use mathlib.Core.Option.{some}
@@ -14,6 +14,7 @@ use Rattle.order.specs.Pairs.{Pair, rows}
 use Rattle.order.specs.Log.{Log, move-at}
 use Rattle.order.specs.Run.{Run, Ran, ran, halted, run, readers, writers}
 use Rattle.order.specs.Orders.{Moves, Laws, Touch, Reads, Writes, listed, Before, from, Keeps, Agrees}
+use Rattle.order.specs.Call.{Tables, log-call}
 use Rattle.order.specs.Demand.{PairOf, moves-of}
 
 -- ---- freedom of order, over any moves, start, list of moves and pair relation, from the law of two moves
@@ -53,10 +54,15 @@ module _ (B : Program) (g : Log) (c : List ℕ) where
     pub readers : (l i : ℕ) → l < L B → (bit (getD (readers (L B) (s .fired)) l 0) i ≡ true) ↔ Did n i (λ f. Reads (moves-of B g) f l)
     pub writers : (l i : ℕ) → l < L B → (bit (getD (writers (L B) (s .fired)) l 0) i ≡ true) ↔ Did n i (λ f. Writes (moves-of B g) f l)
 
-  -- a run that was not refused, and one that was: at move p, with 11 to 16, with the contents and the marks of the moves before it
+  -- a run that was not refused, and one that was: at move p, with 11 to 15, with the contents and the marks of the moves before it
   abbrev pub Left : ℕ → Ran → Type 0
   Left n (ran s) = Marked n s
-  Left n (halted a p q s) = (p < n) × Marked p s × (move B (listed (moves-of B g) c p) (move-at g p) ≡ stopped a q) × (11 ≤ a) × (a ≤ 16)
+  Left n (halted a p q s) = (p < n) × Marked p s × (move B (listed (moves-of B g) c p) (move-at g p) ≡ stopped a q) × (11 ≤ a) × (a ≤ 15)
 
 abbrev pub RunsLeave : Type 0
 RunsLeave = (B : Program) (g : Log) (c : List ℕ) (n : ℕ) → Left B g c n (run B g c n)
+
+-- ---- 16 is never given: no book, log or lent table gets it (02, F-1)
+
+abbrev pub RunsAnswer : Type 0
+RunsAnswer = (book log : List ℕ) (t : Tables) (n : ℕ) → log-call book log t n .answer .number ≢ 16

@@ -35,8 +35,8 @@ table =
     ∷ case (book ++ padded "0 0 0 0") (padded "0 0 0 3 / 0 7 0 2 / 1 6 0 2 / 2 6 0 4")
     -- (d)
     ∷ case (book ++ padded "2 1 0 0 / 0 0 0 0 / 0 0 0 0 / 0 1 0 0") (padded "13 1 4 0")
-    -- (e)
-    ∷ case (book ++ padded "3 2 0 0 / 1 0 0 0 / 1 0 0 0 / 1 0 0 0 / 0 1 0 0 / 1 2 0 0") (padded "16 2 0 0")
+    -- (e), whose third move changes nothing: accepted by 02, F-1
+    ∷ case (book ++ padded "3 2 0 0 / 1 0 0 0 / 1 0 0 0 / 1 0 0 0 / 0 1 0 0 / 1 2 0 0") (padded "0 0 0 2 / 0 7 0 2 / 1 6 0 2")
     -- (f) to (j); undef is f's default
     ∷ case (f-set-to "1 4 0 0 / 1 4 0 0 / 11 1 2 0") (padded "0 0 0 1 / 1 0 0 5")
     ∷ case (f-set-to "1 5 0 0 / 1 4 0 0 / 11 1 2 0") (padded "0 0 0 0")

@@ -1,4 +1,5 @@
--- One example and more for each refusal 1 to 17, and the limits (01, column 'Example' and the unmarked cases), as a second table under the same lemma.
+-- One example and more for each refusal but 16, which is never given, for moves that change nothing (02, F-1), and the limits (01, column 'Example' and the unmarked
+-- cases), as a second table under the same lemma.
 use mathlib.Core.Path.{_≡_, refl}
 use mathlib.Core.Bool.{true}
 use mathlib.Core.List.{List, [], _∷_, _++_}
@@ -117,7 +118,7 @@ examples =
     (padded
     "8 6 2 6 / 1 2 0 0 / 1 3 0 0 / 1 3 0 0 / 20 0 0 0 / 26 0 1 0 / 26 1 1 1 / 26 2 1 2 / 20 0 0 0 / 22 3 4 0 / 5 3 0 0 / 0 6 0 2 / 0 7 0 2 / 1 0 0 0 / 0 0 0 0")
     (padded "13 0 1 0")
-    -- 15: two values; a value that is released; 16; 17
+    -- 15: two values; a value that is released; 17
     ∷ case
     (padded
     "8 6 2 7 / 1 0 0 0 / 1 3 0 0 / 0 2 0 0 / 4 1 0 0 / 1 3 0 0 / 21 0 1 0 / 4 1 0 0 / 1 4 0 0 / 21 3 4 0 / 22 2 5 0 / 6 3 0 0 / 1 0 0 0 / 0 0 0 0")
@@ -126,8 +127,20 @@ examples =
     (padded
     "8 6 3 6 / 1 1 0 0 / 1 3 0 0 / 0 2 0 0 / 0 2 0 0 / 4 2 0 0 / 4 1 0 0 / 21 0 1 0 / 4 1 0 0 / 27 3 0 0 / 22 2 4 0 / 5 3 0 0 / 1 0 0 6 / 1 0 0 0 / 0 0 0 0")
     (padded "15 0 9 0")
-    ∷ case (padded "8 6 1 1 / 1 0 0 0 / 1 3 0 0 / 20 0 0 0 / 0 3 0 0 / 1 0 0 0 / 0 0 0 0") (padded "16 0 0 0")
     ∷ case (book ++ padded "2 0 0 0 / 0 0 0 0 / 1 0 0 0") (padded "17 0 1 0")
+    -- 02, F-1: a rule that does nothing; s := 3 by two unordered moves, where s is 3 already; a release beside a move that does nothing, and beside s := s
+    ∷ case (padded "8 6 1 1 / 1 0 0 0 / 1 3 0 0 / 20 0 0 0 / 0 3 0 0 / 1 0 0 0 / 0 0 0 0") (padded "0 0 0 0")
+    ∷ case
+    (padded
+    "8 6 2 6 / 2 1 0 0 / 1 3 0 0 / 0 2 0 0 / 4 1 0 0 / 1 3 0 0 / 21 0 1 0 / 4 1 0 0 / 1 3 0 0 / 21 3 4 0 / 2 3 0 0 / 5 4 0 0 / 1 0 0 3 / 2 0 0 0 / 0 0 0 0 / 1 0 0 0")
+    (padded "17 0 1 0")
+    ∷ case
+    (padded "8 6 2 3 / 2 1 0 0 / 1 3 0 0 / 0 2 0 0 / 4 1 0 0 / 27 0 0 0 / 20 0 0 0 / 1 3 0 0 / 2 4 0 0 / 1 0 0 6 / 2 0 0 0 / 0 0 0 0 / 1 0 0 0")
+    (padded "0 0 0 1 / 0 6 0 2")
+    ∷ case
+    (padded
+    "8 6 3 5 / 2 1 0 0 / 1 3 0 0 / 0 2 0 0 / 0 2 0 0 / 4 1 0 0 / 27 0 0 0 / 4 2 0 0 / 4 2 0 0 / 21 2 3 0 / 1 3 0 0 / 4 4 0 0 / 1 0 0 6 / 2 0 0 0 / 0 0 0 0 / 1 0 0 0")
+    (padded "17 0 1 0")
     -- 65 moves
     ∷ case (counted 64) (padded "9 0 0 0")
     ∷ []

@@ -1,5 +1,5 @@
 -- Laws of the book that an image holds: a lawful one has its locations placed; what that says of them; and the scope.
-use mathlib.Core.Path.{_≡_, refl, sym, ap, _∙_}
+use mathlib.Core.Path.{_≡_, refl, sym}
 use mathlib.Core.Logic.{dite}
 use mathlib.Core.Bool.{Bool, true, false, _&&_}
 use mathlib.Core.List.{List}
@@ -11,8 +11,7 @@ use lib.ListN.{length, getD, take, length-take, List·getD-eq-default}
 use lib.Seq.{getD-take}
 use borrow.Author.Tests.{ltb-true, lt-ltb}
 use Rattle.text.specs.Words.{if_then_else_}
-use Rattle.book.specs.Book.{undef, Program, Place, dynamic, no-function, function-at, location, dynamic-at}
-use Rattle.book.specs.Image.{held, program-in}
+use Rattle.book.specs.Book.{undef, Program, dynamic, no-function, function-at, location, dynamic-at}
 use Rattle.book.specs.Sound.{Lawful}
 use Rattle.book.proofs.Places.{spot, roll-place}
 use Rattle.term.specs.Held.{variables-of}
@@ -20,12 +19,11 @@ use Rattle.term.specs.Marks.{dynamic-of, Placed}
 
 -- ---- a lawful book has its locations placed
 
-pub placed : (m : List ℕ) → Lawful (held m) → Placed (held m)
-unfolding program-in
-placed m ok =
+pub placed : (B : Program) → Lawful B → Placed B
+placed B ok =
     record {
-      own = λ f x y h a b. ap (λ (p : Place). dynamic (p .function)) (spot (held m) ok f x y h a b .where-at);
-      roll = λ x h. ap (λ (p : Place). dynamic (p .function)) (roll-place (held m) ok x h) ∙ ap dynamic (ok .reserve);
+      own = λ f x y h a b. rw (spot B ok f x y h a b .where-at);
+      roll = λ x h. rw (roll-place B ok x h, ok .reserve);
     }
 
 -- ---- where the locations are placed, a function's kind says what its locations are

@@ -98,8 +98,9 @@ module _ {A B : Type 0} where
 abbrev pub Before : ℕ → ℕ → ℕ → Type 0
 Before n p q = (1 ≤ n) × (n ≤ 10) × (p < 2 ^ 24) × (q < 2 ^ 24)
 
--- of a call
+-- of a call; 16 is never given
 pub record Small (a : Answer) : Type 0 where
   pub number : a .number ≤ 17
+  pub not-16 : a .number ≢ 16
   pub p : a .p < 2 ^ 24
   pub q : a .q < 2 ^ 24

@@ -81,6 +81,10 @@ module _ {A B : Type 0} (g : A → B) (f : ℕ → A) where
 
 -- ---- some place
 
+pub refuted : (b : Bool) → ¬ (b ≡ true) → b ≡ false
+refuted true h = absurd (h refl)
+refuted false h = refl
+
 pub some-below-true : (test : ℕ → Bool) (n : ℕ) → some-below test n ≡ true → (i : ℕ) × (i < n) × (test i ≡ true)
 unfolding some-below
 some-below-true test zero e = absurd (false≢true e)

@@ -46,8 +46,7 @@ list-full = 14
 abbrev pub clash : ℕ
 clash = 15
 
-abbrev pub idle-move : ℕ
-idle-move = 16
+-- 16 is taken and never given: until 02, F-1, it refused a move that changes nothing
 
 abbrev pub unordered-touch : ℕ
 unordered-touch = 17

@@ -40,7 +40,7 @@ pub const LIST_FULL: u32 = 14;
 
 pub const CLASH: u32 = 15;
 
-pub const IDLE_MOVE: u32 = 16;
+// 16 is taken and never given.
 
 pub const UNORDERED_TOUCH: u32 = 17;
 

@@ -24,10 +24,6 @@ pub and-none : (b : Bool) → b && false ≡ false
 and-none true = refl
 and-none false = refl
 
-pub no : (t : Bool) → (t ≡ true → ⊥) → t ≡ false
-no true h = absurd (h refl)
-no false h = refl
-
 pub other-append : (w : ℕ) (xs ys : List ℕ) → other w (xs ++ ys) ≡ other w xs || other w ys
 unfolding other
 other-append w [] ys = refl
@@ -48,6 +44,13 @@ take-min list n k e = split (leb k (length list)) refl
     split : (b : Bool) → leb k (length list) ≡ b → take n list ≡ take k list
     split true h = let g : n ≡ k = omega (arith, leb-true) in ap (λ (m : ℕ). take m list) g
     split false h = take-all n list (omega (arith, leb-false)) ∙ sym (take-all k list (omega (arith, leb-false)))
+
+pub drop-min : (list : List ℕ) (n k : ℕ) → n ≡ min k (length list) → drop n list ≡ drop k list
+drop-min list n k e = split (leb k (length list)) refl
+  where
+    split : (b : Bool) → leb k (length list) ≡ b → drop n list ≡ drop k list
+    split true h = let g : n ≡ k = omega (arith, leb-true) in ap (λ (m : ℕ). drop m list) g
+    split false h = drop-of-length-le list {i = n} (omega (arith, leb-false)) ∙ sym (drop-of-length-le list {i = k} (omega (arith, leb-false)))
 
 map-drop : {A C : Type 0} (f : A → C) (j : ℕ) (xs : List A) → map f (drop j xs) ≡ drop j (map f xs)
 map-drop f zero xs = refl

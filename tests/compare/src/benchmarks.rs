@@ -115,7 +115,7 @@ const ORDER_CHECKS: &[Benchmark] = &[
         run_row(what, meter, &loads::depot_logged())
     }),
     Benchmark::new("order: of these, 17 alone", |what, meter| {
-        beyond_row(what, meter, &loads::depot_logged(), &loads::depot_idle_at_last(), 16)
+        beyond_row(what, meter, &loads::depot_logged(), &loads::depot_refused_at_last(), 12)
     }),
 ];
 

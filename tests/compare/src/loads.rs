@@ -73,7 +73,7 @@ const TURNING: [[u32; 2]; 5] = [[1, 1], [1, 2], [1, 3], [0, 3], [0, 2]];
 // How many members the universe of `turns` has; the body is walked once for each two of them.
 pub const MEMBERS: u32 = 100;
 
-// For all x and y of 100 members: the body; beside it a toggle, so that the move fires.
+// For all x and y of 100 members: the body; beside it a toggle, so that the move changes something.
 fn turns(body: impl Fn(&mut Pen) -> u32) -> Single {
     let mut pen = Pen::new(MEMBERS + 20, MEMBERS + 10, &TURNING);
     let body = body(&mut pen);
@@ -342,14 +342,15 @@ pub fn desks_logged(wholly: bool) -> Logged {
     Logged { book, log: DraftLog { agents, pairs }.text() }
 }
 
-// A small book with a full hook, and an agent that does nothing.
+// A small book with a full hook, and an agent whose release of undef is refused.
 fn small_depot() -> Vec<u8> {
     const FULL: u32 = 100;
     let mut pen = Pen::new(200, 40, &[[1, 2], [1, 2], [1, 3], [0, 2]]);
     let root = in_and_out(&mut pen, 3, 4);
     pen.agent(root, 3);
-    let idle = pen.skip();
-    pen.agent(idle, 4);
+    let undef = pen.element(0);
+    let refused = pen.release(undef);
+    pen.agent(refused, 4);
     pen.holds(3, FULL, 2);
     pen.holds(4, 0, FULL);
     pen.text()
@@ -362,8 +363,8 @@ pub fn depot_logged() -> Logged {
     Logged { book, log }
 }
 
-// The same log whose last move is idle: the run ends with 16, before the order check.
-pub fn depot_idle_at_last() -> Logged {
+// The same log whose last move is refused at its first rule: the run ends with 12, before the order check.
+pub fn depot_refused_at_last() -> Logged {
     let Logged { book, mut log } = depot_logged();
     log[64 * 25..65 * 25].copy_from_slice(&padded("1 0 0 0"));
     Logged { book, log }

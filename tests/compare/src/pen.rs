@@ -125,7 +125,7 @@ impl Pen {
         self.0.add([27, label, 0, 0])
     }
 
-    // A nullary relation gets its other value: a move that fires any number of times.
+    // A nullary relation gets its other value: a move that changes something any number of times.
     pub fn toggle(&mut self, relation: u32) -> u32 {
         let old = self.constant(relation);
         let new = self.not(old);

@@ -12,10 +12,14 @@ impl Tally {
         self.0[number as usize] += 1;
     }
 
-    // The numbers among these that came up fewer than `least` times.
-    pub fn short_of(&self, numbers: &[u32], least: u64) -> Vec<u32> {
-        let short = |number: &&u32| self.0[**number as usize] < least;
-        numbers.iter().filter(short).copied().collect()
+    // Each of these numbers came up at least so often, and no other did.
+    pub fn assert_all(&self, numbers: impl IntoIterator<Item = u32>, least: u64) {
+        let mut others = self.0;
+        for number in numbers {
+            let count = std::mem::take(&mut others[number as usize]);
+            assert!(count >= least, "{number} only {count} times: {self}");
+        }
+        assert_eq!(others, [0; 18], "numbers that are not given: {self}");
     }
 }
 

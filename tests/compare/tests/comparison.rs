@@ -13,10 +13,10 @@ fn folder(name: &str) -> PathBuf {
     folder
 }
 
-// The proved code, but for a log: there it accepts what is refused by 16.
+// The proved code, but for a log: there it accepts what is refused by 11.
 fn planted(asked: &Asked) -> Told {
     let told = proved(asked);
-    if told.number == 16 && matches!(asked, Asked::Run(_)) {
+    if told.number == 11 && matches!(asked, Asked::Run(_)) {
         Told::answer(Answer::ACCEPTED)
     } else {
         told
@@ -31,20 +31,20 @@ fn file(folder: &Path, name: &str) -> Vec<u8> {
 fn a_planted_difference_is_kept() {
     let folder = folder("planted");
     let mut comparison = Comparison::new(1, [planted, independent], folder.clone());
-    // A log of one move that is idle.
-    let idle = (0..100).find(|&i| {
+    // A log of one move that sets a relation to a non-Boolean.
+    let refused = (0..100).find(|&i| {
         let small = small_input(i);
-        paper::report(&[small.book, small.log].concat()).starts_with(b"    16")
+        paper::report(&[small.book, small.log].concat()).starts_with(b"    11")
     });
-    let idle = idle.expect("an idle one among the first");
-    comparison.ask_small(idle).expect("a folder that can be written");
+    let refused = refused.expect("one of 11 among the first");
+    comparison.ask_small(refused).expect("a folder that can be written");
     assert_eq!((comparison.compared, comparison.differences), (4, 1));
-    let kept = folder.join(format!("log-small-{idle}"));
+    let kept = folder.join(format!("log-small-{refused}"));
     assert_eq!(comparison.kept, std::slice::from_ref(&kept));
-    assert_eq!(file(&kept, "book.txt"), small_input(idle).book);
-    assert_eq!(file(&kept, "log.txt"), small_input(idle).log);
+    assert_eq!(file(&kept, "book.txt"), small_input(refused).book);
+    assert_eq!(file(&kept, "log.txt"), small_input(refused).log);
     assert!(file(&kept, "proved.txt").starts_with(b"0 0 0\n"));
-    assert!(file(&kept, "independent.txt").starts_with(b"16 0 0\n"));
+    assert!(file(&kept, "independent.txt").starts_with(b"11 0 "));
     assert_eq!(fs::read_dir(&folder).expect("the folder").count(), 1);
     fs::remove_dir_all(folder).expect("the folder");
 }

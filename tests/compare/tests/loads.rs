@@ -1,6 +1,8 @@
-// The benchmarks' books and logs are what their names say: the independent implementation accepts them.
+// The benchmarks' books and logs are what their names say: the independent implementation accepts them. Every move of them changes something, so
+// that a library that still refuses others can be measured too.
 use compare::loads::{self, Logged, Single};
-use compare::shops::{shop, shop_log};
+use compare::shops::{paper_book, paper_log, shop, shop_log};
+use inputs::idle_ways;
 use paper::{check_book, Answer, INSTRUCTIONS};
 
 fn run_of(logged: &Logged) -> Answer {
@@ -9,12 +11,23 @@ fn run_of(logged: &Logged) -> Answer {
     paper::run(&logged.book, &logged.log, &mut contents, &mut readers, &mut writers, INSTRUCTIONS)
 }
 
+fn assert_accepted(logged: &Logged) {
+    assert_eq!(run_of(logged), Answer::ACCEPTED);
+    assert_eq!(idle_ways(&logged.book, &logged.log, Answer::ACCEPTED), [], "a move changes nothing");
+}
+
+// How many instructions the move gives, in the second of two turns.
 fn instructions(single: &Single) -> usize {
     let mut contents = single.contents.clone();
-    single.put_back.iter().for_each(|&(location, value)| contents[location] = value);
-    let (answer, list) = paper::step_listed(&single.book, &mut contents, 0, INSTRUCTIONS);
-    assert_eq!(answer, Answer::ACCEPTED);
-    list.len()
+    let lengths = [(); 2].map(|()| {
+        single.put_back.iter().for_each(|&(location, value)| contents[location] = value);
+        let before = contents.clone();
+        let (answer, list) = paper::step_listed(&single.book, &mut contents, 0, INSTRUCTIONS);
+        assert_eq!(answer, Answer::ACCEPTED);
+        assert_ne!(contents, before, "the move changes nothing");
+        list.len()
+    });
+    lengths[1]
 }
 
 #[test]
@@ -26,7 +39,7 @@ fn the_shop() {
     let log = shop_log(&book);
     let checked = paper::check_log(&checked, &log).expect("a sound log");
     assert_eq!(checked.agents.len(), 64);
-    assert_eq!(run_of(&Logged { book, log }), Answer::ACCEPTED);
+    assert_accepted(&Logged { book, log });
 }
 
 #[test]
@@ -41,9 +54,15 @@ fn sizes() {
 
 #[test]
 fn single_moves() {
-    assert_eq!(instructions(&loads::guards(3)), 1);
-    assert_eq!(instructions(&loads::skips(3)), 1);
-    assert_eq!(instructions(&loads::choices(3)), 1);
+    for parts in [1, 16] {
+        assert_eq!(instructions(&loads::guards(parts)), 1);
+    }
+    for parts in [1, 65] {
+        assert_eq!(instructions(&loads::skips(parts)), 1);
+    }
+    for parts in [1, 33] {
+        assert_eq!(instructions(&loads::choices(parts)), 1);
+    }
     assert_eq!(instructions(&loads::wide_term()), 1);
     assert_eq!(instructions(&loads::wide_rule()), 1);
     assert_eq!(instructions(&loads::two_hundred()), 200);
@@ -55,6 +74,9 @@ fn single_moves() {
 #[test]
 fn logs() {
     for logged in [
+        Logged { book: paper_book(), log: paper_log() },
+        loads::guards(1).logged(),
+        loads::guards(16).logged(),
         loads::two_hundred_logged(),
         loads::counts_logged(),
         loads::releases_logged(),
@@ -62,7 +84,8 @@ fn logs() {
         loads::desks_logged(true),
         loads::depot_logged(),
     ] {
-        assert_eq!(run_of(&logged), Answer::ACCEPTED);
+        assert_accepted(&logged);
     }
-    assert_eq!(run_of(&loads::depot_idle_at_last()), Answer { number: 16, p: 63, q: 0 });
+    let refused = run_of(&loads::depot_refused_at_last());
+    assert_eq!((refused.number, refused.p), (12, 63));
 }

@@ -1,8 +1,9 @@
 // The proved run of a log answers as the independent one and leaves the same contents and marks; and the moves of an accepted log, run one by one
 // in another order that keeps its pairs, end alike.
 use compare::{run, step, Tally};
-use inputs::{random_order, run_input, Rng, RunInput};
+use inputs::{idle_ways, random_order, run_input, Idle, Rng, RunInput};
 use paper::{Answer, INSTRUCTIONS};
+use std::collections::BTreeMap;
 
 const SEED: u64 = 1;
 const INPUTS: u64 = 200_000;
@@ -43,32 +44,43 @@ fn reordered(input: &RunInput, end: &[u16], rng: &mut Rng) -> bool {
 #[test]
 fn answers_contents_and_marks_are_the_papers() {
     let mut tally = Tally::new();
+    let mut idle: BTreeMap<Idle, u64> = Idle::ALL.map(|way| (way, 0)).into();
     for i in 0..INPUTS {
         let input = run_input(&mut Rng::for_input(SEED, i));
         let proved = left_by(run, &input);
         assert_eq!(proved, left_by(paper::run, &input), "seed {SEED}, input {i}");
         tally.add(proved.answer.number);
+        for way in idle_ways(&input.book, &input.log, proved.answer) {
+            idle.entry(way).and_modify(|count| *count += 1);
+        }
     }
-    println!("logs, seed {SEED}: {tally}");
-    let all: Vec<u32> = (0..18).collect();
-    let short = tally.short_of(&all, 500);
-    assert!(short.is_empty(), "too few of {short:?}: {tally}");
+    println!("logs, seed {SEED}: {tally}\nmoves that change nothing: {idle:?}");
+    tally.assert_all(Answer::NUMBERS, 500);
+    assert!(idle.values().all(|&count| count >= 300), "moves that change nothing: {idle:?}");
 }
 
 #[test]
 fn every_order_that_keeps_the_pairs_ends_alike() {
-    let (mut orders, mut others) = (0, 0);
+    let (mut orders, mut others, mut idle, mut beside_release) = (0, 0, 0, 0);
     let mut i = 0;
     while orders < ORDERS {
         let mut rng = Rng::for_input(SEED + 1, i);
         let input = run_input(&mut rng);
         let left = left_by(run, &input);
         if left.answer == Answer::ACCEPTED {
-            others += u64::from(reordered(&input, &left.contents, &mut rng));
             orders += 1;
+            if reordered(&input, &left.contents, &mut rng) {
+                let ways = idle_ways(&input.book, &input.log, left.answer);
+                others += 1;
+                idle += u64::from(!ways.is_empty());
+                beside_release += u64::from(ways.contains(&Idle::BesideRelease));
+            }
         }
         i += 1;
     }
-    println!("orders, seed {}: {orders}, {others} of them not the listing", SEED + 1);
-    assert!(others >= 5_000, "{others} orders are not the listing");
+    let counts = format!(
+        "{others} of them not the listing, {idle} with a move that changes nothing, {beside_release} with one unordered with a release"
+    );
+    println!("orders, seed {}: {orders}, {counts}", SEED + 1);
+    assert!(others >= 10_000 && idle >= 4_000 && beside_release >= 300, "{counts}");
 }

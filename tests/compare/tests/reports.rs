@@ -1,6 +1,7 @@
 // What the proved code prints for whole inputs is what the independent implementation prints, and bytes past it are not touched.
 use compare::{report, report_into, Tally, MOST_OUTPUT};
 use inputs::{report_input, Rng};
+use paper::Answer;
 
 const SEED: u64 = 1;
 const INPUTS: u64 = 300_000;
@@ -16,9 +17,7 @@ fn printed_bytes_are_the_papers() {
         tally.add(number);
     }
     println!("whole inputs, seed {SEED}: {tally}");
-    let all: Vec<u32> = (0..18).collect();
-    let short = tally.short_of(&all, 500);
-    assert!(short.is_empty(), "too few of {short:?}: {tally}");
+    tally.assert_all(Answer::NUMBERS, 500);
 }
 
 // An output of fewer bytes than an answer may need is left as it is, however short the answer.

@@ -44,11 +44,11 @@ pub fn sound(rng: &mut Rng) -> Draft {
         return full(rng);
     }
     let size = [&TINY, &SMALL, &MIDDLING][rng.weighted(&[47, 45, 8])];
-    let theme = [Theme::Any, Theme::Desks, Theme::Depot][rng.weighted(&[66, 14, 20])];
+    let theme = [Theme::Any, Theme::Desks, Theme::Depot][rng.weighted(&[58, 14, 28])];
     let careful = rng.percent(65);
     let mut draft = without_rules(rng, size, theme);
     let count = rng.range(1, size.roots.min(draft.permanent));
-    let roots: Vec<u32> = (0..count)
+    let mut roots: Vec<u32> = (0..count)
         .map(|_| {
             let rules = rng.range(1, size.rules);
             match theme {
@@ -58,6 +58,10 @@ pub fn sound(rng: &mut Rng) -> Draft {
             }
         })
         .collect();
+    // An agent that changes nothing, most often beside releases.
+    if count < draft.permanent && rng.percent(if theme == Theme::Depot { 60 } else { 25 }) {
+        roots.push(flavours::idle(rng, &mut draft));
+    }
     // A book of long rules may have too many nodes: then another one.
     if draft.nodes.len() > MOST_NODES {
         return sound(rng);

@@ -3,10 +3,11 @@
 use crate::books;
 use crate::damage;
 use crate::draft::Draft;
+use crate::idle::changes;
 use crate::logs;
 use crate::rng::Rng;
 use crate::tables;
-use paper::{check_book, reads_and_writes, start_table, Book, INSTRUCTIONS, LINE_BYTES};
+use paper::{check_book, start_table, Book, INSTRUCTIONS, LINE_BYTES};
 
 /// The most bytes that `rental` reads.
 const MOST_BYTES: usize = 60_000;
@@ -50,13 +51,13 @@ fn sound_book(rng: &mut Rng) -> (Draft, Vec<u8>, Book) {
     (draft, text, book)
 }
 
-/// A sound book as well, mostly one in which some agent's move fires from the start.
+/// A sound book as well, mostly one in which some agent's move from the start changes something.
 fn lively_book(rng: &mut Rng) -> (Draft, Vec<u8>, Book) {
     let mut found = sound_book(rng);
     for _ in 0..3 {
         let book = &found.2;
-        let fires = |agent| reads_and_writes(book, &start_table(book), agent).is_ok();
-        if (0..book.agents.len()).any(fires) {
+        let lively = |agent| changes(book, &start_table(book), agent) == Some(true);
+        if (0..book.agents.len()).any(lively) {
             break;
         }
         found = sound_book(rng);

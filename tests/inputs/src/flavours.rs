@@ -1,4 +1,4 @@
-// Rules with a purpose: desks that keep apart, a depot of labels, crowds of instructions, deep trees.
+// Rules with a purpose: desks that keep apart, a depot of labels, crowds of instructions, deep trees, rules that change nothing.
 
 use crate::draft::{operand_fields, Draft};
 use crate::rng::Rng;
@@ -9,6 +9,7 @@ use paper::INSTRUCTIONS;
 pub const MOST_DEPTH: u32 = 32;
 
 const ME: paper::Line = [3, 0, 0, 0];
+const SKIP: paper::Line = [20, 0, 0, 0];
 
 /// One rule as a root, of a flavour drawn at random. `size` bounds the free ones.
 pub fn root(rng: &mut Rng, draft: &mut Draft, careful: bool, size: u32) -> u32 {
@@ -22,6 +23,34 @@ pub fn root(rng: &mut Rng, draft: &mut Draft, careful: bool, size: u32) -> u32 {
             let base = Writer::new(rng, draft, careful).rule(size.min(6), 9);
             let target = rng.range(20, MOST_DEPTH);
             deepen(rng, draft, base, target)
+        }
+    }
+}
+
+/// A rule that changes nothing: it skips, looks and skips, or writes what stands already.
+pub fn idle(rng: &mut Rng, draft: &mut Draft) -> u32 {
+    let mut writer = Writer::new(rng, draft, true);
+    match writer.rng.weighted(&[30, 30, 40]) {
+        0 => writer.draft.add(SKIP),
+        1 => look(&mut writer),
+        _ => writer.keep(),
+    }
+}
+
+/// Skips under a guard, a let or a forall, which read.
+fn look(writer: &mut Writer) -> u32 {
+    let universe = writer.universe();
+    match (writer.rng.below(3), universe) {
+        (0, Some(universe)) => writer.for_all_in(0, universe, |writer| writer.draft.add(SKIP)),
+        (1, _) => {
+            let value = writer.term(Sort::Any, 4);
+            let skip = writer.draft.add(SKIP);
+            writer.draft.add([24, 0, value, skip])
+        }
+        _ => {
+            let guard = writer.term(Sort::Boolean, 4);
+            let (then, otherwise) = (writer.draft.add(SKIP), writer.draft.add(SKIP));
+            writer.draft.add([23, guard, then, otherwise])
         }
     }
 }
@@ -182,7 +211,7 @@ fn crowd(rng: &mut Rng, draft: &mut Draft) -> u32 {
     let mut others = many_sets(&mut writer, beside, false);
     let imports = writer.draft.universes(true);
     if let (true, Some(import)) = (writer.rng.percent(30), writer.rng.any(&imports)) {
-        let skip = writer.draft.add([20, 0, 0, 0]);
+        let skip = writer.draft.add(SKIP);
         let import = writer.draft.add([26, 2, import, skip]);
         others = writer.draft.add([22, others, import, 0]);
     }
@@ -211,7 +240,7 @@ fn many_sets(writer: &mut Writer, count: u32, bound: bool) -> u32 {
         return writer.draft.add([22, a, b, 0]);
     }
     let dynamic = writer.draft.functions_where(|draft, f| draft.is_dynamic(f));
-    let Some(&function) = dynamic.first() else { return writer.draft.add([20, 0, 0, 0]) };
+    let Some(&function) = dynamic.first() else { return writer.draft.add(SKIP) };
     let argument = if bound { [2, 0, 0, 0] } else { ME };
     let arguments = &[argument, argument][..writer.draft.arity(function) as usize];
     let location = writer.name(function, arguments);
@@ -224,7 +253,7 @@ fn many_sets(writer: &mut Writer, count: u32, bound: bool) -> u32 {
 pub fn deepen(rng: &mut Rng, draft: &mut Draft, root: u32, target: u32) -> u32 {
     let mut root = root;
     for _ in depth(draft, root)..target {
-        let skip = draft.add([20, 0, 0, 0]);
+        let skip = draft.add(SKIP);
         root = match rng.below(4) {
             0 => draft.add([22, root, skip, 0]),
             1 => draft.add([22, skip, root, 0]),

@@ -8,6 +8,7 @@ pub mod documents;
 mod draft;
 mod faults;
 mod flavours;
+mod idle;
 pub mod logs;
 pub mod marked;
 mod rng;
@@ -17,6 +18,7 @@ pub mod tables;
 
 pub use cases::{book_input, report_input, run_input, step_input, RunInput, StepInput};
 pub use draft::{text_of, Draft};
+pub use idle::{idle_ways, Idle};
 pub use logs::{fitting_pairs, random_order, DraftLog};
 pub use rng::Rng;
 pub use small::{small_input, small_inputs, Small};

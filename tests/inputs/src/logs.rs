@@ -2,6 +2,7 @@
 
 use crate::damage::spoil_text;
 use crate::draft::{one_more, text_of};
+use crate::idle::changes;
 use crate::rng::Rng;
 use paper::{fire_move, start_table, Book, Line, Marks};
 
@@ -95,12 +96,17 @@ pub fn guided(rng: &mut Rng, book: &Book) -> DraftLog {
     let mut list = Vec::new();
     let mut agents: Vec<u32> = Vec::new();
     let refused_at_last = rng.percent(25);
+    // Moves that change nothing come as they do, are fewer, or are left out.
+    let left_out = rng.pick(&[0, 60, 100]);
     for attempt in 1..=3 * wanted {
         let agent = rng.below(book.agents.len() as u32);
+        let last_chance = attempt == 3 * wanted && agents.is_empty();
+        if !last_chance && rng.percent(left_out) && changes(book, &contents, agent as usize) == Some(false) {
+            continue;
+        }
         let marks = Marks { readers: &mut readers, writers: &mut writers, bit: 1 << agents.len() };
         let fired = fire_move(book, &mut contents, agent as usize, marks, &mut list).is_ok();
-        let none_fires = attempt == 3 * wanted && agents.is_empty();
-        if fired || refused_at_last || none_fires {
+        if fired || refused_at_last || last_chance {
             agents.push(agent);
         }
         if agents.len() == wanted || (!fired && refused_at_last) {
@@ -139,7 +145,7 @@ pub fn fitting_pairs(agents: &[u32], readers: &[u64], writers: &[u64]) -> Vec<(u
 
 /// The needed pairs, without those that follow, with more, or with some left out.
 fn choose_pairs(rng: &mut Rng, needed: Vec<(u32, u32)>, agents: &[u32]) -> Vec<(u32, u32)> {
-    match rng.weighted(&[14, 32, 12, 12, 14, 10, 3, 3]) {
+    match rng.weighted(&[12, 30, 10, 12, 12, 18, 3, 3]) {
         0 => needed,
         1 => reduced(&needed),
         2 => {

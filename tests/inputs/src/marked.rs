@@ -1,4 +1,5 @@
-// The cases of paper 01 as inputs of `rental`, with all that it prints: the marked ones, the limits, and the examples of the refusals.
+// The cases of paper 01 as inputs of `rental`, with all that it prints: the marked ones, the limits, the examples of the refusals, and moves
+// that change nothing.
 
 use paper::{padded, LINE_BYTES};
 
@@ -45,7 +46,7 @@ fn one_rule(functions: &str, nodes: &str, contents: &str) -> Vec<u8> {
     padded(&format!("{head} / {functions} / {nodes} / {} 3 0 0 / {contents} / {ONE_MOVE}", n - 1))
 }
 
-/// f := a ∘ b of two elements; f held number 0, so that the move is not idle where it becomes undef.
+/// f := a ∘ b of two elements; f held number 0, so that undef is a change.
 fn value(operator: u32, a: u32, b: u32) -> Vec<u8> {
     let nodes = format!("4 1 0 0 / 1 {a} 0 0 / 1 {b} 0 0 / {operator} 1 2 0 / 21 0 3 0");
     one_rule("0 2 0 0", &nodes, "1 0 0 3")
@@ -64,7 +65,7 @@ pub fn marked() -> Vec<Case> {
         Case::new(
             "(e) agent 1 three times",
             with_log("3 2 0 0 / 1 0 0 0 / 1 0 0 0 / 1 0 0 0 / 0 1 0 0 / 1 2 0 0"),
-            "16 2 0 0",
+            "0 0 0 2 / 0 7 0 2 / 1 6 0 2",
         ),
         Case::new("(f) 1 plus 1", value(11, 4, 4), "0 0 0 1 / 1 0 0 5"),
         Case::new("(g) 2 plus 1", value(11, 5, 4), "0 0 0 0"),
@@ -125,7 +126,7 @@ pub fn limits() -> Vec<Case> {
     ]
 }
 
-/// One input for each row of the table of refusals, with the row's own example as far as `rental` can show it.
+/// One input for each row of the table of refusals but 16, which is never given, with the row's own example as far as `rental` can show it.
 pub fn refusals() -> Vec<Case> {
     let mut leading_zero = with_log(LOG);
     leading_zero[6..12].copy_from_slice(b"    07");
@@ -151,11 +152,37 @@ pub fn refusals() -> Vec<Case> {
         Case::new("13: second import", with_log("2 1 0 0 / 0 0 0 0 / 0 0 0 0 / 0 1 0 0"), "13 1 4 0"),
         Case::new("14: forall over 257", members(257), "14 0 3 0"),
         Case::new("15: set 3 and 4", one_rule("0 2 0 0", two_values, ""), "15 0 8 0"),
-        Case::new(
-            "16: set to its own value",
-            one_rule("0 2 0 0", "4 1 0 0 / 4 1 0 0 / 21 0 1 0", "1 0 0 4"),
-            "16 0 0 0",
-        ),
         Case::new("17: k 0", with_log("2 0 0 0 / 0 0 0 0 / 1 0 0 0"), "17 0 1 0"),
+    ]
+}
+
+/// Agent 0 releases the label 6 that function 1 holds; agent 1 has this rule, and function 2 holds 3. Their moves are unordered.
+fn beside_a_release(rule: &[&str]) -> Vec<u8> {
+    let last = 1 + rule.len();
+    let nodes = format!("4 1 0 0 / 27 0 0 0 / {}", rule.join(" / "));
+    let agents = format!("1 3 0 0 / {last} 4 0 0");
+    padded(&format!(
+        "8 6 3 {} / 2 2 0 0 / 1 3 0 0 / 0 2 0 0 / 0 2 0 0 / {nodes} / {agents} / 1 0 0 6 / 2 0 0 3 / \
+         2 0 0 0 / 0 0 0 0 / 1 0 0 0",
+        last + 1
+    ))
+}
+
+/// Moves that change nothing stand (paper 02, F-1), and touch others as every move does.
+pub fn idle() -> Vec<Case> {
+    let both_set =
+        "8 6 2 3 / 2 1 0 0 / 1 3 0 0 / 0 2 0 0 / 4 1 0 0 / 1 3 0 0 / 21 0 1 0 / 2 3 0 0 / 2 4 0 0 / 1 0 0 3";
+    let unordered = "2 0 0 0 / 0 0 0 0 / 1 0 0 0";
+    let own_value = one_rule("0 2 0 0", "4 1 0 0 / 4 1 0 0 / 21 0 1 0", "1 0 0 4");
+    vec![
+        Case::new("set to its own value", own_value, "0 0 0 1 / 1 0 0 4"),
+        Case::new("a skip", one_rule("0 2 0 0", "20 0 0 0", "1 0 0 4"), "0 0 0 1 / 1 0 0 4"),
+        Case::new("both s := 3, s being 3", padded(&format!("{both_set} / {unordered}")), "17 0 1 0"),
+        Case::new("a skip beside a release", beside_a_release(&["20 0 0 0"]), "0 0 0 2 / 0 6 0 2 / 2 0 0 3"),
+        Case::new(
+            "s := s beside a release",
+            beside_a_release(&["4 2 0 0", "4 2 0 0", "21 2 3 0"]),
+            "17 0 1 0",
+        ),
     ]
 }

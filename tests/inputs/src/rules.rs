@@ -66,11 +66,12 @@ impl<'a> Writer<'a> {
         if depth < 4 {
             return self.draft.add([20, 0, 0, 0]);
         }
-        match self.rng.weighted(&[34, 30, 18, 8, 4]) {
+        match self.rng.weighted(&[34, 28, 16, 8, 4, 4]) {
             0 => self.set(depth),
             1 => self.count(),
             2 => self.toggle(),
             3 => self.release(depth),
+            4 => self.keep(),
             _ => self.draft.add([20, 0, 0, 0]),
         }
     }
@@ -130,7 +131,7 @@ impl<'a> Writer<'a> {
     }
 
     /// A universe, mostly one with members.
-    fn universe(&mut self) -> Option<u32> {
+    pub fn universe(&mut self) -> Option<u32> {
         let universes = self.draft.universes(false);
         let peopled: Vec<u32> =
             universes.iter().copied().filter(|&universe| self.draft.lines_of(universe) > 0).collect();
@@ -211,6 +212,15 @@ impl<'a> Writer<'a> {
         let Some(function) = self.rng.any(&counters) else { return self.toggle() };
         let arguments = self.leaf_arguments(function);
         let (a, b) = self.two(|w| w.name(function, &arguments), |w| w.constant(Sort::Number));
+        self.draft.add([21, a, b, 0])
+    }
+
+    /// f(x) := f(x).
+    pub fn keep(&mut self) -> u32 {
+        let dynamic = self.draft.functions_where(|draft, function| draft.is_dynamic(function));
+        let Some(function) = self.rng.any(&dynamic) else { return self.draft.add([20, 0, 0, 0]) };
+        let arguments = self.leaf_arguments(function);
+        let (a, b) = self.two(|w| w.name(function, &arguments), |w| w.name(function, &arguments));
         self.draft.add([21, a, b, 0])
     }
 

@@ -98,8 +98,9 @@ fn term(mut number: u64) -> Small {
     Small { book: book.text(), log: one_move() }
 }
 
-// ---- logs: up to four moves of three desks, with every set of pairs
+// ---- logs: up to four moves of three desks of each book, with every set of pairs
 
+const BOOKS: [fn() -> Vec<u8>; 3] = [desks, || shown().book, retiring];
 const DESKS: u64 = 3;
 const MOST_MOVES: u64 = 4;
 
@@ -109,7 +110,7 @@ fn logs_of(m: u64) -> u64 {
 }
 
 fn logs() -> u64 {
-    2 * (0..=MOST_MOVES).map(logs_of).sum::<u64>()
+    BOOKS.len() as u64 * (0..=MOST_MOVES).map(logs_of).sum::<u64>()
 }
 
 /// Desks 0 and 1 toggle a flag each; desk 2 copies the flag of desk 0 to its own.
@@ -120,8 +121,17 @@ fn desks() -> Vec<u8> {
     )
 }
 
+/// Desk 0 takes a label to an empty hook and releases it from a full one; desk 1 skips; desk 2 sets s to what it is.
+fn retiring() -> Vec<u8> {
+    padded(
+        "5 4 4 14 / 3 2 0 0 / 1 3 0 0 / 1 3 0 0 / 0 2 0 0 / 0 2 0 0 / 4 2 0 0 / 1 0 0 0 / 7 0 1 0 / 4 2 0 0 / 2 0 0 0 / \
+         21 3 4 0 / 26 0 1 5 / 4 2 0 0 / 27 7 0 0 / 23 2 6 8 / 20 0 0 0 / 4 3 0 0 / 4 3 0 0 / 21 11 12 0 / 9 0 0 0 / \
+         10 1 0 0 / 13 2 0 0 / 2 0 0 4 / 3 0 0 3",
+    )
+}
+
 fn log(mut number: u64) -> Small {
-    let paper_book = digit(&mut number, 2) == 1;
+    let book = BOOKS[digit(&mut number, BOOKS.len() as u64) as usize]();
     let mut m = 0;
     while number >= logs_of(m) {
         number -= logs_of(m);
@@ -130,7 +140,6 @@ fn log(mut number: u64) -> Small {
     let agents = (0..m).map(|_| digit(&mut number, DESKS)).collect();
     let all = (1..m as u32).flat_map(|later| (0..later).map(move |earlier| (earlier, later)));
     let pairs = all.filter(|_| digit(&mut number, 2) == 1).collect();
-    let book = if paper_book { shown().book } else { desks() };
     Small { book, log: DraftLog { agents, pairs }.text() }
 }
 

@@ -1,6 +1,6 @@
-// Each answer of each entry, and each reason of the book's refusals, occurs often enough.
+// Each answer of each entry, each reason of the book's refusals, and moves that change nothing occur often enough.
 
-use inputs::{book_input, report_input, run_input, step_input, Rng};
+use inputs::{book_input, idle_ways, report_input, run_input, step_input, Idle, Rng};
 use paper::{check_book, report, run, step, Answer, Line, LINE_BYTES};
 use std::collections::BTreeMap;
 
@@ -8,25 +8,28 @@ const SEED: u64 = 22;
 const INPUTS: u64 = 20_000;
 
 /// How often each key comes up, over the inputs of a seed.
-fn tally<K: Ord>(key: impl Fn(&mut Rng) -> Option<K>) -> BTreeMap<K, u64> {
+fn tally<K: Ord, Keys: IntoIterator<Item = K>>(keys: impl Fn(&mut Rng) -> Keys) -> BTreeMap<K, u64> {
     let mut counts = BTreeMap::new();
     for input in 0..INPUTS {
-        if let Some(key) = key(&mut Rng::for_input(SEED, input)) {
+        for key in keys(&mut Rng::for_input(SEED, input)) {
             *counts.entry(key).or_insert(0) += 1;
         }
     }
     counts
 }
 
+/// Each of these keys came up at least so often, and no other did.
 fn assert_all<K: Ord + std::fmt::Debug>(
     counts: &BTreeMap<K, u64>,
     keys: impl IntoIterator<Item = K>,
     least: u64,
 ) {
-    for key in keys {
-        let count = counts.get(&key).copied().unwrap_or(0);
+    let keys: Vec<K> = keys.into_iter().collect();
+    for key in &keys {
+        let count = counts.get(key).copied().unwrap_or(0);
         assert!(count >= least, "{key:?} only {count} times, in {counts:?}");
     }
+    assert!(counts.keys().all(|key| keys.contains(key)), "more than {keys:?}: {counts:?}");
 }
 
 fn book_answer(book: &[u8]) -> Answer {
@@ -49,7 +52,7 @@ fn answers_of_a_single_move() {
         let mut input = step_input(rng);
         Some(step(&input.book, &mut input.contents, input.agent, input.lent).number)
     });
-    assert_all(&counts, (0..=9).chain(11..=16), INPUTS * 80 / 10_000);
+    assert_all(&counts, (0..=9).chain(11..=15), INPUTS * 80 / 10_000);
 }
 
 #[test]
@@ -59,7 +62,20 @@ fn answers_of_a_run() {
         let (contents, readers, writers) = (&mut input.contents, &mut input.readers, &mut input.writers);
         Some(run(&input.book, &input.log, contents, readers, writers, input.lent).number)
     });
-    assert_all(&counts, 0..=17, INPUTS * 40 / 10_000);
+    assert_all(&counts, Answer::NUMBERS, INPUTS * 40 / 10_000);
+}
+
+#[test]
+fn moves_that_change_nothing() {
+    let counts = tally(|rng| {
+        let mut input = run_input(rng);
+        let (contents, readers, writers) = (&mut input.contents, &mut input.readers, &mut input.writers);
+        let answer = run(&input.book, &input.log, contents, readers, writers, input.lent);
+        idle_ways(&input.book, &input.log, answer)
+    });
+    assert_all(&counts, Idle::ALL, INPUTS * 20 / 10_000);
+    let often = [Idle::Bare, Idle::Writing].map(|way| counts[&way]);
+    assert!(often.iter().all(|&count| count >= INPUTS * 5 / 100), "{often:?} in accepted logs");
 }
 
 #[test]
@@ -67,7 +83,7 @@ fn answers_of_the_printer() {
     let number =
         |text: Vec<u8>| String::from_utf8(text[..6].to_vec()).unwrap().trim().parse::<u32>().unwrap();
     let counts = tally(|rng| Some(number(report(&report_input(rng)))));
-    assert_all(&counts, 0..=17, INPUTS * 40 / 10_000);
+    assert_all(&counts, Answer::NUMBERS, INPUTS * 40 / 10_000);
     let sizes = tally(|rng| {
         let length = report_input(rng).len();
         [60_000, 60_001].contains(&length).then_some(length)

@@ -15,12 +15,12 @@ fn check(name: &str, at_least: usize) {
 
 #[test]
 fn decisions() {
-    check("DECISIONS.md", 8);
+    check("DECISIONS.md", 11);
 }
 
 #[test]
 fn refusals() {
-    check("REFUSALS.md", 17);
+    check("REFUSALS.md", 20);
 }
 
 #[test]
@@ -36,5 +36,5 @@ fn examples() {
             shown += 1;
         }
     }
-    assert!(shown >= 4, "{shown} examples");
+    assert!(shown >= 6, "{shown} examples");
 }

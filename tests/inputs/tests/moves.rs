@@ -50,15 +50,14 @@ fn only_what_is_read_decides() {
 
 #[test]
 fn moves_keep_contents_sound() {
-    let (mut fired, mut refused) = (0, 0);
+    let (mut changed, mut idle, mut refused) = (0, 0, 0);
     for input in 0..20_000 {
         let StepInput { book: text, contents: mut after, agent, lent } =
             step_input(&mut Rng::for_input(SEED, input));
         let Ok(book) = check_book(&text) else { continue };
         let before = after.clone();
         if step(&text, &mut after, agent, lent).number == 0 {
-            fired += 1;
-            assert_ne!(after, before, "input {input}");
+            *(if after == before { &mut idle } else { &mut changed }) += 1;
             assert_eq!(fault_in_table(&book, &after), None, "input {input}");
             assert_eq!(after[book.locations..], before[book.locations..]);
         } else {
@@ -66,7 +65,8 @@ fn moves_keep_contents_sound() {
             assert_eq!(after, before, "input {input}");
         }
     }
-    assert!(fired >= 3_000 && refused >= 3_000, "{fired} fired, {refused} refused");
+    let enough = changed >= 3_000 && idle >= 2_000 && refused >= 3_000;
+    assert!(enough, "{changed} changed something, {idle} nothing, {refused} were refused");
 }
 
 /// The contents after these instructions, one location at a time, in the paper's words.

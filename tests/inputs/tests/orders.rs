@@ -1,7 +1,8 @@
 // Any order of an accepted log that keeps the pairs fires the same moves and leaves the same end.
 
-use inputs::{random_order, run_input, Rng};
-use paper::{check_book, check_log, fire_move, run_checked, start_table, updates, Book, Log, Marks, Refusal};
+use inputs::{idle_ways, random_order, run_input, small_input, small_inputs, Idle, Rng};
+use paper::*;
+use std::collections::BTreeSet;
 
 const SEED: u64 = 20;
 
@@ -21,15 +22,63 @@ fn carried_out(book: &Book, log: &Log, order: &[usize]) -> Result<(Vec<Updates>,
     Ok((by_move, contents))
 }
 
-/// The book and the log of an input whose run is accepted, with its end.
-fn accepted(input: u64) -> Option<(Book, Log, Vec<u16>)> {
-    let input = run_input(&mut Rng::for_input(SEED, input));
-    let book = check_book(&input.book).ok()?;
-    let log = check_log(&book, &input.log).ok()?;
-    let mut contents = vec![0; book.locations];
-    let (mut readers, mut writers) = (vec![0; book.locations], vec![0; book.locations]);
-    run_checked(&book, &log, &mut contents, &mut readers, &mut writers, 256).ok()?;
-    Some((book, log, contents))
+/// A log whose run is accepted.
+struct Accepted {
+    book: Book,
+    log: Log,
+    end: Vec<u16>,
+    /// How moves that change nothing stand in it.
+    idle: Vec<Idle>,
+}
+
+impl Accepted {
+    fn of(book_text: &[u8], log_text: &[u8]) -> Option<Accepted> {
+        let book = check_book(book_text).ok()?;
+        let log = check_log(&book, log_text).ok()?;
+        let mut end = vec![0; book.locations];
+        let (mut readers, mut writers) = (vec![0; book.locations], vec![0; book.locations]);
+        run_checked(&book, &log, &mut end, &mut readers, &mut writers, 256).ok()?;
+        let idle = idle_ways(book_text, log_text, Answer::ACCEPTED);
+        Some(Accepted { book, log, end, idle })
+    }
+
+    fn listing(&self) -> Vec<usize> {
+        (0..self.log.agents.len()).collect()
+    }
+
+    /// All these orders do what the listing does, and end as the run did.
+    fn assert_alike(&self, orders: &[Vec<usize>], what: &str) {
+        let (by_move, end) =
+            carried_out(&self.book, &self.log, &self.listing()).expect("the run was accepted");
+        assert_eq!(end, self.end, "{what}");
+        for order in orders {
+            assert!(keeps(order, &self.log.pairs), "{what}: {order:?}");
+            let done = carried_out(&self.book, &self.log, order);
+            assert_eq!(done, Ok((by_move.clone(), end.clone())), "{what}: {order:?}");
+        }
+    }
+}
+
+/// How many orders other than the listing there were: of all logs, of those with a move that changes
+/// nothing, of those with such a move unordered with a release.
+#[derive(Debug, Default)]
+struct Others {
+    all: usize,
+    idle: usize,
+    beside_release: usize,
+}
+
+impl Others {
+    fn count(&mut self, accepted: &Accepted, orders: &[Vec<usize>]) {
+        let others = orders.iter().filter(|order| **order != accepted.listing()).count();
+        self.all += others;
+        if !accepted.idle.is_empty() {
+            self.idle += others;
+        }
+        if accepted.idle.contains(&Idle::BesideRelease) {
+            self.beside_release += others;
+        }
+    }
 }
 
 fn keeps(order: &[usize], pairs: &[(usize, usize)]) -> bool {
@@ -39,24 +88,45 @@ fn keeps(order: &[usize], pairs: &[(usize, usize)]) -> bool {
 
 #[test]
 fn any_order_that_keeps_the_pairs_does_the_same() {
-    let mut reordered = 0;
-    for (input, (book, log, end)) in (0..30_000).filter_map(|input| Some((input, accepted(input)?))) {
-        let listing: Vec<usize> = (0..log.agents.len()).collect();
-        let (by_move, listed_end) = carried_out(&book, &log, &listing).expect("the run was accepted");
-        assert_eq!(listed_end, end, "input {input}");
-        let mut rng = Rng::new(input);
-        for _ in 0..4 {
-            let order = random_order(&log.pairs, log.agents.len(), &mut rng);
-            assert!(keeps(&order, &log.pairs));
-            reordered += usize::from(order != listing);
-            assert_eq!(
-                carried_out(&book, &log, &order),
-                Ok((by_move.clone(), end.clone())),
-                "input {input}: {order:?}"
-            );
-        }
+    let mut others = Others::default();
+    for number in 0..30_000 {
+        let input = run_input(&mut Rng::for_input(SEED, number));
+        let Some(accepted) = Accepted::of(&input.book, &input.log) else { continue };
+        let mut rng = Rng::new(number);
+        let orders = [(); 4].map(|_| random_order(&accepted.log.pairs, accepted.log.agents.len(), &mut rng));
+        accepted.assert_alike(&orders, &format!("input {number}"));
+        others.count(&accepted, &orders);
     }
-    assert!(reordered >= 5_000, "only {reordered} orders other than the listing");
+    println!("random logs: {others:?}");
+    assert!(others.all >= 10_000 && others.idle >= 4_000 && others.beside_release >= 300, "{others:?}");
+}
+
+/// All orders of m moves that keep the pairs: each move at every place among those before it.
+fn all_orders(pairs: &[(usize, usize)], m: usize) -> Vec<Vec<usize>> {
+    let mut orders = vec![Vec::new()];
+    for number in 0..m {
+        let placed = |order: &Vec<usize>| {
+            let at = |place: usize| [&order[..place], &[number], &order[place..]].concat();
+            (0..=order.len()).map(at).collect::<Vec<_>>()
+        };
+        orders = orders.iter().flat_map(placed).collect();
+    }
+    orders.retain(|order| keeps(order, pairs));
+    orders
+}
+
+#[test]
+fn all_orders_of_the_small_logs_do_the_same() {
+    let mut others = Others::default();
+    for number in 0..small_inputs() {
+        let small = small_input(number);
+        let Some(accepted) = Accepted::of(&small.book, &small.log) else { continue };
+        let orders = all_orders(&accepted.log.pairs, accepted.log.agents.len());
+        accepted.assert_alike(&orders, &format!("small input {number}"));
+        others.count(&accepted, &orders);
+    }
+    println!("small logs: {others:?}");
+    assert!(others.all >= 2_000 && others.idle >= 1_000 && others.beside_release >= 500, "{others:?}");
 }
 
 #[test]
@@ -64,14 +134,7 @@ fn every_order_can_be_drawn() {
     // 0 and 2 before 3: two orders of the three, with four places for 1 in each.
     let pairs = [(0, 3), (2, 3)];
     let mut rng = Rng::new(1);
-    let mut seen = std::collections::BTreeSet::new();
-    for _ in 0..500 {
-        let order = random_order(&pairs, 4, &mut rng);
-        assert!(keeps(&order, &pairs));
-        let mut sorted = order.clone();
-        sorted.sort_unstable();
-        assert_eq!(sorted, [0, 1, 2, 3]);
-        seen.insert(order);
-    }
-    assert_eq!(seen.len(), 8);
+    let drawn: BTreeSet<Vec<usize>> = (0..500).map(|_| random_order(&pairs, 4, &mut rng)).collect();
+    assert_eq!(drawn.len(), 8);
+    assert_eq!(drawn, all_orders(&pairs, 4).into_iter().collect());
 }

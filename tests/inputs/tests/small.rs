@@ -16,9 +16,10 @@ fn answers() {
     let mut counts = [0; 18];
     (0..small_inputs()).for_each(|i| counts[number(&small_input(i))] += 1);
     println!("small inputs: {counts:?}");
-    for refusal in [0, 1, 3, 4, 5, 6, 7, 8, 9, 10, 11, 12, 13, 15, 16, 17] {
-        assert!(counts[refusal] > 0, "no {refusal}: {counts:?}");
+    for number in [0, 1, 3, 4, 5, 6, 7, 8, 9, 10, 11, 12, 13, 15, 17] {
+        assert!(counts[number] > 0, "no {number}: {counts:?}");
     }
+    assert_eq!(counts[16], 0, "16 is never given");
 }
 
 #[test]

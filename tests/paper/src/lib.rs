@@ -1,4 +1,5 @@
-// Paper 01 in plain Rust: the book check, a single move, the run of a log and the log printer.
+// Paper 01, as paper 02's F-1 changes it, in plain Rust: the book check, a single move, the run of a log
+// and the log printer.
 #![forbid(unsafe_code)]
 
 mod answer;

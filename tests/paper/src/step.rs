@@ -1,4 +1,4 @@
-// A move after its walk: clash, idle, firing and marks; and the entry for a single move.
+// A move after its walk: clash, firing and marks; and the entry for a single move.
 
 use crate::answer::{Answer, Refusal};
 use crate::book::{check_book, Book, Function, TRUE};
@@ -6,7 +6,7 @@ use crate::table::{arguments, fault_in_table};
 use crate::walk::{walk_move, Instruction, Marks, INSTRUCTIONS};
 
 /// Fires one move of an agent, or refuses it and leaves contents and marks as they were.
-/// The list holds the instructions of a move that was walked to the end, refused by 15 or 16 or not.
+/// The list holds the instructions of a move that was walked to the end, refused by 15 or not.
 pub fn fire_move(
     book: &Book,
     contents: &mut [u16],
@@ -59,21 +59,13 @@ impl Released {
     }
 }
 
-/// 15, then 16; otherwise the labels that the move releases.
+/// 15, or else the labels that the move releases.
 fn judge(book: &Book, contents: &[u16], list: &[Instruction]) -> Result<Released, Refusal> {
     let released = Released::by(book, list);
-    if let Some(location) = clash(book, contents, list, &released) {
-        return Err(Refusal { number: 15, place: location });
+    match clash(book, contents, list, &released) {
+        Some(location) => Err(Refusal { number: 15, place: location }),
+        None => Ok(released),
     }
-    // A release always changes Reserve at its label.
-    let changes = |instruction: &Instruction| match *instruction {
-        Instruction::Update { location, value } => contents[location] != value,
-        Instruction::Release { .. } => true,
-    };
-    if !list.iter().any(changes) {
-        return Err(Refusal { number: 16, place: 0 });
-    }
-    Ok(released)
 }
 
 /// The least location that gets two values, or a value that the move releases.

@@ -44,8 +44,9 @@ fn d_no_label_for_the_second_import() {
 }
 
 #[test]
-fn e_the_third_count_is_idle() {
-    assert_eq!(shown_with("3 2 0 0 / 1 0 0 0 / 1 0 0 0 / 1 0 0 0 / 0 1 0 0 / 1 2 0 0"), "16 2 0 0");
+fn e_the_third_count_changes_nothing_and_stands() {
+    let log = "3 2 0 0 / 1 0 0 0 / 1 0 0 0 / 1 0 0 0 / 0 1 0 0 / 1 2 0 0";
+    assert_eq!(shown_with(log), "0 0 0 2 / 0 7 0 2 / 1 6 0 2");
 }
 
 #[test]

@@ -4,7 +4,7 @@ mod support;
 use paper::{padded, step, Instruction};
 use support::*;
 
-/// f := not f for agent 0, so that any number of moves fires.
+/// f := not f for agent 0, so that each of any number of moves changes it.
 fn toggling() -> Vec<u8> {
     book(4, 4, "0 3 0 0", "4 1 0 0 / 4 1 0 0 / 8 1 0 0 / 21 0 2 0", "3 3 0 0", "")
 }
@@ -24,6 +24,13 @@ fn moves() {
     assert_eq!(fits.answer, accepted());
     assert_eq!(fits.read(63), [4]);
     assert_eq!(run_of(&toggling(), &ordered(&[0; 65])).answer, refused(9, 0, 0));
+}
+
+#[test]
+fn moves_that_change_nothing() {
+    let skips = |count| run_of(&book(4, 4, "", "20 0 0 0", "0 3 0 0", ""), &ordered(&vec![0; count])).answer;
+    assert_eq!(skips(64), accepted());
+    assert_eq!(skips(65), refused(9, 0, 0));
 }
 
 #[test]

@@ -16,6 +16,9 @@ const G: usize = 32;
 const H: usize = 33;
 const R: usize = 43;
 
+/// g := 3.
+const SET_G: &str = "4 4 0 0 / 1 3 0 0 / 21 0 1 0";
+
 /// A book whose one agent, with element 5, has the last node as root.
 fn rule(nodes: &str, contents: &str) -> Vec<u8> {
     rules(&[nodes], contents)
@@ -280,13 +283,6 @@ mod inside_a_move {
     }
 
     #[test]
-    fn no_instructions_are_idle() {
-        for nodes in ["20 0 0 0", "2 0 0 0 / 27 0 0 0 / 25 0 1 1"] {
-            assert_eq!(step_of(&rule(nodes, "")), (refused(16, 0, 0), start(&rule(nodes, "")), vec![]));
-        }
-    }
-
-    #[test]
     fn a_repeated_update_is_no_clash() {
         let nodes = "4 4 0 0 / 1 3 0 0 / 21 0 1 0 / 4 4 0 0 / 1 3 0 0 / 21 3 4 0 / 22 2 5 0";
         assert_eq!(step_of(&rule(nodes, "")).0, accepted());
@@ -442,11 +438,11 @@ mod reads_writes_and_marks {
 
     #[test]
     fn a_refused_move_leaves_no_mark() {
-        // Move 0: g := h. Move 1 reads r and g, then is refused by 11, or is idle.
+        // Move 0: g := h. Move 1: r := g is refused by 11, or h := g beside h := 3 by 15.
         let first = "4 4 0 0 / 4 5 0 0 / 21 0 1 0";
         let non_boolean = "4 8 0 0 / 4 4 0 0 / 21 0 1 0";
-        let idle = "4 5 0 0 / 4 4 0 0 / 21 0 1 0";
-        for (second, answer) in [(non_boolean, refused(11, 1, 5)), (idle, refused(16, 1, 0))] {
+        let clash = "4 5 0 0 / 4 4 0 0 / 21 0 1 0 / 4 5 0 0 / 1 3 0 0 / 21 3 4 0 / 22 2 5 0";
+        for (second, answer) in [(non_boolean, refused(11, 1, 5)), (clash, refused(15, 1, H as u32))] {
             let run = run_of(&rules(&[first, second], "5 0 0 4"), &ordered(&[0, 1]));
             assert_eq!((run.answer, run.contents[G]), (answer, 4));
             assert_eq!((run.read(0), run.written(0)), (vec![H], vec![G]));
@@ -475,10 +471,139 @@ mod reads_writes_and_marks {
     }
 }
 
-mod touching {
+/// Moves that change no location: they fire, and leave the marks of what they read and write.
+mod idle {
     use super::*;
 
-    const SET_G: &str = "4 4 0 0 / 1 3 0 0 / 21 0 1 0";
+    const SKIP: &str = "20 0 0 0";
+
+    /// g := g.
+    const KEEP_G: &str = "4 4 0 0 / 4 4 0 0 / 21 0 1 0";
+
+    /// Release h.
+    const RELEASE_H: &str = "4 5 0 0 / 27 0 0 0";
+
+    /// Let a variable be a nullary function in skip: reads it and does nothing.
+    fn look_at(function: u32) -> String {
+        format!("4 {function} 0 0 / 20 0 0 0 / 24 0 0 1")
+    }
+
+    #[test]
+    fn no_instructions_are_accepted() {
+        // A skip, and a release for all x in U, which is empty.
+        for nodes in [SKIP, "2 0 0 0 / 27 0 0 0 / 25 0 1 1"] {
+            assert_eq!(step_of(&rule(nodes, "")), (accepted(), start(&rule(nodes, "")), vec![]));
+        }
+    }
+
+    #[test]
+    fn a_skip_reads_and_writes_nothing() {
+        let run = run_of(&rule(SKIP, "4 0 0 3"), &ordered(&[0]));
+        assert_eq!(run.answer, accepted());
+        assert!(run.readers[..44].iter().chain(&run.writers[..44]).all(|&mark| mark == 0));
+    }
+
+    #[test]
+    fn no_instructions_leave_the_marks_of_the_reads() {
+        assert_eq!(touched(&rule(&look_at(4), "")), (vec![G], vec![]));
+        // If r then skip, otherwise skip; for all x in U skip.
+        assert_eq!(touched(&rule("4 8 0 0 / 20 0 0 0 / 20 0 0 0 / 23 0 1 2", "")), (vec![R], vec![]));
+        assert_eq!(touched(&rule("20 0 0 0 / 25 0 1 0", "")), ((U..U + 8).collect(), vec![]));
+    }
+
+    #[test]
+    fn a_second_scan_stands() {
+        let run = run_of(&rule(SET_G, ""), &ordered(&[0, 0]));
+        assert_eq!((run.answer, run.contents[G]), (accepted(), 3));
+        assert_eq!((run.read(1), run.written(1)), (vec![], vec![G]));
+    }
+
+    #[test]
+    fn all_that_is_given_a_value_is_written() {
+        // g := g beside h := 4, with h 4, and f(3) := undef.
+        let nodes = "4 4 0 0 / 4 4 0 0 / 21 0 1 0 / 4 5 0 0 / 1 4 0 0 / 21 3 4 0 / 22 2 5 0 \
+            / 1 3 0 0 / 5 3 7 0 / 1 0 0 0 / 21 8 9 0 / 22 6 10 0";
+        let book = rule(nodes, "4 0 0 3 / 5 0 0 4");
+        assert_eq!(step_of(&book).1, start(&book));
+        assert_eq!(touched(&book), (vec![G], vec![F + 3, G, H]));
+    }
+
+    #[test]
+    fn a_clash_with_the_value_that_stands() {
+        // g := 3 beside g := value, with g 3.
+        let twice = |value: u32| {
+            let nodes = format!("{SET_G} / 4 4 0 0 / 1 {value} 0 0 / 21 3 4 0 / 22 2 5 0");
+            step_of(&rule(&nodes, "4 0 0 3")).0
+        };
+        assert_eq!(twice(3), accepted());
+        assert_eq!(twice(4), refused(15, 0, G as u32));
+    }
+
+    #[test]
+    fn marks_stay_when_a_later_move_is_refused() {
+        // Then r := g, by 11.
+        let book = rules(&[KEEP_G, "4 8 0 0 / 4 4 0 0 / 21 0 1 0"], "4 0 0 3");
+        let run = run_of(&book, &ordered(&[0, 1]));
+        assert_eq!(run.answer, refused(11, 1, 5));
+        assert_eq!((run.read(0), run.written(0)), (vec![G], vec![G]));
+    }
+
+    #[test]
+    fn equal_writes_of_what_stands_touch() {
+        let run = run_of(&rules(&[SET_G, SET_G], "4 0 0 3"), &log(&[0, 1], &[]));
+        assert_eq!((run.answer, run.contents[G]), (refused(17, 0, 1), 3));
+        assert_eq!((run.written(0), run.written(1)), (vec![G], vec![G]));
+        assert_eq!(run_of(&rules(&[SET_G, SET_G], "4 0 0 3"), &ordered(&[0, 1])).answer, accepted());
+    }
+
+    #[test]
+    fn a_write_of_what_stands_touches_a_reader() {
+        let set_h = "4 5 0 0 / 4 4 0 0 / 21 0 1 0";
+        assert_eq!(unordered(SET_G, set_h, "4 0 0 3"), refused(17, 0, 1));
+        assert_eq!(unordered(&look_at(4), SET_G, "4 0 0 3"), refused(17, 0, 1));
+    }
+
+    #[test]
+    fn moves_that_write_nothing_do_not_touch() {
+        assert_eq!(unordered(&look_at(4), &look_at(4), ""), accepted());
+    }
+
+    #[test]
+    fn a_skip_unordered_with_a_release() {
+        for order in [[SKIP, RELEASE_H], [RELEASE_H, SKIP]] {
+            let run = run_of(&rules(&order, "5 0 0 6"), &log(&[0, 1], &[]));
+            assert_eq!((run.answer, run.contents[6], run.contents[H]), (accepted(), TRUE, UNDEF));
+        }
+    }
+
+    #[test]
+    fn a_look_unordered_with_a_release() {
+        // The release writes h, which holds its label, and not g.
+        assert_eq!(unordered(&look_at(4), RELEASE_H, "4 0 0 3 / 5 0 0 6"), accepted());
+        assert_eq!(unordered(&look_at(5), RELEASE_H, "5 0 0 6"), refused(17, 0, 1));
+    }
+
+    #[test]
+    fn a_write_of_what_stands_unordered_with_a_release() {
+        for write in [SET_G, KEEP_G] {
+            assert_eq!(unordered(write, RELEASE_H, "4 0 0 3 / 5 0 0 6"), refused(17, 0, 1));
+            assert_eq!(unordered(RELEASE_H, write, "4 0 0 3 / 5 0 0 6"), refused(17, 0, 1));
+        }
+    }
+
+    #[test]
+    fn a_write_of_what_stands_ordered_with_a_release() {
+        // After the release h := undef changes nothing either.
+        let clear_h = "4 5 0 0 / 1 0 0 0 / 21 0 1 0";
+        for order in [[SET_G, RELEASE_H], [RELEASE_H, KEEP_G], [RELEASE_H, clear_h]] {
+            let run = run_of(&rules(&order, "4 0 0 3 / 5 0 0 6"), &ordered(&[0, 1]));
+            assert_eq!((run.answer, run.contents[6], run.contents[G]), (accepted(), TRUE, 3));
+        }
+    }
+}
+
+mod touching {
+    use super::*;
 
     #[test]
     fn arguments_of_a_set_location() {

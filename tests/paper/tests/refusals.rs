@@ -136,10 +136,10 @@ fn refusal_15_set_to_two_values() {
 }
 
 #[test]
-fn refusal_16_set_to_its_own_value() {
+fn refusal_16_is_not_given_when_set_to_its_own_value() {
     let book = book(8, 6, "0 2 0 0", "4 1 0 0 / 4 1 0 0 / 21 0 1 0", "2 3 0 0", "1 0 0 4");
     let (answer, contents, list) = step_of(&book);
-    assert_eq!((answer, contents), (refused(16, 0, 0), start(&book)));
+    assert_eq!((answer, contents), (accepted(), start(&book)));
     assert_eq!(list.len(), 1);
 }
 
@@ -197,6 +197,6 @@ fn order_of_the_logs_refusals() {
     }
     assert_eq!(run_of(&book, &padded(&lines.join("/"))).answer, refused(17, 0, 1));
     // Moves 0 and 1 still touch, but 17 comes only after all moves.
-    let idle_at_last = log(&[0, 1, 1, 1, 1], &[(1, 2), (2, 3), (3, 4)]);
-    assert_eq!(run_of(&book, &idle_at_last).answer, refused(16, 4, 0));
+    let no_label_at_last = log(&[0, 1, 0], &[(0, 2)]);
+    assert_eq!(run_of(&book, &no_label_at_last).answer, refused(13, 2, 4));
 }

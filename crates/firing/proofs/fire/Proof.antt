@@ -1,7 +1,8 @@
 use mathlib.Core.Path.{ap, ap₂, _∙_}
-use mathlib.Core.List.{List, []}
-use Prim.Native.Nat.{ℕ}
+use mathlib.Core.List.{List}
+use Prim.Native.Nat.{ℕ, min}
 use lib.ListN.{length}
+use Rattle.book.specs.Book.{L}
 use Rattle.book.specs.Image.{held}
 use Rattle.records.specs.Code.{items}
 use Rattle.firing.specs.Steps.{puts, put-marks}
@@ -31,10 +32,9 @@ returns c =
     let is = items (a .list .now) (a .len) in
     let k = c .before .before .before .before .before .before .before .before .before .before .before .clear-all in
     let r = c .before .before .before .before .put-all in (
-      λ long free. r .ensures .0 (k .kept .1 .0 ∙ long) ∙ ap (puts is) (k .ensures .0) ∙ fired-is B is (a .contents .now) long free,
-      λ long.
-          r .ensures .1 (k .kept .1 .0 ∙ long) ∙ ap₂ (λ (C W : List ℕ). put-marks (a .bit) (length C) is W) (k .ensures .0) (k .ensures .1)
-          ∙ marked-is B is (a .contents .now) long (a .bit) (a .writers .now),
+      λ free. r .ensures .0 ∙ ap (puts (L B) is) (k .ensures .0) ∙ fired-is B is (a .contents .now) free,
+      r .ensures .1 ∙ ap₂ (λ (C W : List ℕ). put-marks (a .bit) (min (L B) (length C)) is W) (k .ensures .0) (k .ensures .1)
+          ∙ marked-is B is (a .contents .now) (a .bit) (a .writers .now),
     )
 
 pub fire-spec : {M : Type 1} → statement M

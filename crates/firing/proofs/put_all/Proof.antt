@@ -1,9 +1,10 @@
 use mathlib.Core.Path.{_≡_, refl, sym, ap, _∙_}
-use mathlib.Core.List.{List, []}
-use Prim.Native.Nat.{_+_, _-_}
+use mathlib.Core.List.{List}
+use Prim.Native.Nat.{_+_, _-_, min}
 use borrow.Author.Needs.{needs}
 use lib.Dec.{ltb}
 use lib.ListN.{length, getD, drop, set}
+use Rattle.text.specs.Words.{if_then_else_}
 use Rattle.book.specs.Book.{L}
 use Rattle.book.specs.Image.{held}
 use Rattle.pages.specs.Part.{part-of}
@@ -28,8 +29,8 @@ use Rattle.traces.proofs.own_value.Reads as own-value-reads
 
 abbrev Inv-loop : tie.InvT-loop
 Inv-loop image contents₀ writers₀ list len bit n part₀ j₀ contents writers part j =
-    (length contents₀ ≡ L (held image) → puts (drop j (items list len)) contents ≡ puts (items list len) contents₀)
-    × (length contents₀ ≡ L (held image) → put-marks bit (length contents₀) (drop j (items list len)) writers ≡ put-marks bit (length contents₀) (items list len) writers₀)
+    (puts (L (held image)) (drop j (items list len)) contents ≡ puts (L (held image)) (items list len) contents₀)
+    × (put-marks bit (min (L (held image)) (length contents₀)) (drop j (items list len)) writers ≡ put-marks bit (min (L (held image)) (length contents₀)) (items list len) writers₀)
     × (length contents ≡ length contents₀) × (length writers ≡ length writers₀) × Whole (held image) part
 
 abbrev μ-loop : tie.MeasureT-loop
@@ -41,7 +42,7 @@ smaller-requires c κs = search needs
 
 -- src/lib.rt:123:5
 loop-holds : tie.Need-loop-holds Inv-loop μ-loop
-loop-holds c = (λ long. refl, λ long. refl, refl, refl, none-held (held (c .before .before .before .before .args .image .now)))
+loop-holds c = (refl, refl, refl, refl, none-held (held (c .before .before .before .before .args .image .now)))
 
 -- src/lib.rt:124:36
 mul-decode : tie.Need-mul-decode Inv-loop μ-loop
@@ -101,15 +102,13 @@ loop-again c =
     let at : c .before .before .before .before .before .before .before .before .before .own-location .result ≡ own w = c .before .before .before .before .before .before .before .before .before .own-location .ensures ∙ ap own (c .before .before .before .before .before .before .before .before .before .before .decode .ensures) in
     let v : c .before .before .before .before .before .own-value .result ≡ gets w = c .before .before .before .before .before .own-value .ensures ∙ ap gets (c .before .before .before .before .before .before .before .before .before .before .decode .ensures) in
     let h : c .before .before .before .before .before .before .before .before .part-at .result ≡ part-of B (own w) = c .before .before .before .before .before .before .before .before .part-at .ensures ∙ rw at (next-held B (l .part) (own w) (l .inv .4)) in
-    let r = c .before .before .before .before .put-in in (
-      λ long.
-          let q : r .last .0 ≡ set (l .contents) (own w) (gets w) = r .ensures .0 ∙ rw (h, at, v) (put-value B (own w) (gets w) (l .contents) (l .inv .2 ∙ long)) in
-          ap (puts (drop (l .j + 1) is)) q ∙ sym (ap (λ (is : List Instruction). puts is (l .contents)) d) ∙ l .inv .0 long,
-      λ long.
-          let p : r .last .1 .0 ≡ set (l .writers) (own w) (mark (a .bit) (ltb (own w) (length (a .contents .now))) (getD (l .writers) (own w) 0)) =
-          r .ensures .1 ∙ rw (h, at, l .inv .2) (put-mark B (own w) (a .bit) (length (a .contents .now)) (l .writers) long) in
-          ap (put-marks (a .bit) (length (a .contents .now)) (drop (l .j + 1) is)) p
-          ∙ sym (ap (λ (is : List Instruction). put-marks (a .bit) (length (a .contents .now)) is (l .writers)) d) ∙ l .inv .1 long,
+    let r = c .before .before .before .before .put-in in
+    let k = min (L B) (length (a .contents .now)) in
+    let q : r .last .0 ≡ (if ltb (own w) (L B) then set (l .contents) (own w) (gets w) else l .contents) = r .ensures .0 ∙ rw (h, at, v) (put-value B (own w) (gets w) (l .contents)) in
+    let p : r .last .1 .0 ≡ set (l .writers) (own w) (mark (a .bit) (ltb (own w) k) (getD (l .writers) (own w) 0)) =
+    r .ensures .1 ∙ rw (h, at, l .inv .2) (put-mark B (own w) (a .bit) (length (a .contents .now)) (l .writers)) in (
+      ap (puts (L B) (drop (l .j + 1) is)) q ∙ sym (ap (λ (is : List Instruction). puts (L B) is (l .contents)) d) ∙ l .inv .0,
+      ap (put-marks (a .bit) k (drop (l .j + 1) is)) p ∙ sym (ap (λ (is : List Instruction). put-marks (a .bit) k is (l .writers)) d) ∙ l .inv .1,
       r .kept .0 ∙ l .inv .2,
       r .kept .1 .0 ∙ l .inv .3,
       rw h (own-part B (own w)),
@@ -131,8 +130,8 @@ returns c =
     let n = c .before .before .smaller in
     let l = c .before .loop in
     let d = items-end (a .list .now) (a .len) (n .result) (n .ensures) (l .j) (c .loop-test .left) in (
-      λ long. sym (ap (λ (is : List Instruction). puts is (l .contents)) d) ∙ l .inv .0 long,
-      λ long. sym (ap (λ (is : List Instruction). put-marks (a .bit) (length (a .contents .now)) is (l .writers)) d) ∙ l .inv .1 long,
+      sym (ap (λ (is : List Instruction). puts (L (held (a .image .now))) is (l .contents)) d) ∙ l .inv .0,
+      sym (ap (λ (is : List Instruction). put-marks (a .bit) (min (L (held (a .image .now))) (length (a .contents .now))) is (l .writers)) d) ∙ l .inv .1,
     )
 
 pub put-all-spec : {M : Type 1} → statement M

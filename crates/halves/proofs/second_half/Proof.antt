@@ -1,6 +1,6 @@
 -- `second_half` meets its contract.
-use Rattle.halves.proofs.Halves.{second-stops, second-moves}
-use mathlib.Core.Path.{sym, ap, _∙_}
+use Rattle.halves.proofs.Halves.{concluded-first}
+use mathlib.Core.Path.{refl, sym, ap, _∙_}
 use Prim.Native.Nat.{ℕ, min}
 use lib.ListN.{length}
 use lib.Seq.{length-take-le}
@@ -10,9 +10,7 @@ use Rattle.halves.proofs.second_half.Statement.{statement}
 use Rattle.halves.proofs.second_half.Tie as tie
 
 returns : tie.Need-returns
-returns c =
-    let a = c .before .before .before .before .args in
-    λ text k n h. second-stops text (a .contents .now) k n (a .image .now) (a .work .now) (a .p) h (c .if1 .taken)
+returns c = record { stops = λ h. (refl, refl); moves = λ z. absurd (c .if1 .taken z) }
 
 locations-requires : tie.Need-locations-requires
 locations-requires c κs = search needs
@@ -52,7 +50,7 @@ returns-2 c =
     let a = c .before .before .before .before .before .before .before .before .before .before .before .before .before .before .before .before .args in
     let n = c .before .before .before .before .before .before .before .before .smaller in
     let m = c .before .before .before .before .finish in
-    λ text k i h. second-moves text (a .contents .now) k i (a .image .now) (a .work .now) (a .p) h (c .before .before .before .before .before .before .before .before .before .before .before .before .if1 .left) (n .result) (n .ensures ∙ ap (λ (x : ℕ). min x (length (a .contents .now))) (c .before .before .before .before .before .before .before .before .before .locations .ensures)) (m .result) (m .last .1 .0) (m .last .1 .1 .0) (m .last .1 .1 .1 .0) (m .ensures)
+    concluded-first (a .image .now) (a .contents .now) (a .work .now) (a .p) (n .result) (n .ensures ∙ ap (λ (x : ℕ). min x (length (a .contents .now))) (c .before .before .before .before .before .before .before .before .before .locations .ensures)) (c .before .before .before .before .before .before .before .before .before .before .before .before .if1 .left) (m .result) (m .last .1 .0) (m .last .1 .1 .0) (m .last .1 .1 .1 .0) (m .ensures)
 
 pub second-half-spec : {M : Type 1} → statement M
 second-half-spec =

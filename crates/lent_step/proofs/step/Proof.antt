@@ -51,7 +51,6 @@ use Rattle.text.proofs.Answer as N
 use Rattle.text.proofs.Answer.Laws as N′
 use Rattle.engine.specs.declared.Instruction.{Instruction}
 use Rattle.engine.specs.declared.Record.{Record}
-use Rattle.engine.specs.Single.{step-call}
 use Rattle.engine.proofs.Record as T
 use Rattle.records.specs.Code.{items}
 use Rattle.lent.specs.Written.{written, through}
@@ -65,9 +64,8 @@ use Rattle.lent.proofs.pass.Met as pass-thm
 use Rattle.moves.proofs.Begun as B
 use Rattle.moves.proofs.Begun.Laws as B′
 use Rattle.halves.specs.declared.Paused.{Paused}
-use Rattle.halves.specs.Stages.{Tells}
-use Rattle.halves.specs.Halves.{Halfway}
-use Rattle.halves.proofs.Halves.{half-made, half-few, half-passed}
+use Rattle.halves.specs.Halves.{Halfway, Concluded}
+use Rattle.halves.proofs.Halves.{half-made, half-few, half-passed, half-concluded}
 use Rattle.halves.proofs.Paused as P
 use Rattle.halves.proofs.Paused.Laws as P′
 use Rattle.halves.proofs.first_half as first
@@ -145,7 +143,7 @@ module _ {M : Type 1} (𝓤 : URA M) (H : Heap 𝓤) (A : Atoms 𝓤) (W : Given
   module _ (p : Paused) (mi us us′ : List ℕ) (zs : List Record) (ds : List ℕ) (r : Answer) (w : Val) (is-r : Is N.the-row r (w ∷ []))
       (e₁ : Halfway (xb .now) cs k n mi us p)
       (e₂ : (zs ≡ written (items us (p .begun .count)) (xl .now)) × (p .begun .count ≤ n → p .begun .count ≤ length us → items us′ (p .begun .count) ≡ items us (p .begun .count)))
-      (e₃ : (text : List ℕ) (j i : ℕ) → Halfway text cs j i mi us′ p → Tells r (p .begun .count) us′ ds (step-call text cs j i))
+      (e₃ : Concluded mi cs us′ p r ds)
       (l256 : length us ≡ 256) (lw : length us′ ≡ length us) (ll : length zs ≡ n) (lc : length ds ≡ length cs)
     where
       passed : Halfway (xb .now) cs k n mi us′ p
@@ -157,7 +155,7 @@ module _ {M : Type 1} (𝓤 : URA M) (H : Heap 𝓤) (A : Atoms 𝓤) (W : Given
       exits =
           qed W (‵ (flft κ₀ q₀) ∷ ‵ (flft κ₁ q₁) ∷ ‵ (flft κ₂ q₂) ∷ ‵ Program ∷ ‵ (fobs δc (codedHoleys u16 .code (heres u16 ds))) ∷ ‵ (fbor κ₁ (Held u16 (length ds) bc oc δc)) ∷ ‵ (finally T.the-row (xl .name) zs) ∷ []) ∵
           suffices ! _ (ends-at 𝓤 H A step.ended stayed (step.clauses 𝓤 H A mem run) W ((κs, qs, tt, a, vals), tt) w r (tt, (ds, (tt, (zs, tt)))) (tt, (lc, (tt, (ll, tt))))) $
-          says ! (let f = e₃ (xb .now) k n passed in (f .answer, f .contents, e₂ .0 ∙ ap (λ (is : List Instruction). written is (xl .now)) (half-made (xb .now) cs k n mi us p e₁))) $
+          says ! (let f = half-concluded (xb .now) cs k n mi us′ p passed r ds e₃ in (f .answer, f .contents, e₂ .0 ∙ ap (λ (is : List Instruction). written is (xl .now)) (half-made (xb .now) cs k n mi us p e₁))) $
           nothing ! $ move ! (3 ∷ 0 ∷ []) $ join ! $ move ! (2 ∷ 0 ∷ []) $ join ! $ move ! (1 ∷ 0 ∷ []) $ join ! $ frame ! $
           -- [what book owns; obs; the borrow; the last list]
           move ! (1 ∷ 2 ∷ []) $ fjoin ! $ pureI ! (at-slice u16 (contents-at δc ds) (sc ∷ [])) (tt, (tt, tt)) (ap (λ (j : ℕ). sliceVal (bc, oc) j ∷ []) (sym lc), subst (Room u16) (sym lc) room-c) $ fjoin ! $
@@ -297,7 +295,7 @@ module _ {M : Type 1} (𝓤 : URA M) (H : Heap 𝓤) (A : Atoms 𝓤) (W : Given
         move ! (1 ∷ 0 ∷ []) $ use2 W (raw (Second 𝓤 H A mem run .pre (to-second ν₅ ν₆ ν₇ γ₅ γ₆ γ₇ l₆ l₇ (zs .1 .1 .1 .1 .0) (ls .1 .0) p))) (asked-second ν₅ ν₆ ν₇ γ₅ γ₆ γ₇ l₆ l₇ (zs .1 .1 .1 .1 .0) (ls .1 .0) p) $
         calls-at ! fm (Second 𝓤 H A mem run) known-second (to-second ν₅ ν₆ ν₇ γ₅ γ₆ γ₇ l₆ l₇ (zs .1 .1 .1 .1 .0) (ls .1 .0) p) (and-then ! (load ! (from ! (stop !)) (look ! 15 refl)) (and-then ! (load ! (from ! (stop !)) (look ! 13 refl)) (and-then ! (load ! (from ! (stop !)) (look ! 11 refl)) (and-then ! (load ! (from ! (stop !)) (look ! 39 refl)) (no-more !))))) (λ w₃.
         use1 W (later (some (λ (r : Answer). ((‵ (flft (ν₅ ∷ []) fullShare) ⊛ ‵ (flft (ν₆ ∷ []) fullShare) ⊛ ‵ (flft (ν₇ ∷ []) fullShare) ⊛ ‵ ftrue) ⊛ ‵ (N.the-row .own r (w₃ ∷ []))) ⊛ raw (ensured 𝓤 H A second.ended (second.clauses 𝓤 H A mem run) ((ν₅ ∷ []), ((ν₆ ∷ []), ((ν₇ ∷ []), tt))) (second-a γ₅ γ₆ γ₇ l₆ l₇ (zs .1 .1 .1 .1 .0) (ls .1 .0) p) tt r)))) (id⊢ 𝓤 _) $ await ! tt $ pick ! (λ r. split ! $ move ! (1 ∷ []) $
-        use1 W (some (λ (ds : List ℕ × (Unit {0} × (Unit {0} × (Unit {0} × Unit {0})))). ‵ (lasts second.ended ((ν₅ ∷ []), ((ν₆ ∷ []), ((ν₇ ∷ []), tt))) (second-a γ₅ γ₆ γ₇ l₆ l₇ (zs .1 .1 .1 .1 .0) (ls .1 .0) p) ds) ⊛ raw (fact 𝓤 ((text : List ℕ) (j i : ℕ) → Halfway text cs j i (zs .1 .1 .1 .1 .0) (ls .1 .0) p → Tells r (p .begun .count) (ls .1 .0) (ds .0) (step-call text cs j i))))) (id⊢ 𝓤 _) $ pick ! (λ ds. split ! $ move ! (1 ∷ []) $ heard ! ((text : List ℕ) (j i : ℕ) → Halfway text cs j i (zs .1 .1 .1 .1 .0) (ls .1 .0) p → Tells r (p .begun .count) (ls .1 .0) (ds .0) (step-call text cs j i)) (λ e₃.
+        use1 W (some (λ (ds : List ℕ × (Unit {0} × (Unit {0} × (Unit {0} × Unit {0})))). ‵ (lasts second.ended ((ν₅ ∷ []), ((ν₆ ∷ []), ((ν₇ ∷ []), tt))) (second-a γ₅ γ₆ γ₇ l₆ l₇ (zs .1 .1 .1 .1 .0) (ls .1 .0) p) ds) ⊛ raw (fact 𝓤 (Concluded (zs .1 .1 .1 .1 .0) cs (ls .1 .0) p r (ds .0))))) (id⊢ 𝓤 _) $ pick ! (λ ds. split ! $ move ! (1 ∷ []) $ heard ! (Concluded (zs .1 .1 .1 .1 .0) cs (ls .1 .0) p r (ds .0)) (λ e₃.
         fsplit ! $ fsplit ! $ move ! (1 ∷ []) $ feqL ! (λ lc. move ! (1 ∷ []) $ fsplit ! $ drop ! $ fsplit ! $ drop ! $ fsplit ! $ drop ! $ drop ! $
         move ! (1 ∷ []) $ split ! $ move ! (1 ∷ []) $ peeks ! N.the-row (Is N.the-row) (shows 𝓤 H A N.the-row) r (w₃ ∷ []) (λ is-r.
         land ! (from ! (stop !)) (init ! 55 refl (LL.lawful N.the-type N′.the-laws 𝓤 H A W .typed r _ is-r .0)) $

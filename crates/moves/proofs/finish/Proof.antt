@@ -1,8 +1,12 @@
 -- `finish` meets its contract.
-use mathlib.Core.List.{[]}
+use mathlib.Core.Path.{refl, sym, subst}
 use borrow.Author.Needs.{needs}
 use Rattle.book.specs.Image.{held}
-use Rattle.moves.proofs.Effect.{refused-state, finished-state}
+use Rattle.engine.specs.Rule.{Walked}
+use Rattle.engine.specs.Move.{settle}
+use Rattle.walk.proofs.Steps.{outcome-going, outcome-met}
+use Rattle.moves.specs.Effect.{tables}
+use Rattle.moves.specs.Close.{told, Completed}
 use Rattle.moves.proofs.finish.Statement.{statement}
 use Rattle.moves.proofs.finish.Tie as tie
 
@@ -10,9 +14,13 @@ cast-t10 : tie.Need-cast-t10
 cast-t10 c = search needs
 
 returns : tie.Need-returns
+unfolding settle
 returns c =
     let a = c .before .before .before .before .before .before .args in
-    λ k t h. refused-state (held (a .image .now)) k (a .bit) (a .at) t (a .s) (a .list .now) (a .contents .now) (a .readers .now) (a .writers .now) h (c .before .if1 .taken)
+    let t = tables (a .contents .now) (a .readers .now) (a .writers .now) in
+    subst (λ (w : Walked). Completed (held (a .image .now)) (a .bit) (a .at) w t (told (a .s .refused) (a .at) (a .s .node)) t)
+    (sym (outcome-met (a .s) (a .list .now) (c .before .if1 .taken)))
+    (record { answer = λ ls. refl; contents = λ ls. refl; readers = λ ls. refl; writers = λ ls. refl })
 
 settle-listed-requires : tie.Need-settle-listed-requires
 settle-listed-requires c κs = search needs
@@ -30,7 +38,10 @@ returns-2 : tie.Need-returns-2
 returns-2 c =
     let a = c .before .before .before .before .before .before .before .before .before .before .before .before .before .before .before .args in
     let f = c .before .before .before .before .before .before .settle-listed in
-    λ k t h. finished-state (held (a .image .now)) k (a .bit) (a .at) t (a .s) (a .list .now) (a .contents .now) (a .readers .now) (a .writers .now) h (c .before .before .before .before .before .before .before .before .before .before .if1 .left) (f .result) (f .last .1 .0) (f .last .1 .1 .0) (f .last .1 .1 .1 .0) (f .ensures)
+    subst
+    (λ (w : Walked). Completed (held (a .image .now)) (a .bit) (a .at) w (tables (a .contents .now) (a .readers .now) (a .writers .now)) (f .result) (tables (f .last .1 .0) (f .last .1 .1 .0) (f .last .1 .1 .1 .0)))
+    (sym (outcome-going (a .s) (a .list .now) (c .before .before .before .before .before .before .before .before .before .before .if1 .left)))
+    (f .ensures (a .s .label))
 
 pub finish-spec : {M : Type 1} → statement M
 finish-spec =

@@ -1,5 +1,12 @@
 -- `settle_listed` meets its contract.
+use mathlib.Core.Path.{sym, ap, _∙_}
 use borrow.Author.Needs.{needs}
+use Rattle.book.specs.Image.{held}
+use Rattle.engine.specs.Move.{Moved, settle}
+use Rattle.records.specs.Code.{items}
+use Rattle.firing.specs.Outcome.{move-by}
+use Rattle.moves.specs.Effect.{move-answer}
+use Rattle.moves.specs.Close.{closed}
 use Rattle.moves.proofs.settle_listed.Statement.{statement}
 use Rattle.moves.proofs.settle_listed.Tie as tie
 
@@ -19,10 +26,20 @@ same-length-3 : tie.Need-same-length-3
 same-length-3 c = search needs
 
 returns : tie.Need-returns
+unfolding settle
 returns c =
     let s = c .before .before .before .before .before .before .before .before .before .settle in
     let e = c .before .before .close .ensures in
-    λ h ls. record { outcome = s .result; settled = s .ensures h ls; answer = e .0; readers = e .1 }
+    λ next.
+    let a = c .before .before .before .before .before .before .before .before .before .before .before .before .before .before .before .before .args in
+    let f = move-by (a .image .now) (a .contents .now) (a .list .now) (a .len) in
+    let t = s .ensures in
+    record {
+      answer = λ ls. e .0 (f ls) ∙ ap (move-answer (a .at)) (sym (t .outcome ls));
+      contents = t .contents;
+      readers = λ ls. e .1 (f ls) ∙ ap (λ (o : Moved). closed (held (a .image .now)) (a .bit) (items (a .list .now) (a .len)) o (a .readers .now)) (sym (t .outcome ls));
+      writers = t .writers;
+    }
 
 pub settle-listed-spec : {M : Type 1} → statement M
 settle-listed-spec =
