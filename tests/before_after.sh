@@ -1,21 +1,23 @@
 #!/usr/bin/env bash
 # Measures two static libraries of the proved code, row by row in turns, and prints a Markdown table: each row before and after, and its ratio
 # to the independent implementation. The last line names the rows that take more than 1.05 times before. With --instructions the table is in
-# instructions (valgrind counts them). Both libraries are linked with the benchmarks as they are here, each function at a multiple of 64 bytes: a
-# function that grows or shrinks moves those after it, and where a loop starts in a cache line alone can be a tenth of a row. All files go to a
-# temporary folder.
-# Usage: tests/before_after.sh [--instructions] OLD.a NEW.a [WORD]; with a word, only the rows whose name has it.
+# instructions (valgrind counts them). Both libraries are linked with the benchmarks as they are here. A function that grows or shrinks moves those
+# after it, and where a loop starts in a cache line alone can be a tenth of a row: with --aligned each function of both libraries starts at a
+# multiple of 64 bytes, to tell that from what the code does. All files go to a temporary folder.
+# Usage: tests/before_after.sh [--instructions] [--aligned] OLD.a NEW.a [WORD]; with a word, only the rows whose name has it.
 set -eu
 
 usage() {
-    echo "usage: tests/before_after.sh [--instructions] OLD.a NEW.a [WORD]" >&2
+    echo "usage: tests/before_after.sh [--instructions] [--aligned] OLD.a NEW.a [WORD]" >&2
     exit 2
 }
 
 options=()
+place=cp
 while [ $# -gt 0 ]; do
     case $1 in
         --instructions) options+=("$1") ;;
+        --aligned) place=align ;;
         -*) usage ;;
         *) break ;;
     esac
@@ -43,7 +45,7 @@ align() {
 # build NAME LIBRARY: the program `bench` over a library, as $work/NAME/bench
 build() {
     mkdir "$work/$1"
-    align "$2" "$work/$1/libfor_c.a"
+    $place "$2" "$work/$1/libfor_c.a"
     RENTAL_LIBRARY="$work/$1" cargo build --offline --release --quiet --manifest-path "$tests/Cargo.toml" \
         --target-dir "$work/target" -p compare --bin bench
     cp "$work/target/release/bench" "$work/$1/bench"
