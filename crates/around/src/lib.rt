@@ -7,7 +7,7 @@ ghost use mathlib.Core.Bool.{not};
 ghost use lib.Dec.{eqb};
 ghost use lib.ListN.{length, getD};
 ghost use Rattle.text.specs.Words.{least};
-ghost use Rattle.book.specs.Kinds.{sort-table};
+ghost use Rattle.book.specs.Kinds.{sort-table, is-binder};
 ghost use Rattle.book.specs.Use.{bad-use};
 ghost use Rattle.book.specs.Around.{bit-of, binds, put-if, hand, handed, misplaced, bad-around};
 ghost use Rattle.book.specs.Image.{program-in};
@@ -31,7 +31,7 @@ fn bump(s: &mut [u8], on: bool, x: u32)
 }
 
 // The operand places of node y. From sort 9 on an operand is a node.
-fn count(table: &[u8; 84], s: &mut [u8], y: Node)
+fn count(table: &[u8; 87], s: &mut [u8], y: Node)
     requires { ⌜ now table ≡ sort-table ⌝ }
     ensures { λ _. ⌜ now (s .exit) ≡ counted y (now (s .entry)) ⌝ }
 {
@@ -118,15 +118,22 @@ fn in_forall(y: Node, v: u16) -> u16
     }
 }
 
+// A node kind that binds a variable.
+fn is_binder(kind: u32) -> bool
+    ensures { λ r. ⌜ r ≡ is-binder kind ⌝ }
+{
+    match kind {
+        24..=26 => true,
+        28 => true,
+        _ => false,
+    }
+}
+
 // One variable more in the c of a binder.
 fn in_binder(y: Node, v: u16) -> u16
     ensures { λ r. ⌜ r ≡ in-binder y v ⌝ }
 {
-    let kind = y.kind;
-    match kind {
-        24..=26 => v | bit(y.a),
-        _ => v,
-    }
+    if is_binder(y.kind) { v | bit(y.a) } else { v }
 }
 
 fn put_if(s: &mut [u16], on: bool, x: u32, v: u16)
@@ -138,7 +145,7 @@ fn put_if(s: &mut [u16], on: bool, x: u32, v: u16)
 }
 
 // Node y hands v to its operands a and b, and w to its operand c.
-fn hand(table: &[u8; 84], s: &mut [u16], y: Node, v: u16, w: u16)
+fn hand(table: &[u8; 87], s: &mut [u16], y: Node, v: u16, w: u16)
     requires { ⌜ now table ≡ sort-table ⌝ }
     ensures { λ _. ⌜ now (s .exit) ≡ hand y v w (now (s .entry)) ⌝ }
 {
@@ -177,12 +184,13 @@ fn is_misplaced(y: Node, depth: u16, foralls: u16, bound: u16) -> bool
     ensures { λ r. ⌜ r ≡ misplaced y depth foralls bound ⌝ }
 {
     let deep = 32 < depth;
-    let kind = y.kind;
-    match kind {
-        2 => !has(y, bound) | deep,
-        24..=26 => has(y, bound) | deep | ((kind == 25) & (2 <= foralls)),
-        _ => deep,
+    if y.kind == 2 {
+        return !has(y, bound) | deep;
     }
+    if is_binder(y.kind) {
+        return has(y, bound) | deep | ((y.kind == 25) & (2 <= foralls));
+    }
+    deep
 }
 
 fn misplaced_at<'a>(image: &'a Image, s: &'a [u16], i: u32) -> bool

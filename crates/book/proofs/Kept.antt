@@ -68,18 +68,18 @@ module _ (B : Program) (n : ℕ) (p : B .P ≤ 10000) (f : length (B .functions)
       ltb-true x 65535 (so-true (ltb x 65535) (fits B n s x) e (λ q. large s x (ltb-false x 65535 q)))
 
 -- a node of no kind fits nothing
-kind-small : (B : Program) (n kind x : ℕ) → fits B n (sort kind 0) x ≡ true → kind < 28
+kind-small : (B : Program) (n kind x : ℕ) → fits B n (sort kind 0) x ≡ true → kind < 29
 unfolding fits sort
 kind-small B n kind x e =
-    ltb-true kind 28
-    (so-true (ltb kind 28) (fits B n (sort kind 0) x) e
+    ltb-true kind 29
+    (so-true (ltb kind 29) (fits B n (sort kind 0) x) e
     (λ q.
-    let h = ltb-false kind 28 q in
+    let h = ltb-false kind 29 q in
     let l : length sort-table ≤ kind * 3 + 0 = omega arith in
     rw (List·getD-eq-default sort-table 0 l)))
 
 pub record SmallNode (y : Node) : Type 0 where
-  pub kind : y .kind < 28
+  pub kind : y .kind < 29
   pub a : y .a < 65535
   pub b : y .b < 65535
   pub c : y .c < 65535
@@ -124,7 +124,7 @@ module _ (B : Program) where
         rw (
           List·getD-map kept-node (B .nodes) x no-node,
           within-kept 1 13 (node-at B x .kind) (omega arith),
-          within-kept 20 27 (node-at B x .kind) (omega arith),
+          within-kept 20 28 (node-at B x .kind) (omega arith),
           within-kept 4 6 (node-at B x .kind) (omega arith),
           function-kept (node-at B x .a),
         )

@@ -1,14 +1,17 @@
--- A book's check refuses with 1 to 8, at a line, field, function, node or agent below 2^24, with q 0; and an accepted book has few nodes and locations.
+-- A book's check refuses with 1 to 8, at a line, field, function, node or agent below 2^24, with q 0; and an accepted book has few nodes and locations, and low roots.
 use mathlib.Core.Path.{_≡_}
 use mathlib.Core.List.{List}
 use Prim.Native.Nat.{ℕ, _^_, _≤_, _<_}
 use native.Mathlib.Omega.{arith}
-use lib.ListN.{length}
+use native.Mathlib.Decide.{decLt}
+use mathlib.Core.Logic.{dite}
+use lib.ListN.{length, List·getD-eq-default}
 use Rattle.text.specs.Words.{Checked, good, refused, answer-of}
 use Rattle.text.specs.Text.{bad-line}
 use Rattle.text.proofs.Checks.{Ends, on, off, Any, also, bind-ends, then-ends, none-ends, must-ends, Before}
 use Rattle.book.specs.declared.Header.{Header}
-use Rattle.book.specs.Book.{Program, Book, L}
+use Rattle.book.specs.Book.{Program, Book, L, no-agent, agent-at}
+use Rattle.book.specs.Sound.{Lawful}
 use Rattle.book.specs.Lines.{first-entry, line-count}
 use Rattle.book.specs.Check.{check-header, check-present, check-surplus, check-program, check-lines, check-book}
 use Rattle.book.proofs.Accepted.{Bounded, header-bounded, book-lengths, lines-book, accepted-lines, accepted}
@@ -34,21 +37,30 @@ unfolding check-lines
 lines-ends h text b =
     then-ends (program-ends h text b) (then-ends (none-ends OfBook 8 (first-entry h) 0 _ (h .contents) (λ p k. omega arith)) (on tt))
 
--- what the nodes and locations of an accepted book's program number at most
+-- what the nodes, locations and roots of an accepted book's program are at most
 pub record Fits (B : Program) : Type 0 where
   pub nodes : length (B .nodes) ≤ 1024
   pub locations : L B ≤ 65536
+  pub roots : (k : ℕ) → agent-at B k .root ≤ 1024
 
 abbrev pub FitsOf : Book → Type 0
 FitsOf b = Fits (b .program)
+
+-- past the agents there is none, with root 0
+root-fits : (B : Program) → Lawful B → length (B .nodes) ≤ 1024 → (k : ℕ) → agent-at B k .root ≤ 1024
+root-fits B ok few k =
+    dite (decLt k (length (B .agents))) (λ h. omega (arith, ok .roots k h .0))
+    (λ (h : ¬ (k < length (B .agents))). rw (List·getD-eq-default (B .agents) no-agent {n = k} (omega arith)) (omega arith))
 
 accepted-fits : (text : List ℕ) (b : Book) → check-book text ≡ good b → FitsOf b
 accepted-fits text b e =
     let r = accepted-lines text b e in
     let h = r .0 in
+    let few : length (b .program .nodes) ≤ 1024 = rw (lines-book text h b (r .2)) (omega (arith, book-lengths h text .1, header-bounded text h (r .1))) in
     record {
-      nodes = rw (lines-book text h b (r .2)) (omega (arith, book-lengths h text .1, header-bounded text h (r .1)));
+      nodes = few;
       locations = accepted text b e .locations;
+      roots = λ k. root-fits (b .program) (accepted text b e) few k;
     }
 
 pub book-ends : (text : List ℕ) → Ends FitsOf OfBook (check-book text)

@@ -38,6 +38,14 @@ examples =
     -- the trace of a Reserve label is at fault and not its Reserve entry
     ∷ case (padded "8 6 2 1 / 1 2 0 0 / 1 3 0 0 / 1 2 0 0 / 20 0 0 0 / 0 3 0 0 / 0 7 0 2 / 1 7 0 4") (8 ∷ 7 ∷ 0 ∷ [])
     ∷ case (padded "8 6 2 1 / 1 2 0 0 / 1 3 0 0 / 1 2 0 0 / 20 0 0 0 / 0 3 0 0 / 0 7 0 2 / 1 6 0 7") (8 ∷ 7 ∷ 0 ∷ [])
+    -- a choose: in the c of two foralls; of a variable already bound; in Reserve; in a static relation; in what is no relation, or not unary; kind 29
+    ∷ case (padded "8 6 2 4 / 1 0 0 0 / 1 3 0 0 / 1 3 0 0 / 20 0 0 0 / 28 2 1 0 / 25 1 1 1 / 25 0 1 2 / 3 4 0 0") (0 ∷ 0 ∷ 0 ∷ [])
+    ∷ case (padded "8 6 2 4 / 1 0 0 0 / 1 3 0 0 / 1 3 0 0 / 20 0 0 0 / 28 1 1 0 / 25 1 1 1 / 25 0 1 2 / 3 4 0 0") (6 ∷ 1 ∷ 0 ∷ [])
+    ∷ case (padded "8 6 2 2 / 1 0 0 0 / 1 3 0 0 / 1 3 0 0 / 20 0 0 0 / 28 0 0 0 / 1 4 0 0") (5 ∷ 1 ∷ 0 ∷ [])
+    ∷ case (padded "8 6 2 2 / 1 0 0 0 / 1 3 0 0 / 1 1 0 0 / 20 0 0 0 / 28 0 1 0 / 1 4 0 0") (0 ∷ 0 ∷ 0 ∷ [])
+    ∷ case (padded "8 6 2 2 / 1 0 0 0 / 1 3 0 0 / 1 2 0 0 / 20 0 0 0 / 28 0 1 0 / 1 4 0 0") (5 ∷ 1 ∷ 0 ∷ [])
+    ∷ case (padded "8 6 2 2 / 1 0 0 0 / 1 3 0 0 / 2 3 0 0 / 20 0 0 0 / 28 0 1 0 / 1 4 0 0") (5 ∷ 1 ∷ 0 ∷ [])
+    ∷ case (padded "8 6 2 2 / 1 0 0 0 / 1 3 0 0 / 1 3 0 0 / 20 0 0 0 / 29 0 1 0 / 1 4 0 0") (5 ∷ 1 ∷ 0 ∷ [])
     ∷ []
 
 examples-right : all-right asked examples ≡ true

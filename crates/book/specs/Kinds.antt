@@ -1,8 +1,8 @@
 -- Node kinds: which are terms, rules and binders, and the sorts of their three operands (01, "Node kinds").
-use mathlib.Core.Bool.{Bool}
+use mathlib.Core.Bool.{Bool, _||_}
 use mathlib.Core.List.{List, [], _∷_}
 use Prim.Native.Nat.{ℕ, _+_, _*_}
-use lib.Dec.{leb}
+use lib.Dec.{eqb, leb}
 use lib.ListN.{getD}
 use Rattle.text.specs.Words.{within}
 
@@ -10,10 +10,14 @@ abbrev pub is-term : ℕ → Bool
 is-term kind = within 1 kind 13
 
 abbrev pub is-rule : ℕ → Bool
-is-rule kind = within 20 kind 27
+is-rule kind = within 20 kind 28
 
+abbrev pub choose-kind : ℕ
+choose-kind = 28
+
+-- let, forall, import; and choose
 abbrev pub is-binder : ℕ → Bool
-is-binder kind = within 24 kind 26
+is-binder kind = within 24 kind 26 || eqb kind choose-kind
 
 -- a term that names a location
 abbrev pub names-location : ℕ → Bool
@@ -66,7 +70,7 @@ rule = 10
 abbrev pub target : ℕ
 target = 11
 
--- the three operand sorts of each node kind, from 0 to 27
+-- the three operand sorts of each node kind, from 0 to 28
 abbrev pub sort-table : List ℕ
 sort-table =
     0 ∷ 0 ∷ 0
@@ -92,6 +96,7 @@ sort-table =
     ∷ variable ∷ universe ∷ rule
     ∷ variable ∷ dynamic-universe ∷ rule
     ∷ term ∷ unused ∷ unused
+    ∷ variable ∷ universe ∷ rule
     ∷ []
 
 -- the sort of operand j, 0 to 2, of a node kind

@@ -15,9 +15,10 @@ use Rattle.text.specs.Words.{Checked, good, refused, _>>_, none-at, must, answe
 use Rattle.text.proofs.Words.{then-good, test-good}
 use Rattle.book.specs.Book.{Program, L}
 use Rattle.book.specs.Contents.{bad-value}
-use Rattle.engine.specs.Single.{check-agent, check-step-lengths, check-lent-step, check-contents}
+use Rattle.engine.specs.Move.{Input}
+use Rattle.engine.specs.Single.{pick-place, bad-pick, check-picks, check-agent, check-step-lengths, check-lent-step, check-contents}
 use Rattle.calls.specs.Call.{check-call}
-use Rattle.calls.proofs.Numbered.{Numbered, accepts, agent-numbered, lengths-numbered}
+use Rattle.calls.proofs.Numbered.{Numbered, accepts, agent-numbered, picks-numbered, lengths-numbered}
 
 abbrev pub Refusal : ℕ → ℕ → ℕ → Answer
 Refusal n p q = record { number = n; p = p; q = q }
@@ -32,6 +33,15 @@ module _ (B : Program) (k : ℕ) where
   pub agent-missing : length (B .agents) ≤ k → Refusal 9 0 0 ≡ answer-of (check-agent B k)
   unfolding check-agent must
   agent-missing h = rw (le-ltb k (length (B .agents)) h)
+
+module _ (B : Program) (ys : List ℕ) where
+  pub pick-bad : (j : ℕ) → Here j ≡ least (bad-pick B ys) (length ys) → Refusal 9 (pick-place j) 0 ≡ answer-of (check-picks B ys)
+  unfolding check-picks
+  pick-bad j e = rw (← e)
+
+  pub picks-fine : Nowhere ≡ least (bad-pick B ys) (length ys) → Refusal 0 0 0 ≡ answer-of (check-picks B ys)
+  unfolding check-picks
+  picks-fine e = rw (← e)
 
 module _ (locations : ℕ) (c : List ℕ) (n : ℕ) where
   pub contents-short : length c < locations → Refusal 2 locations 0 ≡ answer-of (check-step-lengths locations c n)
@@ -79,21 +89,29 @@ module _ {A B : Type 0} (r : Answer) (x : Checked A) (y : Checked B) where
   unfolding _>>_
   goes s e h z f = rw (accepts x h (ap (λ (a : Answer). a .number) (sym e) ∙ z) .1) f
 
-module _ (B : Program) (locations : ℕ) (c : List ℕ) (k n : ℕ) (nine : Answer) (is-nine : nine ≡ answer-of (check-agent B k)) where
-  pub nine-refuses : nine .number ≢ 0 → nine ≡ answer-of (check-call B locations c k n)
+module _ (B : Program) (locations : ℕ) (c : List ℕ) (i : Input) (n : ℕ) (nine : Answer) (is-nine : nine ≡ answer-of (check-agent B (i .agent))) where
+  pub agent-refuses : nine .number ≢ 0 → nine ≡ answer-of (check-call B locations c i n)
   unfolding check-call
-  nine-refuses h = stops nine _ _ is-nine h
+  agent-refuses h = stops nine _ _ is-nine h
 
-  module _ (passed : nine .number ≡ 0) (two : Answer) (is-two : two ≡ answer-of (check-step-lengths locations c n)) where
-    after-nine : (r : Answer) → r ≡ answer-of (check-step-lengths locations c n >> check-contents B (take locations c)) → r ≡ answer-of (check-call B locations c k n)
+  module _ (passed : nine .number ≡ 0) (other : Answer) (is-other : other ≡ answer-of (check-picks B (i .picks))) where
+    after-agent : (r : Answer) → r ≡ answer-of (check-picks B (i .picks) >> (check-step-lengths locations c n >> check-contents B (take locations c)))
+        → r ≡ answer-of (check-call B locations c i n)
     unfolding check-call
-    after-nine r e = goes r _ _ nine is-nine (agent-numbered B k) passed e
+    after-agent r e = goes r _ _ nine is-nine (agent-numbered B (i .agent)) passed e
 
-    pub two-refuses : two .number ≢ 0 → two ≡ answer-of (check-call B locations c k n)
-    two-refuses h = after-nine two (stops two _ _ is-two h)
+    pub picks-refuse : other .number ≢ 0 → other ≡ answer-of (check-call B locations c i n)
+    picks-refuse h = after-agent other (stops other _ _ is-other h)
 
-    pub eight-last : two .number ≡ 0 → (r : Answer) → r ≡ answer-of (check-contents B (take locations c)) → r ≡ answer-of (check-call B locations c k n)
-    eight-last z r e = after-nine r (goes r _ _ two is-two (lengths-numbered locations c n) z e)
+    module _ (also-passed : other .number ≡ 0) (two : Answer) (is-two : two ≡ answer-of (check-step-lengths locations c n)) where
+      after-picks : (r : Answer) → r ≡ answer-of (check-step-lengths locations c n >> check-contents B (take locations c)) → r ≡ answer-of (check-call B locations c i n)
+      after-picks r e = after-agent r (goes r _ _ other is-other (picks-numbered B (i .picks)) also-passed e)
+
+      pub two-refuses : two .number ≢ 0 → two ≡ answer-of (check-call B locations c i n)
+      two-refuses h = after-picks two (stops two _ _ is-two h)
+
+      pub eight-last : two .number ≡ 0 → (r : Answer) → r ≡ answer-of (check-contents B (take locations c)) → r ≡ answer-of (check-call B locations c i n)
+      eight-last z r e = after-picks r (goes r _ _ two is-two (lengths-numbered locations c n) z e)
 
 -- where they are the book's locations, 2 is that of the book
 pub lengths-are : (B : Program) (locations : ℕ) (c : List ℕ) (n : ℕ) → locations ≡ L B → check-step-lengths locations c n ≡ check-lent-step B c n
@@ -102,19 +120,21 @@ lengths-are B locations c n e = ap (λ (i : ℕ). check-step-lengths i c n) e
 
 -- ---- what they show
 
-pub record Passed (B : Program) (c : List ℕ) (k n : ℕ) : Type 0 where
-  pub agent : k < length (B .agents)
+pub record Passed (B : Program) (c : List ℕ) (i : Input) (n : ℕ) : Type 0 where
+  pub agent : i .agent < length (B .agents)
   pub long : L B ≤ length c
   pub records : 256 ≤ n
 
-pub call-passed : (B : Program) (locations : ℕ) (c : List ℕ) (k n : ℕ) → locations ≡ L B → (u : Unit {0}) → check-call B locations c k n ≡ good u → Passed B c k n
+pub call-passed : (B : Program) (locations : ℕ) (c : List ℕ) (i : Input) (n : ℕ) → locations ≡ L B → (u : Unit {0}) → check-call B locations c i n ≡ good u → Passed B c i n
 unfolding check-call check-agent check-contents _>>_
-call-passed B locations c k n same u e =
+call-passed B locations c i n same u e =
     let e9 = test-good _ _ _ _ _ u e in
-    let e2 = then-good _ _ u (e9 .1) in
+    let last = check-contents B (take locations c) in
+    let e1 = then-good (check-picks B (i .picks)) (check-step-lengths locations c n >> last) u (e9 .1) in
+    let e2 = then-good (check-step-lengths locations c n) last u (e1 .2) in
     let e0 = test-good _ _ _ _ _ (e2 .0) (e2 .1) in
     record {
-      agent = ltb-true k (length (B .agents)) (e9 .0);
+      agent = ltb-true (i .agent) (length (B .agents)) (e9 .0);
       long = rw (← same) (leb-true locations (length c) (e0 .0));
       records = leb-true 256 n (test-good (leb 256 n) 2 256 3 (good u) u (ap (λ (x : Checked (Unit {0})). x >> good u) (e0 .1)) .0);
     }

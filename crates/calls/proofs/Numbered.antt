@@ -9,7 +9,9 @@ use Rattle.text.proofs.Checks.{Ends, off, Any, also, then-ends, none-ends, must
 use Rattle.book.specs.Book.{Program, L}
 use Rattle.book.specs.Check.{check-book}
 use Rattle.book.proofs.Refusals.{book-ends}
-use Rattle.engine.specs.Single.{check-agent, check-step-lengths, check-contents}
+use Rattle.engine.specs.Move.{Input}
+use Rattle.engine.proofs.Refusals.{picks-end}
+use Rattle.engine.specs.Single.{check-picks, check-agent, check-step-lengths, check-contents}
 use Rattle.calls.specs.Call.{check-call}
 
 abbrev Between : ℕ → ℕ → ℕ → Type 0
@@ -27,6 +29,9 @@ pub agent-numbered : (B : Program) (k : ℕ) → Numbered (check-agent B k)
 unfolding check-agent
 agent-numbered B k = must-ends Between _ _ _ _ (omega arith)
 
+pub picks-numbered : (B : Program) (ys : List ℕ) → Numbered (check-picks B ys)
+picks-numbered B ys = also (picks-end B ys) (λ u e. tt) (λ n p q r. omega arith)
+
 pub lengths-numbered : (locations : ℕ) (c : List ℕ) (n : ℕ) → Numbered (check-step-lengths locations c n)
 lengths-numbered locations c n = then-ends (must-ends Between _ _ _ _ (omega arith)) (must-ends Between _ _ _ _ (omega arith))
 
@@ -34,10 +39,10 @@ contents-numbered : (B : Program) (c : List ℕ) → Numbered (check-contents B 
 unfolding check-contents
 contents-numbered B c = none-ends Between _ _ _ _ _ (λ p h. omega arith)
 
-pub call-numbered : (B : Program) (locations : ℕ) (c : List ℕ) (k n : ℕ) → Numbered (check-call B locations c k n)
+pub call-numbered : (B : Program) (locations : ℕ) (c : List ℕ) (i : Input) (n : ℕ) → Numbered (check-call B locations c i n)
 unfolding check-call
-call-numbered B locations c k n =
-    then-ends (agent-numbered B k) (then-ends (lengths-numbered locations c n) (contents-numbered B (take locations c)))
+call-numbered B locations c i n =
+    then-ends (agent-numbered B (i .agent)) (then-ends (picks-numbered B (i .picks)) (then-ends (lengths-numbered locations c n) (contents-numbered B (take locations c))))
 
 -- number 0 accepts
 pub accepts : {A : Type 0} (c : Checked A) → Numbered c → answer-of c .number ≡ 0 → (a : A) × (c ≡ good a)

@@ -1,5 +1,6 @@
-// The checks of a single move's call after the book's: 9, then 2, then 8.
+// The checks of a single move's call after the book's: 9 of the agent and of the picks, then 2, then 8.
 use book::Image;
+use engine::Pick;
 use numbers::Value;
 use text::Answer;
 use text::Found;
@@ -7,7 +8,8 @@ ghost use mathlib.Core.Path.{_≡_};
 ghost use lib.ListN.{take};
 ghost use Rattle.text.specs.Words.{answer-of};
 ghost use Rattle.book.specs.Image.{word, held};
-ghost use Rattle.engine.specs.Single.{check-agent, check-step-lengths, check-contents};
+ghost use Rattle.engine.specs.Move.{input};
+ghost use Rattle.engine.specs.Single.{pick-place, check-agent, check-picks, check-step-lengths, check-contents};
 ghost use Rattle.calls.specs.Call.{check-call};
 
 // Records in a list of instructions.
@@ -28,6 +30,13 @@ fn answer(number: u32, p: u32, q: u32) -> Answer
     }
 }
 
+// The place of pick j, no more than what C's one number holds.
+fn place_of(j: usize) -> u32
+    ensures { λ r. ⌜ r ≡ pick-place j ⌝ }
+{
+    if j < 16777215 { j as u32 + 1 } else { 16777215 }
+}
+
 // 9.
 fn check_agent(image: &Image, agent: usize) -> Answer
     ensures { λ r. ⌜ r ≡ answer-of (check-agent (held (now (image .entry))) agent) ⌝ }
@@ -37,6 +46,22 @@ fn check_agent(image: &Image, agent: usize) -> Answer
     } else {
         answer(text::LOG_LINE, 0, 0)
     }
+}
+
+// 9 of the picks: the least that is no element.
+fn check_picks(image: &Image, picks: &[Pick]) -> Answer
+    ensures { λ r. ⌜ r ≡ answer-of (check-picks (held (now (image .entry))) (now (picks .entry))) ⌝ }
+{
+    let e = image::elements(image) as u64;
+    let n = picks.len();
+    let mut j: usize = 0;
+    while j < n {
+        if e <= picks[j] {
+            return answer(text::LOG_LINE, place_of(j), 0);
+        }
+        j += 1;
+    }
+    answer(0, 0, 0)
 }
 
 // 2, of contents and then of instructions.
@@ -65,13 +90,23 @@ fn check_contents(image: &Image, contents: &[Value]) -> Answer
     }
 }
 
-// 9, then 2, then 8, which reads the whole table.
-pub fn check_call(image: &Image, contents: &[Value], agent: usize, lent: usize) -> Answer
-    ensures { λ r. ⌜ r ≡ answer-of (check-call (held (now (image .entry))) (word (now (image .entry)) 6) (now (contents .entry)) agent lent) ⌝ }
+// 9 of the agent and of the picks, then 2, then 8, which reads the whole table.
+pub fn check_call(
+    image: &Image,
+    contents: &[Value],
+    agent: usize,
+    picks: &[Pick],
+    lent: usize,
+) -> Answer
+    ensures { λ r. ⌜ r ≡ answer-of (check-call (held (now (image .entry))) (word (now (image .entry)) 6) (now (contents .entry)) (input agent (now (picks .entry))) lent) ⌝ }
 {
     let nine = check_agent(image, agent);
     if nine.number != 0 {
         return nine;
+    }
+    let other = check_picks(image, picks);
+    if other.number != 0 {
+        return other;
     }
     let two = check_lent(image, contents, lent);
     if two.number != 0 {

@@ -15,7 +15,7 @@ use Rattle.book.specs.Kinds.{sort, names-location}
 use Rattle.book.specs.Lines.{fits, bad-node, named}
 use Rattle.book.specs.Sound.{Lawful}
 use Rattle.engine.specs.Term.{Term, element, variable, self, at0, at1, at2, negated, joined, tree, term-at, Shape, an-element, a-variable, the-agent, of-none, of-one, of-two, a-not, no-term, a-join, shape, shapes}
-use Rattle.engine.specs.Rule.{Rule, skip, assign, pair, test, bind, for-all, import, free, rule-tree, rule-at, RuleShape, a-skip, an-assign, a-pair, a-test, a-bind, a-for-all, an-import, a-free, no-rule, rule-shape, rule-shapes}
+use Rattle.engine.specs.Rule.{Rule, skip, assign, pair, test, bind, for-all, import, free, choose, rule-tree, rule-at, RuleShape, a-skip, an-assign, a-pair, a-test, a-bind, a-for-all, an-import, a-free, a-choose, no-rule, rule-shape, rule-shapes}
 
 -- ---- terms and rules as check 5 leaves them
 
@@ -52,6 +52,7 @@ ProperRule B (bind x t r) = Proper B t × ProperRule B r
 ProperRule B (for-all x u r) = Named B u 1 × (relation (function-at B u) ≡ true) × ProperRule B r
 ProperRule B (import n x u r) = Named B u 1 × (function-at B u .kind ≡ 3) × ProperRule B r
 ProperRule B (free n t) = Proper B t
+ProperRule B (choose n x u r) = Named B u 1 × (relation (function-at B u) ≡ true) × ProperRule B r
 
 -- ---- a test among others that fail
 
@@ -166,6 +167,7 @@ module _ (B : Program) (ok : Lawful B) where
   FitsRule an-assign x = (4 ≤ ns (x .a) .kind) × (ns (x .a) .kind ≤ 6) × (dynamic (function-at B (ns (x .a) .a)) ≡ true)
   FitsRule a-for-all x = Named B (x .b) 1 × (relation (function-at B (x .b)) ≡ true)
   FitsRule an-import x = Named B (x .b) 1 × (function-at B (x .b) .kind ≡ 3)
+  FitsRule a-choose x = Named B (x .b) 1 × (relation (function-at B (x .b)) ≡ true)
   FitsRule a-skip x = Unit {0}
   FitsRule a-pair x = Unit {0}
   FitsRule a-test x = Unit {0}
@@ -200,7 +202,11 @@ module _ (B : Program) (ok : Lawful B) where
           let p = and-cases (unary (ns n .b)) (eqb (function-at B (ns n .b) .kind) 3) h in
           (named-as (ns n .b) 1 (p .0), eqb-true (function-at B (ns n .b) .kind) 3 (p .1))
       go (suc (suc (suc (suc (suc (suc (suc zero))))))) e = tt
-      go (suc (suc (suc (suc (suc (suc (suc (suc j)))))))) e = tt
+      go (suc (suc (suc (suc (suc (suc (suc (suc zero)))))))) e =
+          let h = ors-true 4 (unary (ns n .b) && relation (function-at B (ns n .b))) (operands n 28 e (omega arith) .1) in
+          let p = and-cases (unary (ns n .b)) (relation (function-at B (ns n .b))) h in
+          (named-as (ns n .b) 1 (p .0), p .1)
+      go (suc (suc (suc (suc (suc (suc (suc (suc (suc j))))))))) e = tt
 
   abbrev tree-at : ℕ → ℕ → Rule
   tree-at d n = rule-tree ns d (rule-shape (ns n)) n (ns n)
@@ -221,6 +227,7 @@ module _ (B : Program) (ok : Lawful B) where
       go a-for-all f r = (f .0, f .1, r (ns n .c))
       go an-import f r = (f .0, f .1, r (ns n .c))
       go a-free f r = proper-term (suc d) (ns n .a)
+      go a-choose f r = (f .0, f .1, r (ns n .c))
 
   pub proper-rule : (n : ℕ) → ProperRule B (rule-at ns n)
   proper-rule n = proper-tree _ n

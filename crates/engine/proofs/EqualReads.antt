@@ -1,5 +1,5 @@
 -- 01's line on equal reads: two contents with equal static functions that agree on what a move reads in one of them give it the same instructions
--- if none of 11 to 14 is met there, and otherwise the same refusal if they agree on Reserve throughout.
+-- if none of 11 to 14, 18 and 19 is met there, and otherwise the same refusal if they agree on Reserve throughout.
 use mathlib.Core.Path.{_≡_, refl, sym, ap, _∙_}
 use mathlib.Core.Logic.{dite}
 use mathlib.Core.Bool.{Bool, true, false, _||_, or-true, or-assoc}
@@ -43,22 +43,22 @@ has-dynamic B (k ∷ ls) l h e = go (eqb k l) refl h (has-dynamic B ls l)
     go true q h r = rw (eqb-true k l q, e, eq-eqb l l refl)
     go false q h r = keep (dynamic-at B k) (r h e)
 
--- none of 11 to 14 met: the same instructions, and the same places looked at
+-- none of 11 to 14, 18 and 19 met: the same instructions, and the same places looked at
 pub same-instructions : (B : Program) (c d : List ℕ) (i : Input) → SameStatic B c d → (w : Walk) → walked B c i ≡ going w
     → ((l : ℕ) → has (reads B c i) l ≡ true → at c l ≡ at d l) → (walked B d i ≡ going w) × (looked B d i ≡ looked B c i)
 unfolding reads
 same-instructions B c d i s w e h =
-    (sym (local c d (agent-walk B (i .agent)) agree) ∙ e, ap (dynamic-among B) (sym (seen-local c d (agent-walk B (i .agent)) agree)))
+    (sym (local c d (agent-walk B (i .agent) (i .picks)) agree) ∙ e, ap (dynamic-among B) (sym (seen-local c d (agent-walk B (i .agent) (i .picks)) agree)))
   where
-    by : (l : ℕ) → has (seen c (agent-walk B (i .agent))) l ≡ true → (b : Bool) → dynamic-at B l ≡ b → at c l ≡ at d l
+    by : (l : ℕ) → has (seen c (agent-walk B (i .agent) (i .picks))) l ≡ true → (b : Bool) → dynamic-at B l ≡ b → at c l ≡ at d l
     by l m false q = static-agree s l q
     by l m true q = h l (rw (
       e,
       has-append (looked B c i) (extra-reads B (w .made) (updates B c (w .made))) l,
-      has-dynamic B (seen c (agent-walk B (i .agent))) l m q,
+      has-dynamic B (seen c (agent-walk B (i .agent) (i .picks))) l m q,
     ))
 
-    agree : Agree c d (seen c (agent-walk B (i .agent)))
+    agree : Agree c d (seen c (agent-walk B (i .agent) (i .picks)))
     agree l m = by l m (dynamic-at B l) refl
 
 -- One met: the same one, if Reserve, which is function 0, is the same throughout. The walk looks at Reserve for 12 and 13 too, so of what it reads
@@ -66,9 +66,9 @@ same-instructions B c d i s w e h =
 pub same-refusal : (B : Program) (c d : List ℕ) (i : Input) → SameStatic B c d → (n q : ℕ) → walked B c i ≡ met n q
     → ((l : ℕ) → B .E ≤ l → has (reads B c i) l ≡ true → at c l ≡ at d l) → ((x : ℕ) → x < B .E → at c x ≡ at d x) → walked B d i ≡ met n q
 unfolding reads
-same-refusal B c d i s n q e h r = sym (local c d (agent-walk B (i .agent)) (λ l m. by l m (dynamic-at B l) refl)) ∙ e
+same-refusal B c d i s n q e h r = sym (local c d (agent-walk B (i .agent) (i .picks)) (λ l m. by l m (dynamic-at B l) refl)) ∙ e
   where
-    by : (l : ℕ) → has (seen c (agent-walk B (i .agent))) l ≡ true → (b : Bool) → dynamic-at B l ≡ b → at c l ≡ at d l
+    by : (l : ℕ) → has (seen c (agent-walk B (i .agent) (i .picks))) l ≡ true → (b : Bool) → dynamic-at B l ≡ b → at c l ≡ at d l
     by l m false p = static-agree s l p
     by l m true p = dite (decLt l (B .E)) (r l)
-        (λ (z : ¬ (l < B .E)). h l (omega arith) (rw (e, has-dynamic B (seen c (agent-walk B (i .agent))) l m p)))
+        (λ (z : ¬ (l < B .E)). h l (omega arith) (rw (e, has-dynamic B (seen c (agent-walk B (i .agent) (i .picks))) l m p)))

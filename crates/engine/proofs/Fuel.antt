@@ -13,7 +13,7 @@ use Rattle.book.specs.Kinds.{sort, is-node}
 use Rattle.book.specs.Sound.{Lawful}
 use Rattle.book.proofs.Depth.{depth-at, operand, root-depth, operand-depth, depth-most}
 use Rattle.engine.specs.Term.{at1, negated, tree, term-at, Shape, an-element, a-variable, the-agent, of-none, of-one, of-two, a-not, no-term, a-join, shape, shapes}
-use Rattle.engine.specs.Rule.{Rule, for-all, import, free, rule-tree, rule-at, RuleShape, a-skip, an-assign, a-pair, a-test, a-bind, a-for-all, an-import, a-free, no-rule, rule-shape, rule-shapes}
+use Rattle.engine.specs.Rule.{Rule, for-all, import, free, choose, rule-tree, rule-at, RuleShape, a-skip, an-assign, a-pair, a-test, a-bind, a-for-all, an-import, a-free, a-choose, no-rule, rule-shape, rule-shapes}
 
 module _ (B : Program) (ok : Lawful B) where
   abbrev ns : ℕ → Node
@@ -94,6 +94,7 @@ module _ (B : Program) (ok : Lawful B) where
   Parts n a-for-all = Below n (ns n .c)
   Parts n an-import = Below n (ns n .c)
   Parts n a-free = Below n (ns n .a)
+  Parts n a-choose = Below n (ns n .c)
   Parts n a-skip = Unit {0}
   Parts n no-rule = Unit {0}
 
@@ -114,7 +115,8 @@ module _ (B : Program) (ok : Lawful B) where
       go (suc (suc (suc (suc (suc zero))))) e = at-place 25 2 e (omega arith) refl
       go (suc (suc (suc (suc (suc (suc zero)))))) e = at-place 26 2 e (omega arith) refl
       go (suc (suc (suc (suc (suc (suc (suc zero))))))) e = at-place 27 0 e (omega arith) refl
-      go (suc (suc (suc (suc (suc (suc (suc (suc j)))))))) e = tt
+      go (suc (suc (suc (suc (suc (suc (suc (suc zero)))))))) e = at-place 28 2 e (omega arith) refl
+      go (suc (suc (suc (suc (suc (suc (suc (suc (suc j))))))))) e = tt
 
   abbrev tree-at : ℕ → ℕ → Rule
   tree-at d n = rule-tree ns d (rule-shape (ns n)) n (ns n)
@@ -139,6 +141,7 @@ module _ (B : Program) (ok : Lawful B) where
       go a-for-all b = deep (ns n .c) b
       go an-import b = deep (ns n .c) b
       go a-free b = deep (ns n .a) b
+      go a-choose b = deep (ns n .c) b
       go a-skip b = refl
       go no-rule b = refl
   same-rule (suc (suc d)) (suc (suc e)) n h k l =
@@ -154,6 +157,7 @@ module _ (B : Program) (ok : Lawful B) where
       go a-for-all b t r = ap (for-all (ns n .a) (ns n .b)) (r (ns n .c) b)
       go an-import b t r = ap (import n (ns n .a) (ns n .b)) (r (ns n .c) b)
       go a-free b t r = ap (free n) (t (ns n .a) b)
+      go a-choose b t r = ap (choose n (ns n .a) (ns n .b)) (r (ns n .c) b)
       go a-skip b t r = refl
       go no-rule b t r = refl
 

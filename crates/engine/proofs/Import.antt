@@ -11,7 +11,7 @@ use Rattle.text.specs.declared.Found.the-variants.{Here}
 use Rattle.book.specs.Book.{Program, true-element, agent-at, node-at}
 use Rattle.book.specs.Sound.{at}
 use Rattle.engine.specs.Look.{done, gives, seen, _>>=_}
-use Rattle.engine.specs.Rule.{Rule, import, Walk, lowest, import-of, walk, agent-walk, rule-at, no-variables}
+use Rattle.engine.specs.Rule.{Rule, import, Walk, _then_, lowest, import-of, all-taken, walk, agent-walk, rule-at, no-variables}
 use Rattle.engine.proofs.Look.{seen-bind}
 
 found-here : (x y : ℕ) → Here x ≡ Here y → x ≡ y
@@ -45,8 +45,10 @@ import-reads B c me n x u r vs w y e =
     seen-bind c (lowest (w .next) (B .E - w .next)) (λ o. import-of B n u w (λ z. walk B me r (set vs x z)) o)
     ∙ rw (e, lowest-reads c (w .next) (B .E - w .next) y e .2)
 
--- a move starts with no label passed over: its first import looks from P on
-pub first-label : (B : Program) (k : ℕ)
-    → agent-walk B k ≡ walk B (agent-at B k .element) (rule-at (node-at B) (agent-at B k .root)) no-variables (record { made = []; next = B .P })
+-- a move starts with no label passed over: its first import looks from P on; and with all its picks, none of which may be left at the end
+pub first-label : (B : Program) (k : ℕ) (ys : List ℕ)
+    → agent-walk B k ys
+    ≡ (walk B (agent-at B k .element) (rule-at (node-at B) (agent-at B k .root)) no-variables (record { made = []; next = B .P; left = ys })
+    >>= λ o. done (o then λ w. all-taken (agent-at B k .root) (w .left) w))
 unfolding agent-walk
-first-label B k = refl
+first-label B k ys = refl

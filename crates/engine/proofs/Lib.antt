@@ -1,6 +1,7 @@
 pub mod Look
 pub mod Seen
 pub mod Import
+pub mod Picks
 pub mod EqualReads
 pub mod Decode
 pub mod Values

@@ -20,13 +20,15 @@ use Rattle.book.specs.Sound.{Lawful, at, Argument, OnRoll, Sound}
 use Rattle.book.proofs.Places.{roll-place, roll-inside, roll-argument, default-low}
 use Rattle.engine.specs.declared.Instruction.{Instruction}
 use Rattle.engine.specs.declared.Instruction.the-variants.{Update, Release}
-use Rattle.engine.specs.Rule.{Walk, Walked, going, met, agent-walk, rule-at, no-variables}
+use Rattle.engine.specs.Look.{done, gives}
+use Rattle.engine.specs.Rule.{Walk, Walked, going, met, _then_, all-taken, walk, agent-walk, rule-at, no-variables}
 use Rattle.engine.specs.Move.{given, values, updates, values-at, released, other, two-values, clashes, idle, new-value, fire, writes, all-dynamic, extra-reads, Input, Fired, fires, unless-clash, walked, looked, fired-of, judged, settle, move, reads}
+use Rattle.engine.proofs.Look.{gives-bind}
 use Rattle.engine.proofs.EqualReads.{has-append, has-dynamic, same-instructions}
 use Rattle.engine.specs.Claims.{SameStatic}
 use Rattle.engine.proofs.Decode.{proper-rule}
 use Rattle.engine.proofs.Values.{Sets, Frees, frees-has, set-to-none, Cleared, Origin, origin, sets-values, frees-values, length-updates, updates-at, updates-past, new-cases, only-value, fire-inside, fire-at}
-use Rattle.engine.proofs.Walks.{Fine, sets-fine, frees-fine, Made, Comes, walk-comes, low-clean}
+use Rattle.engine.proofs.Walks.{Fine, sets-fine, frees-fine, Made, Comes, walk-comes, taken-comes, low-clean}
 
 pub fire-length : (us : List (List ℕ)) (c : List ℕ) → length (fire us c) ≡ length c
 unfolding fire
@@ -99,13 +101,20 @@ no-value v = go 8 v
 
 module _ (B : Program) (B-ok : Lawful B) (c : List ℕ) (c-ok : Sound B c) (i : Input) where
   walked-made : (w : Walk) → walked B c i ≡ going w → Made B c w
-  unfolding agent-walk
+  unfolding agent-walk gives
   walked-made w e =
       let g = agent-at B (i .agent) in
-      let r = walk-comes B c B-ok c-ok (g .element) (B-ok .agents (i .agent)) (rule-at (node-at B) (g .root)) no-variables (record { made = []; next = B .P })
+      let o = walk B (g .element) (rule-at (node-at B) (g .root)) no-variables (record { made = []; next = B .P; left = i .picks }) in
+      let r = walk-comes B c B-ok c-ok (g .element) (B-ok .agents (i .agent)) (rule-at (node-at B) (g .root)) no-variables (record { made = []; next = B .P; left = i .picks })
       (proper-rule B B-ok (g .root)) (λ v. rw (no-value v) (low-clean B c B-ok c-ok (B .P) 0 (omega (arith, B-ok .low))))
       (record { from = omega arith; upto = B-ok .high; all = tt; taken = λ x o h. absurd (omega (arith, c-ok .labels x o)) }) in
-      subst (Comes B c (B .P)) e r .1
+      let t : Comes B c (B .P) (walked B c i) = rw (gives-bind c o (λ x. done (x then λ v. all-taken (g .root) (v .left) v)))
+      (end (gives c o) (g .root) r) in
+      subst (Comes B c (B .P)) e t .1
+    where
+      end : (o : Walked) (q : ℕ) → Comes B c (B .P) o → Comes B c (B .P) (o then λ v. all-taken q (v .left) v)
+      end (met n p) q h = tt
+      end (going v) q h = taken-comes B c (B .P) q (v .left) v h
 
   module _ (f : Fired) (moves : move B c i ≡ fires f) where
     s : Firing B c i f

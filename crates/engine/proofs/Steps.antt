@@ -12,7 +12,7 @@ use Rattle.book.specs.declared.Node.{Node}
 use Rattle.book.specs.Book.{undef, Program}
 use Rattle.engine.specs.Look.{Look, done}
 use Rattle.engine.specs.Term.{Op, equal, both, either, plus, minus, less, Term, element, variable, self, at0, at1, at2, negated, joined, Shape, no-term, shapes, shape, tree, term-at, target, function-of}
-use Rattle.engine.specs.Rule.{Rule, skip, assign, pair, test, bind, for-all, import, free, RuleShape, a-skip, no-rule, rule-shapes, rule-shape, rule-tree}
+use Rattle.engine.specs.Rule.{Rule, skip, assign, pair, test, bind, for-all, import, free, choose, RuleShape, a-skip, no-rule, rule-shapes, rule-shape, rule-tree}
 
 -- ---- a depth of at least one, or of at least two
 
@@ -130,12 +130,17 @@ module _ (ns : ℕ → Node) (d n : ℕ) (x : Node) (some : 2 ≤ d) (loaded : x
   unfolding rule-tree
   rule-free k = by-two (λ e f. rule-from ns e n ≡ free n (term-at ns f (x .a))) (λ e. rw (← loaded, k)) d some
 
+  pub rule-choose : x .kind ≡ 28 → rule-from ns d n ≡ choose n (x .a) (x .b) (rule-from ns (d - 1) (x .c))
+  unfolding rule-tree
+  rule-choose k =
+      by-two (λ e f. rule-from ns e n ≡ choose n (x .a) (x .b) (rule-from ns f (x .c))) (λ e. rw (← loaded, k)) d some
+
   -- any other kind
-  pub no-rule-at : (x .kind < 20) ⊎ (28 ≤ x .kind) → rule-from ns d n ≡ skip
+  pub no-rule-at : (x .kind < 20) ⊎ (29 ≤ x .kind) → rule-from ns d n ≡ skip
   unfolding rule-tree
   no-rule-at h = by-two (λ e f. rule-from ns e n ≡ skip) (λ e. rw (← loaded, shape-of h)) d some
     where
-      shape-of : (x .kind < 20) ⊎ (28 ≤ x .kind) → rule-shape x ≡ no-rule
+      shape-of : (x .kind < 20) ⊎ (29 ≤ x .kind) → rule-shape x ≡ no-rule
       shape-of (inl l) = rw (lt-leb 20 (x .kind) l)
       shape-of (inr l) = rw (le-leb 20 (x .kind) (omega arith)) (List·getD-eq-default rule-shapes no-rule {n = x .kind - 20} (omega arith))
 

@@ -11,7 +11,7 @@ use lib.Dec.{eqb, ltb, leb}
 use lib.ListN.{length, getD, set, List·getD-eq-default}
 use borrow.Author.Tests.{eqb-true, eqb-false, eq-eqb, ltb-true, ltb-false, leb-true, not-false}
 use Rattle.text.specs.Words.{if_then_else_}
-use Rattle.text.specs.Refusals.{non-boolean, not-releasable, list-full}
+use Rattle.text.specs.Refusals.{non-boolean, not-releasable, list-full, not-in-universe}
 use Rattle.text.specs.declared.Found.{Found}
 use Rattle.text.specs.declared.Found.the-variants.{Nowhere, Here}
 use Rattle.text.proofs.Words.{and-cases, or-no}
@@ -22,8 +22,9 @@ use Rattle.engine.specs.declared.Instruction.{Instruction}
 use Rattle.engine.specs.declared.Instruction.the-variants.{Update, Release}
 use Rattle.engine.specs.Look.{Look, done, read, gives, _>>=_}
 use Rattle.engine.specs.Term.{Op, equal, both, either, plus, minus, less, Term, element, variable, self, at0, at1, at2, negated, joined, number, apply, negate, eval, target, function-of}
-use Rattle.engine.specs.Rule.{Rule, skip, assign, pair, test, bind, for-all, import, free, Walk, Walked, going, met, _then_, after, most-instructions, give, take-label, refuse-if, members, each, lowest, import-of, not-boolean, not-free, walk}
+use Rattle.engine.specs.Rule.{Rule, skip, assign, pair, test, bind, for-all, import, free, choose, Walk, Walked, going, met, _then_, after, most-instructions, give, take-label, take-pick, refuse-if, members, each, lowest, import-of, universe-at, choose-of, all-taken, not-boolean, not-free, not-member, walk}
 use Rattle.engine.proofs.Look.{gives-bind}
+use Rattle.engine.proofs.Picks.{universe-member}
 use Rattle.engine.proofs.Seen.{names-one, names-two}
 use Rattle.engine.proofs.Decode.{Proper, Named, ProperTarget, ProperRule}
 use Rattle.engine.proofs.Values.{Sets, Frees}
@@ -121,7 +122,7 @@ module _ (B : Program) (c : List ℕ) where
   give-made : (n : ℕ) (i : Instruction) (w : Walk) → Made w → Fine (w .next) i → Comes (w .next) (give n i w)
   give-made n i w m f = go (ltb (length (w .made)) most-instructions)
     where
-      go : (b : Bool) → Comes (w .next) (if b then going (record { made = w .made ++ (i ∷ []); next = w .next }) else met list-full n)
+      go : (b : Bool) → Comes (w .next) (if b then going (record { made = w .made ++ (i ∷ []); next = w .next; left = w .left }) else met list-full n)
       go false = tt
       go true = (
         omega arith,
@@ -391,7 +392,7 @@ module _ (B : Program) (c : List ℕ) where
               (λ (b : ¬ (x < w .next)). dite (ℕ-discrete x y) (λ e. rw e (sets-last y false-element (w .made)))
               (λ d. absurd (low x (omega arith) (omega arith) (o .1))))
 
-          go : (b : Bool) → Comes (suc y) (if b then going (record { made = w .made ++ (Update (reserve y) false-element ∷ []); next = take-label y w .next }) else met list-full n)
+          go : (b : Bool) → Comes (suc y) (if b then going (record { made = w .made ++ (Update (reserve y) false-element ∷ []); next = take-label y w .next; left = w .left }) else met list-full n)
           go false = tt
           go true = (
             omega arith,
@@ -416,6 +417,24 @@ module _ (B : Program) (c : List ℕ) where
           (then-comes (suc y) (give n (Update (reserve y) false-element) (take-label y w)) (give n (Update (location B u y 0) true-element))
           (take-made n y w m l) (λ v b q. give-made n (Update (location B u y 0) true-element) v q (universe-fine u y (v .next) p k (l .1 .0) (omega arith))))
           (λ v b q. f y (l .1 .0) v (omega arith) (omega arith) q))
+
+      -- ---- picks
+
+      choose-comes : (n u : ℕ) (body : ℕ → Walk → Look Walked) (w : Walk) (ys : List ℕ) → Made w
+          → ((y : ℕ) → Member u y → (v : Walk) → w .next ≤ v .next → Made v → Comes (v .next) (gives c (body y v)))
+          → Comes (w .next) (gives c (choose-of B n u w body ys))
+      unfolding gives
+      choose-comes n u body w [] m k = tt
+      choose-comes n u body w (y ∷ ys) m k =
+          rw (gives-bind c (universe-at B u y) (λ v. after (refuse-if (not-member v) not-in-universe n (take-pick ys w)) (body y)))
+          (go (eqb (gives c (universe-at B u y)) true-element) refl)
+        where
+          go : (b : Bool) → eqb (gives c (universe-at B u y)) true-element ≡ b
+              → Comes (w .next) (gives c (after (refuse-if (not b) not-in-universe n (take-pick ys w)) (body y)))
+          go false e = tt
+          go true e =
+              k y (universe-member B c u y (eqb-true (gives c (universe-at B u y)) true-element e)) (take-pick ys w) (omega arith)
+              (record { from = m .from; upto = m .upto; all = m .all; taken = m .taken })
 
       -- ---- the walk
 
@@ -485,3 +504,12 @@ module _ (B : Program) (c : List ℕ) where
       walk-comes (free n t) vs w p f m =
           rw (gives-bind c (eval B me vs t) (λ x. read (reserve x) >>= λ r. done (refuse-if (not-free B x r) not-releasable n w then give n (Release x))))
           (free-comes n (gives c (eval B me vs t)) w m (eval-clean (w .next) vs t p f .0))
+      walk-comes (choose n x u r) vs w p f m =
+          choose-comes n u (λ y. walk B me r (set vs x y)) w (w .left) m
+          (λ y h v a q. walk-comes r (set vs x y) v (p .2) (vars-set (v .next) vs x y (vars-more (w .next) (v .next) vs a f)
+          (member-clean (v .next) u y (p .0) h)) q)
+
+  -- what is left over changes nothing of what is made
+  pub taken-comes : (m q : ℕ) (ys : List ℕ) (w : Walk) → Comes m (going w) → Comes m (all-taken q ys w)
+  taken-comes m q [] w h = h
+  taken-comes m q (y ∷ ys) w h = tt

@@ -1,20 +1,21 @@
--- What is claimed of single moves, and proved in proofs/Claims: equal reads, the frame, the roll rule, idle moves, refusals, what an import reads, and that
--- trees are whole (01, "What a move does", "Node kinds"; 02, F-1).
+-- What is claimed of single moves, and proved in proofs/Claims: equal reads, the frame, the roll rule, idle moves, refusals, what imports and choices
+-- read, and that trees are whole (01, "What a move does", "Node kinds"; 02, F-1 and F-2).
 use mathlib.Core.Path.{_≡_}
 use mathlib.Core.Logic.{_↔_, _≢_}
 use mathlib.Core.Bool.{true, false}
-use mathlib.Core.List.{List}
+use mathlib.Core.List.{List, [], _∷_}
 use Prim.Native.Nat.{ℕ, suc, _+_, _-_, _≤_, _<_}
-use lib.ListN.{length}
+use lib.ListN.{length, set}
 use Rattle.text.specs.declared.Found.the-variants.{Here}
-use Rattle.text.specs.Words.{has, table-from}
-use Rattle.book.specs.Book.{Program, L, dynamic-at, node-at, agent-at}
+use Rattle.text.specs.Words.{has, table-from, good}
+use Rattle.text.specs.Refusals.{not-in-universe, pick-count}
+use Rattle.book.specs.Book.{Program, L, dynamic-at, location, node-at, agent-at}
 use Rattle.book.specs.Around.{most-depth}
 use Rattle.book.specs.Sound.{Lawful, at, Sound}
 use Rattle.engine.specs.Look.{gives, seen}
-use Rattle.engine.specs.Rule.{Walk, going, met, lowest, rule-shape, rule-tree, rule-at}
+use Rattle.engine.specs.Rule.{Rule, choose, Walk, going, met, after, take-pick, refuse-if, lowest, not-member, walk, rule-shape, rule-tree, rule-at}
 use Rattle.engine.specs.Move.{Input, Fired, fires, stopped, idle, move, walked, reads, values-at, new-value, fire, writes}
-use Rattle.engine.specs.Single.{step-call}
+use Rattle.engine.specs.Single.{check-step, step-call}
 
 -- ---- equal reads
 
@@ -24,8 +25,9 @@ pub record SameStatic (B : Program) (c d : List ℕ) : Type 0 where
   pub as-long : length d ≡ L B
   pub static : (l : ℕ) → l < L B → dynamic-at B l ≡ false → at c l ≡ at d l
 
--- Two contents with equal static functions that agree on what a move reads in one of them give it the same instructions if none of 11 to 14 is met
--- there, and otherwise the same refusal if they agree on Reserve throughout; what the move reads elsewhere is past Reserve's E locations.
+-- Two contents with equal static functions that agree on what a move reads in one of them give it, with its picks, the same instructions if none of 11
+-- to 14, 18 and 19 is met there, and otherwise the same refusal if they agree on Reserve throughout; what the move reads elsewhere is past Reserve's E
+-- locations.
 pub record EqualReads (B : Program) (c d : List ℕ) (i : Input) : Type 0 where
   pub instructions : (w : Walk) → walked B c i ≡ going w → ((l : ℕ) → has (reads B c i) l ≡ true → at c l ≡ at d l) → walked B d i ≡ going w
   pub refusal : (n q : ℕ) → walked B c i ≡ met n q → ((l : ℕ) → B .E ≤ l → has (reads B c i) l ≡ true → at c l ≡ at d l)
@@ -56,16 +58,39 @@ abbrev pub IdleMovesLeave : Type 0
 IdleMovesLeave = (B : Program) → Lawful B → (c : List ℕ) → Sound B c → (i : Input) (f : Fired) → move B c i ≡ fires f
     → (idle c (f .updates) ≡ true) ↔ (fire (f .updates) c ≡ c)
 
--- a move is refused by one of 11 to 15, and no single-move call gets 16
+-- the refusals inside a move: 11 to 15, 18 and 19
+abbrev pub Inside : ℕ → Type 0
+Inside n = (11 ≤ n) × (n ≤ 19) × (n ≢ 16) × (n ≢ 17)
+
+-- a move is refused by one of them, and no single-move call gets 16
 abbrev pub MovesRefuse : Type 0
-MovesRefuse = (B : Program) (c : List ℕ) (i : Input) (n q : ℕ) → move B c i ≡ stopped n q → (11 ≤ n) × (n ≤ 15)
+MovesRefuse = (B : Program) (c : List ℕ) (i : Input) (n q : ℕ) → move B c i ≡ stopped n q → Inside n
 
 abbrev pub StepsAnswer : Type 0
-StepsAnswer = (book c : List ℕ) (k n : ℕ) → step-call book c k n .answer .number ≢ 16
+StepsAnswer = (book c : List ℕ) (i : Input) (n : ℕ) → step-call book c i n .answer .number ≢ 16
 
 -- an import that looks from label x on and takes y has looked at Reserve from x to y, and nowhere else
 abbrev pub ImportsRead : Type 0
 ImportsRead = (c : List ℕ) (x n y : ℕ) → gives c (lowest x n) ≡ Here y → seen c (lowest x n) ≡ table-from (λ l. l) x (suc y - x)
+
+-- a choice with an element left to pick looks at its universe there, before 18 is judged, and nowhere else on its own
+abbrev pub ChoicesRead : Type 0
+ChoicesRead = (B : Program) (c : List ℕ) (me n x u : ℕ) (r : Rule) (vs : List ℕ) (w : Walk) (y : ℕ) (ys : List ℕ) → w .left ≡ y ∷ ys → y < B .E
+    → seen c (walk B me (choose n x u r) vs w)
+    ≡ location B u y 0 ∷ seen c (after (refuse-if (not-member (at c (location B u y 0))) not-in-universe n (take-pick ys w)) (walk B me r (set vs x y)))
+
+-- one with none left is refused with 19 at its node, whatever its universe has, and looks nowhere
+abbrev pub ChoicesLack : Type 0
+ChoicesLack = (B : Program) (c : List ℕ) (me n x u : ℕ) (r : Rule) (vs : List ℕ) (w : Walk) → w .left ≡ []
+    → (gives c (walk B me (choose n x u r) vs w) ≡ met pick-count n) × (seen c (walk B me (choose n x u r) vs w) ≡ [])
+
+-- a walk that comes to its end has taken all its picks
+abbrev pub PicksTaken : Type 0
+PicksTaken = (B : Program) (c : List ℕ) (i : Input) (w : Walk) → walked B c i ≡ going w → w .left ≡ []
+
+-- each pick of a single move that passes its checks is an element: there 18 is only about the universe
+abbrev pub PicksAreElements : Type 0
+PicksAreElements = (book c : List ℕ) (i : Input) (n : ℕ) (B : Program) → check-step book c i n ≡ good B → (y : ℕ) → has (i .picks) y ≡ true → y < B .E
 
 -- looking further down than 32 nodes changes no agent's rule: 32 is never what ends a walk or an evaluation
 abbrev pub TreesWhole : Type 0

@@ -1,4 +1,4 @@
--- Single moves and what they leave and read, as a table under the lemma of Quoted: 01's plausible misreadings, 02's F-1, and 11 to 15.
+-- Single moves and what they leave and read, as a table under the lemma of Quoted: 01's plausible misreadings, 02's F-1 and F-2, and 11 to 15, 18 and 19.
 use mathlib.Core.Path.{_≡_, refl}
 use mathlib.Core.Bool.{true}
 use mathlib.Core.List.{List, [], _∷_, _++_}
@@ -9,22 +9,25 @@ use Rattle.text.specs.Quoted.{padded, Case, case, all-right, each-right}
 use Rattle.book.specs.Book.{Book}
 use Rattle.book.specs.Check.{check-book}
 use Rattle.book.specs.Examples.{triple}
-use Rattle.engine.specs.Move.{values-at, idle, Moved, fires, stopped, move, reads}
+use Rattle.engine.specs.Move.{values-at, idle, Input, input, Moved, fires, stopped, move, reads}
 use Rattle.engine.specs.Single.{Stepped, step-call}
 use Rattle.engine.specs.Open.{open-engine}
 
--- a book, contents and agent 0: what the single-move entry answers and leaves; what the move reads; whether it is idle, and what it gives
+-- a book, contents, and agent 0 with no picks or another input: what the single-move entry answers and leaves; what the move reads; whether it is idle,
+-- and what it gives
 pub data Question : Type 0 where
   leaves : List ℕ → List ℕ → Question
   reads-in : List ℕ → List ℕ → Question
   gives-in : List ℕ → List ℕ → Question
+  leaves-by : Input → List ℕ → List ℕ → Question
+  reads-by : Input → List ℕ → List ℕ → Question
 
 abbrev pub shown : Stepped → List ℕ
 shown s = triple (s .answer) ++ s .contents
 
-abbrev pub read-by : List ℕ → Checked Book → List ℕ
-read-by c (good b) = reads (b .program) c (record { agent = 0 })
-read-by c (refused n p q) = []
+abbrev pub read-by : Input → List ℕ → Checked Book → List ℕ
+read-by i c (good b) = reads (b .program) c i
+read-by i c (refused n p q) = []
 
 -- 1 if it is idle, else 0, then how many values each location is given
 abbrev pub weighed : List ℕ → Moved → List ℕ
@@ -32,13 +35,15 @@ weighed c (fires f) = (if idle c (f .updates) then 1 else 0) ∷ table (λ l. le
 weighed c (stopped n q) = []
 
 abbrev pub given-by : List ℕ → Checked Book → List ℕ
-given-by c (good b) = weighed c (move (b .program) c (record { agent = 0 }))
+given-by c (good b) = weighed c (move (b .program) c (input 0 []))
 given-by c (refused n p q) = []
 
 abbrev pub asked : Question → List ℕ
-asked (leaves book c) = shown (step-call book c 0 256)
-asked (reads-in book c) = read-by c (check-book book)
+asked (leaves book c) = shown (step-call book c (input 0 []) 256)
+asked (reads-in book c) = read-by (input 0 []) c (check-book book)
 asked (gives-in book c) = given-by c (check-book book)
+asked (leaves-by i book c) = shown (step-call book c i 256)
+asked (reads-by i book c) = read-by i c (check-book book)
 
 -- s and t are functions 1 and 2, of no argument, at locations 6 and 7
 abbrev pub swap-book : List ℕ
@@ -55,6 +60,26 @@ guard-book =
 -- every member of function 1 is released; function 2 is no relation. Labels are 4 and 5
 abbrev pub release-book : List ℕ
 release-book = padded "6 4 3 3 / 1 0 0 0 / 1 3 0 0 / 1 3 0 0 / 1 2 0 0 / 2 0 0 0 / 27 0 0 0 / 25 0 1 1 / 2 3 0 0"
+
+-- choose v0 in U do s := v0, node 3; U is function 1, dynamic, at locations 8 to 15, and s is location 16. 6 is a label, 7 one on the roll
+abbrev pub choose-book : List ℕ
+choose-book = padded "8 6 3 4 / 1 0 0 0 / 1 3 0 0 / 1 3 0 0 / 0 2 0 0 / 4 2 0 0 / 2 0 0 0 / 21 0 1 0 / 28 0 1 2 / 3 4 0 0"
+
+-- the same with U static
+abbrev pub static-book : List ℕ
+static-book = padded "8 6 3 4 / 1 0 0 0 / 1 3 0 0 / 1 1 0 0 / 0 2 0 0 / 4 2 0 0 / 2 0 0 0 / 21 0 1 0 / 28 0 1 2 / 3 4 0 0"
+
+-- s := 3 beside s := 4, node 6; s is location 8
+abbrev pub clash-book : List ℕ
+clash-book = padded "8 6 2 7 / 1 0 0 0 / 1 3 0 0 / 0 2 0 0 / 4 1 0 0 / 1 3 0 0 / 21 0 1 0 / 4 1 0 0 / 1 4 0 0 / 21 3 4 0 / 22 2 5 0 / 6 4 0 0"
+
+-- U has 3 and 6
+abbrev pub chosen : ℕ → List ℕ
+chosen s = replicate 7 1 ++ (2 ∷ 1 ∷ 1 ∷ 1 ∷ 2 ∷ 1 ∷ 1 ∷ 2 ∷ 1 ∷ s ∷ [])
+
+-- U has 3
+abbrev pub chosen-static : List ℕ
+chosen-static = replicate 8 1 ++ (1 ∷ 1 ∷ 1 ∷ 2 ∷ 1 ∷ 1 ∷ 1 ∷ 1 ∷ 0 ∷ [])
 
 abbrev pub none : List ℕ
 none = replicate 6 1
@@ -80,6 +105,29 @@ examples =
     ∷ case (leaves release-book ((1 ∷ 1 ∷ 1 ∷ 1 ∷ 2 ∷ 1 ∷ []) ++ (none ++ (0 ∷ 0 ∷ 0 ∷ 4 ∷ 0 ∷ 0 ∷ []))))
     (8 ∷ 15 ∷ 0 ∷ (1 ∷ 1 ∷ 1 ∷ 1 ∷ 2 ∷ 1 ∷ []) ++ (none ++ (0 ∷ 0 ∷ 0 ∷ 4 ∷ 0 ∷ 0 ∷ [])))
     ∷ case (leaves release-book none) (2 ∷ 18 ∷ 0 ∷ none)
+    -- a pick that is taken; on the roll, or another that is not in the universe: 18; none: 19, also where the universe is empty; one too many: 19 at the root
+    ∷ case (leaves-by (input 0 (6 ∷ [])) choose-book (chosen 0)) (0 ∷ 0 ∷ 0 ∷ chosen 6)
+    ∷ case (leaves-by (input 0 (7 ∷ [])) choose-book (chosen 0)) (18 ∷ 0 ∷ 3 ∷ chosen 0)
+    ∷ case (leaves-by (input 0 (4 ∷ [])) choose-book (chosen 0)) (18 ∷ 0 ∷ 3 ∷ chosen 0)
+    ∷ case (leaves-by (input 0 []) choose-book (chosen 0)) (19 ∷ 0 ∷ 3 ∷ chosen 0)
+    ∷ case (leaves-by (input 0 []) choose-book (replicate 16 1 ++ (0 ∷ []))) (19 ∷ 0 ∷ 3 ∷ replicate 16 1 ++ (0 ∷ []))
+    ∷ case (leaves-by (input 0 (6 ∷ [])) choose-book (replicate 16 1 ++ (0 ∷ []))) (18 ∷ 0 ∷ 3 ∷ replicate 16 1 ++ (0 ∷ []))
+    ∷ case (leaves-by (input 0 (6 ∷ 6 ∷ [])) choose-book (chosen 0)) (19 ∷ 0 ∷ 3 ∷ chosen 0)
+    -- it reads its universe at the pick and nowhere else, also where that is 18; with none, nothing; a static universe is not read
+    ∷ case (reads-by (input 0 (6 ∷ [])) choose-book (chosen 0)) (14 ∷ [])
+    ∷ case (reads-by (input 0 (4 ∷ [])) choose-book (chosen 0)) (12 ∷ [])
+    ∷ case (reads-by (input 0 []) choose-book (chosen 0)) []
+    ∷ case (reads-by (input 0 (3 ∷ [])) static-book chosen-static) []
+    ∷ case (leaves-by (input 0 (3 ∷ [])) static-book chosen-static) (0 ∷ 0 ∷ 0 ∷ replicate 8 1 ++ (1 ∷ 1 ∷ 1 ∷ 2 ∷ 1 ∷ 1 ∷ 1 ∷ 1 ∷ 3 ∷ []))
+    -- no element: 9 with its index + 1, after 9 for the agent, before 2
+    ∷ case (leaves-by (input 0 (6 ∷ 8 ∷ 9 ∷ [])) choose-book (chosen 0)) (9 ∷ 2 ∷ 0 ∷ chosen 0)
+    ∷ case (leaves-by (input 1 (8 ∷ [])) choose-book (chosen 0)) (9 ∷ 0 ∷ 0 ∷ chosen 0)
+    ∷ case (leaves-by (input 0 (8 ∷ [])) choose-book []) (9 ∷ 1 ∷ 0 ∷ [])
+    -- a leftover comes before 15
+    ∷ case (leaves-by (input 0 []) clash-book (replicate 8 1 ++ (0 ∷ []))) (15 ∷ 0 ∷ 8 ∷ replicate 8 1 ++ (0 ∷ []))
+    ∷ case (leaves-by (input 0 (0 ∷ [])) clash-book (replicate 8 1 ++ (0 ∷ []))) (19 ∷ 0 ∷ 6 ∷ replicate 8 1 ++ (0 ∷ []))
+    -- a pick for a rule with no choice is a leftover
+    ∷ case (leaves-by (input 0 (3 ∷ [])) guard-book (none ++ (3 ∷ 0 ∷ []))) (19 ∷ 0 ∷ 7 ∷ none ++ (3 ∷ 0 ∷ []))
     ∷ []
 
 examples-right : all-right asked examples ≡ true

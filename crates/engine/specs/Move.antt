@@ -1,5 +1,5 @@
 -- A move: the updates that its instructions give, 15, the contents that it leaves, what it reads and what it writes
--- (01, "What a move does"; 02, F-1; idle after 003, 2.5).
+-- (01, "What a move does"; 02, F-1 and F-2; idle after 003, 2.5).
 use mathlib.Core.Bool.{Bool, true, false, _&&_, _||_, not}
 use mathlib.Core.List.{List, [], _∷_, _++_}
 use Prim.Native.Nat.{ℕ}
@@ -114,9 +114,13 @@ extra-reads B is us = if-releasing B (released is)
 
 -- ---- the move
 
--- a move's input: the agent
+-- a move's input: the agent, and the elements picked for its choices, in order
 pub record Input : Type 0 where
   pub agent : ℕ
+  pub picks : List ℕ
+
+abbrev pub input : ℕ → List ℕ → Input
+input k ys = record { agent = k; picks = ys }
 
 -- what a move that fires has: its instructions, its updates, and what it reads
 pub record Fired : Type 0 where
@@ -135,15 +139,15 @@ unless-clash (Here l) m = stopped clash l
 
 -- the walk of a move in the contents c, and the dynamic locations that it looks at there: all terms are read in the contents before the move
 abbrev pub walked : Program → List ℕ → Input → Walked
-walked B c i = gives c (agent-walk B (i .agent))
+walked B c i = gives c (agent-walk B (i .agent) (i .picks))
 
--- the instructions of a walk that came to its end; none of one that was refused on the way
+-- the instructions of a walk that was not refused, by what is met on the way or by a pick left over; none of one that was
 abbrev pub made-by : Walked → List Instruction
 made-by (met n q) = []
 made-by (going w) = w .made
 
 abbrev pub looked : Program → List ℕ → Input → List ℕ
-looked B c i = dynamic-among B (seen c (agent-walk B (i .agent)))
+looked B c i = dynamic-among B (seen c (agent-walk B (i .agent) (i .picks)))
 
 -- a walk that came to its end, having looked at ls
 abbrev pub fired-of : Program → List ℕ → List ℕ → List Instruction → Fired
@@ -155,7 +159,7 @@ fired-of B c ls is =
 unfoldable pub judged : Fired → Moved
 judged f = unless-clash (least (clashes (f .instructions) (f .updates)) (length (f .updates))) (fires f)
 
--- 11 to 14 as met, then 15
+-- 11 to 14, 18 and 19 as met, then 15
 unfoldable pub settle : Program → List ℕ → List ℕ → Walked → Moved
 settle B c ls (met n q) = stopped n q
 settle B c ls (going w) = judged (fired-of B c ls (w .made))

@@ -1,12 +1,12 @@
--- Rules: the tree that a node stands for, and the walk that gives a move's instructions or meets a refusal 11 to 14
--- (01, "What a move does"; 004, 3.2 to 3.4).
+-- Rules: the tree that a node stands for, and the walk that gives a move's instructions or meets a refusal 11 to 14, 18 or 19
+-- (01, "What a move does"; 02, F-2; 004, 3.2 to 3.4 and 4.1).
 use mathlib.Core.Bool.{Bool, true, false, _&&_, _||_, not}
 use mathlib.Core.List.{List, [], _∷_, _++_}
 use Prim.Native.Nat.{ℕ, zero, suc, _-_}
 use lib.Dec.{eqb, ltb, leb}
 use lib.ListN.{length, getD, set}
 use Rattle.text.specs.Words.{if_then_else_}
-use Rattle.text.specs.Refusals.{non-boolean, not-releasable, no-label-left, list-full}
+use Rattle.text.specs.Refusals.{non-boolean, not-releasable, no-label-left, list-full, not-in-universe, pick-count}
 use Rattle.text.specs.declared.Found.{Found}
 use Rattle.text.specs.declared.Found.the-variants.{Nowhere, Here}
 use Rattle.book.specs.declared.Node.{Node}
@@ -27,13 +27,14 @@ pub data Rule : Type 0 where
   for-all : ℕ → ℕ → Rule → Rule
   import : ℕ → ℕ → ℕ → Rule → Rule
   free : ℕ → Term → Rule
+  choose : ℕ → ℕ → ℕ → Rule → Rule
 
 pub data RuleShape : Type 0 where
-  a-skip an-assign a-pair a-test a-bind a-for-all an-import a-free no-rule : RuleShape
+  a-skip an-assign a-pair a-test a-bind a-for-all an-import a-free a-choose no-rule : RuleShape
 
 -- from kind 20
 abbrev pub rule-shapes : List RuleShape
-rule-shapes = a-skip ∷ an-assign ∷ a-pair ∷ a-test ∷ a-bind ∷ a-for-all ∷ an-import ∷ a-free ∷ []
+rule-shapes = a-skip ∷ an-assign ∷ a-pair ∷ a-test ∷ a-bind ∷ a-for-all ∷ an-import ∷ a-free ∷ a-choose ∷ []
 
 abbrev pub rule-shape : Node → RuleShape
 rule-shape x = if leb 20 (x .kind) then getD rule-shapes (x .kind - 20) no-rule else no-rule
@@ -63,17 +64,21 @@ rule-tree ns (suc (suc d)) an-import n x =
     let c = ns (x .c) in
     import n (x .a) (x .b) (rule-tree ns (suc d) (rule-shape c) (x .c) c)
 rule-tree ns (suc (suc d)) a-free n x = free n (term-at ns (suc d) (x .a))
+rule-tree ns (suc (suc d)) a-choose n x =
+    let c = ns (x .c) in
+    choose n (x .a) (x .b) (rule-tree ns (suc d) (rule-shape c) (x .c) c)
 
 abbrev pub rule-at : (ℕ → Node) → ℕ → Rule
 rule-at ns n = rule-tree ns most-depth (rule-shape (ns n)) n (ns n)
 
--- ---- the walk's state, and the three ways to change it: look, give, take
+-- ---- the walk's state, and the four ways to go on: look, give, take a label, take a pick
 
 -- The instructions so far, in order; and the first label after those taken. Labels are taken lowest first, so those of Reserve that are not
--- yet taken are the ones from there on.
+-- yet taken are the ones from there on. And the picks that are left.
 pub record Walk : Type 0 where
   pub made : List Instruction
   pub next : ℕ
+  pub left : List ℕ
 
 -- a walk goes on, or has met a refusal at a node
 pub data Walked : Type 0 where
@@ -97,11 +102,15 @@ most-instructions = 256
 -- one more instruction, from node n; 14 if it does not fit
 abbrev pub give : ℕ → Instruction → Walk → Walked
 give n i w =
-    if ltb (length (w .made)) most-instructions then going (record { made = w .made ++ (i ∷ []); next = w .next }) else met list-full n
+    if ltb (length (w .made)) most-instructions then going (record { made = w .made ++ (i ∷ []); next = w .next; left = w .left }) else met list-full n
 
 -- label x is taken
 abbrev pub take-label : ℕ → Walk → Walk
-take-label x w = record { made = w .made; next = suc x }
+take-label x w = record { made = w .made; next = suc x; left = w .left }
+
+-- a pick is taken: these are left
+abbrev pub take-pick : List ℕ → Walk → Walk
+take-pick ys w = record { made = w .made; next = w .next; left = ys }
 
 -- refusal r at node n if the test passes
 abbrev pub refuse-if : Bool → ℕ → ℕ → Walk → Walked
@@ -150,6 +159,26 @@ not-boolean B t v = relation (function-at B (function-of t)) && not (boolean v)
 abbrev pub not-free : Program → ℕ → ℕ → Bool
 not-free B x r = ltb x (B .P) || eqb r true-element
 
+-- the value of the universe u at y. What is no element is in no universe, and nothing is looked at for it; behind 9 no pick is such
+unfoldable pub universe-at : Program → ℕ → ℕ → Look ℕ
+universe-at B u y = if ltb y (B .E) then read (location B u y 0) else done false-element
+
+-- 18: the universe has the value v there
+abbrev pub not-member : ℕ → Bool
+not-member v = not (eqb v true-element)
+
+-- A choice at node n in the universe u, with these picks left: 19 if there is none, before anything is looked at; else the first is taken, and the
+-- universe is looked at there before 18 is judged. body is the rest of it
+abbrev pub choose-of : Program → ℕ → ℕ → Walk → (ℕ → Walk → Look Walked) → List ℕ → Look Walked
+choose-of B n u w body [] = done (met pick-count n)
+choose-of B n u w body (y ∷ ys) =
+    universe-at B u y >>= λ v. after (refuse-if (not-member v) not-in-universe n (take-pick ys w)) (body y)
+
+-- 19 at the root q, if picks are left over
+abbrev pub all-taken : ℕ → List ℕ → Walk → Walked
+all-taken q [] w = going w
+all-taken q (y ∷ ys) w = met pick-count q
+
 -- ---- the walk of a rule by the agent whose element is me; vs are the variables' values
 
 unfoldable pub walk : Program → ℕ → Rule → List ℕ → Walk → Look Walked
@@ -180,12 +209,15 @@ walk B me (free n t) vs w = do
   x ← eval B me vs t
   r ← read (reserve x)
   done (refuse-if (not-free B x r) not-releasable n w then give n (Release x))
+walk B me (choose n x u r) vs w = choose-of B n u w (λ y. walk B me r (set vs x y)) (w .left)
 
 abbrev pub no-variables : List ℕ
 no-variables = 0 ∷ 0 ∷ 0 ∷ 0 ∷ 0 ∷ 0 ∷ 0 ∷ 0 ∷ []
 
--- the walk of agent k's rule
-unfoldable pub agent-walk : Program → ℕ → Look Walked
-agent-walk B k =
-    let g = agent-at B k in
-    walk B (g .element) (rule-at (node-at B) (g .root)) no-variables (record { made = []; next = B .P })
+-- the walk of agent k's rule with these picks, all of which must be taken
+unfoldable pub agent-walk : Program → ℕ → List ℕ → Look Walked
+unfolding _>>=_
+agent-walk B k picks = do
+  let g = agent-at B k
+  o ← walk B (g .element) (rule-at (node-at B) (g .root)) no-variables (record { made = []; next = B .P; left = picks })
+  done (o then λ w. all-taken (g .root) (w .left) w)

@@ -1,9 +1,12 @@
--- The single-move entry: a book, a contents table and an agent (01, "Refused, and how").
+-- The single-move entry: a book, a contents table, an agent and its picks (01, "Refused, and how"; 02, F-2).
+use mathlib.Core.Bool.{Bool, not}
 use mathlib.Core.List.{List, [], _∷_, _++_}
-use Prim.Native.Nat.{ℕ}
+use Prim.Native.Nat.{ℕ, suc, min}
 use lib.Dec.{ltb, leb}
-use lib.ListN.{length, take, drop}
+use lib.ListN.{length, getD, take, drop}
 use Rattle.text.specs.declared.Answer.{Answer}
+use Rattle.text.specs.declared.Found.{Found}
+use Rattle.text.specs.declared.Found.the-variants.{Nowhere, Here}
 use Rattle.text.specs.Words.{least, Checked, good, refused, _>>=_, _>>_, none-at, must}
 use Rattle.text.specs.Refusals.{lent-short, contents-table, instructions-table, contents-rule, log-line}
 use Rattle.book.specs.Book.{Program, L}
@@ -21,6 +24,26 @@ over new old = new ++ drop (length new) old
 unfoldable pub check-agent : Program → ℕ → Checked (Unit {0})
 check-agent B k = must (ltb k (length (B .agents))) log-line 0 0
 
+-- The place of pick j is its index + 1. Nothing bounds how many picks there are, and the one number that C gets has 24 bits for a place: all entries answer
+-- alike, with no more than those hold
+abbrev pub most-place : ℕ
+most-place = 16777215
+
+abbrev pub pick-place : ℕ → ℕ
+pick-place j = min (suc j) most-place
+
+abbrev pub no-pick-at : Found → Checked (Unit {0})
+no-pick-at Nowhere = good tt
+no-pick-at (Here j) = refused log-line (pick-place j) 0
+
+-- pick j is no element
+abbrev pub bad-pick : Program → List ℕ → ℕ → Bool
+bad-pick B ys j = not (ltb (getD ys j 0) (B .E))
+
+-- 9 at the least of these
+unfoldable pub check-picks : Program → List ℕ → Checked (Unit {0})
+check-picks B ys = no-pick-at (least (bad-pick B ys) (length ys))
+
 -- 2, where there are so many locations: contents c and n instruction records are lent
 abbrev pub check-step-lengths : ℕ → List ℕ → ℕ → Checked (Unit {0})
 check-step-lengths locations c n = do
@@ -34,17 +57,18 @@ check-lent-step B c n = check-step-lengths (L B) c n
 unfoldable pub check-contents : Program → List ℕ → Checked (Unit {0})
 check-contents B c = none-at contents-rule 0 0 (least (bad-value B c) (L B))
 
-unfoldable pub check-step : List ℕ → List ℕ → ℕ → ℕ → Checked Program
-check-step book c k n = do
+unfoldable pub check-step : List ℕ → List ℕ → Input → ℕ → Checked Program
+check-step book c i n = do
   b ← check-book book
   let B = b .program
-  check-agent B k
+  check-agent B (i .agent)
+  check-picks B (i .picks)
   check-lent-step B c n
   check-contents B (take (L B) c)
   good B
 
--- What it answers: number and place, the contents table, and the instructions of the move if its walk came to its end, so that a clash can be looked
--- into; none of a call that is refused before the move. 01 leaves them free
+-- What it answers: number and place, the contents table, and the instructions of the move if none of 11 to 14, 18 and 19 is met, a pick left over too, so that
+-- a clash can be looked into; none of a call that is refused before the move. 01 leaves them free
 pub record Stepped : Type 0 where
   pub answer : Answer
   pub contents : List ℕ
@@ -55,16 +79,15 @@ abbrev pub stepped : List ℕ → List ℕ → List Instruction → Moved → St
 stepped c d is (fires f) = record { answer = record { number = 0; p = 0; q = 0 }; contents = over (fire (f .updates) d) c; instructions = is }
 stepped c d is (stopped n q) = record { answer = record { number = n; p = 0; q = q }; contents = c; instructions = is }
 
-abbrev pub step-move : Program → List ℕ → ℕ → Stepped
-step-move B c k =
+abbrev pub step-move : Program → List ℕ → Input → Stepped
+step-move B c i =
     let d = take (L B) c in
-    let i : Input = record { agent = k } in
     stepped c d (made-by (walked B d i)) (move B d i)
 
 -- a refused call leaves the table as it was
-abbrev pub step-answer : List ℕ → ℕ → Checked Program → Stepped
-step-answer c k (refused n p q) = record { answer = record { number = n; p = p; q = q }; contents = c; instructions = [] }
-step-answer c k (good B) = step-move B c k
+abbrev pub step-answer : List ℕ → Input → Checked Program → Stepped
+step-answer c i (refused n p q) = record { answer = record { number = n; p = p; q = q }; contents = c; instructions = [] }
+step-answer c i (good B) = step-move B c i
 
-unfoldable pub step-call : List ℕ → List ℕ → ℕ → ℕ → Stepped
-step-call book c k n = step-answer c k (check-step book c k n)
+unfoldable pub step-call : List ℕ → List ℕ → Input → ℕ → Stepped
+step-call book c i n = step-answer c i (check-step book c i n)

@@ -7,6 +7,9 @@ pub enum Instruction {
     Release { label: Value },
 }
 
+// A clerk's pick: the number of an element, in 64 bits so that none is cut. One that is no element is refused.
+pub type Pick = u64;
+
 // A record of the instruction list that a caller lends.
 pub struct Record {
     pub what: Instruction,

@@ -1,4 +1,5 @@
 // What C can call. An answer comes in one number.
+use engine::Pick;
 use numbers::Value;
 use text::Answer;
 ghost use mathlib.Core.Path.{_≡_};
@@ -6,6 +7,7 @@ ghost use Prim.Native.Nat.{_≤_};
 ghost use Rattle.text.specs.Words.{answer-of};
 ghost use Rattle.book.specs.Check.{check-book};
 ghost use Rattle.book.specs.Check.{packed as short};
+ghost use Rattle.engine.specs.Move.{input};
 ghost use Rattle.engine.specs.Single.{step-call};
 ghost use Rattle.order.specs.Call.{log-call};
 ghost use Rattle.report.specs.Report.{rental};
@@ -24,22 +26,28 @@ pub extern "C" fn rental_check_book(book: &[u8]) -> u64
     a.number as u64 * 4294967296 + a.p as u64
 }
 
-// An answer in one number. The numbers of 01 end at 17, so nothing wraps.
+// An answer in one number. The numbers end at 19, so nothing wraps.
 fn in_one(a: Answer) -> u64
-    requires { ⌜ a .number ≤ 17 ⌝ }
+    requires { ⌜ a .number ≤ 19 ⌝ }
     ensures { λ r. ⌜ r ≡ packed a ⌝ }
 {
     a.number as u64 * 281474976710656 + a.p as u64 * 16777216 + a.q as u64
 }
 
-// A single move: number × 2^48 + p × 2^24 + q; `lent` is how many instruction records there are.
+// A single move with its picks: number × 2^48 + p × 2^24 + q; `lent` is how many instruction records there are.
 #[no_mangle]
-pub extern "C" fn rental_step(book: &[u8], contents: &mut [Value], agent: usize, lent: usize) -> u64
-    ensures { λ r. ⌜ r ≡ packed (step-call (now (book .entry)) (now (contents .entry)) agent lent .answer) ⌝ }
-    ensures { λ r. ⌜ unpacked r ≡ step-call (now (book .entry)) (now (contents .entry)) agent lent .answer ⌝ }
-    ensures { λ _. ⌜ now (contents .exit) ≡ step-call (now (book .entry)) (now (contents .entry)) agent lent .contents ⌝ }
+pub extern "C" fn rental_move(
+    book: &[u8],
+    contents: &mut [Value],
+    agent: usize,
+    picks: &[Pick],
+    lent: usize,
+) -> u64
+    ensures { λ r. ⌜ r ≡ packed (step-call (now (book .entry)) (now (contents .entry)) (input agent (now (picks .entry))) lent .answer) ⌝ }
+    ensures { λ r. ⌜ unpacked r ≡ step-call (now (book .entry)) (now (contents .entry)) (input agent (now (picks .entry))) lent .answer ⌝ }
+    ensures { λ _. ⌜ now (contents .exit) ≡ step-call (now (book .entry)) (now (contents .entry)) (input agent (now (picks .entry))) lent .contents ⌝ }
 {
-    in_one(lending::step(book, contents, agent, lent))
+    in_one(lending::step(book, contents, agent, picks, lent))
 }
 
 // A log's run: number × 2^48 + p × 2^24 + q.

@@ -1,24 +1,29 @@
--- How far a walk is, with the list of instructions as numbers; and the steps that give an instruction or are refused.
+-- How far a walk is, with the list of instructions as numbers and the picks left; and the steps that give an instruction, take a pick or are refused.
 use mathlib.Core.Bool.{_&&_, not}
-use mathlib.Core.List.{List}
+use mathlib.Core.List.{List, [], _∷_}
 use Prim.Native.Nat.{ℕ}
+use lib.ListN.{getD, drop}
 use lib.Dec.{eqb, ltb}
 use Rattle.text.specs.Words.{if_then_else_}
-use Rattle.text.specs.Refusals.{non-boolean, not-releasable, no-label-left}
+use Rattle.text.specs.Refusals.{non-boolean, not-releasable, no-label-left, not-in-universe, pick-count}
 use Rattle.book.specs.Book.{true-element, false-element, boolean, relation, Program, function-at, location, reserve}
 use Rattle.engine.specs.declared.Instruction.the-variants.{Update, Release}
-use Rattle.engine.specs.Rule.{Walk, Walked, going, met, _then_, give, take-label, refuse-if, not-free}
+use Rattle.engine.specs.Rule.{Walk, Walked, going, met, _then_, give, take-label, take-pick, refuse-if, not-free, not-member}
 use Rattle.records.specs.Code.{items}
 use Rattle.giving.specs.declared.Pace.{Pace}
 
--- ---- a pace and the list that goes with it
+-- ---- a pace, the picks left and the list that go with it
 
-abbrev pub walk-from : Pace → List ℕ → Walk
-walk-from s l = record { made = items l (s .len); next = s .label }
+-- the picks that are left of ys, where u, a cell, says how many are used
+abbrev pub left-of : List ℕ → List ℕ → List ℕ
+left-of ys u = drop (getD u 0 0) ys
+
+abbrev pub walk-from : List ℕ → Pace → List ℕ → Walk
+walk-from ys s l = record { made = items l (s .len); next = s .label; left = ys }
 
 -- a refusal's number is not 0
-unfoldable pub reached : Pace → List ℕ → Walked
-reached s l = if eqb (s .refused) 0 then going (walk-from s l) else met (s .refused) (s .node)
+unfoldable pub reached : List ℕ → Pace → List ℕ → Walked
+reached ys s l = if eqb (s .refused) 0 then going (walk-from ys s l) else met (s .refused) (s .node)
 
 -- ---- steps
 
@@ -40,3 +45,16 @@ taking B u x n w = give n (Update (reserve x) false-element) (take-label x w) th
 -- the same where the search for a label came to x, past the elements if there is none
 abbrev pub enrolling : Program → ℕ → ℕ → ℕ → Walk → Walked
 enrolling B u x n w = if ltb x (B .E) then taking B u x n w else met no-label-left n
+
+-- the pick that is next; E, which is no element, if there is none or it is no element
+abbrev pub next-pick : ℕ → List ℕ → ℕ
+next-pick E [] = E
+next-pick E (y ∷ ys) = if ltb y E then y else E
+
+-- 28 at node n with these picks left: the first is taken, the universe having the value v there
+abbrev pub picked : ℕ → ℕ → Walk → List ℕ → Walked
+picked v n w [] = met pick-count n
+picked v n w (y ∷ ys) = refuse-if (not-member v) not-in-universe n (take-pick ys w)
+
+abbrev pub picking : ℕ → ℕ → Walk → Walked
+picking v n w = picked v n w (w .left)

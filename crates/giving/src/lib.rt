@@ -1,19 +1,21 @@
-// The instructions that a walk gives: how far it is, one instruction more, or a refusal.
+// The instructions that a walk gives: how far it is, one instruction more, a pick taken, or a refusal.
 use book::Image;
 use engine::Instruction;
+use engine::Pick;
 use numbers::Value;
 ghost use mathlib.Core.Path.{_≡_};
-ghost use mathlib.Core.List.{List};
-ghost use Prim.Native.Nat.{ℕ, _<_};
-ghost use lib.ListN.{length};
+ghost use mathlib.Core.List.{List, []};
+ghost use Prim.Native.Nat.{ℕ, suc, _<_};
+ghost use lib.ListN.{length, getD};
 ghost use Rattle.book.specs.Book.{node-at};
 ghost use Rattle.engine.specs.Term.{term-at, function-of};
-ghost use Rattle.engine.specs.Rule.{_then_, most-instructions, give};
+ghost use Rattle.engine.specs.Rule.{_then_, most-instructions, give, all-taken};
 ghost use Rattle.book.specs.Image.{held};
-ghost use Rattle.giving.specs.Giving.{reached, refused-by, setting, freeing, taking, enrolling};
+ghost use Rattle.giving.specs.Giving.{reached, left-of, refused-by, setting, freeing, taking, enrolling, next-pick, picking};
 
 // How far a walk is: how many instructions it has given, the label from which the next import looks,
-// its refusal (0 for none) and the refusal's node. Eight bytes go from node to node in a register.
+// its refusal (0 for none) and the refusal's node. Eight bytes go from node to node in a register; how many picks it has used stands in a
+// cell that is lent beside it.
 pub struct Pace {
     pub len: u16,
     pub label: Value,
@@ -24,7 +26,7 @@ pub struct Pace {
 // A refusal at node n, unless there is one already.
 fn refuse(s: Pace, number: u32, n: u16) -> Pace
     requires { ⌜ (0 < number) × (number < 65536) ⌝ }
-    ensures { λ r. ⌜ ((l : List ℕ) → reached r l ≡ (reached s l then refused-by number n)) ⌝ }
+    ensures { λ r. ⌜ ((ys l : List ℕ) → reached ys r l ≡ (reached ys s l then refused-by number n)) ⌝ }
 {
     if s.refused != 0 {
         return s;
@@ -40,7 +42,7 @@ fn refuse(s: Pace, number: u32, n: u16) -> Pace
 // One more instruction, which node n gives; 14 if it does not fit.
 fn give(list: &mut [u64], s: Pace, i: Instruction, n: u16) -> Pace
     requires { ⌜ length (now list) ≡ most-instructions ⌝ }
-    ensures { λ r. ⌜ reached r (now (list .exit)) ≡ (reached s (now (list .entry)) then give n i) ⌝ }
+    ensures { λ r. ⌜ ((ys : List ℕ) → reached ys r (now (list .exit)) ≡ (reached ys s (now (list .entry)) then give n i)) ⌝ }
 {
     if s.refused != 0 {
         return s;
@@ -86,7 +88,7 @@ pub fn update(
     at: u32,
     x: Value,
 ) -> Pace
-    ensures { λ r. ⌜ reached r (now (list .exit)) ≡ (reached s (now (list .entry)) then setting (held (now (image .entry))) f at x n) ⌝ }
+    ensures { λ r. ⌜ ((ys : List ℕ) → reached ys r (now (list .exit)) ≡ (reached ys s (now (list .entry)) then setting (held (now (image .entry))) f at x n)) ⌝ }
 {
     if pages::is_relation(image::function_at(image, f as u32)) {
         if term::boolean(x) {
@@ -118,7 +120,7 @@ pub fn update(
 // The two updates by which an import at node n takes label x into universe u.
 fn take(image: &Image, list: &mut [u64; 256], s: Pace, n: u16, u: u16, x: Value) -> Pace
     requires { ⌜ x < 65535 ⌝ }
-    ensures { λ r. ⌜ reached r (now (list .exit)) ≡ (reached s (now (list .entry)) then taking (held (now (image .entry))) u x n) ⌝ }
+    ensures { λ r. ⌜ ((ys : List ℕ) → reached ys r (now (list .exit)) ≡ (reached ys s (now (list .entry)) then taking (held (now (image .entry))) u x n)) ⌝ }
 {
     let r = Pace {
         len: s.len,
@@ -149,7 +151,7 @@ fn take(image: &Image, list: &mut [u64; 256], s: Pace, n: u16, u: u16, x: Value)
 
 // The same if x is an element; 13 if not, as no label is left.
 pub fn enroll(image: &Image, list: &mut [u64; 256], s: Pace, n: u16, u: u16, x: Value) -> Pace
-    ensures { λ r. ⌜ reached r (now (list .exit)) ≡ (reached s (now (list .entry)) then enrolling (held (now (image .entry))) u x n) ⌝ }
+    ensures { λ r. ⌜ ((ys : List ℕ) → reached ys r (now (list .exit)) ≡ (reached ys s (now (list .entry)) then enrolling (held (now (image .entry))) u x n)) ⌝ }
 {
     if x < image::elements(image) {
         take(image, list, s, n, u, x)
@@ -160,7 +162,7 @@ pub fn enroll(image: &Image, list: &mut [u64; 256], s: Pace, n: u16, u: u16, x: 
 
 // Releases x, Reserve there being v; 12 if x is no label or in Reserve.
 pub fn free(image: &Image, list: &mut [u64; 256], s: Pace, n: u16, x: Value, v: Value) -> Pace
-    ensures { λ r. ⌜ reached r (now (list .exit)) ≡ (reached s (now (list .entry)) then freeing (held (now (image .entry))) x v n) ⌝ }
+    ensures { λ r. ⌜ ((ys : List ℕ) → reached ys r (now (list .exit)) ≡ (reached ys s (now (list .entry)) then freeing (held (now (image .entry))) x v n)) ⌝ }
 {
     if x < pages::permanent(image) {
         return refuse(s, text::NOT_RELEASABLE, n);
@@ -170,4 +172,52 @@ pub fn free(image: &Image, list: &mut [u64; 256], s: Pace, n: u16, x: Value, v: 
     } else {
         give(list, s, Instruction::Release { label: x }, n)
     }
+}
+
+// The pick that is next; E if there is none, or it is no element.
+pub fn next_pick(image: &Image, picks: &[Pick], used: &[usize; 1]) -> Value
+    ensures { λ r. ⌜ r ≡ next-pick (held (now (image .entry)) .E) (left-of (now (picks .entry)) (now (used .entry))) ⌝ }
+{
+    let e = image::elements(image);
+    let i = used[0];
+    if i < picks.len() {
+        let y = picks[i];
+        if y < e as u64 {
+            return y as Value;
+        }
+    }
+    e
+}
+
+// One pick more is used.
+fn advance(used: &mut [usize])
+    requires { ⌜ (0 < length (now used)) × (getD (now used) 0 0 < 18446744073709551615) ⌝ }
+    ensures { λ _. ⌜ getD (now (used .exit)) 0 0 ≡ suc (getD (now (used .entry)) 0 0) ⌝ }
+{
+    used[0] = used[0] + 1;
+}
+
+// Takes the pick that is next, the universe having the value v there; 19 if there is none, 18 if it is no member.
+pub fn pick(picks: &[Pick], used: &mut [usize; 1], s: Pace, n: u16, v: Value) -> Pace
+    ensures { λ r. ⌜ ((l : List ℕ) → reached (left-of (now (picks .entry)) (now (used .exit))) r l ≡ (reached (left-of (now (picks .entry)) (now (used .entry))) s l then picking v n)) ⌝ }
+{
+    let i = used[0];
+    if picks.len() <= i {
+        return refuse(s, text::PICK_COUNT, n);
+    }
+    if v != 2 {
+        return refuse(s, text::NOT_IN_UNIVERSE, n);
+    }
+    advance(used);
+    s
+}
+
+// 19 at the root if picks are left at the walk's end.
+pub fn all_used(picks: &[Pick], used: &[usize; 1], s: Pace, root: u16) -> Pace
+    ensures { λ r. ⌜ ((l : List ℕ) → reached [] r l ≡ (reached (left-of (now (picks .entry)) (now (used .entry))) s l then λ w. all-taken root (w .left) w)) ⌝ }
+{
+    if used[0] < picks.len() {
+        return refuse(s, text::PICK_COUNT, root);
+    }
+    s
 }

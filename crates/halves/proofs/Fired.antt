@@ -14,11 +14,11 @@ use Rattle.firing.specs.Outcome.{contents-after}
 use Rattle.moves.specs.Effect.{move-answer}
 
 -- the contents d are those that it leaves there, with the rest of the table
-pub moved-step : (B : Program) (c : List ℕ) (k : ℕ) → L B ≤ length c → (r : Answer) (d : List ℕ)
-    → r ≡ move-answer 0 (move B (take (L B) c) (record { agent = k }))
-    → d ≡ contents-after (take (L B) c) (move B (take (L B) c) (record { agent = k })) ++ drop (L B) c
+pub moved-step : (B : Program) (c : List ℕ) (k : Input) → L B ≤ length c → (r : Answer) (d : List ℕ)
+    → r ≡ move-answer 0 (move B (take (L B) c) k)
+    → d ≡ contents-after (take (L B) c) (move B (take (L B) c) k) ++ drop (L B) c
     → (r ≡ step-move B c k .answer) × (d ≡ step-move B c k .contents)
-moved-step B c k h r d = let i : Input = record { agent = k } in go (made-by (walked B (take (L B) c) i)) (move B (take (L B) c) i)
+moved-step B c k h r d = go (made-by (walked B (take (L B) c) k)) (move B (take (L B) c) k)
   where
     go : (is : List Instruction) (o : Moved) → r ≡ move-answer 0 o → d ≡ contents-after (take (L B) c) o ++ drop (L B) c
         → (r ≡ stepped c (take (L B) c) is o .answer) × (d ≡ stepped c (take (L B) c) is o .contents)

@@ -34,7 +34,7 @@ nil-of [] e = refl
 nil-of (x ∷ xs) e = absurd (omega (arith, e))
 
 -- begun on the first j records, with a table of no marks
-pub begun-on : (B : Program) (c : List ℕ) (k i j : ℕ) (l : List ℕ) (s : Begun) (rs : List ℕ) → j ≡ min i (length c) → length rs ≡ 0
+pub begun-on : (B : Program) (c : List ℕ) (k : Input) (i j : ℕ) (l : List ℕ) (s : Begun) (rs : List ℕ) → j ≡ min i (length c) → length rs ≡ 0
     → Gathered B (take j c) 1 k (outcome (s .walk) l) [] rs → s .count ≡ given-of (s .walk) → length l ≡ 256 → Walked B (take i c) k l s
 begun-on B c k i j l s rs e z g n r = record {
   walk = subst (λ (d : List ℕ). Gathered B d 1 k (outcome (s .walk) l) [] []) (take-min c j i e)
@@ -43,7 +43,7 @@ begun-on B c k i j l s rs e z g n r = record {
   room = r;
 }
 
-module _ (text c : List ℕ) (k n : ℕ) (m l : List ℕ) (p : Paused) where
+module _ (text c : List ℕ) (k : Input) (n : ℕ) (m l : List ℕ) (p : Paused) where
   pub halted-half : (a : Answer) → p .answer ≡ a → p .begun .count ≡ 0 → a .number ≢ 0 → Tells a 0 l c (step-call text c k n) → Halfway text c k n m l p
   halted-half a e z h t = record {
     stops = λ _. (z, subst (λ (b : Answer). Tells b 0 l c (step-call text c k n)) (sym e) t);
@@ -64,14 +64,14 @@ module _ (text c : List ℕ) (k n : ℕ) (m l : List ℕ) (p : Paused) where
 
 -- ---- the list between them
 
-step-instructions : (B : Program) (c : List ℕ) (k : ℕ) → step-move B c k .instructions ≡ made-by (walked B (take (L B) c) (record { agent = k }))
-step-instructions B c k = go (move B (take (L B) c) (record { agent = k }))
+step-instructions : (B : Program) (c : List ℕ) (k : Input) → step-move B c k .instructions ≡ made-by (walked B (take (L B) c) k)
+step-instructions B c k = go (move B (take (L B) c) k)
   where
-    go : (o : Moved) → stepped c (take (L B) c) (made-by (walked B (take (L B) c) (record { agent = k }))) o .instructions ≡ made-by (walked B (take (L B) c) (record { agent = k }))
+    go : (o : Moved) → stepped c (take (L B) c) (made-by (walked B (take (L B) c) k)) o .instructions ≡ made-by (walked B (take (L B) c) k)
     go (fires f) = refl
     go (stopped a q) = refl
 
-module _ (text c : List ℕ) (k n : ℕ) (m l : List ℕ) (p : Paused) (h : Halfway text c k n m l p) where
+module _ (text c : List ℕ) (k : Input) (n : ℕ) (m l : List ℕ) (p : Paused) (h : Halfway text c k n m l p) where
   abbrev A : Program
   A = held m
 
@@ -117,9 +117,8 @@ module _ (text c : List ℕ) (k n : ℕ) (m l : List ℕ) (p : Paused) (h : Half
   unfolding move
   concluded-moves z r d s =
       let w = h .moves z in
-      let i : Input = record { agent = k } in
-      let t : (r ≡ move-answer 0 (move A (take (L A) c) i)) × (d ≡ contents-after (take (L A) c) (move A (take (L A) c) i) ++ drop (L A) c) =
-      rw (w .locations, w .walked .walk .outcome) at (s .moves z (looked A (take (L A) c) i)) in
+      let t : (r ≡ move-answer 0 (move A (take (L A) c) k)) × (d ≡ contents-after (take (L A) c) (move A (take (L A) c) k) ++ drop (L A) c) =
+      rw (w .locations, w .walked .walk .outcome) at (s .moves z (looked A (take (L A) c) k)) in
       moved-step A c k (w .long) r d (t .0) (t .1)
 
   -- the answer, the instructions and the contents are the call's

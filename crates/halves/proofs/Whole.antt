@@ -9,7 +9,8 @@ use Rattle.text.specs.Words.{Checked, good, refused, _>>=_, _>>_, answer-of}
 use Rattle.book.specs.Book.{Program, Book, L}
 use Rattle.book.specs.Check.{check-book}
 use Rattle.book.specs.Image.{word, held}
-use Rattle.engine.specs.Single.{check-agent, check-step-lengths, check-contents, check-step, step-move, step-answer, step-call}
+use Rattle.engine.specs.Move.{Input}
+use Rattle.engine.specs.Single.{check-agent, check-picks, check-step-lengths, check-contents, check-step, step-move, step-answer, step-call}
 use Rattle.calls.specs.Call.{check-call}
 use Rattle.halves.specs.Stages.{Tells}
 use Rattle.book_check.specs.Opened.{Opened}
@@ -18,7 +19,7 @@ use Rattle.calls.proofs.Numbered.{book-numbered, call-numbered, accepts}
 use Rattle.calls.proofs.Checks.{lengths-are, Passed, call-passed}
 
 -- a refusal before the move: no instruction, and the contents as they were
-module _ (c l : List ℕ) (k : ℕ) where
+module _ (c l : List ℕ) (k : Input) where
   book-stops : (x : Checked Book) (f : Book → Checked Program) → answer-of x .number ≢ 0 → Tells (answer-of x) 0 l c (step-answer c k (x >>= f))
   unfolding _>>=_
   book-stops (good b) f h = absurd (h refl)
@@ -34,18 +35,19 @@ module _ (c l : List ℕ) (k : ℕ) where
   call-goes x u B e = rw e
 
 -- what a call has passed before its move, whose image is m, and that the move is all that is left of it
-pub record Cleared (text c : List ℕ) (k n : ℕ) (m : List ℕ) : Type 0 where
+pub record Cleared (text c : List ℕ) (k : Input) (n : ℕ) (m : List ℕ) : Type 0 where
   pub passed : Passed (held m) c k n
   pub locations : word m 6 ≡ L (held m)
   pub moved : step-move (held m) c k ≡ step-call text c k n
 
-joined : {A : Type 0} (x y z : Checked (Unit {0})) (w : Checked A) → (x >> (y >> (z >> w))) ≡ ((x >> (y >> z)) >> w)
+joined : {A : Type 0} (x y z v : Checked (Unit {0})) (w : Checked A) → (x >> (y >> (z >> (v >> w)))) ≡ ((x >> (y >> (z >> v))) >> w)
 unfolding _>>_
-joined (good u) (good v) z w = refl
-joined (good u) (refused n p q) z w = refl
-joined (refused n p q) y z w = refl
+joined (good u) (good t) (good s) v w = refl
+joined (good u) (good t) (refused n p q) v w = refl
+joined (good u) (refused n p q) z v w = refl
+joined (refused n p q) y z v w = refl
 
-module _ (text c l : List ℕ) (k n : ℕ) where
+module _ (text c l : List ℕ) (k : Input) (n : ℕ) where
   -- ---- the book is refused
 
   pub refused-book : (a : Answer) → a ≡ answer-of (check-book text) → a .number ≢ 0 → Tells a 0 l c (step-call text c k n)
@@ -60,7 +62,7 @@ module _ (text c l : List ℕ) (k n : ℕ) where
   step-good b e i same =
       let B = b .program in
       rw (e, ← lengths-are B i c n same, ← same)
-      (ap (step-answer c k) (joined (check-agent B k) (check-step-lengths i c n) (check-contents B (take i c)) (good B)))
+      (ap (step-answer c k) (joined (check-agent B (k .agent)) (check-picks B (k .picks)) (check-step-lengths i c n) (check-contents B (take i c)) (good B)))
 
   module _ (m : List ℕ) (opened : Opened m (check-book text)) (a : Answer) (told : a ≡ answer-of (check-book text)) (zero-a : a .number ≡ 0)
       (b : Answer) (call : b ≡ answer-of (check-call (held m) (word m 6) c k n)) where

@@ -8,7 +8,7 @@ use Rattle.text.specs.declared.Answer.{Answer}
 use Rattle.book.specs.Book.{Program, L}
 use Rattle.book.specs.Image.{word, held}
 use Rattle.engine.specs.Rule.{most-instructions}
-use Rattle.engine.specs.Move.{settle}
+use Rattle.engine.specs.Move.{Input, settle}
 use Rattle.engine.specs.Single.{step-move, step-call}
 use Rattle.walk.specs.Walk.{outcome}
 use Rattle.walk.specs.Gather.{Gathered}
@@ -19,14 +19,14 @@ use Rattle.moves.specs.Effect.{move-answer}
 use Rattle.halves.specs.declared.Paused.{Paused}
 use Rattle.halves.specs.Stages.{Tells}
 
--- agent k's move is begun in the contents c, with no marks: its walk came to s, with its instructions in the list l
-pub record Walked (B : Program) (c : List ℕ) (k : ℕ) (l : List ℕ) (s : Begun) : Type 0 where
+-- the move with input k is begun in the contents c, with no marks: its walk came to s, with its instructions in the list l
+pub record Walked (B : Program) (c : List ℕ) (k : Input) (l : List ℕ) (s : Begun) : Type 0 where
   pub walk : Gathered B c 1 k (outcome (s .walk) l) [] []
   pub count : s .count ≡ given-of (s .walk)
   pub room : length l ≡ most-instructions
 
 -- the call that was not refused before its move, whose image is m
-pub record Moves (text c : List ℕ) (k n : ℕ) (m l : List ℕ) (s : Begun) : Type 0 where
+pub record Moves (text c : List ℕ) (k : Input) (n : ℕ) (m l : List ℕ) (s : Begun) : Type 0 where
   pub lent : most-instructions ≤ n
   pub locations : word m 6 ≡ L (held m)
   pub long : L (held m) ≤ length c
@@ -34,7 +34,7 @@ pub record Moves (text c : List ℕ) (k n : ℕ) (m l : List ℕ) (s : Begun) : 
   pub whole : step-move (held m) c k ≡ step-call text c k n
 
 -- a call up to the list
-pub record Halfway (text c : List ℕ) (k n : ℕ) (m l : List ℕ) (p : Paused) : Type 0 where
+pub record Halfway (text c : List ℕ) (k : Input) (n : ℕ) (m l : List ℕ) (p : Paused) : Type 0 where
   pub stops : p .answer .number ≢ 0 → (p .begun .count ≡ 0) × Tells (p .answer) 0 l c (step-call text c k n)
   pub moves : p .answer .number ≡ 0 → Moves text c k n m l (p .begun)
 

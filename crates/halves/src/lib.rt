@@ -1,6 +1,7 @@
 // A single move's call in stages: the checks and the move begun, then the move finished. In between its instructions may go
 // through a lent list.
 use book::Image;
+use engine::Pick;
 use moves::Begun;
 use numbers::Value;
 use text::Answer;
@@ -8,6 +9,7 @@ use walk::State;
 ghost use mathlib.Core.Path.{_≡_};
 ghost use lib.ListN.{take};
 ghost use Rattle.book.specs.Image.{word, held};
+ghost use Rattle.engine.specs.Move.{input};
 ghost use Rattle.halves.specs.Halves.{Walked, Halfway, Concluded};
 
 // A call up to the list: the answer of its checks, and its move begun if they pass.
@@ -37,13 +39,27 @@ fn refused(answer: Answer) -> Paused
 }
 
 // The move is begun, on the records of a lent table that the book has locations for.
-fn begin(image: &Image, contents: &[Value], agent: u32, work: &mut [u64; 256]) -> Begun
-    ensures { λ r. ⌜ Walked (held (now (image .entry))) (take (word (now (image .entry)) 6) (now (contents .entry))) agent (now (work .exit)) r ⌝ }
+fn begin(
+    image: &Image,
+    contents: &[Value],
+    agent: u32,
+    picks: &[Pick],
+    work: &mut [u64; 256],
+) -> Begun
+    ensures { λ r. ⌜ Walked (held (now (image .entry))) (take (word (now (image .entry)) 6) (now (contents .entry))) (input agent (now (picks .entry))) (now (work .exit)) r ⌝ }
 {
     let all = image::locations(image) as usize;
     let n = numbers::smaller(all, contents.len());
     let mut readers = [0u64; 1];
-    moves::begin(image, &contents[..n], &mut readers[..0], 1, work, agent)
+    moves::begin(
+        image,
+        &contents[..n],
+        &mut readers[..0],
+        1,
+        work,
+        agent,
+        picks,
+    )
 }
 
 // The checks, and the move begun.
@@ -51,21 +67,22 @@ pub fn first_half(
     book: &[u8],
     contents: &[Value],
     agent: usize,
+    picks: &[Pick],
     lent: usize,
     image: &mut Image,
     work: &mut [u64; 256],
 ) -> Paused
-    ensures { λ r. ⌜ Halfway (now (book .entry)) (now (contents .entry)) agent lent (now (image .exit)) (now (work .exit)) r ⌝ }
+    ensures { λ r. ⌜ Halfway (now (book .entry)) (now (contents .entry)) (input agent (now (picks .entry))) lent (now (image .exit)) (now (work .exit)) r ⌝ }
 {
     let opened = book_check::check_into(book, image);
     if opened.number != 0 {
         return refused(opened);
     }
-    let checked = calls::check_call(image, contents, agent, lent);
+    let checked = calls::check_call(image, contents, agent, picks, lent);
     if checked.number != 0 {
         return refused(checked);
     }
-    let begun = begin(image, contents, agent as u32, work);
+    let begun = begin(image, contents, agent as u32, picks, work);
     Paused {
         answer: checked,
         begun: begun,

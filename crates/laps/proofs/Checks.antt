@@ -104,25 +104,28 @@ module _ (book log : List ℕ) (n : Lengths) where
     abbrev A : ℕ
     A = length (B .program .agents)
 
+    abbrev E : ℕ
+    E = B .program .E
+
     log-stops : answer-of (check-log (B .program) log) .number ≢ 0 → answer-of (check-log (B .program) log) ≡ answer-of all
     log-stops z = sym (ap answer-of (after-book B is) ∙ bind-stops (check-log (B .program) log) (rest B) z)
 
-    read-stops : answer-of (read-log A log) .number ≢ 0 → answer-of (read-log A log) ≡ answer-of all
+    read-stops : answer-of (read-log A E log) .number ≢ 0 → answer-of (read-log A E log) ≡ answer-of all
     unfolding check-log
     read-stops z =
-        let e = bind-stops (read-log A log) (λ g. check-agents g >> good g) z in
+        let e = bind-stops (read-log A E log) (λ g. check-agents g >> good g) z in
         sym e ∙ log-stops (λ y. z (ap (λ (a : Answer). a .number) (sym e) ∙ y))
 
-    read-good : answer-of (read-log A log) .number ≡ 0 → (g : Log) × (read-log A log ≡ good g)
+    read-good : answer-of (read-log A E log) .number ≡ 0 → (g : Log) × (read-log A E log ≡ good g)
     unfolding check-log _>>=_
-    read-good z = go (read-log A log) refl z
+    read-good z = go (read-log A E log) refl z
       where
-        go : (o : Checked Log) → read-log A log ≡ o → answer-of o .number ≡ 0 → (g : Log) × (read-log A log ≡ good g)
+        go : (o : Checked Log) → read-log A E log ≡ o → answer-of o .number ≡ 0 → (g : Log) × (read-log A E log ≡ good g)
         go (good g) w z = (g, w)
         go (refused m p q) w z = absurd (not-zero p q (after-book B is ∙ rw (w, z)))
 
     -- 10, by the table t of the log g, which passed 1 and 9
-    module _ (g : Log) (says : read-log A log ≡ good g) (t : List ℕ) (ordered : Ordered g t) (few : A ≤ 16) where
+    module _ (g : Log) (says : read-log A E log ≡ good g) (t : List ℕ) (ordered : Ordered g t) (few : A ≤ 16) where
       abbrev ten : Checked (Unit {0})
       ten = check-agents-in t (length (g .moves))
 
@@ -163,65 +166,69 @@ module _ (book log : List ℕ) (n : Lengths) where
         let s = book-stops y in
         opened-off r m o opened (e ∙ ea ∙ s) (λ q. y (ap (λ (x : Answer). x .number) s ∙ q))
 
-    module _ (z : a .number ≡ 0) (agents : ℕ) (ek : agents ≡ length (held m .agents)) (o : List ℕ) (c : LogRead) (read : LogReads agents log o c) where
-      book-is : (B : Book) × (check-book book ≡ good B)
-      book-is = book-good (ap (λ (x : Answer). x .number) (sym ea) ∙ z)
+    module _ (z : a .number ≡ 0) (agents elements : ℕ) (ek : agents ≡ length (held m .agents)) (ee : elements ≡ held m .E) (o : List ℕ) (c : LogRead)
+        (read : LogReads agents elements log o c)
+      where
+        book-is : (B : Book) × (check-book book ≡ good B)
+        book-is = book-good (ap (λ (x : Answer). x .number) (sym ea) ∙ z)
 
-      abbrev B : Book
-      B = book-is .0
+        abbrev B : Book
+        B = book-is .0
 
-      agents-same : (b : Book) → check-book book ≡ good b → agents ≡ length (b .program .agents)
-      agents-same b e = ek ∙ ap (λ (y : Program). length (y .agents)) (held-is book m opened b e)
+        agents-same : (b : Book) → check-book book ≡ good b → agents ≡ length (b .program .agents)
+        agents-same b e = ek ∙ ap (λ (y : Program). length (y .agents)) (held-is book m opened b e)
 
-      reads : (b : Book) → check-book book ≡ good b → LogReads (length (b .program .agents)) log o c
-      reads b e = subst (λ (k : ℕ). LogReads k log o c) (agents-same b e) read
+        reads : (b : Book) → check-book book ≡ good b → LogReads (length (b .program .agents)) (b .program .E) log o c
+        reads b e =
+            subst (λ (k : ℕ). LogReads (length (b .program .agents)) k log o c) (ee ∙ ap (λ (y : Program). y .E) (held-is book m opened b e))
+            (subst (λ (k : ℕ). LogReads k elements log o c) (agents-same b e) read)
 
-      few : (b : Book) → check-book book ≡ good b → length (b .program .agents) ≤ 16
-      few b e = omega (arith, ek, agents-same b e, held-agents-most m)
+        few : (b : Book) → check-book book ≡ good b → length (b .program .agents) ≤ 16
+        few b e = omega (arith, ek, agents-same b e, held-agents-most m)
 
-      answers : c .answer ≡ answer-of (read-log (length (B .program .agents)) log)
-      answers = reads B (book-is .1) .answer
+        answers : c .answer ≡ answer-of (read-log (length (B .program .agents)) (B .program .E) log)
+        answers = reads B (book-is .1) .answer
 
-      pub off-log : (r : Opening) → r .answer ≡ c .answer → c .answer .number ≢ 0 → Opened book log n r m o
-      off-log r e y =
-          let w : answer-of (read-log (length (B .program .agents)) log) .number ≢ 0 = λ q. y (ap (λ (x : Answer). x .number) answers ∙ q) in
-          let s = read-stops B (book-is .1) w in
-          opened-off r m o opened (e ∙ answers ∙ s) (λ q. w (ap (λ (x : Answer). x .number) s ∙ q))
+        pub off-log : (r : Opening) → r .answer ≡ c .answer → c .answer .number ≢ 0 → Opened book log n r m o
+        off-log r e y =
+            let w : answer-of (read-log (length (B .program .agents)) (B .program .E) log) .number ≢ 0 = λ q. y (ap (λ (x : Answer). x .number) answers ∙ q) in
+            let s = read-stops B (book-is .1) w in
+            opened-off r m o opened (e ∙ answers ∙ s) (λ q. w (ap (λ (x : Answer). x .number) s ∙ q))
 
-      module _ (y : c .answer .number ≡ 0) (ten : Answer) (et : ten ≡ answer-of (check-agents-in o (c .moves))) where
-        log-is : (g : Log) × (read-log (length (B .program .agents)) log ≡ good g)
-        log-is = read-good B (book-is .1) (ap (λ (x : Answer). x .number) (sym answers) ∙ y)
+        module _ (y : c .answer .number ≡ 0) (ten : Answer) (et : ten ≡ answer-of (check-agents-in o (c .moves))) where
+          log-is : (g : Log) × (read-log (length (B .program .agents)) (B .program .E) log ≡ good g)
+          log-is = read-good B (book-is .1) (ap (λ (x : Answer). x .number) (sym answers) ∙ y)
 
-        abbrev g : Log
-        g = log-is .0
+          abbrev g : Log
+          g = log-is .0
 
-        ordered : Ordered g o
-        ordered = reads B (book-is .1) .order g (log-is .1)
+          ordered : Ordered g o
+          ordered = reads B (book-is .1) .order g (log-is .1)
 
-        told : ten ≡ answer-of (check-agents-in o (length (g .moves)))
-        told = et ∙ ap (λ (k : ℕ). answer-of (check-agents-in o k)) (reads B (book-is .1) .moves g (log-is .1))
+          told : ten ≡ answer-of (check-agents-in o (length (g .moves)))
+          told = et ∙ ap (λ (k : ℕ). answer-of (check-agents-in o k)) (reads B (book-is .1) .moves g (log-is .1))
 
-        pub off-agents : (r : Opening) → r .answer ≡ ten → ten .number ≢ 0 → Opened book log n r m o
-        off-agents r e x =
-            let w : answer-of (check-agents-in o (length (g .moves))) .number ≢ 0 = λ q. x (ap (λ (a : Answer). a .number) told ∙ q) in
-            let s = ten-stops B (book-is .1) g (log-is .1) o ordered (few B (book-is .1)) w in
-            opened-off r m o opened (e ∙ told ∙ s) (λ q. w (ap (λ (a : Answer). a .number) s ∙ q))
+          pub off-agents : (r : Opening) → r .answer ≡ ten → ten .number ≢ 0 → Opened book log n r m o
+          off-agents r e x =
+              let w : answer-of (check-agents-in o (length (g .moves))) .number ≢ 0 = λ q. x (ap (λ (a : Answer). a .number) told ∙ q) in
+              let s = ten-stops B (book-is .1) g (log-is .1) o ordered (few B (book-is .1)) w in
+              opened-off r m o opened (e ∙ told ∙ s) (λ q. w (ap (λ (a : Answer). a .number) s ∙ q))
 
-        -- all have answered
-        pub opened-last : ten .number ≡ 0 → (locations : ℕ) → locations ≡ word m 6 → (short : Answer) → short ≡ answer-of (check-lengths locations n)
-            → Opened book log n (record { answer = short; moves = c .moves; locations = locations }) m o
-        opened-last x locations el short lent =
-            let says = ten-good B (book-is .1) g (log-is .1) o ordered (few B (book-is .1)) (ap (λ (a : Answer). a .number) (sym told) ∙ x) in
-            record {
-              answer = lent ∙ ap (λ (k : ℕ). answer-of (check-lengths k n)) (el ∙ opened B (book-is .1) .1) ∙ lent-last B (book-is .1) g says;
-              held = λ b h e.
-                  let p = all-parts b h e in
-                  let k = reads b (p .0) in
-                  let f = log-read (b .program) log h (p .1) in
-                  let o = opened b (p .0) in
-                  record { image = held-is book m opened b (p .0); program = o .0; entries = o .2; locations = (el, o .1); moves = k .moves h f; order = k .order h f };
-              image = opened;
-            }
+          -- all have answered
+          pub opened-last : ten .number ≡ 0 → (locations : ℕ) → locations ≡ word m 6 → (short : Answer) → short ≡ answer-of (check-lengths locations n)
+              → Opened book log n (record { answer = short; moves = c .moves; locations = locations }) m o
+          opened-last x locations el short lent =
+              let says = ten-good B (book-is .1) g (log-is .1) o ordered (few B (book-is .1)) (ap (λ (a : Answer). a .number) (sym told) ∙ x) in
+              record {
+                answer = lent ∙ ap (λ (k : ℕ). answer-of (check-lengths k n)) (el ∙ opened B (book-is .1) .1) ∙ lent-last B (book-is .1) g says;
+                held = λ b h e.
+                    let p = all-parts b h e in
+                    let k = reads b (p .0) in
+                    let f = log-read (b .program) log h (p .1) in
+                    let o = opened b (p .0) in
+                    record { image = held-is book m opened b (p .0); program = o .0; entries = o .2; locations = (el, o .1); moves = k .moves h f; order = k .order h f };
+                image = opened;
+              }
 
 -- ---- the call
 

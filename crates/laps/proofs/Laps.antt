@@ -11,7 +11,7 @@ use Rattle.text.specs.declared.Answer.{Answer}
 use Rattle.book.specs.Book.{Program, Book, start}
 use Rattle.book.specs.Image.{held}
 use Rattle.engine.specs.declared.Instruction.{Instruction}
-use Rattle.engine.specs.Move.{walked, made-by}
+use Rattle.engine.specs.Move.{Input, input, walked, made-by}
 use Rattle.engine.specs.Rule.{Walked as Outcome}
 use Rattle.records.specs.Code.{items}
 use Rattle.walk.specs.Walk.{outcome}
@@ -26,7 +26,7 @@ use Rattle.order.specs.Pairs.{TwoFound, no-two, two, least-two}
 use Rattle.order.specs.Log.{Log, move-at}
 use Rattle.order.specs.Run.{Run, ran, halted, run, touching, order-checked, finish, run-from}
 use Rattle.order.specs.Lists.{lists-from}
-use Rattle.order.specs.Table.{agent-in}
+use Rattle.order.specs.Table.{input-in}
 use Rattle.touch.specs.Marked.{unordered-marked, clipped}
 use Rattle.ends.specs.Ends.{Holds, touch-answer}
 use Rattle.ends.proofs.Ends.{order-answer}
@@ -107,28 +107,28 @@ module _ (m o : List ℕ) (g : Log) (c : List ℕ) where
     abbrev i : ℕ
     i = t .at
 
-    abbrev k : ℕ
-    k = agent-in o i
+    abbrev k : Input
+    k = input-in o i
 
-    is : k ≡ move-at g i .agent
-    is = to .before .runs .order .agents i (to .at)
+    is : k ≡ move-at g i
+    is = rw (to .before .runs .order .agents i (to .at), to .before .runs .order .picks i (to .at))
 
     pub low : i < 64
     low = omega (arith, to .at, to .before .runs .few)
 
-    pub agent-low : k < length (A .agents)
-    agent-low = rw is (to .before .runs .agents i (to .at))
+    pub agent-low : k .agent < length (A .agents)
+    agent-low = rw (to .before .runs .order .agents i (to .at)) (to .before .runs .agents i (to .at))
 
     fit : Fit A k (2 ^ i) (tables d rs ws)
     fit = going-fit A g c (to .before .runs .lawful) i k d rs ws (to .before .going) low agent-low
 
     -- it is begun
-    pub begins : (bit agent : ℕ) → bit ≡ 2 ^ i → agent ≡ k → (s : Begun) (x rs′ : List ℕ) → Gathered A d bit agent (outcome (s .walk) x) rs rs′ → s .count ≡ given-of (s .walk) → length x ≡ 256
-        → Walked m o g c t s x d rs′ ws
-    begins bit agent eb ek s x rs′ gathered ec room = record {
+    pub begins : (bit agent : ℕ) (ys : List ℕ) → bit ≡ 2 ^ i → agent ≡ k .agent → ys ≡ k .picks → (s : Begun) (x rs′ : List ℕ)
+        → Gathered A d bit (input agent ys) (outcome (s .walk) x) rs rs′ → s .count ≡ given-of (s .walk) → length x ≡ 256 → Walked m o g c t s x d rs′ ws
+    begins bit agent ys eb ek ep s x rs′ gathered ec room = record {
       old = tables d rs ws;
       next = to;
-      after = record { fit = fit; contents = refl; readers = rw (← ek, ← eb) gathered; writers = refl };
+      after = record { fit = fit; contents = refl; readers = rw (← ek, ← ep, ← eb) gathered; writers = refl };
       room = room;
       count = ec;
     }
@@ -139,10 +139,10 @@ module _ (m o : List ℕ) (g : Log) (c : List ℕ) where
     abbrev now : Next m o g c t (w .old .contents) (w .old .readers) (w .old .writers)
     now = w .next
 
-    as-listed : walked A (w .old .contents) (record { agent = agent-in o (t .at) }) ≡ walked A (now .before .going .state .contents) (move-at g (t .at))
+    as-listed : walked A (w .old .contents) (input-in o (t .at)) ≡ walked A (now .before .going .state .contents) (move-at g (t .at))
     as-listed =
-        ap (λ (e : List ℕ). walked A e (record { agent = agent-in o (t .at) })) (now .before .going .tables .contents)
-        ∙ ap (λ (j : ℕ). walked A (now .before .going .state .contents) (record { agent = j })) (is t (w .old .contents) (w .old .readers) (w .old .writers) now)
+        ap (λ (e : List ℕ). walked A e (input-in o (t .at))) (now .before .going .tables .contents)
+        ∙ ap (walked A (now .before .going .state .contents)) (is t (w .old .contents) (w .old .readers) (w .old .writers) now)
 
     -- what it gives
     pub walked-lists : lists-from A g c (t .moves - t .at) (t .at) ≡ items x (s .count) ∷ lists-from A g c (t .moves - (t .at + 1)) (t .at + 1)
@@ -169,7 +169,7 @@ module _ (m o : List ℕ) (g : Log) (c : List ℕ) where
           after = record {
             fit = w .after .fit;
             contents = w .after .contents;
-            readers = subst (λ (y : Outcome). Gathered A (w .old .contents) (2 ^ t .at) (agent-in o (t .at)) y (w .old .readers) rs) (sym i) (w .after .readers);
+            readers = subst (λ (y : Outcome). Gathered A (w .old .contents) (2 ^ t .at) (input-in o (t .at)) y (w .old .readers) rs) (sym i) (w .after .readers);
             writers = w .after .writers;
           };
           room = e;
@@ -179,12 +179,12 @@ module _ (m o : List ℕ) (g : Log) (c : List ℕ) where
     module _ (a : Answer) (d′ rs′ ws′ : List ℕ) (bit : ℕ) (eb : bit ≡ 2 ^ t .at)
         (does : Completed A bit (t .at) (outcome (s .walk) x) (tables d rs ws) a (tables d′ rs′ ws′))
       where
-        effect : Effect A (agent-in o (t .at)) (2 ^ t .at) (t .at) (w .old) a (tables d′ rs′ ws′)
+        effect : Effect A (input-in o (t .at)) (2 ^ t .at) (t .at) (w .old) a (tables d′ rs′ ws′)
         effect =
-            finished-effect A (agent-in o (t .at)) (2 ^ t .at) (t .at) (w .old) (s .walk) x d rs ws (w .after) a (tables d′ rs′ ws′)
+            finished-effect A (input-in o (t .at)) (2 ^ t .at) (t .at) (w .old) (s .walk) x d rs ws (w .after) a (tables d′ rs′ ws′)
             (subst (λ (z : ℕ). Completed A z (t .at) (outcome (s .walk) x) (tables d rs ws) a (tables d′ rs′ ws′)) eb does)
 
-        here : agent-in o (t .at) ≡ move-at g (t .at) .agent
+        here : input-in o (t .at) ≡ move-at g (t .at)
         here = is t (w .old .contents) (w .old .readers) (w .old .writers) now
 
         -- it fired
@@ -192,7 +192,7 @@ module _ (m o : List ℕ) (g : Log) (c : List ℕ) where
         fires z = record {
           runs = now .before .runs;
           most = omega (arith, now .at);
-          going = going-on A g c (now .before .runs .lawful) (t .at) (agent-in o (t .at)) (w .old .contents) (w .old .readers) (w .old .writers) (now .before .going) here a d′ rs′ ws′ effect z;
+          going = going-on A g c (now .before .runs .lawful) (t .at) (input-in o (t .at)) (w .old .contents) (w .old .readers) (w .old .writers) (now .before .going) here a d′ rs′ ws′ effect z;
         }
 
         pub finish-on : a .number ≡ 0 → (r : Turn) (j : ℕ) → j ≡ t .at + 1
@@ -205,7 +205,7 @@ module _ (m o : List ℕ) (g : Log) (c : List ℕ) where
         pub finish-off : a .number ≢ 0 → Stage m o g c (lists-from A g c (t .moves - (t .at + 1)) (t .at + 1)) (over-with a) d′ rs′ ws′
         finish-off z =
             let u = now .before .going .state in
-            let off = going-off A g c (now .before .runs .lawful) (t .at) (agent-in o (t .at)) (w .old .contents) (w .old .readers) (w .old .writers) (now .before .going) here a d′ rs′ ws′ effect z in
+            let off = going-off A g c (now .before .runs .lawful) (t .at) (input-in o (t .at)) (w .old .contents) (w .old .readers) (w .old .writers) (now .before .going) here a d′ rs′ ws′ effect z in
             let j = length (g .moves) - suc (t .at) in
             let to-n : j + suc (t .at) ≡ length (g .moves) = omega (arith, now .at) in
             let all = subst (λ (q : ℕ). run A g c q ≡ halted (a .number) (a .p) (a .q) u) to-n (halts A g c (suc (t .at)) j (a .number) (a .p) (a .q) u (off .0)) in

@@ -8,7 +8,7 @@ use native.Mathlib.Omega.{arith}
 use lib.ListN.{length, getD, replicate}
 use Rattle.book.specs.Book.{Program, L}
 use Rattle.book.specs.Sound.{Lawful, Sound}
-use Rattle.engine.specs.Move.{Moved, fires, stopped, move, fire}
+use Rattle.engine.specs.Move.{Input, Moved, fires, stopped, move, fire}
 use Rattle.engine.proofs.Claims.{moves-leave}
 use Rattle.engine.proofs.Numbers.{move-number}
 use Rattle.text.specs.declared.Answer.{Answer}
@@ -36,8 +36,8 @@ module _ (B : Program) (g : Log) (c : List ℕ) where
   halts i zero n p q s e = let z : 0 + i ≡ i = omega arith in rw z e
   halts i (suc j) n p q s e = let z : suc j + i ≡ suc (j + i) = omega arith in rw (z, halts i j n p q s e)
 
-  module _ (lawful : Lawful B) (i k : ℕ) (d rs ws : List ℕ) (to : Going B g c i d rs ws) where
-    pub going-fit : i < 64 → k < length (B .agents) → Fit B k (2 ^ i) (tables d rs ws)
+  module _ (lawful : Lawful B) (i : ℕ) (k : Input) (d rs ws : List ℕ) (to : Going B g c i d rs ws) where
+    pub going-fit : i < 64 → k .agent < length (B .agents) → Fit B k (2 ^ i) (tables d rs ws)
     going-fit h a = record {
       lawful = lawful;
       sound = to .sound;
@@ -47,12 +47,12 @@ module _ (B : Program) (g : Log) (c : List ℕ) where
           rw (to .tables .readers) (subst (λ (y : ℕ). getD (readers (L B) (to .state .fired)) x 0 < 2 ^ y) (run-left B g c i (to .state) (to .goes) .long) (readers-below (L B) (to .state .fired) x));
     }
 
-    module _ (is : k ≡ move-at g i .agent) (v : Answer) (d′ rs′ ws′ : List ℕ) (ends : Effect B k (2 ^ i) i (tables d rs ws) v (tables d′ rs′ ws′)) where
+    module _ (is : k ≡ move-at g i) (v : Answer) (d′ rs′ ws′ : List ℕ) (ends : Effect B k (2 ^ i) i (tables d rs ws) v (tables d′ rs′ ws′)) where
       abbrev o : Moved
-      o = move B d (record { agent = k })
+      o = move B d k
 
       as-listed : move B (to .state .contents) (move-at g i) ≡ o
-      as-listed = rw (← (to .tables .contents), is)
+      as-listed = rw (← (to .tables .contents), ← is)
 
       next-run : run B g c (suc i) ≡ moved i (to .state) o
       unfolding run
@@ -63,10 +63,10 @@ module _ (B : Program) (g : Log) (c : List ℕ) where
       going-on z = go o refl (ends .answer) (ends .tables)
         where
           go : (x : Moved) → o ≡ x → v ≡ move-answer i x → tables d′ rs′ ws′ ≡ left (2 ^ i) (tables d rs ws) x → Going B g c (i + 1) d′ rs′ ws′
-          go (stopped n q) e y u = absurd (omega (arith, ap (λ (a : Answer). a .number) y, z, move-number B d (record { agent = k }) n q e .0))
+          go (stopped n q) e y u = absurd (omega (arith, ap (λ (a : Answer). a .number) y, z, move-number B d k n q e .0 .0))
           go (fires f) e y u =
               let long : length (to .state .fired) ≡ i = run-left B g c i (to .state) (to .goes) .long in
-              let leaves = moves-leave B lawful d (to .sound) (record { agent = k }) f e in
+              let leaves = moves-leave B lawful d (to .sound) k f e in
               record {
                 state = record { contents = fire (f .updates) (to .state .contents); fired = to .state .fired ++ (f ∷ []) };
                 goes = rw (add-one i) (next-run ∙ rw e);

@@ -16,7 +16,7 @@ use Rattle.order.specs.Log.{Log}
 use Rattle.order.specs.Run.{LogAnswer, run-from}
 use Rattle.order.specs.Lists.{lists-from}
 use Rattle.order.specs.Call.{Tables, left-in}
-use Rattle.order.specs.Table.{agent-in}
+use Rattle.order.specs.Table.{input-in}
 use Rattle.laps.specs.declared.Turn.{Turn}
 use Rattle.laps.specs.Turns.{Runnable, Going, answered}
 
@@ -48,7 +48,7 @@ pub record Stage (m o : List ℕ) (g : Log) (c : List ℕ) (rest : List (List In
 pub record Walked (m o : List ℕ) (g : Log) (c : List ℕ) (t : Turn) (s : Begun) (x d rs ws : List ℕ) : Type 0 where
   pub old : effect.Tables
   pub next : Next m o g c t (old .contents) (old .readers) (old .writers)
-  pub after : effect.After (held m) (agent-in o (t .at)) (2 ^ t .at) old (s .walk) x (effect.tables d rs ws)
+  pub after : effect.After (held m) (input-in o (t .at)) (2 ^ t .at) old (s .walk) x (effect.tables d rs ws)
   pub room : length x ≡ most-instructions
   pub count : s .count ≡ given-of (s .walk)
 

@@ -9,9 +9,13 @@ ghost use mathlib.Core.Path.{_≡_};
 ghost use mathlib.Core.Bool.{false};
 ghost use mathlib.Core.List.{List};
 ghost use Prim.Native.Nat.{ℕ, _+_, _-_, _^_, _<_, _≤_, min};
-ghost use lib.ListN.{length};
+ghost use lib.ListN.{length, take, drop};
 ghost use Rattle.book.specs.Book.{Book, start};
 ghost use Rattle.book.specs.Image.{word, held};
+ghost use Rattle.engine.specs.Move.{input};
+ghost use Rattle.walk.specs.Walk.{outcome};
+ghost use Rattle.walk.specs.Gather.{Gathered};
+ghost use Rattle.moves.specs.Count.{given-of};
 ghost use Rattle.order.specs.Log.{Log};
 ghost use Rattle.order.specs.Run.{run-log};
 ghost use Rattle.order.specs.Lists.{lists-from, call-lists};
@@ -64,7 +68,12 @@ pub fn check_all(
     if opened.number != 0 {
         return refused(opened);
     }
-    let read = log::read_log(log, image::agents(image) as u32, order);
+    let read = log::read_log(
+        log,
+        image::agents(image) as u32,
+        image::elements(image) as u32,
+        order,
+    );
     let listed = read.answer;
     if listed.number != 0 {
         return refused(listed);
@@ -148,6 +157,33 @@ fn start_on(
     turn_to(readers, writers, order, moves, 0)
 }
 
+// An agent's move is begun with the picks that stand in the table from `first` to `end`.
+fn begin_with(
+    image: &Image,
+    contents: &[Value],
+    readers: &mut [u64],
+    bit: u64,
+    list: &mut [u64; 256],
+    agent: u32,
+    table: &[u64],
+    first: usize,
+    end: usize,
+) -> Begun
+    requires { ⌜ (first ≤ end) × (end ≤ length (now table)) ⌝ }
+    ensures { λ r. ⌜ Gathered (held (now (image .entry))) (now (contents .entry)) bit (input agent (take (end - first) (drop first (now (table .entry))))) (outcome (r .walk) (now (list .exit))) (now (readers .entry)) (now (readers .exit)) ⌝ }
+    ensures { λ r. ⌜ (r .count ≡ given-of (r .walk)) × (length (now (list .exit)) ≡ 256) ⌝ }
+{
+    moves::begin(
+        image,
+        contents,
+        readers,
+        bit,
+        list,
+        agent,
+        &table[first..end],
+    )
+}
+
 // The move that is next is begun, on tables of just the records needed.
 pub fn begin(
     contents: &[Value],
@@ -162,7 +198,18 @@ pub fn begin(
     let i = t.at;
     let bit = bit_of(i);
     let agent = log::agent_at(order, i);
-    moves::begin(image, contents, readers, bit, list, agent)
+    let own = log::picks_at(order, i);
+    begin_with(
+        image,
+        contents,
+        readers,
+        bit,
+        list,
+        agent,
+        order,
+        own.first,
+        own.end,
+    )
 }
 
 // The move that is begun is finished, on tables of just the records needed; then the next one's turn.

@@ -11,7 +11,8 @@ use Rattle.text.specs.Words.{Checked, good, must, _>>_, _>>=_}
 use Rattle.book.specs.Book.{Program, L}
 use Rattle.book.specs.Check.{check-book}
 use Rattle.engine.specs.Rule.{most-instructions}
-use Rattle.engine.specs.Single.{check-agent, check-lent-step, check-contents, check-step, step-answer, step-call}
+use Rattle.engine.specs.Move.{Input}
+use Rattle.engine.specs.Single.{check-picks, check-agent, check-lent-step, check-contents, check-step, step-answer, step-call}
 use Rattle.engine.specs.declared.Instruction.{Instruction}
 use Rattle.order.specs.Run.{LogAnswer}
 use Rattle.order.specs.Log.{Log, check-log}
@@ -54,11 +55,11 @@ module _ (book log : List ℕ) (t : Tables) (n : ℕ) where
   unfolding log-call check-all
   call-longer = ap (λ (f : Program → Checked (Unit {0})). log-answer t (check-book book >>= (λ b. check-log (b .program) log >>= (λ g. f (b .program) >> good (b, g))))) (fun-ext lent-longer)
 
-module _ (book c : List ℕ) (k n : ℕ) where
+module _ (book c : List ℕ) (i : Input) (n : ℕ) where
   lent-step-longer : (B : Program) → check-lent-step B c (min n 256) ≡ check-lent-step B c n
   unfolding check-lent-step
   lent-step-longer B = rw (enough n)
 
-  pub step-longer : step-call book c k (min n 256) ≡ step-call book c k n
+  pub step-longer : step-call book c i (min n 256) ≡ step-call book c i n
   unfolding step-call check-step
-  step-longer = ap (λ (f : Program → Checked (Unit {0})). step-answer c k (check-book book >>= (λ b. check-agent (b .program) k >> (f (b .program) >> (check-contents (b .program) (take (L (b .program)) c) >> good (b .program)))))) (fun-ext lent-step-longer)
+  step-longer = ap (λ (f : Program → Checked (Unit {0})). step-answer c i (check-book book >>= (λ b. check-agent (b .program) (i .agent) >> (check-picks (b .program) (i .picks) >> (f (b .program) >> (check-contents (b .program) (take (L (b .program)) c) >> good (b .program))))))) (fun-ext lent-step-longer)

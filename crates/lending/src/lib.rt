@@ -2,6 +2,7 @@
 // calls these needs no walk by hand.
 use book::Image;
 use engine::Instruction;
+use engine::Pick;
 use engine::Record;
 use laps::Turn;
 use numbers::Value;
@@ -11,6 +12,7 @@ ghost use mathlib.Core.Path.{_≡_};
 ghost use mathlib.Core.List.{List};
 ghost use Rattle.engine.specs.declared.Instruction.{Instruction};
 ghost use Rattle.engine.specs.declared.Instruction.the-variants.{Release};
+ghost use Rattle.engine.specs.Move.{input};
 ghost use Rattle.engine.specs.Single.{step-call};
 ghost use Rattle.order.specs.Run.{LogAnswer};
 ghost use Rattle.order.specs.Call.{Tables, log-call};
@@ -28,13 +30,19 @@ fn blank() -> Record
 }
 
 // The single-move entry with a list of `lent` records. It lends 256 at most; a longer list makes no difference.
-pub fn step(book: &[u8], contents: &mut [Value], agent: usize, lent: usize) -> Answer
-    ensures { λ r. ⌜ (r ≡ step-call (now (book .entry)) (now (contents .entry)) agent lent .answer) × (now (contents .exit) ≡ step-call (now (book .entry)) (now (contents .entry)) agent lent .contents) ⌝ }
+pub fn step(
+    book: &[u8],
+    contents: &mut [Value],
+    agent: usize,
+    picks: &[Pick],
+    lent: usize,
+) -> Answer
+    ensures { λ r. ⌜ (r ≡ step-call (now (book .entry)) (now (contents .entry)) (input agent (now (picks .entry))) lent .answer) × (now (contents .exit) ≡ step-call (now (book .entry)) (now (contents .entry)) (input agent (now (picks .entry))) lent .contents) ⌝ }
 {
     let none = blank();
     let mut list = [none; 256];
     let n = numbers::smaller(lent, 256);
-    lent_step::step(book, contents, agent, &mut list[..n])
+    lent_step::step(book, contents, agent, picks, &mut list[..n])
 }
 
 // The log entry with a list of `lent` records; the same.

@@ -78,7 +78,7 @@ pub fn run(
 {
     let lent = instructions.len();
     let mut image = [0u32; 2248];
-    let mut order = [0u64; 128];
+    let mut order = [0u64; 512];
     let t = laps::prepare(
         book,
         log,

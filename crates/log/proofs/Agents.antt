@@ -1,12 +1,12 @@
 -- 10 by sets of moves: each agent's moves so far, and of those the least that is not ordered with the next one.
 use mathlib.Core.Path.{_≡_, refl, sym, ap, _∙_}
 use mathlib.Core.Logic.{dite, _≢_}
-use mathlib.Core.Bool.{Bool, true, false, not, _&&_, _||_, and-false, or-true, or-false, true≢false}
+use mathlib.Core.Bool.{true, not, _&&_, and-false, or-true, or-false, true≢false}
 use mathlib.Core.List.{List}
 use Prim.Native.Nat.{ℕ, _+_, _-_, _*_, _%_, _^_, _≤_, _<_, min}
 use native.Mathlib.Omega.{arith}
 use native.Mathlib.Decide.{ℕ-discrete, decLt}
-use borrow.Author.Tests.{ltb-true, lt-ltb, le-ltb, le-leb, lt-leb, eqb-true, eq-eqb, ne-eqb}
+use borrow.Author.Tests.{ltb-true, lt-ltb, le-ltb, le-leb, lt-leb, eq-eqb, ne-eqb}
 use lib.Dec.{eqb, ltb, leb}
 use lib.Bits.{bitAnd, bitOr}
 use lib.Count.{trailingZeros}
@@ -17,7 +17,7 @@ use Rattle.text.specs.Words.{good, _>>=_, _>>_, must, answer-of}
 use Rattle.text.proofs.Words.{and-cases}
 use Rattle.book.specs.Book.{Program}
 use Rattle.order.specs.Sets.{bit}
-use Rattle.order.specs.Pairs.{rows, ordered-by, least-two, none-two}
+use Rattle.order.specs.Pairs.{rows, none-two}
 use Rattle.order.specs.Log.{Log, move-at, loose, check-agents, read-log, check-log}
 use Rattle.order.specs.Table.{agent-in, Ordered}
 use Rattle.order.proofs.Sets.{bit-or, bit-one, bit-empty}
@@ -142,9 +142,9 @@ module _ (g : Log) (t : List ℕ) (o : Ordered g t) (few : length (g .moves) ≤
   agent-at i h = omega (arith, o .agents i h, low i h)
 
 -- a log that passes 1 and 9 is accepted if it passes 10
-pub log-checked : (B : Program) (text : List ℕ) (g : Log) (t : List ℕ) → length (B .agents) ≤ 16 → read-log (length (B .agents)) text ≡ good g → Ordered g t
+pub log-checked : (B : Program) (text : List ℕ) (g : Log) (t : List ℕ) → length (B .agents) ≤ 16 → read-log (length (B .agents)) (B .E) text ≡ good g → Ordered g t
     → check-log B text ≡ (check-agents-in t (length (g .moves)) >> good g)
 unfolding check-log _>>=_
 log-checked B text g t all e o =
-    let p = read-passed (length (B .agents)) text g e in
+    let p = read-passed (length (B .agents)) (B .E) text g e in
     rw (e, agents-checked g t o (p .few) (λ i h. omega (arith, p .agents i h)))

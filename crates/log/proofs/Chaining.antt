@@ -174,3 +174,11 @@ close-past m lo (p ∷ ps) r u k h =
     close-past m (p .earlier) ps (join r (p .earlier) (p .later)) (u .3) k h
     ∙ getD-set-other r (p .later) k (bitOr (getD r (p .later) 0) (with-move (getD r (p .earlier) 0) (p .earlier))) 0
     (λ (e : k ≡ p .later). let l : p .later < m = u .2 in absurd (omega arith))
+
+-- and so does its length
+pub close-long : (ps : List Pair) (r : List ℕ) → length (close ps r) ≡ length r
+unfolding close
+close-long [] r = refl
+close-long (p ∷ ps) r =
+    close-long ps (join r (p .earlier) (p .later))
+    ∙ length-set r (p .later) (bitOr (getD r (p .later) 0) (with-move (getD r (p .earlier) 0) (p .earlier)))

@@ -1,5 +1,7 @@
 pub mod Chaining
 pub mod Parts
 pub mod Turns
+pub mod Lines
 pub mod Answers
+pub mod Picks
 pub mod Agents

@@ -1,7 +1,7 @@
--- The turns of the loops that read a log's lines, and what pairs that pass have.
-use mathlib.Core.Path.{_≡_, refl, sym, ap, _∙_}
+-- What the loops that read a log's lines put into the table, and what pairs that pass have.
+use mathlib.Core.Path.{_≡_, sym, _∙_}
 use mathlib.Core.Logic.{_⊎_, inl, inr, dite, _≢_}
-use mathlib.Core.Bool.{Bool, true, false, _&&_, _||_, not}
+use mathlib.Core.Bool.{Bool, true, false, _&&_, _||_}
 use mathlib.Core.List.{List}
 use Prim.Native.Nat.{ℕ, zero, suc, _+_, _-_, _*_, _%_, _^_, _≤_, _<_}
 use native.Mathlib.Numerals.{add-one}
@@ -13,90 +13,103 @@ use lib.ListN.{length, getD, set, length-set}
 use lib.Seq.{getD-set-same, getD-set-other}
 use borrow.Author.Tests.{ltb-true, eqb-true, not-false}
 use Rattle.text.specs.declared.Line.{Line}
-use Rattle.text.specs.declared.Found.{Found}
-use Rattle.text.specs.declared.Found.the-variants.{Nowhere, Here}
-use Rattle.text.specs.Words.{if_then_else_, table-from, table, least-from, least}
+use Rattle.text.specs.declared.Found.the-variants.{Nowhere}
+use Rattle.text.specs.Words.{table-from, table, least}
 use Rattle.text.specs.Text.{line}
-use Rattle.text.proofs.Words.{and-cases, or-cases, least-none, least-first, least-rest}
+use Rattle.text.proofs.Words.{and-cases, or-cases, least-none}
 use Rattle.order.specs.Pairs.{Pair}
 use Rattle.order.specs.Log.{ascends, bad-pair, bad-pair-at}
-use Rattle.order.specs.Table.{row-in, agent-in}
+use Rattle.order.specs.Table.{row-in, agent-in, first-in, end-in}
 use Rattle.order.proofs.Masks.{shl-one}
-use Rattle.log.specs.Read.{first-of, shifted, pair-at, join, close}
+use Rattle.log.specs.Read.{pair-at, join, close}
 use Rattle.log.proofs.Chaining.{Up}
-
--- ---- the least place, part by part
-
-pub least-split : (bad : ℕ → Bool) (m n i : ℕ) → least-from bad (m + n) i ≡ first-of (least-from bad m i) (least-from bad n (i + m))
-least-split bad m n i = go (least-from bad m i) refl
-  where
-    go : (o : Found) → least-from bad m i ≡ o → least-from bad (m + n) i ≡ first-of o (least-from bad n (i + m))
-    go Nowhere e = least-rest bad m n i e
-    go (Here p) e = least-first bad m n i p e
-
--- a loop over the n places from k on
-module _ (bad : ℕ → Bool) (k n : ℕ) where
-  pub part-start : least-from bad (n - 0) (k + 0) ≡ least-from bad n k
-  part-start = let a : n - 0 ≡ n = omega arith in let b : k + 0 ≡ k = omega arith in rw (a, b)
-
-  module _ {t : Found} (i : ℕ) where
-    pub part-pass : i < n → bad (k + i) ≡ false → least-from bad (n - i) (k + i) ≡ t → least-from bad (n - (i + 1)) (k + (i + 1)) ≡ t
-    unfolding least-from
-    part-pass h b p = let e : n - i ≡ suc (n - (i + 1)) = omega arith in let q : k + (i + 1) ≡ suc (k + i) = omega arith in rw q (rw (e, b) at p)
-
-    pub part-stop : i < n → bad (k + i) ≡ true → least-from bad (n - i) (k + i) ≡ t → Here (k + i) ≡ t
-    unfolding least-from
-    part-stop h b p = let e : n - i ≡ suc (n - (i + 1)) = omega arith in rw (e, b) at p
-
-    pub part-end : n ≤ i → least-from bad (n - i) (k + i) ≡ t → Nowhere ≡ t
-    unfolding least-from
-    part-end h p = let e : n - i ≡ 0 = omega arith in rw e at p
-
--- one place more
-least-more : (bad : ℕ → Bool) (i : ℕ) → least bad (i + 1) ≡ first-of (least bad i) (if bad i then Here i else Nowhere)
-unfolding least-from
-least-more bad i = least-split bad i 1 0 ∙ (let e : 0 + i ≡ i = omega arith in rw e)
-
-shifted-more : (k i : ℕ) (o : Found) (b : Bool)
-    → first-of (shifted k o) (if b then Here (k + i) else Nowhere) ≡ shifted k (first-of o (if b then Here i else Nowhere))
-shifted-more k i Nowhere true = refl
-shifted-more k i Nowhere false = refl
-shifted-more k i (Here p) b = refl
-
--- the least fault so far, as the code keeps it
-pub fault-turn : (bad : ℕ → Bool) (k i : ℕ) (o r : Found) (b : Bool) → o ≡ shifted k (least bad i) → b ≡ bad i
-    → r ≡ first-of o (if b then Here (k + i) else Nowhere) → r ≡ shifted k (least bad (i + 1))
-fault-turn bad k i o r b p q e = e ∙ rw (p, q) (shifted-more k i (least bad i) (bad i)) ∙ ap (shifted k) (sym (least-more bad i))
-
--- it is none only if none was found before, nor here
-pub fault-none : (o r : Found) (b : Bool) (p : ℕ) → r ≡ first-of o (if b then Here p else Nowhere) → r ≡ Nowhere → (o ≡ Nowhere) × (b ≡ false)
-fault-none Nowhere r true p e z = let x : _≡_ {A = ℕ} 0 1 = cc in absurd (omega arith)
-fault-none Nowhere r false p e z = (refl, refl)
-fault-none (Here q) r b p e z = let x : _≡_ {A = ℕ} 0 1 = cc in absurd (omega arith)
 
 -- ---- the moves
 
--- the first n moves have an empty row, and their agents
+-- the first n moves have an empty row, their agents, and no picks
 pub record Filled (f : ℕ → ℕ) (n : ℕ) (t : List ℕ) : Type 0 where
-  pub long : length t ≡ 128
+  pub long : length t ≡ 512
   pub rows : (j : ℕ) → j < n → row-in t j ≡ 0
   pub agents : (i : ℕ) → i < n → agent-in t i ≡ f i
+  pub picks : (i : ℕ) → i < n → (first-in t i ≡ 0) × (end-in t i ≡ 0)
+
+-- the words of move i as the code writes them
+abbrev pub filled : List ℕ → ℕ → ℕ → List ℕ
+filled t i v = set (set (set (set t i 0) (64 + i) v) (128 + i) 0) (192 + i) 0
+
+module _ (t : List ℕ) (i v : ℕ) (h : i < 64) (long : length t ≡ 512) where
+  abbrev one : List ℕ
+  one = set t i 0
+
+  abbrev two : List ℕ
+  two = set one (64 + i) v
+
+  abbrev three : List ℕ
+  three = set two (128 + i) 0
+
+  one-long : length one ≡ 512
+  one-long = length-set t i 0 ∙ long
+
+  two-long : length two ≡ 512
+  two-long = length-set one (64 + i) v ∙ one-long
+
+  three-long : length three ≡ 512
+  three-long = length-set two (128 + i) 0 ∙ two-long
+
+  filled-long : length (filled t i v) ≡ 512
+  filled-long = length-set three (192 + i) 0 ∙ three-long
+
+  filled-other : (j : ℕ) → j ≢ i → j ≢ 64 + i → j ≢ 128 + i → j ≢ 192 + i → getD (filled t i v) j 0 ≡ getD t j 0
+  filled-other j a b c d =
+      getD-set-other three (192 + i) j 0 0 d ∙ getD-set-other two (128 + i) j 0 0 c ∙ getD-set-other one (64 + i) j v 0 b ∙ getD-set-other t i j 0 0 a
+
+  row-filled : row-in (filled t i v) i ≡ 0
+  row-filled =
+      getD-set-other three (192 + i) i 0 0 (λ e. absurd (omega arith)) ∙ getD-set-other two (128 + i) i 0 0 (λ e. absurd (omega arith))
+      ∙ getD-set-other one (64 + i) i v 0 (λ e. absurd (omega arith)) ∙ getD-set-same t i 0 0 (omega arith)
+
+  agent-filled : agent-in (filled t i v) i ≡ v
+  agent-filled =
+      getD-set-other three (192 + i) (64 + i) 0 0 (λ e. absurd (omega arith)) ∙ getD-set-other two (128 + i) (64 + i) 0 0 (λ e. absurd (omega arith))
+      ∙ getD-set-same one (64 + i) v 0 (omega (arith, one-long))
+
+  picks-filled : (first-in (filled t i v) i ≡ 0) × (end-in (filled t i v) i ≡ 0)
+  picks-filled = (
+    getD-set-other three (192 + i) (128 + i) 0 0 (λ e. absurd (omega arith)) ∙ getD-set-same two (128 + i) 0 0 (omega (arith, two-long)),
+    getD-set-same three (192 + i) 0 0 (omega (arith, three-long)),
+  )
+
+  -- the words of another move stay
+  module _ (j : ℕ) (l : j < 64) (n : j ≢ i) where
+    row-other : row-in (filled t i v) j ≡ row-in t j
+    row-other = filled-other j n (λ e. absurd (omega arith)) (λ e. absurd (omega arith)) (λ e. absurd (omega arith))
+
+    agent-other : agent-in (filled t i v) j ≡ agent-in t j
+    agent-other = filled-other (64 + j) (λ e. absurd (omega arith)) (λ e. n (omega arith)) (λ e. absurd (omega arith)) (λ e. absurd (omega arith))
+
+    first-other : first-in (filled t i v) j ≡ first-in t j
+    first-other = filled-other (128 + j) (λ e. absurd (omega arith)) (λ e. absurd (omega arith)) (λ e. n (omega arith)) (λ e. absurd (omega arith))
+
+    end-other : end-in (filled t i v) j ≡ end-in t j
+    end-other = filled-other (192 + j) (λ e. absurd (omega arith)) (λ e. absurd (omega arith)) (λ e. absurd (omega arith)) (λ e. n (omega arith))
 
 module _ (f : ℕ → ℕ) (t : List ℕ) where
-  pub filled-start : length t ≡ 128 → Filled f 0 t
-  filled-start e = record { long = e; rows = λ j h. absurd (omega arith); agents = λ i h. absurd (omega arith) }
+  pub filled-start : length t ≡ 512 → Filled f 0 t
+  filled-start e = record { long = e; rows = λ j h. absurd (omega arith); agents = λ i h. absurd (omega arith); picks = λ i h. absurd (omega arith) }
 
-  pub filled-turn : (i v : ℕ) → i < 64 → v ≡ f i → Filled f i t → Filled f (i + 1) (set (set t i 0) (64 + i) v)
-  filled-turn i v h e w = record {
-    long = length-set (set t i 0) (64 + i) v ∙ length-set t i 0 ∙ w .long;
-    rows = λ j k. getD-set-other (set t i 0) (64 + i) j v 0 (λ (q : j ≡ 64 + i). absurd (omega arith))
-        ∙ dite (ℕ-discrete j i) (λ (q : j ≡ i). rw q (getD-set-same t i 0 0 (omega (arith, w .long))))
-        (λ (q : j ≢ i). getD-set-other t i j 0 0 q ∙ w .rows j (omega arith));
-    agents = λ j k. dite (ℕ-discrete j i)
-        (λ (q : j ≡ i). rw q (getD-set-same (set t i 0) (64 + i) v 0 (omega (arith, length-set t i 0, w .long)) ∙ e))
-        (λ (q : j ≢ i). getD-set-other (set t i 0) (64 + i) (64 + j) v 0 (λ (y : 64 + j ≡ 64 + i). absurd (omega arith))
-        ∙ getD-set-other t i (64 + j) 0 0 (λ (y : 64 + j ≡ i). absurd (omega arith)) ∙ w .agents j (omega arith));
-  }
+  pub filled-turn : (i v : ℕ) → i < 64 → v ≡ f i → Filled f i t → Filled f (i + 1) (filled t i v)
+  filled-turn i v h e w =
+      let s = w .long in
+      record {
+        long = filled-long t i v h s;
+        rows = λ j k. dite (ℕ-discrete j i) (λ (q : j ≡ i). rw q (row-filled t i v h s))
+            (λ (q : j ≢ i). row-other t i v h s j (omega arith) q ∙ w .rows j (omega arith));
+        agents = λ j k. dite (ℕ-discrete j i) (λ (q : j ≡ i). rw q (agent-filled t i v h s ∙ e))
+            (λ (q : j ≢ i). agent-other t i v h s j (omega arith) q ∙ w .agents j (omega arith));
+        picks = λ j k. dite (ℕ-discrete j i) (λ (q : j ≡ i). rw q (picks-filled t i v h s))
+            (λ (q : j ≢ i). let r = w .picks j (omega arith) in
+            (first-other t i v h s j (omega arith) q ∙ r .0, end-other t i v h s j (omega arith) q ∙ r .1));
+      }
 
 -- ---- the pairs
 
@@ -117,7 +130,7 @@ module _ (m : ℕ) (k l : Line) (i : ℕ) (e : bad-pair m k l i ≡ false) where
       and-cases up (eqb i 0 || ascends k l) (and-cases later (eqb (l .c) 0) t2 .0)
 
   -- a pair goes upwards, below m
-  pub pair-below : (l .a < l .b) × (l .b < m)
+  pair-below : (l .a < l .b) × (l .b < m)
   pair-below =
       let t = and-cases (ltb (l .a) (l .b)) (ltb (l .b) m) (parts .0) in
       (ltb-true (l .a) (l .b) (t .0), ltb-true (l .b) m (t .1))
@@ -156,19 +169,26 @@ module _ (m : ℕ) (text : List ℕ) (n : ℕ) (e : least (bad-pair-at m text) n
           rw z at (pair-after m (line text (m + suc j)) (line text (1 + m + suc j)) (suc j)
           (least-none (bad-pair-at m text) n e (suc j) (omega arith)) (λ (q : suc j ≡ 0). absurd (omega arith)))
 
--- the first pair line has none before it
-pub pair-first : (m : ℕ) (k l : Line) (text : List ℕ) (i : ℕ) → (0 < i → k ≡ line text (m + i)) → l ≡ line text (1 + m + i) → bad-pair m k l i ≡ bad-pair-at m text i
-pair-first m k l text i before e = rw e (dite (ℕ-discrete i 0) (λ (z : i ≡ 0). rw z) (λ (n : i ≢ 0). rw (before (omega arith))))
-
 -- one pair more, as the code puts it in
 pub joined : (t : List ℕ) (a b : ℕ) → a < 64 → set t b (bitOr (getD t b 0) (bitOr (getD t a 0) ((1 * 2 ^ a) % 2 ^ 64))) ≡ join t a b
 joined t a b h = rw (shl-one a h)
 
-module _ (f : ℕ → Pair) (n i : ℕ) where
-  pub close-turn : (t : List ℕ) → i < n → close (table-from f (i + 1) (n - (i + 1))) (join t (f i .earlier) (f i .later)) ≡ close (table-from f i (n - i)) t
-  unfolding close table-from
-  close-turn t h = let e : n - i ≡ suc (n - (i + 1)) = omega arith in rw (e, add-one i)
+-- the n pairs of f from pair i on
+abbrev pub left : (ℕ → Pair) → ℕ → ℕ → List ℕ → List ℕ
+left f n i t = close (table-from f i (n - i)) t
 
-  pub close-end : (t : List ℕ) → n ≤ i → close (table-from f i (n - i)) t ≡ t
+module _ (f : ℕ → Pair) (n : ℕ) where
+  pub left-all : (s : List ℕ) → left f n 0 s ≡ close (table f n) s
+  left-all s = let e : n - 0 ≡ n = omega arith in rw e
+
+  pub left-turn : (i : ℕ) (t : List ℕ) → i < n → left f n (i + 1) (join t (f i .earlier) (f i .later)) ≡ left f n i t
   unfolding close table-from
-  close-end t h = let e : n - i ≡ 0 = omega arith in rw e
+  left-turn i t h = let e : n - i ≡ suc (n - (i + 1)) = omega arith in rw (e, add-one i)
+
+  pub left-end : (i : ℕ) (t : List ℕ) → n ≤ i → left f n i t ≡ t
+  unfolding close table-from
+  left-end i t h = let e : n - i ≡ 0 = omega arith in rw e
+
+-- a pair that is not at fault is of the 64 moves
+pub pair-within : (m : ℕ) (k l : Line) (i : ℕ) (b : Bool) → m ≤ 64 → b ≡ bad-pair m k l i → b ≡ false → (l .a < 64) × (l .b < 64)
+pair-within m k l i b small e z = let r = pair-below m k l i (sym e ∙ z) in (omega (arith, r .0, r .1), omega (arith, r .1))

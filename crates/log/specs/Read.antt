@@ -5,30 +5,20 @@ use Prim.Native.Nat.{ℕ, _+_, _*_, _<_}
 use lib.Dec.{leb}
 use lib.Bits.{bitOr}
 use lib.ListN.{length, getD, set}
+use Rattle.text.specs.declared.Line.{Line}
 use Rattle.text.specs.declared.Parsed.{Parsed}
 use Rattle.text.specs.declared.Found.{Found}
-use Rattle.text.specs.declared.Found.the-variants.{Nowhere, Here}
+use Rattle.text.specs.declared.Found.the-variants.{Nowhere}
 use Rattle.text.specs.Words.{table, least-from, least, Checked, good, _>>_, none-at, must, answer-of}
 use Rattle.text.specs.Refusals.{ill-formed, log-text, log-line}
 use Rattle.text.specs.Text.{line-length, bad-line, line}
 use Rattle.order.specs.Sets.{with-move}
 use Rattle.order.specs.Pairs.{Pair}
-use Rattle.order.specs.Log.{Log, log-header-ok, pair-of, bad-move-at, bad-pair-at, read-log}
-use Rattle.order.specs.Table.{row-in, agent-in, Ordered}
-use Rattle.log.specs.declared.Judged.{Judged}
+use Rattle.order.specs.Log.{Log, log-header-ok, pair-of, log-of, bad-move-at, bad-pair-at, check-log-lines, read-log}
+use Rattle.order.specs.Table.{row-in, agent-in, first-in, end-in, Ordered}
+use Rattle.lines.specs.declared.Judged.{Judged}
+use Rattle.lines.specs.Lines.{first-of, shifted, KindRead}
 use Rattle.log.specs.declared.LogRead.{LogRead}
-
--- ---- places
-
--- the first, if there is one, or else the second
-abbrev pub first-of : Found → Found → Found
-first-of Nowhere b = b
-first-of (Here p) b = Here p
-
--- counted from k on
-abbrev pub shifted : ℕ → Found → Found
-shifted k Nowhere = Nowhere
-shifted k (Here p) = Here (k + p)
 
 -- ---- the header
 
@@ -40,12 +30,13 @@ header-judged p = do
 
 -- ---- the lines after it
 
--- the m move lines are read: in the table t each move has its agent and an empty row
+-- the m move lines are read: in the table t each move has its agent, an empty row and no picks
 pub record MovesRead (A : ℕ) (text : List ℕ) (m : ℕ) (t : List ℕ) (r : Judged) : Type 0 where
   pub ill : r .ill ≡ least-from (bad-line text) m 1
   pub fault : r .ill ≡ Nowhere → r .fault ≡ shifted 1 (least (bad-move-at A text) m)
   pub rows : r .ill ≡ Nowhere → (j : ℕ) → j < m → row-in t j ≡ 0
   pub agents : r .ill ≡ Nowhere → (i : ℕ) → i < m → agent-in t i ≡ line text (1 + i) .a
+  pub picks : r .ill ≡ Nowhere → (i : ℕ) → i < m → (first-in t i ≡ 0) × (end-in t i ≡ 0)
 
 -- the pair of line i, of m moves
 abbrev pub pair-at : ℕ → List ℕ → ℕ → Pair
@@ -60,11 +51,19 @@ unfoldable pub close : List Pair → List ℕ → List ℕ
 close [] t = t
 close (p ∷ ps) t = close ps (join t (p .earlier) (p .later))
 
--- the n pair lines of m moves are read: if none is at fault they are put in
-pub record PairsRead (text : List ℕ) (m n : ℕ) (s t : List ℕ) (r : Judged) : Type 0 where
-  pub ill : r .ill ≡ least-from (bad-line text) n (1 + m)
-  pub fault : r .ill ≡ Nowhere → r .fault ≡ shifted (1 + m) (least (bad-pair-at m text) n)
-  pub order : r .ill ≡ Nowhere → r .fault ≡ Nowhere → t ≡ close (table (pair-at m text) n) s
+-- the n pair lines of m moves are read: if none is at fault they are put into the table s
+abbrev pub PairsRead : List ℕ → ℕ → ℕ → List ℕ → List ℕ → Judged → Type 0
+PairsRead text m n s t r = KindRead text m n (bad-pair-at m text) (close (table (pair-at m text) n) s) t r
+
+-- of two kinds of lines, one after the other
+abbrev pub both : Judged → Judged → Judged
+both a b = record { ill = first-of (a .ill) (b .ill); fault = first-of (a .fault) (b .fault) }
+
+-- the lines after the header h are read: 1 on them, and 9; if they pass, the table t is that of the log
+pub record LinesRead (A E : ℕ) (text : List ℕ) (h : Line) (t : List ℕ) (r : Judged) : Type 0 where
+  pub ill : r .ill ≡ least-from (bad-line text) (h .a + h .b + h .c) 1
+  pub fault : r .ill ≡ Nowhere → check-log-lines A E h text ≡ none-at log-line 0 0 (r .fault)
+  pub order : r .ill ≡ Nowhere → r .fault ≡ Nowhere → Ordered (log-of h text) t
 
 -- 1 and 9 on a log of so many bytes and n lines
 unfoldable pub judged : ℕ → ℕ → Found → Found → Checked (Unit {0})
@@ -75,8 +74,8 @@ judged size n ill fault = do
 
 -- ---- the log
 
--- the answer; of a log that passes how many moves it has, and its order in the table t
-pub record LogReads (A : ℕ) (text t : List ℕ) (r : LogRead) : Type 0 where
-  pub answer : r .answer ≡ answer-of (read-log A text)
-  pub moves : (g : Log) → read-log A text ≡ good g → r .moves ≡ length (g .moves)
-  pub order : (g : Log) → read-log A text ≡ good g → Ordered g t
+-- the answer; of a log that passes how many moves it has, and its order and picks in the table t
+pub record LogReads (A E : ℕ) (text t : List ℕ) (r : LogRead) : Type 0 where
+  pub answer : r .answer ≡ answer-of (read-log A E text)
+  pub moves : (g : Log) → read-log A E text ≡ good g → r .moves ≡ length (g .moves)
+  pub order : (g : Log) → read-log A E text ≡ good g → Ordered g t

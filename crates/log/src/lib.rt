@@ -1,22 +1,26 @@
 // The log: its text read once into the table of its order, with 1 and 9, and 10 by sets of moves.
+use lines::Judged;
 use order::Order;
 use text::Answer;
 use text::Found;
 use text::Line;
 use text::Parsed;
 ghost use mathlib.Core.Path.{_≡_};
-ghost use mathlib.Core.Bool.{false};
-ghost use Prim.Native.Nat.{_+_, _%_, _^_, _<_, _≤_};
-ghost use lib.ListN.{length, getD};
+ghost use mathlib.Core.Bool.{true, false};
+ghost use Prim.Native.Nat.{_-_, _%_, _^_, _<_, _≤_};
+ghost use lib.ListN.{length, getD, take, drop};
 ghost use Rattle.text.specs.Words.{if_then_else_, answer-of};
 ghost use Rattle.order.specs.Log.{log-header-ok, bad-move, bad-pair};
-ghost use Rattle.order.specs.Table.{agent-in};
-ghost use Rattle.log.specs.Read.{first-of, header-judged, judged, join, MovesRead, PairsRead, LogReads};
+ghost use Rattle.order.specs.Table.{agent-in, picks-in};
+ghost use Rattle.log.specs.Read.{header-judged, judged, join, MovesRead, PairsRead, both, LinesRead, LogReads};
 ghost use Rattle.log.specs.Agents.{Nearest, check-agents-in};
-// Bounds of the header's m and k, and how many agents there may be.
+
+// Bounds of the header's m, k and c, and how many agents there may be.
 pub const MOST_MOVES: u32 = 64;
 
 pub const MOST_PAIRS: u32 = 2016;
+
+const MOST_PICKS: u32 = 256;
 
 const MOST_AGENTS: u64 = 16;
 
@@ -29,17 +33,11 @@ pub struct LogRead {
     pub moves: u32,
 }
 
-// Of the lines of one kind the least that is out of form, and the least at fault.
-pub struct Judged {
-    pub ill: Found,
-    pub fault: Found,
-}
-
 // The header is within its bounds.
 fn header_fits(h: Line) -> bool
     ensures { λ r. ⌜ r ≡ log-header-ok h ⌝ }
 {
-    (h.a <= MOST_MOVES) & (h.b <= MOST_PAIRS) & (h.c == 0) & (h.d == 0)
+    (h.a <= MOST_MOVES) & (h.b <= MOST_PAIRS) & (h.c <= MOST_PICKS) & (h.d == 0)
 }
 
 // A move line is at fault.
@@ -57,29 +55,9 @@ fn pair_fault(m: u32, k: Line, l: Line, i: u32) -> bool
     !((l.a < l.b) & (l.b < m) & ((i == 0) | ascends) & (l.c == 0) & (l.d == 0))
 }
 
-// The first place, if there is one, or else the second.
-fn first_of(a: Found, b: Found) -> Found
-    ensures { λ r. ⌜ r ≡ first-of a b ⌝ }
-{
-    match a {
-        Found::Nowhere => b,
-        Found::Here(p) => Found::Here(p),
-    }
-}
-
-// The place found before, or else p if it is at fault.
-fn or_here(found: Found, bad: bool, p: u32) -> Found
-    ensures { λ r. ⌜ r ≡ first-of found (if bad then Found.Here p else Found.Nowhere) ⌝ }
-{
-    if bad {
-        return first_of(found, Found::Here(p));
-    }
-    first_of(found, Found::Nowhere)
-}
-
-// The m move lines. Each move's row is cleared, and its agent stored.
+// The m move lines. Each move's row is cleared and its agent stored, and it has no picks yet.
 fn read_moves(log: &[u8], agents: u32, m: u32, order: &mut [u64]) -> Judged
-    requires { ⌜ (m ≤ 64) × (length (now order) ≡ 128) ⌝ }
+    requires { ⌜ (m ≤ 64) × (length (now order) ≡ 512) ⌝ }
     ensures { λ r. ⌜ MovesRead agents (now (log .entry)) m (now (order .exit)) r ⌝ }
 {
     let mut fault = Found::Nowhere;
@@ -93,9 +71,11 @@ fn read_moves(log: &[u8], agents: u32, m: u32, order: &mut [u64]) -> Judged
                 fault: fault,
             };
         }
-        fault = or_here(fault, move_fault(l, agents), 1 + i);
+        fault = lines::or_here(fault, move_fault(l, agents), 1 + i);
         order[i as usize] = 0;
         order[64 + i as usize] = l.a as u64;
+        order[128 + i as usize] = 0;
+        order[192 + i as usize] = 0;
         i += 1;
     }
     Judged {
@@ -141,7 +121,7 @@ fn read_pairs(log: &[u8], m: u32, n: u32, order: &mut Order) -> Judged
             };
         }
         let bad = pair_fault(m, before, l, i);
-        fault = or_here(fault, bad, 1 + m + i);
+        fault = lines::or_here(fault, bad, 1 + m + i);
         chain(order, l, bad);
         before = l;
         i += 1;
@@ -150,6 +130,33 @@ fn read_pairs(log: &[u8], m: u32, n: u32, order: &mut Order) -> Judged
         ill: Found::Nowhere,
         fault: fault,
     }
+}
+
+// Of two kinds of lines, one after the other.
+fn both(a: Judged, b: Judged) -> Judged
+    ensures { λ r. ⌜ r ≡ both a b ⌝ }
+{
+    let ill = a.ill;
+    let later_ill = b.ill;
+    let fault = a.fault;
+    let later_fault = b.fault;
+    let first_ill = lines::first_of(ill, later_ill);
+    let first_fault = lines::first_of(fault, later_fault);
+    Judged {
+        ill: first_ill,
+        fault: first_fault,
+    }
+}
+
+// The lines after the header h, which is within its bounds.
+fn read_lines(log: &[u8], agents: u32, elements: u32, h: Line, order: &mut Order) -> Judged
+    requires { ⌜ log-header-ok h ≡ true ⌝ }
+    ensures { λ r. ⌜ LinesRead agents elements (now (log .entry)) h (now (order .exit)) r ⌝ }
+{
+    let moves = read_moves(log, agents, h.a, order);
+    let pairs = read_pairs(log, h.a, h.b, order);
+    let picks = lines::read_choices(log, elements, h.a, h.a + h.b, h.c, order);
+    both(both(moves, pairs), picks)
 }
 
 // 1 then 9 on the header.
@@ -180,9 +187,9 @@ fn judge(size: usize, lines: u32, ill: Found, fault: Found) -> Answer
     text::none_at(text::LOG_LINE, 0, fault)
 }
 
-// 1 and 9, for a book of so many agents: the log's order is left in the table. Each line is read once.
-pub fn read_log(log: &[u8], agents: u32, order: &mut Order) -> LogRead
-    ensures { λ r. ⌜ LogReads agents (now (log .entry)) (now (order .exit)) r ⌝ }
+// 1 and 9, for a book of so many agents and elements: the log's order and picks are left in the table. Each line is read once.
+pub fn read_log(log: &[u8], agents: u32, elements: u32, order: &mut Order) -> LogRead
+    ensures { λ r. ⌜ LogReads agents elements (now (log .entry)) (now (order .exit)) r ⌝ }
 {
     let head = text::parse(log, 0);
     let first = check_header(head);
@@ -193,15 +200,10 @@ pub fn read_log(log: &[u8], agents: u32, order: &mut Order) -> LogRead
         };
     }
     let h = head.line;
-    let moves = read_moves(log, agents, h.a, order);
-    let pairs = read_pairs(log, h.a, h.b, order);
-    let ill_move = moves.ill;
-    let ill_pair = pairs.ill;
-    let ill = first_of(ill_move, ill_pair);
-    let bad_move = moves.fault;
-    let bad_pair = pairs.fault;
-    let fault = first_of(bad_move, bad_pair);
-    let answer = judge(log.len(), 1 + h.a + h.b, ill, fault);
+    let found = read_lines(log, agents, elements, h, order);
+    let ill = found.ill;
+    let fault = found.fault;
+    let answer = judge(log.len(), 1 + h.a + h.b + h.c, ill, fault);
     LogRead {
         answer: answer,
         moves: h.a,
@@ -249,4 +251,30 @@ pub fn agent_at(order: &Order, i: u32) -> u32
     ensures { λ r. ⌜ r ≡ agent-in (now (order .entry)) i % 2 ^ 32 ⌝ }
 {
     (fetch(order, 64 + i as usize) % 4294967296) as u32
+}
+
+// A part of the table.
+pub struct Part {
+    pub first: usize,
+    pub end: usize,
+}
+
+// The part of the table that has the picks of move i.
+pub fn picks_at(order: &Order, i: u32) -> Part
+    ensures { λ r. ⌜ (r .first ≤ r .end) × (r .end ≤ 512) × (take (r .end - r .first) (drop (r .first) (now (order .entry))) ≡ picks-in (now (order .entry)) i) ⌝ }
+{
+    let a = fetch(order, 128 + i as usize);
+    let b = fetch(order, 192 + i as usize);
+    let first = numbers::smaller(a as usize, 256);
+    let end = numbers::smaller(b as usize, 256);
+    if first < end {
+        return Part {
+            first: 256 + first,
+            end: 256 + end,
+        };
+    }
+    Part {
+        first: 256,
+        end: 256,
+    }
 }

@@ -10,7 +10,7 @@ ghost use lib.Dec.{leb};
 ghost use Rattle.text.specs.Words.{if_then_else_, table, table-from};
 ghost use Rattle.book.specs.Book.{offset, reserve, dynamic-at};
 ghost use Rattle.engine.specs.Look.{read};
-ghost use Rattle.engine.specs.Rule.{lowest};
+ghost use Rattle.engine.specs.Rule.{lowest, universe-at};
 ghost use Rattle.book.specs.Image.{low, low-function, held};
 ghost use Rattle.term.specs.Marks.{noted, marked, Placed, Runs};
 ghost use Rattle.marking.specs.Marking.{found-below, universe-marked, member, next};
@@ -152,6 +152,23 @@ pub fn universe(image: &Image, readers: &mut [u64], bit: u64, u: u16)
             image::elements(image),
         );
     }
+}
+
+// The value of the universe u at x; of what is no element it is false, and nothing is read.
+pub fn read_universe(
+    image: &Image,
+    contents: &[Value],
+    readers: &mut [u64],
+    bit: u64,
+    u: u16,
+    x: Value,
+) -> Value
+    ensures { λ r. ⌜ Runs (held (now (image .entry))) (now (contents .entry)) bit (universe-at (held (now (image .entry))) u x) r (now (readers .entry)) (now (readers .exit)) ⌝ }
+{
+    if x < image::elements(image) {
+        return term::read(image, contents, readers, bit, u, x, 0);
+    }
+    1
 }
 
 // The least member of a universe from `from` on, or e; f is the universe.

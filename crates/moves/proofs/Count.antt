@@ -1,7 +1,7 @@
 -- How many instructions a walk gave, and what the list of them holds. Assumes nothing.
 use mathlib.Core.Path.{_≡_, sym, ap, _∙_}
 use mathlib.Core.Logic.{_≢_, dite}
-use mathlib.Core.List.{List}
+use mathlib.Core.List.{List, []}
 use Prim.Native.Nat.{ℕ, _≤_, min}
 use native.Mathlib.Decide.{ℕ-discrete}
 use native.Mathlib.Omega.{arith}
@@ -40,5 +40,5 @@ same-outcome s l l′ e e′ q = dite (ℕ-discrete (s .refused) 0)
     (λ (h : s .refused ≡ 0).
     let i : items l′ (s .len) ≡ items l (s .len) =
     sym (clipped l′ (s .len) (min (s .len) 256) (omega arith)) ∙ (rw (eq-eqb (s .refused) 0 h) at q) ∙ clipped l (s .len) (min (s .len) 256) (omega arith) in
-    outcome-going s l′ h ∙ ap (λ (is : List Instruction). going (record { made = is; next = s .label })) i ∙ sym (outcome-going s l h))
+    outcome-going s l′ h ∙ ap (λ (is : List Instruction). going (record { made = is; next = s .label; left = [] })) i ∙ sym (outcome-going s l h))
     (λ (h : s .refused ≢ 0). outcome-met s l′ h ∙ sym (outcome-met s l h))

@@ -32,10 +32,7 @@ use Rattle.moves.specs.Effect.{Tables, tables, joined, left, move-answer
 use Rattle.moves.specs.Close.{closed-after, Completed}
 use Rattle.moves.proofs.Marks.{marked-joined}
 
-module _ (B : Program) (k bit at : ℕ) (c rs ws : List ℕ) (fit : Fit B k bit (tables c rs ws)) where
-  abbrev i : Input
-  i = record { agent = k }
-
+module _ (B : Program) (i : Input) (bit at : ℕ) (c rs ws : List ℕ) (fit : Fit B i bit (tables c rs ws)) where
   abbrev ls : List ℕ
   ls = looked B c i
 
@@ -51,7 +48,7 @@ module _ (B : Program) (k bit at : ℕ) (c rs ws : List ℕ) (fit : Fit B k bit 
       go l true e = refl
       go l false e = sym (ap is-some (updates-past B c is l (omega (arith, ltb-false l (length c) e, fit .sound .long))))
 
-  module _ (o : Walked) (rs′ : List ℕ) (walks : Gathered B c bit k o rs rs′) (r : Answer) (c″ rs″ ws″ : List ℕ)
+  module _ (o : Walked) (rs′ : List ℕ) (walks : Gathered B c bit i o rs rs′) (r : Answer) (c″ rs″ ws″ : List ℕ)
       (done : Completed B bit at o (tables c rs′ ws) r (tables c″ rs″ ws″)) where
     same : move B c i ≡ settle B c ls o
     unfolding move
@@ -63,15 +60,15 @@ module _ (B : Program) (k bit at : ℕ) (c rs ws : List ℕ) (fit : Fit B k bit 
     -- where the move comes to m
     ends : (m : Moved) → settle B c ls o ≡ m
         → tables (contents-after c m) (closed-after B bit o m rs′) (marks-after bit (length c) ws m) ≡ left bit (tables c rs ws) m
-        → Effect B k bit at (tables c rs ws) r (tables c″ rs″ ws″)
+        → Effect B i bit at (tables c rs ws) r (tables c″ rs″ ws″)
     ends m e t =
         record {
           answer = done .answer ls ∙ ap (move-answer at) (sym same);
           tables = whole m e ∙ t ∙ ap (left bit (tables c rs ws)) (sym (same ∙ e));
         }
 
-  pub completed-effect : (o : Walked) (rs′ : List ℕ) → Gathered B c bit k o rs rs′ → (r : Answer) (c″ rs″ ws″ : List ℕ)
-      → Completed B bit at o (tables c rs′ ws) r (tables c″ rs″ ws″) → Effect B k bit at (tables c rs ws) r (tables c″ rs″ ws″)
+  pub completed-effect : (o : Walked) (rs′ : List ℕ) → Gathered B c bit i o rs rs′ → (r : Answer) (c″ rs″ ws″ : List ℕ)
+      → Completed B bit at o (tables c rs′ ws) r (tables c″ rs″ ws″) → Effect B i bit at (tables c rs ws) r (tables c″ rs″ ws″)
   unfolding settle judged
   completed-effect (met n q) rs′ walks r c″ rs″ ws″ done =
       let p = fit .power in
@@ -95,22 +92,22 @@ module _ (B : Program) (k bit at : ℕ) (c rs ws : List ℕ) (fit : Fit B k bit 
           ∙ sym (marked-append bit ls (if-releasing B (released (w .made))) rs)
           ∙ marked-joined bit (ls ++ if-releasing B (released (w .made))) rs
 
-      go : (x : Found) → least (clashes (f .instructions) (f .updates)) (length (f .updates)) ≡ x → Effect B k bit at (tables c rs ws) r (tables c″ rs″ ws″)
+      go : (x : Found) → least (clashes (f .instructions) (f .updates)) (length (f .updates)) ≡ x → Effect B i bit at (tables c rs ws) r (tables c″ rs″ ws″)
       go Nowhere e = ends (going w) rs′ walks r c″ rs″ ws″ done (fires f) (rw e) (rw (rest, all-marked (w .made)))
       go (Here l) e = ends (going w) rs′ walks r c″ rs″ ws″ done (stopped clash l) (rw e) (rw back)
 
 -- as the code has it: the tables c, rs and ws that the walk, begun on t, left with its state s and the list l
-pub finished-effect : (B : Program) (k bit at : ℕ) (t : Tables) (s : State) (l c rs ws : List ℕ) → After B k bit t s l (tables c rs ws) → (r : Answer) (u : Tables)
-    → Completed B bit at (walk.outcome s l) (tables c rs ws) r u → Effect B k bit at t r u
-finished-effect B k bit at t s l c rs ws after r u done =
-    subst (λ (x : Tables). Effect B k bit at x r u) begun
-    (completed-effect B k bit at c (t .readers) ws fit (walk.outcome s l) rs walks r (u .contents) (u .readers) (u .writers) done)
+pub finished-effect : (B : Program) (i : Input) (bit at : ℕ) (t : Tables) (s : State) (l c rs ws : List ℕ) → After B i bit t s l (tables c rs ws) → (r : Answer) (u : Tables)
+    → Completed B bit at (walk.outcome s l) (tables c rs ws) r u → Effect B i bit at t r u
+finished-effect B i bit at t s l c rs ws after r u done =
+    subst (λ (x : Tables). Effect B i bit at x r u) begun
+    (completed-effect B i bit at c (t .readers) ws fit (walk.outcome s l) rs walks r (u .contents) (u .readers) (u .writers) done)
   where
     begun : tables c (t .readers) ws ≡ t
     begun = rw (after .contents, after .writers)
 
-    fit : Fit B k bit (tables c (t .readers) ws)
-    fit = subst (Fit B k bit) (sym begun) (after .fit)
+    fit : Fit B i bit (tables c (t .readers) ws)
+    fit = subst (Fit B i bit) (sym begun) (after .fit)
 
-    walks : Gathered B c bit k (walk.outcome s l) (t .readers) rs
-    walks = subst (λ (x : List ℕ). Gathered B x bit k (walk.outcome s l) (t .readers) rs) (sym (after .contents)) (after .readers)
+    walks : Gathered B c bit i (walk.outcome s l) (t .readers) rs
+    walks = subst (λ (x : List ℕ). Gathered B x bit i (walk.outcome s l) (t .readers) rs) (sym (after .contents)) (after .readers)

@@ -8,7 +8,7 @@ use Rattle.text.specs.declared.Answer.{Answer}
 use Rattle.text.specs.Words.{has}
 use Rattle.book.specs.Book.{Program}
 use Rattle.book.specs.Sound.{Lawful, Sound}
-use Rattle.engine.specs.Move.{Moved, fires, stopped, move, fire, writes}
+use Rattle.engine.specs.Move.{Input, Moved, fires, stopped, move, fire, writes}
 use Rattle.sweep.specs.Marks.{each, mark}
 use Rattle.walk.specs.declared.State.{State}
 use Rattle.walk.specs.Walk.{outcome}
@@ -40,24 +40,24 @@ move-answer i (fires f) = record { number = 0; p = 0; q = 0 }
 move-answer i (stopped n q) = record { number = n; p = i; q = q }
 
 -- What a call is made on: an accepted book, sound contents, one of its agents, and a bit above all marks so far: the moves before have lower ones
-pub record Fit (B : Program) (k bit : ℕ) (t : Tables) : Type 0 where
+pub record Fit (B : Program) (x : Input) (bit : ℕ) (t : Tables) : Type 0 where
   pub lawful : Lawful B
   pub sound : Sound B (t .contents)
-  pub agent : k < length (B .agents)
+  pub agent : x .agent < length (B .agents)
   pub power : (i : ℕ) × (bit ≡ 2 ^ i) × (i < 64)
   pub unmarked : (l : ℕ) → getD (t .readers) l 0 < bit
 
--- what agent k's move, number i and marked as `bit`, gives and leaves of the tables t: its answer r, and the tables u
-pub record Effect (B : Program) (k bit i : ℕ) (t : Tables) (r : Answer) (u : Tables) : Type 0 where
-  pub answer : r ≡ move-answer i (move B (t .contents) (record { agent = k }))
-  pub tables : u ≡ left bit t (move B (t .contents) (record { agent = k }))
+-- what the move with input x, number i and marked as `bit`, gives and leaves of the tables t: its answer r, and the tables u
+pub record Effect (B : Program) (x : Input) (bit i : ℕ) (t : Tables) (r : Answer) (u : Tables) : Type 0 where
+  pub answer : r ≡ move-answer i (move B (t .contents) x)
+  pub tables : u ≡ left bit t (move B (t .contents) x)
 
 abbrev pub tables : List ℕ → List ℕ → List ℕ → Tables
 tables c rs ws = record { contents = c; readers = rs; writers = ws }
 
--- the walk of agent k's move, made on the tables t, came to the state s with the list l, and left the tables u
-pub record After (B : Program) (k bit : ℕ) (t : Tables) (s : State) (l : List ℕ) (u : Tables) : Type 0 where
-  pub fit : Fit B k bit t
+-- the walk of the move with input x, made on the tables t, came to the state s with the list l, and left the tables u
+pub record After (B : Program) (x : Input) (bit : ℕ) (t : Tables) (s : State) (l : List ℕ) (u : Tables) : Type 0 where
+  pub fit : Fit B x bit t
   pub contents : u .contents ≡ t .contents
-  pub readers : Gathered B (t .contents) bit k (outcome s l) (t .readers) (u .readers)
+  pub readers : Gathered B (t .contents) bit x (outcome s l) (t .readers) (u .readers)
   pub writers : u .writers ≡ t .writers

@@ -1,6 +1,7 @@
 // One move: begun, which is its walk, and finished: fired and marked, or refused.
 use book::Image;
 use engine::Instruction;
+use engine::Pick;
 use firing::Outcome;
 use numbers::Value;
 use text::Answer;
@@ -11,7 +12,7 @@ ghost use Prim.Native.Nat.{ℕ};
 ghost use lib.ListN.{length};
 ghost use Rattle.book.specs.Image.{held};
 ghost use Rattle.engine.specs.Rule.{going};
-ghost use Rattle.engine.specs.Move.{Fired, label-of, released, is-some, if-releasing};
+ghost use Rattle.engine.specs.Move.{Fired, label-of, released, is-some, if-releasing, input};
 ghost use Rattle.records.specs.Code.{items};
 ghost use Rattle.firing.specs.Outcome.{moved-by};
 ghost use Rattle.term.specs.Marks.{marked};
@@ -43,7 +44,7 @@ fn given(s: State) -> usize
     MOST_INSTRUCTIONS
 }
 
-// An agent's move is begun: its rule is walked, and what it reads is marked.
+// An agent's move is begun: its rule is walked with these picks, and what it reads is marked.
 pub fn begin(
     image: &Image,
     contents: &[Value],
@@ -51,10 +52,11 @@ pub fn begin(
     bit: u64,
     list: &mut [u64; 256],
     agent: u32,
+    picks: &[Pick],
 ) -> Begun
-    ensures { λ r. ⌜ Gathered (held (now (image .entry))) (now (contents .entry)) bit agent (outcome (r .walk) (now (list .exit))) (now (readers .entry)) (now (readers .exit)) × (r .count ≡ given-of (r .walk)) × (length (now (list .exit)) ≡ 256) ⌝ }
+    ensures { λ r. ⌜ Gathered (held (now (image .entry))) (now (contents .entry)) bit (input agent (now (picks .entry))) (outcome (r .walk) (now (list .exit))) (now (readers .entry)) (now (readers .exit)) × (r .count ≡ given-of (r .walk)) × (length (now (list .exit)) ≡ 256) ⌝ }
 {
-    let walk = walk::gather(image, contents, readers, bit, list, agent);
+    let walk = walk::gather(image, contents, readers, bit, list, agent, picks);
     let count = given(walk);
     Begun {
         walk: walk,
@@ -149,7 +151,7 @@ fn settle_listed(
     len: usize,
     at: u32,
 ) -> Answer
-    ensures { λ r. ⌜ ((next : ℕ) → Completed (held (now (image .entry))) bit at (going (record { made = items (now (list .entry)) len; next = next })) (tables (now (contents .entry)) (now (readers .entry)) (now (writers .entry))) r (tables (now (contents .exit)) (now (readers .exit)) (now (writers .exit)))) ⌝ }
+    ensures { λ r. ⌜ ((next : ℕ) → Completed (held (now (image .entry))) bit at (going (record { made = items (now (list .entry)) len; next = next; left = [] })) (tables (now (contents .entry)) (now (readers .entry)) (now (writers .entry))) r (tables (now (contents .exit)) (now (readers .exit)) (now (writers .exit)))) ⌝ }
 {
     let what = firing::settle(image, contents, writers, list, len, bit);
     close(image, readers, bit, list, len, at, what)

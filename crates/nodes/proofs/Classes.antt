@@ -85,12 +85,12 @@ module _ (B : Program) (n s x : ℕ) where
 
 pub lent-sorts : (t : List ℕ) (kind : ℕ) (r : OperandSorts) → r ≡ sorts-in t kind → t ≡ sort-table → r ≡ sorts-of kind
 unfolding sort
-lent-sorts t kind r e q = e ∙ rw q (go (decLt kind 28))
+lent-sorts t kind r e q = e ∙ rw q (go (decLt kind 29))
   where
-    past : (i : ℕ) → 84 ≤ i → getD sort-table i 0 ≡ 0
+    past : (i : ℕ) → 87 ≤ i → getD sort-table i 0 ≡ 0
     past i g = List·getD-eq-default sort-table 0 {n = i} g
 
-    go : Dec (kind < 28) → sorts-in sort-table kind ≡ sorts-of kind
-    go (yes l) = let z : kind * 3 + 0 ≡ kind * 3 = omega arith in rw (lt-ltb kind 28 l, z)
+    go : Dec (kind < 29) → sorts-in sort-table kind ≡ sorts-of kind
+    go (yes l) = let z : kind * 3 + 0 ≡ kind * 3 = omega arith in rw (lt-ltb kind 29 l, z)
     go (no l) =
-        rw (le-ltb kind 28 (omega arith), past (kind * 3 + 0) (omega arith), past (kind * 3 + 1) (omega arith), past (kind * 3 + 2) (omega arith))
+        rw (le-ltb kind 29 (omega arith), past (kind * 3 + 0) (omega arith), past (kind * 3 + 1) (omega arith), past (kind * 3 + 2) (omega arith))

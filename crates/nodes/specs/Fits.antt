@@ -10,10 +10,10 @@ use Rattle.book.specs.Book.{relation, dynamic, dynamic-relation}
 use Rattle.book.specs.Kinds.{is-term, is-rule, names-location, variables, sort, permanent, variable, function0, function1, function2, universe, dynamic-universe, term, rule, target}
 use Rattle.nodes.specs.declared.OperandSorts.{OperandSorts}
 
--- the sorts that a table gives the three operands of a node kind, 0 to 27; of another kind there are none
+-- the sorts that a table gives the three operands of a node kind, 0 to 28; of another kind there are none
 abbrev pub sorts-in : List ℕ → ℕ → OperandSorts
 sorts-in table kind =
-    if ltb kind 28 then record { a = getD table (kind * 3) 0; b = getD table (kind * 3 + 1) 0; c = getD table (kind * 3 + 2) 0 }
+    if ltb kind 29 then record { a = getD table (kind * 3) 0; b = getD table (kind * 3 + 1) 0; c = getD table (kind * 3 + 2) 0 }
     else record { a = 0; b = 0; c = 0 }
 
 -- and those that they have

@@ -13,9 +13,9 @@ ghost use Rattle.book.specs.Lines.{fits, bad-node, bad-agent};
 ghost use Rattle.book.specs.Image.{row-in, program-in};
 ghost use Rattle.nodes.specs.Fits.{sorts-in, fits-plain, fits-function, fits-node, fits-target};
 
-// The three operand sorts of each node kind from 0 to 27: 0 no such kind, 1 unused, 2 permanent element, 3 variable,
+// The three operand sorts of each node kind from 0 to 28: 0 no such kind, 1 unused, 2 permanent element, 3 variable,
 // 4 to 6 function of arity 0 to 2, 7 universe, 8 dynamic universe, 9 term, 10 rule, 11 a term that names a dynamic location.
-pub const SORTS: [u8; 84] = [
+pub const SORTS: [u8; 87] = [
     0, // 0 no kind
     0,
     0,
@@ -100,6 +100,9 @@ pub const SORTS: [u8; 84] = [
     9, // 27 release
     1,
     1,
+    3, // 28 choose
+    7,
+    10,
 ];
 
 // What the three operands of a node have to be.
@@ -110,10 +113,10 @@ pub struct OperandSorts {
 }
 
 // The operand sorts of a node kind. The table is lent: a pass over the nodes lays it out once.
-pub fn sorts_of(table: &[u8; 84], kind: u32) -> OperandSorts
+pub fn sorts_of(table: &[u8; 87], kind: u32) -> OperandSorts
     ensures { λ r. ⌜ r ≡ sorts-in (now (table .entry)) kind ⌝ }
 {
-    if kind < 28 {
+    if kind < 29 {
         let i = kind as usize * 3;
         OperandSorts {
             a: table[i],
@@ -138,7 +141,7 @@ fn is_rule(kind: u32) -> bool
     ensures { λ r. ⌜ r ≡ is-rule kind ⌝ }
 {
     match kind {
-        20..=27 => true,
+        20..=28 => true,
         _ => false,
     }
 }
@@ -213,7 +216,7 @@ fn fits(image: &Image, n: u32, s: u8, x: u32) -> bool
 }
 
 // 5: node n is at fault.
-fn bad_node(image: &Image, table: &[u8; 84], n: u32) -> bool
+fn bad_node(image: &Image, table: &[u8; 87], n: u32) -> bool
     requires { ⌜ now table ≡ sort-table ⌝ }
     ensures { λ r. ⌜ r ≡ bad-node (program-in (now (image .entry))) n ⌝ }
 {

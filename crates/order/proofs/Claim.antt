@@ -45,7 +45,7 @@ module _ (B : Program) (g : Log) (c : List ℕ) where
 
   -- ---- an accepted log
 
-  module _ (lawful : Lawful B) (sound : Sound B c) (ok : Passed (length (B .agents)) g) where
+  module _ (lawful : Lawful B) (sound : Sound B c) (ok : Passed (length (B .agents)) (B .E) g) where
     up : (a b : ℕ) → PairOf (g .pairs) a b → a < b
     up a b p = ok .up a b p .0
 
@@ -147,7 +147,7 @@ module _ (B : Program) (g : Log) (c : List ℕ) where
             (all-fire s k, least-iff s k i j .0 (two-least (test s) m i j .0 (p ∙ ap₂ two (f .1) (f .2))))
 
         go : (o : Ran) → run B g c m ≡ o → Is17 (finish B g o) i j → AllFire B g c m × LeastPair (UnorderedTouch B g c) i j
-        go (halted a b d s) q f = absurd (omega (arith, f .0, halted-number B g c m a b d s q .1))
+        go (halted a b d s) q f = absurd (halted-number B g c m a b d s q .0 .3 (f .0))
         go (ran s) q f = on-two s q (found s) refl f
 
     refused-from : (i j : ℕ) → AllFire B g c m → LeastPair (UnorderedTouch B g c) i j → Is17 (run-from B g c) i j
@@ -181,7 +181,7 @@ module _ (B : Program) (g : Log) (c : List ℕ) where
 
 -- ---- the call
 
-all-passed : (book log : List ℕ) (n : Lengths) (b : Book) (g : Log) → check-all book log n ≡ good (b, g) → Lawful (b .program) × Sound (b .program) (start b) × Passed (length (b .program .agents)) g
+all-passed : (book log : List ℕ) (n : Lengths) (b : Book) (g : Log) → check-all book log n ≡ good (b, g) → Lawful (b .program) × Sound (b .program) (start b) × Passed (length (b .program .agents)) (b .program .E) g
 unfolding check-all
 all-passed book log n b g e =
     let r = bind-good (check-book book) _ (b, g) e in
@@ -190,7 +190,7 @@ all-passed book log n b g e =
     let p = good-same (r .0, t .0) (b, g) (u .2) in
     let k : Lawful (r .0 .program) × Sound (r .0 .program) (start (r .0)) = accepted-book book (r .0) (r .1) in
     let k′ = subst (λ (x : Book). Lawful (x .program) × Sound (x .program) (start x)) (ap (λ (x : Book × Log). x .0) p) k in
-    (k′ .0, k′ .1, subst (λ (x : Book × Log). Passed (length (x .0 .program .agents)) (x .1)) p (passed (r .0 .program) log (t .0) (t .1)))
+    (k′ .0, k′ .1, subst (λ (x : Book × Log). Passed (length (x .0 .program .agents)) (x .0 .program .E) (x .1)) p (passed (r .0 .program) log (t .0) (t .1)))
 
 module _ (book log : List ℕ) (t : Tables) (n : ℕ) where
   abbrev checks : Checked (Book × Log)

@@ -13,8 +13,9 @@ use Rattle.order.specs.Log.{Log}
 use Rattle.order.specs.Run.{Run, Ran, ran, halted, run, reads-at, writes-at, fired-at}
 use Rattle.order.specs.Orders.{Reads, Writes, listed}
 use Rattle.order.specs.Demand.{moves-of}
-use Rattle.order.specs.Claims.{OrdersAgree, MovesSwap, RowsAreOrder, Did, Marked, RunsLeave, RunsAnswer}
+use Rattle.order.specs.Claims.{OrdersAgree, MovesSwap, RowsAreOrder, Did, Marked, RunsLeave, RunsAnswer, PicksAreElements}
 use Rattle.order.specs.Claims as claims
+use Rattle.order.proofs.Log.{passed}
 use Rattle.order.proofs.Listed.{agrees}
 use Rattle.order.proofs.Swap.{laws, writes-value}
 use Rattle.order.proofs.Rows.{rows-set}
@@ -66,7 +67,10 @@ runs-leave B g c n = go (run B g c n) refl
     go (halted a p q s) e =
         let r = run-halted B g c n a p q s e in
         let m = halted-number B g c n a p q s e in
-        (r .0, marked B g c p s (r .1), r .2, m .0, m .1)
+        (r .0, marked B g c p s (r .1), r .2, m .0)
 
 pub runs-answer : RunsAnswer
 runs-answer book log t n = log-small book log t n .not-16
+
+pub picks-are-elements : PicksAreElements
+picks-are-elements B text g e = passed B text g e .picks

@@ -14,3 +14,4 @@ pub mod Claims
 pub mod Masks
 pub mod Search
 pub mod Best
+pub mod Picks

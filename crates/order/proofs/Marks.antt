@@ -12,9 +12,10 @@ use lib.ListN.{length, getD, length-append, List·getD-append}
 use lib.Seq.{getD-at}
 use borrow.Author.Tests.{eqb-true, eq-eqb}
 use Rattle.text.specs.Words.{if_then_else_}
-use Rattle.book.specs.Book.{Program, L}
+use Rattle.book.specs.Book.{Program}
 use Rattle.engine.specs.Move.{Fired, Moved, fires, stopped, move, fire}
-use Rattle.engine.proofs.Numbers.{move-number}
+use Rattle.engine.specs.Claims.{Inside}
+use Rattle.engine.proofs.Numbers.{last-place, move-number}
 use Rattle.order.specs.Sets.{bit, with-move}
 use Rattle.order.specs.Log.{Log, move-at}
 use Rattle.order.specs.Run.{Run, Ran, ran, halted, moved, next, run, moves-that, reads-at, writes-at, readers, writers, no-fired, fired-at}
@@ -152,6 +153,6 @@ module _ (B : Program) (g : Log) (c : List ℕ) where
       go (ran t) k e r = one t (run-left n t k) (move B (t .contents) (move-at g n)) refl e
       go (halted b x d t) k e r = let h = r (k ∙ e) in (omega (arith, h .0), h .1, h .2)
 
-  -- The number of a move's refusal is one of 11 to 15, and its q a node or a location.
-  pub halted-number : (n a p q : ℕ) (s : Run) → run B g c n ≡ halted a p q s → (11 ≤ a) × (a ≤ 15) × (q ≤ length (B .nodes) + L B)
+  -- The number of a move's refusal is one of 11 to 15, 18 and 19, and its q a node or a location.
+  pub halted-number : (n a p q : ℕ) (s : Run) → run B g c n ≡ halted a p q s → Inside a × (q ≤ last-place B (move-at g p))
   halted-number n a p q s e = move-number B (listed S c p) (move-at g p) a q (run-halted n a p q s e .2)

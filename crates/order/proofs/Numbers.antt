@@ -1,4 +1,4 @@
--- The checks before the first move refuse with 1 to 10; and the answer of a log's call fits one number, for all inputs: its number is at most 17
+-- The checks before the first move refuse with 1 to 10; and the answer of a log's call fits one number, for all inputs: its number is at most 19
 -- and never 16, its p and its q are below 2^24.
 use mathlib.Core.Path.{_≡_, refl}
 use mathlib.Core.Bool.{Bool}
@@ -8,7 +8,7 @@ use native.Mathlib.Omega.{arith}
 use lib.ListN.{length}
 use Rattle.text.specs.declared.Line.{Line}
 use Rattle.text.specs.Words.{Checked, good, refused}
-use Rattle.text.specs.Text.{bad-line, line}
+use Rattle.text.specs.Text.{bad-line}
 use Rattle.text.proofs.Words.{length-table-from}
 pub use Rattle.text.proofs.Checks.{on, off}
 use Rattle.text.proofs.Checks.{Ends, Any, also, bind-ends, then-ends, none-ends, must-ends, Before, Small}
@@ -16,13 +16,13 @@ use Rattle.book.specs.Book.{Program, Book, L, start}
 use Rattle.book.proofs.Refusals.{Fits, book-before}
 use Rattle.order.specs.Pairs.{TwoFound, no-two, two, least-two, none-two}
 use Rattle.order.specs.declared.Lengths.{Lengths}
-use Rattle.order.specs.Log.{Log, log-lines, input-of, log-of, check-agents, check-log-header, check-log-text, check-log-lines, read-log, check-log}
+use Rattle.order.specs.Log.{Log, move-at, log-lines, log-of, check-agents, check-log-header, check-log-text, check-log-lines, read-log, check-log}
 use Rattle.order.specs.Run.{Run, Ran, ran, halted, run, touching, order-checked, finish, run-from}
 use Rattle.order.specs.Call.{Tables, lengths, check-lengths, check-lent, check-all, log-answer, log-call}
 use Rattle.order.specs.Demand.{count}
 use Rattle.order.proofs.Pairs.{two-least}
 use Rattle.order.proofs.Marks.{run-halted, halted-number}
-use Rattle.order.proofs.Log.{header-few}
+use Rattle.order.proofs.Log.{header-few, input-at}
 
 -- a pair of moves that is found is of the m moves
 found-pair : (f : ℕ → ℕ → Bool) (m i j : ℕ) → least-two f m ≡ two i j → (i < m) × (j < m)
@@ -32,7 +32,7 @@ found-pair f m i j e = let r = two-least f m i j .0 e .holds in (omega (arith, r
 
 -- the bounds of its header
 abbrev LogBounded : Line → Type 0
-LogBounded h = (h .a ≤ 64) × (h .b ≤ 2016)
+LogBounded h = (h .a ≤ 64) × (h .b ≤ 2016) × (h .c ≤ 256)
 
 log-header-ends : (text : List ℕ) → Ends LogBounded Before (check-log-header text)
 unfolding check-log-header
@@ -45,10 +45,11 @@ unfolding check-log-text
 log-text-ends h text b =
     then-ends (none-ends Before 1 0 1 (bad-line text) (log-lines h) (λ p k. omega arith)) (must-ends Before _ 1 (log-lines h) 1 (omega arith))
 
-log-lines-ends : (A : ℕ) (h : Line) (text : List ℕ) → LogBounded h → Ends Any Before (check-log-lines A h text)
+log-lines-ends : (A E : ℕ) (h : Line) (text : List ℕ) → LogBounded h → Ends Any Before (check-log-lines A E h text)
 unfolding check-log-lines
-log-lines-ends A h text b =
-    then-ends (none-ends Before 9 1 0 _ (h .a) (λ p k. omega arith)) (none-ends Before 9 (1 + h .a) 0 _ (h .b) (λ p k. omega arith))
+log-lines-ends A E h text b =
+    then-ends (none-ends Before 9 1 0 _ (h .a) (λ p k. omega arith)) (then-ends (none-ends Before 9 (1 + h .a) 0 _ (h .b) (λ p k. omega arith))
+    (none-ends Before 9 (1 + h .a + h .b) 0 _ (h .c) (λ p k. omega arith)))
 
 agents-ends : (g : Log) → count g ≤ 64 → Ends Any Before (check-agents g)
 unfolding check-agents none-two
@@ -61,16 +62,16 @@ agents-ends g few = go _ (count g) few
         one no-two e = on tt
         one (two i j) e = let r : Before 10 i j = omega (arith, found-pair f m i j e) in off r
 
-pub read-ends : (A : ℕ) (text : List ℕ) → Ends (λ g. count g ≤ 64) Before (read-log A text)
+pub read-ends : (A E : ℕ) (text : List ℕ) → Ends (λ g. count g ≤ 64) Before (read-log A E text)
 unfolding read-log log-of
-read-ends A text =
+read-ends A E text =
     bind-ends (log-header-ends text) (λ h b.
-    let few : count (log-of h text) ≤ 64 = omega (arith, length-table-from (λ i. input-of (line text (1 + i))) 0 (h .a)) in
-    then-ends (log-text-ends h text b) (then-ends (log-lines-ends A h text b) (on few)))
+    let few : count (log-of h text) ≤ 64 = omega (arith, length-table-from (input-at h text) 0 (h .a)) in
+    then-ends (log-text-ends h text b) (then-ends (log-lines-ends A E h text b) (on few)))
 
 log-ends : (B : Program) (text : List ℕ) → Ends (λ g. count g ≤ 64) Before (check-log B text)
 unfolding check-log
-log-ends B text = bind-ends (read-ends (length (B .agents)) text) (λ g few. then-ends (agents-ends g few) (on few))
+log-ends B text = bind-ends (read-ends (length (B .agents)) (B .E) text) (λ g few. then-ends (agents-ends g few) (on few))
 
 -- ---- the lent tables, and all checks
 
@@ -102,7 +103,7 @@ run-small B g c fits few = go (run B g c (count g)) refl
     go (ran s) e = two-way s (touching B g (s .fired)) (found-pair _ (count g))
     go (halted a p q s) e =
         let m = halted-number B g c (count g) a p q s e in
-        record { number = omega (arith, m .1); not-16 = λ x. omega (arith, m .1, x); p = omega (arith, run-halted B g c (count g) a p q s e .0); q = omega (arith, m .2) }
+        record { number = m .0 .1; not-16 = m .0 .2; p = omega (arith, run-halted B g c (count g) a p q s e .0); q = omega (arith, m .1, fits .nodes, fits .locations, fits .roots (move-at g p .agent)) }
 
 pub log-small : (book log : List ℕ) (t : Tables) (n : ℕ) → Small (log-call book log t n .answer)
 unfolding log-call

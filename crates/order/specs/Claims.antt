@@ -4,14 +4,16 @@ use mathlib.Core.Logic.{_↔_, _≢_}
 use mathlib.Core.Bool.{true}
 use mathlib.Core.List.{List}
 use mathlib.Core.Option.{some}
-use Prim.Native.Nat.{ℕ, _≤_, _<_}
+use Prim.Native.Nat.{ℕ, _<_}
 use lib.ListN.{getD}
+use Rattle.text.specs.Words.{has, good}
 use Rattle.book.specs.Book.{Program, L}
 use Rattle.book.specs.Sound.{Lawful}
 use Rattle.engine.specs.Move.{Fired, stopped, move}
+use Rattle.engine.specs.Claims.{Inside}
 use Rattle.order.specs.Sets.{bit}
 use Rattle.order.specs.Pairs.{Pair, rows}
-use Rattle.order.specs.Log.{Log, move-at}
+use Rattle.order.specs.Log.{Log, move-at, check-log}
 use Rattle.order.specs.Run.{Run, Ran, ran, halted, run, readers, writers}
 use Rattle.order.specs.Orders.{Moves, Laws, Touch, Reads, Writes, listed, Before, from, Keeps, Agrees}
 use Rattle.order.specs.Call.{Tables, log-call}
@@ -54,10 +56,10 @@ module _ (B : Program) (g : Log) (c : List ℕ) where
     pub readers : (l i : ℕ) → l < L B → (bit (getD (readers (L B) (s .fired)) l 0) i ≡ true) ↔ Did n i (λ f. Reads (moves-of B g) f l)
     pub writers : (l i : ℕ) → l < L B → (bit (getD (writers (L B) (s .fired)) l 0) i ≡ true) ↔ Did n i (λ f. Writes (moves-of B g) f l)
 
-  -- a run that was not refused, and one that was: at move p, with 11 to 15, with the contents and the marks of the moves before it
+  -- a run that was not refused, and one that was: at move p, with 11 to 15, 18 or 19, with the contents and the marks of the moves before it
   abbrev pub Left : ℕ → Ran → Type 0
   Left n (ran s) = Marked n s
-  Left n (halted a p q s) = (p < n) × Marked p s × (move B (listed (moves-of B g) c p) (move-at g p) ≡ stopped a q) × (11 ≤ a) × (a ≤ 15)
+  Left n (halted a p q s) = (p < n) × Marked p s × (move B (listed (moves-of B g) c p) (move-at g p) ≡ stopped a q) × Inside a
 
 abbrev pub RunsLeave : Type 0
 RunsLeave = (B : Program) (g : Log) (c : List ℕ) (n : ℕ) → Left B g c n (run B g c n)
@@ -66,3 +68,8 @@ RunsLeave = (B : Program) (g : Log) (c : List ℕ) (n : ℕ) → Left B g c n (r
 
 abbrev pub RunsAnswer : Type 0
 RunsAnswer = (book log : List ℕ) (t : Tables) (n : ℕ) → log-call book log t n .answer .number ≢ 16
+
+-- ---- each pick of a log that passes its checks is an element: there 18 is only about the universe
+
+abbrev pub PicksAreElements : Type 0
+PicksAreElements = (B : Program) (text : List ℕ) (g : Log) → check-log B text ≡ good g → (i y : ℕ) → has (move-at g i .picks) y ≡ true → y < B .E

@@ -32,6 +32,7 @@ abbrev pub value-of : List ℕ → Option ℕ
 value-of [] = none
 value-of (v ∷ vs) = some v
 
+-- move i is made with its agent and its own picks, in whatever order
 abbrev pub moves-of : Program → Log → Moves
 moves-of B g = record {
   Con = List ℕ;

@@ -9,3 +9,4 @@ pub mod Open
 pub mod Claims
 pub mod Lists
 pub mod Table
+pub mod Examples

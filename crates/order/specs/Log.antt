@@ -1,15 +1,15 @@
--- The log: its lines and their checks, 1, 9 and 10 (01, "Book and log text", "Refused, and how").
+-- The log: its lines and their checks, 1, 9 and 10 (01, "Book and log text", "Refused, and how"; 02, F-2).
 use mathlib.Core.Bool.{Bool, _&&_, _||_, not}
-use mathlib.Core.List.{List}
+use mathlib.Core.List.{List, [], _∷_}
 use Prim.Native.Nat.{ℕ, _+_, _*_}
 use lib.Dec.{eqb, ltb, leb}
 use lib.ListN.{length, getD}
 use Rattle.text.specs.declared.Line.{Line}
-use Rattle.text.specs.Words.{table, least, Checked, good, _>>=_, _>>_, none-at, must}
+use Rattle.text.specs.Words.{if_then_else_, table, least, Checked, good, _>>=_, _>>_, none-at, must}
 use Rattle.text.specs.Refusals.{ill-formed, log-text, log-line, agent-unordered}
 use Rattle.text.specs.Text.{line-length, bad-line, line}
 use Rattle.book.specs.Book.{Program}
-use Rattle.engine.specs.Move.{Input}
+use Rattle.engine.specs.Move.{Input, input}
 use Rattle.order.specs.Pairs.{Pair, rows, ordered-by, least-two, none-two}
 
 -- the moves in the order listed, and the pairs
@@ -18,7 +18,7 @@ pub record Log : Type 0 where
   pub pairs : List Pair
 
 abbrev pub no-input : Input
-no-input = record { agent = 0 }
+no-input = input 0 []
 
 abbrev pub move-at : Log → ℕ → Input
 move-at g i = getD (g .moves) i no-input
@@ -31,13 +31,16 @@ most-moves = 64
 abbrev pub most-pairs : ℕ
 most-pairs = 2016
 
--- the header `m k 0 0`
+abbrev pub most-picks : ℕ
+most-picks = 256
+
+-- the header `m k c 0`: moves, pairs and choices
 abbrev pub log-header-ok : Line → Bool
-log-header-ok h = leb (h .a) most-moves && leb (h .b) most-pairs && eqb (h .c) 0 && eqb (h .d) 0
+log-header-ok h = leb (h .a) most-moves && leb (h .b) most-pairs && leb (h .c) most-picks && eqb (h .d) 0
 
 -- how many lines the log has
 abbrev pub log-lines : Line → ℕ
-log-lines h = 1 + h .a + h .b
+log-lines h = 1 + h .a + h .b + h .c
 
 -- a move line `agent 0 0 0`, A being how many agents there are
 abbrev pub bad-move : ℕ → Line → Bool
@@ -51,16 +54,42 @@ ascends k l = ltb (k .a) (l .a) || eqb (k .a) (l .a) && ltb (k .b) (l .b)
 abbrev pub bad-pair : ℕ → Line → Line → ℕ → Bool
 bad-pair m k l i = not (ltb (l .a) (l .b) && ltb (l .b) m && (eqb i 0 || ascends k l) && eqb (l .c) 0 && eqb (l .d) 0)
 
-abbrev pub input-of : Line → Input
-input-of l = record { agent = l .a }
+-- choice line i, `move element 0 0`, of m moves and E elements, is at fault; k is the choice line before
+abbrev pub bad-choice : ℕ → ℕ → Line → Line → ℕ → Bool
+bad-choice E m k l i = not (ltb (l .a) m && ltb (l .b) E && (eqb i 0 || leb (k .a) (l .a)) && eqb (l .c) 0 && eqb (l .d) 0)
+
+-- a choice line: the move, and the element that it picks
+pub record Choice : Type 0 where
+  pub move : ℕ
+  pub element : ℕ
+
+abbrev pub choice-of : Line → Choice
+choice-of l = record { move = l .a; element = l .b }
+
+-- the picks of move i, in order
+unfoldable pub picks-of : List Choice → ℕ → List ℕ
+picks-of [] i = []
+picks-of (x ∷ xs) i = let r = picks-of xs i in if eqb (x .move) i then x .element ∷ r else r
+
+abbrev pub input-of : Line → List ℕ → Input
+input-of l picks = input (l .a) picks
 
 abbrev pub pair-of : Line → Pair
 pair-of l = record { earlier = l .a; later = l .b }
 
+-- the choice of line i of those after line k
+abbrev pub choice-at : ℕ → List ℕ → ℕ → Choice
+choice-at k text i = choice-of (line text (1 + k + i))
+
+-- the choices of a log
+unfoldable pub choices-of : Line → List ℕ → List Choice
+choices-of h text = table (choice-at (h .a + h .b) text) (h .c)
+
 unfoldable pub log-of : Line → List ℕ → Log
 log-of h text =
+    let cs = choices-of h text in
     record {
-      moves = table (λ i. input-of (line text (1 + i))) (h .a);
+      moves = table (λ i. input-of (line text (1 + i)) (picks-of cs i)) (h .a);
       pairs = table (λ i. pair-of (line text (1 + h .a + i))) (h .b);
     }
 
@@ -97,22 +126,27 @@ bad-move-at A text i = bad-move A (line text (1 + i))
 abbrev pub bad-pair-at : ℕ → List ℕ → ℕ → Bool
 bad-pair-at m text i = bad-pair m (line text (m + i)) (line text (1 + m + i)) i
 
+-- choice line i, of m moves, is at fault; the choice lines begin after line k
+abbrev pub bad-choice-at : ℕ → ℕ → ℕ → List ℕ → ℕ → Bool
+bad-choice-at E m k text i = bad-choice E m (line text (k + i)) (line text (1 + k + i)) i
+
 -- 9
-unfoldable pub check-log-lines : ℕ → Line → List ℕ → Checked (Unit {0})
-check-log-lines A h text = do
+unfoldable pub check-log-lines : ℕ → ℕ → Line → List ℕ → Checked (Unit {0})
+check-log-lines A E h text = do
   none-at log-line 1 0 (least (bad-move-at A text) (h .a))
   none-at log-line (1 + h .a) 0 (least (bad-pair-at (h .a) text) (h .b))
+  none-at log-line (1 + h .a + h .b) 0 (least (bad-choice-at E (h .a) (h .a + h .b) text) (h .c))
 
--- 1 and 9: the log that a text says. Of the book only the number of agents matters
-unfoldable pub read-log : ℕ → List ℕ → Checked Log
-read-log A text = do
+-- 1 and 9: the log that a text says. Of the book only the numbers of agents and of elements matter
+unfoldable pub read-log : ℕ → ℕ → List ℕ → Checked Log
+read-log A E text = do
   h ← check-log-header text
   check-log-text h text
-  check-log-lines A h text
+  check-log-lines A E h text
   good (log-of h text)
 
 unfoldable pub check-log : Program → List ℕ → Checked Log
 check-log B text = do
-  g ← read-log (length (B .agents)) text
+  g ← read-log (length (B .agents)) (B .E) text
   check-agents g
   good g

@@ -1,5 +1,5 @@
--- One example and more for each refusal but 16, which is never given, for moves that change nothing (02, F-1), and the limits (01, column 'Example' and the unmarked
--- cases), as a second table under the same lemma.
+-- One example and more for each refusal but 16, which is never given, for moves that change nothing and choices (02, F-1 and F-2), and the limits (01, column
+-- 'Example' and the unmarked cases), as a second table under the same lemma.
 use mathlib.Core.Path.{_≡_, refl}
 use mathlib.Core.Bool.{true}
 use mathlib.Core.List.{List, [], _∷_, _++_}
@@ -145,6 +145,92 @@ examples =
     ∷ case (counted 64) (padded "9 0 0 0")
     ∷ []
 
+-- ---- choices (F-2)
+
+-- choose v0 in U do s := v0, node 3; U is function 1, s is function 2
+abbrev pub chooses : List ℕ
+chooses =
+    padded
+    "8 6 3 4 / 1 3 0 0 / 1 3 0 0 / 1 3 0 0 / 0 2 0 0 / 4 2 0 0 / 2 0 0 0 / 21 0 1 0 / 28 0 1 2 / 3 4 0 0 / 0 7 0 2 / 1 3 0 2 / 1 6 0 2"
+
+-- U is empty
+abbrev pub chooses-of-none : List ℕ
+chooses-of-none = padded "8 6 3 4 / 1 0 0 0 / 1 3 0 0 / 1 3 0 0 / 0 2 0 0 / 4 2 0 0 / 2 0 0 0 / 21 0 1 0 / 28 0 1 2 / 3 4 0 0"
+
+-- choose v0 in U do choose v1 in U do (s := v0 beside t := v1), nodes 8 and 7
+abbrev pub chooses-twice : List ℕ
+chooses-twice =
+    padded
+    "8 6 4 9 / 1 2 0 0 / 1 3 0 0 / 1 3 0 0 / 0 2 0 0 / 0 2 0 0 / 4 2 0 0 / 2 0 0 0 / 21 0 1 0 / 4 3 0 0 / 2 1 0 0 / 21 3 4 0 / 22 2 5 0 / 28 1 1 6 / 28 0 1 7 / 8 4 0 0 / 1 3 0 2 / 1 6 0 2"
+
+-- for all v0 in U choose v1 in U: f(v0) := v1, node 4 in node 5
+abbrev pub chooses-for-all : List ℕ
+chooses-for-all =
+    padded "8 6 3 6 / 1 2 0 0 / 1 3 0 0 / 1 3 0 0 / 1 2 0 0 / 2 0 0 0 / 5 2 0 0 / 2 1 0 0 / 21 1 2 0 / 28 1 1 3 / 25 0 1 4 / 5 4 0 0 / 1 3 0 2 / 1 6 0 2"
+
+-- s := 3 beside s := 4, node 6
+abbrev pub clashing : List ℕ
+clashing = padded "8 6 2 7 / 1 0 0 0 / 1 3 0 0 / 0 2 0 0 / 4 1 0 0 / 1 3 0 0 / 21 0 1 0 / 4 1 0 0 / 1 4 0 0 / 21 3 4 0 / 22 2 5 0 / 6 4 0 0"
+
+-- agent 0 chooses from U = {3, 4, 6}, agent 1 takes 4 out of U, or 3
+abbrev pub beside-four : List ℕ
+beside-four =
+    padded
+    "8 6 3 8 / 2 3 0 0 / 1 3 0 0 / 1 3 0 0 / 0 2 0 0 / 4 2 0 0 / 2 0 0 0 / 21 0 1 0 / 28 0 1 2 / 1 4 0 0 / 5 1 4 0 / 1 1 0 0 / 21 5 6 0 / 3 3 0 0 / 7 4 0 0 / 1 3 0 2 / 1 4 0 2 / 1 6 0 2"
+
+abbrev pub beside-three : List ℕ
+beside-three =
+    padded
+    "8 6 3 8 / 2 3 0 0 / 1 3 0 0 / 1 3 0 0 / 0 2 0 0 / 4 2 0 0 / 2 0 0 0 / 21 0 1 0 / 28 0 1 2 / 1 3 0 0 / 5 1 4 0 / 1 1 0 0 / 21 5 6 0 / 3 3 0 0 / 7 4 0 0 / 1 3 0 2 / 1 4 0 2 / 1 6 0 2"
+
+unfoldable pub choices : List (Case (List ℕ))
+choices =
+    -- a pick that is taken; on the roll, 18; not in the universe, 18
+    case (chooses ++ padded "1 0 1 0 / 0 0 0 0 / 0 6 0 0") (padded "0 0 0 4 / 0 7 0 2 / 1 3 0 2 / 1 6 0 2 / 2 0 0 6")
+    ∷ case (chooses ++ padded "1 0 1 0 / 0 0 0 0 / 0 7 0 0") (padded "18 0 3 0")
+    ∷ case (chooses ++ padded "1 0 1 0 / 0 0 0 0 / 0 4 0 0") (padded "18 0 3 0")
+    -- none, 19; also where the universe is empty; with a pick there, 18
+    ∷ case (chooses ++ padded "1 0 0 0 / 0 0 0 0") (padded "19 0 3 0")
+    ∷ case (chooses-of-none ++ padded "1 0 0 0 / 0 0 0 0") (padded "19 0 3 0")
+    ∷ case (chooses-of-none ++ padded "1 0 1 0 / 0 0 0 0 / 0 6 0 0") (padded "18 0 3 0")
+    -- left over: 19 at the root, before 15, after 11
+    ∷ case (chooses ++ padded "1 0 2 0 / 0 0 0 0 / 0 6 0 0 / 0 6 0 0") (padded "19 0 3 0")
+    ∷ case (clashing ++ padded "1 0 0 0 / 0 0 0 0") (padded "15 0 8 0")
+    ∷ case (clashing ++ padded "1 0 1 0 / 0 0 0 0 / 0 0 0 0") (padded "19 0 6 0")
+    ∷ case (padded "8 6 1 1 / 1 0 0 0 / 1 3 0 0 / 20 0 0 0 / 0 3 0 0 / 1 0 1 0 / 0 0 0 0 / 0 3 0 0") (padded "19 0 0 0")
+    ∷ case (padded "8 6 2 4 / 1 0 0 0 / 1 3 0 0 / 1 3 0 0 / 1 5 0 0 / 5 1 0 0 / 1 3 0 0 / 21 1 2 0 / 3 3 0 0 / 1 0 1 0 / 0 0 0 0 / 0 3 0 0")
+    (padded "11 0 3 0")
+    -- in text order: the outer choice has the first; the inner one lacks, or has 18; for all has one for each element
+    ∷ case (chooses-twice ++ padded "1 0 2 0 / 0 0 0 0 / 0 6 0 0 / 0 3 0 0") (padded "0 0 0 4 / 1 3 0 2 / 1 6 0 2 / 2 0 0 6 / 3 0 0 3")
+    ∷ case (chooses-twice ++ padded "1 0 1 0 / 0 0 0 0 / 0 6 0 0") (padded "19 0 7 0")
+    ∷ case (chooses-twice ++ padded "1 0 2 0 / 0 0 0 0 / 0 6 0 0 / 0 4 0 0") (padded "18 0 7 0")
+    ∷ case (chooses-twice ++ padded "1 0 1 0 / 0 0 0 0 / 0 4 0 0") (padded "18 0 8 0")
+    ∷ case (chooses-for-all ++ padded "1 0 2 0 / 0 0 0 0 / 0 6 0 0 / 0 3 0 0") (padded "0 0 0 4 / 1 3 0 2 / 1 6 0 2 / 2 3 0 6 / 2 6 0 3")
+    ∷ case (chooses-for-all ++ padded "1 0 1 0 / 0 0 0 0 / 0 6 0 0") (padded "19 0 4 0")
+    -- each move has its own: the second move's pick is the second line's
+    ∷ case (chooses ++ padded "2 1 2 0 / 0 0 0 0 / 0 0 0 0 / 0 1 0 0 / 0 6 0 0 / 1 3 0 0") (padded "0 0 0 4 / 0 7 0 2 / 1 3 0 2 / 1 6 0 2 / 2 0 0 3")
+    -- bad choice lines: no element; no such move; descending; third and fourth field; over 256; missing, where 256 fit; a fourth header field
+    ∷ case (chooses ++ padded "1 0 1 0 / 0 0 0 0 / 0 8 0 0") (padded "9 2 0 0")
+    ∷ case (chooses ++ padded "1 0 1 0 / 0 0 0 0 / 1 6 0 0") (padded "9 2 0 0")
+    ∷ case (chooses ++ padded "2 1 2 0 / 0 0 0 0 / 0 0 0 0 / 0 1 0 0 / 1 6 0 0 / 0 6 0 0") (padded "9 5 0 0")
+    ∷ case (chooses ++ padded "1 0 1 0 / 0 0 0 0 / 0 6 1 0") (padded "9 2 0 0")
+    ∷ case (chooses ++ padded "1 0 1 0 / 0 0 0 0 / 0 6 0 1") (padded "9 2 0 0")
+    ∷ case (chooses ++ padded "1 0 257 0") (padded "9 0 0 0")
+    ∷ case (chooses ++ padded "1 0 256 0") (padded "1 1 1 0")
+    ∷ case (chooses ++ padded "1 0 0 1 / 0 0 0 0") (padded "9 0 0 0")
+    -- unordered: the other writes the universe at another element, accepted; at the one picked, 17; the other way round, 18
+    ∷ case (beside-four ++ padded "2 0 1 0 / 0 0 0 0 / 1 0 0 0 / 0 3 0 0") (padded "0 0 0 3 / 1 3 0 2 / 1 6 0 2 / 2 0 0 3")
+    ∷ case (beside-three ++ padded "2 0 1 0 / 0 0 0 0 / 1 0 0 0 / 0 3 0 0") (padded "17 0 1 0")
+    ∷ case (beside-three ++ padded "2 0 1 0 / 1 0 0 0 / 0 0 0 0 / 1 3 0 0") (padded "18 1 3 0")
+    -- it counts for depth: 33, where 32 fits
+    ∷ case
+    (padded "8 6 2 33 / 1 0 0 0 / 1 3 0 0 / 1 3 0 0 / 1 0 0 0" ++ (all-written (table (λ i. four 8 i 0 0) 30) ++ padded "27 30 0 0 / 28 0 1 31 / 32 3 0 0 / 0 0 0 0"))
+    (padded "6 0 0 0")
+    ∷ case
+    (padded "8 6 2 32 / 1 0 0 0 / 1 3 0 0 / 1 3 0 0 / 1 0 0 0" ++ (all-written (table (λ i. four 8 i 0 0) 29) ++ padded "27 29 0 0 / 28 0 1 30 / 31 3 0 0 / 0 0 0 0"))
+    (padded "0 0 0 0")
+    ∷ []
+
 -- the limits: 256 instructions fit, and 64 moves
 unfoldable pub limits : List (Case (List ℕ))
 limits =
@@ -157,6 +243,10 @@ examples-right : all-right rental examples ≡ true
 unfolding examples counted everything
 examples-right = refl
 
+choices-right : all-right rental choices ≡ true
+unfolding choices everything
+choices-right = refl
+
 limits-right : all-right rental limits ≡ true
 unfolding limits squares squares-and-one counted everything
 limits-right = refl
@@ -167,6 +257,9 @@ no-example = case [] []
 -- each example is printed as the tables say
 pub printed-examples : (i : ℕ) → i < length examples → rental (getD examples i no-example .question) ≡ getD examples i no-example .answer
 printed-examples i h = each-right rental examples no-example i examples-right h
+
+pub printed-choices : (i : ℕ) → i < length choices → rental (getD choices i no-example .question) ≡ getD choices i no-example .answer
+printed-choices i h = each-right rental choices no-example i choices-right h
 
 pub printed-limits : (i : ℕ) → i < length limits → rental (getD limits i no-example .question) ≡ getD limits i no-example .answer
 printed-limits i h = each-right rental limits no-example i limits-right h

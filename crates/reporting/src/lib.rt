@@ -133,7 +133,7 @@ fn report_parts(book: &[u8], log: &[u8], output: &mut [u8]) -> usize
     ensures { λ r. ⌜ Shown (print-checked (check-all (now (book .entry)) (now (log .entry)) own-tables)) (now (output .entry)) r (now (output .exit)) ⌝ }
 {
     let mut image = [0u32; 2248];
-    let mut order = [0u64; 128];
+    let mut order = [0u64; 512];
     let lent = Lengths {
         contents: RECORDS,
         readers: RECORDS,

@@ -82,7 +82,7 @@ fn note(image: &Image, readers: &mut [u64], bit: u64, f: u16, x: Value, y: Value
 }
 
 // The value of function f at x and y.
-fn read(
+pub fn read(
     image: &Image,
     contents: &[Value],
     readers: &mut [u64],

@@ -100,7 +100,7 @@ Before n p q = (1 ≤ n) × (n ≤ 10) × (p < 2 ^ 24) × (q < 2 ^ 24)
 
 -- of a call; 16 is never given
 pub record Small (a : Answer) : Type 0 where
-  pub number : a .number ≤ 17
+  pub number : a .number ≤ 19
   pub not-16 : a .number ≢ 16
   pub p : a .p < 2 ^ 24
   pub q : a .q < 2 ^ 24

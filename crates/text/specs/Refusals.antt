@@ -51,6 +51,12 @@ clash = 15
 abbrev pub unordered-touch : ℕ
 unordered-touch = 17
 
+abbrev pub not-in-universe : ℕ
+not-in-universe = 18
+
+abbrev pub pick-count : ℕ
+pick-count = 19
+
 -- ---- texts, as the q of 1
 
 abbrev pub book-text : ℕ

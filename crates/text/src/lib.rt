@@ -44,6 +44,10 @@ pub const CLASH: u32 = 15;
 
 pub const UNORDERED_TOUCH: u32 = 17;
 
+pub const NOT_IN_UNIVERSE: u32 = 18;
+
+pub const PICK_COUNT: u32 = 19;
+
 // Bytes in a line, and in a field.
 pub const LINE: usize = 25;
 

@@ -1,5 +1,5 @@
 -- Laws of what a move's walk leaves: a refused one, none of its marks.
-use mathlib.Core.Path.{_≡_, refl, sym, _∙_}
+use mathlib.Core.Path.{_≡_, refl, sym, ap, _∙_}
 use mathlib.Core.Bool.{Bool, true, false}
 use mathlib.Core.List.{List, [], _∷_}
 use Prim.Native.Nat.{ℕ, suc, _-_, _^_}
@@ -13,9 +13,11 @@ use borrow.Author.Tests.{eqb-true}
 use Rattle.text.specs.Words.{if_then_else_}
 use Rattle.book.specs.declared.Agent.{Agent}
 use Rattle.book.specs.Book.{Program, node-at, agent-at}
-use Rattle.engine.specs.Move.{looked}
-use Rattle.engine.specs.Rule.{Walk, Walked, going, met, walk, no-variables, agent-walk}
+use Rattle.engine.specs.Look.{done}
+use Rattle.engine.specs.Move.{Input, looked}
+use Rattle.engine.specs.Rule.{Walk, Walked, going, met, _then_, all-taken, walk, no-variables, agent-walk}
 use Rattle.term.specs.Marks.{mark-one, marked, Runs}
+use Rattle.term.proofs.Marking.{runs-bind, runs-gives}
 use Rattle.walk.specs.Walk.{rule-from}
 use Rattle.walk.specs.Gather.{masked, cleared, Below, Gathered}
 
@@ -53,22 +55,28 @@ taken-back bit k ls m e h = go (eqb bit 0) refl
         let g : Below (2 ^ k) m = rw e at h in
         rw e (masked-marked k ls m ∙ masked-below k m g)
 
--- ---- the walk of an agent's rule
+-- ---- the walk of a move's rule
 
 module _ (B : Program) (c : List ℕ) (bit : ℕ) (z : Walked) (m n : List ℕ) where
-  started : (p q : ℕ) (g h : Agent) → g ≡ h → p ≡ q
-      → Runs B c bit (walk B (g .element) (rule-from (node-at B) 32 (g .root)) no-variables (record { made = []; next = p })) z m n
-      → Runs B c bit (walk B (h .element) (rule-from (node-at B) 32 (h .root)) no-variables (record { made = []; next = q })) z m n
-  started p q g h e f r = rw (← e, ← f) r
+  started : (p q : ℕ) (g h : Agent) (ys : List ℕ) → g ≡ h → p ≡ q
+      → Runs B c bit (walk B (g .element) (rule-from (node-at B) 32 (g .root)) no-variables (record { made = []; next = p; left = ys })) z m n
+      → Runs B c bit (walk B (h .element) (rule-from (node-at B) 32 (h .root)) no-variables (record { made = []; next = q; left = ys })) z m n
+  started p q g h ys e f r = rw (← e, ← f) r
 
-  pub runs-agent : (agent p : ℕ) (g : Agent) → g ≡ agent-at B agent → p ≡ B .P
-      → Runs B c bit (walk B (g .element) (rule-from (node-at B) 32 (g .root)) no-variables (record { made = []; next = p })) z m n
-      → Runs B c bit (agent-walk B agent) z m n
+  -- z is what the walk came to, y that with the picks left over judged
+  pub runs-agent : (agent p : ℕ) (ys : List ℕ) (g : Agent) (y : Walked) → g ≡ agent-at B agent → p ≡ B .P
+      → Runs B c bit (walk B (g .element) (rule-from (node-at B) 32 (g .root)) no-variables (record { made = []; next = p; left = ys })) z m n
+      → y ≡ (z then λ w. all-taken (g .root) (w .left) w) → Runs B c bit (agent-walk B agent ys) y m n
   unfolding agent-walk
-  runs-agent agent p g e f r = started p (B .P) g (agent-at B agent) e f r
+  runs-agent agent p ys g y e f r t =
+      let h = agent-at B agent in
+      let w = walk B (h .element) (rule-from (node-at B) 32 (h .root)) no-variables (record { made = []; next = B .P; left = ys }) in
+      let same : (z then λ w. all-taken (g .root) (w .left) w) ≡ (z then λ w. all-taken (h .root) (w .left) w) = ap (λ (a : Agent). z then λ w. all-taken (a .root) (w .left) w) e in
+      runs-bind B c bit w (λ o. done (o then λ w. all-taken (h .root) (w .left) w)) z y m n n (started p (B .P) g h ys e f r)
+      (runs-gives B c bit y (z then λ w. all-taken (h .root) (w .left) w) n (t ∙ same))
 
-module _ (B : Program) (c : List ℕ) (bit agent : ℕ) (o : Walked) (m n : List ℕ) (h : Runs B c bit (agent-walk B agent) o m n) where
-  pub gathered : (w : Walk) → o ≡ going w → Gathered B c bit agent o m n
+module _ (B : Program) (c : List ℕ) (bit : ℕ) (i : Input) (o : Walked) (m n : List ℕ) (h : Runs B c bit (agent-walk B (i .agent) (i .picks)) o m n) where
+  pub gathered : (w : Walk) → o ≡ going w → Gathered B c bit i o m n
   gathered w e =
       record {
         outcome = h .value;
@@ -77,10 +85,10 @@ module _ (B : Program) (c : List ℕ) (bit agent : ℕ) (o : Walked) (m n : List
             let g : going w ≡ met r q = sym e ∙ u in
             let z : _≡_ {A = ℕ} 0 1 = cc g in
             absurd (omega arith);
-        silent = λ p q. h .marks p ∙ rw q (marked-zero (looked B c (record { agent = agent })) m);
+        silent = λ p q. h .marks p ∙ rw q (marked-zero (looked B c i) m);
       }
 
-  pub gathered-back : (r q : ℕ) (k : List ℕ) → o ≡ met r q → k ≡ cleared bit n → Gathered B c bit agent o m k
+  pub gathered-back : (r q : ℕ) (k : List ℕ) → o ≡ met r q → k ≡ cleared bit n → Gathered B c bit i o m k
   gathered-back r q k e t =
       record {
         outcome = h .value;
@@ -88,6 +96,6 @@ module _ (B : Program) (c : List ℕ) (bit agent : ℕ) (o : Walked) (m n : List
             let g : met r q ≡ going w = sym e ∙ u in
             let z : _≡_ {A = ℕ} 0 1 = cc g in
             absurd (omega arith);
-        refused = λ p a b u j v low. t ∙ rw (h .marks p) (taken-back bit j (looked B c (record { agent = agent })) m v low);
-        silent = λ p u. t ∙ rw (h .marks p, u) (marked-zero (looked B c (record { agent = agent })) m);
+        refused = λ p a b u j v low. t ∙ rw (h .marks p) (taken-back bit j (looked B c i) m v low);
+        silent = λ p u. t ∙ rw (h .marks p, u) (marked-zero (looked B c i) m);
       }

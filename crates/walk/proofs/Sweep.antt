@@ -47,12 +47,12 @@ module _ (B : Program) (c : List ℕ) (bit me : ℕ) (vs : List ℕ) (a u : ℕ)
   abbrev body : ℕ → Walk → Look Walked
   body y = walk B me r (set vs a y)
 
-  pub runs-for-all : (s : Pace) (l : List ℕ) (z : Walked) (j m n : List ℕ) → s .refused ≡ 0
+  pub runs-for-all : (ys : List ℕ) (s : Pace) (l : List ℕ) (z : Walked) (j m n : List ℕ) → s .refused ≡ 0
       → (Placed B → m ≡ marked bit (dynamic-among B (seen c (members B u 0 (B .E)))) j)
-      → Runs B c bit (after (reached s l) (each body (members-from B c u 0))) z m n
-      → Runs B c bit (walk B me (for-all a u r) vs (walk-from s l)) z j n
+      → Runs B c bit (after (reached ys s l) (each body (members-from B c u 0))) z m n
+      → Runs B c bit (walk B me (for-all a u r) vs (walk-from ys s l)) z j n
   unfolding walk
-  runs-for-all s l z j m n h e k =
-      let ys = gives c (members B u 0 (B .E)) in
-      runs-bind B c bit (members B u 0 (B .E)) (λ xs. each body xs (walk-from s l)) ys z j m n (record { value = refl; marks = e })
-      (runs-from B c bit (each body ys) s l h z m n (sweep-all B c bit u body (reached s l) z m n k))
+  runs-for-all ys s l z j m n h e k =
+      let xs = gives c (members B u 0 (B .E)) in
+      runs-bind B c bit (members B u 0 (B .E)) (λ es. each body es (walk-from ys s l)) xs z j m n (record { value = refl; marks = e })
+      (runs-from B c bit (each body xs) ys s l h z m n (sweep-all B c bit u body (reached ys s l) z m n k))

@@ -6,11 +6,9 @@ use lib.Bits.{bitAnd}
 use lib.Dec.{eqb}
 use lib.ListN.{getD}
 use Rattle.text.specs.Words.{if_then_else_}
-use Rattle.book.specs.declared.Agent.{Agent}
 use Rattle.book.specs.Book.{Program}
-use Rattle.engine.specs.Look.{gives}
-use Rattle.engine.specs.Rule.{Walk, Walked, going, met, agent-walk}
-use Rattle.engine.specs.Move.{looked}
+use Rattle.engine.specs.Rule.{Walk, Walked, going, met}
+use Rattle.engine.specs.Move.{Input, walked, looked}
 use Rattle.term.specs.Marks.{marked, Placed}
 
 -- the marks without the bits that this mask lacks
@@ -25,9 +23,9 @@ cleared bit m = if eqb bit 0 then m else masked (bit - 1) m
 abbrev pub Below : ℕ → List ℕ → Type 0
 Below bit m = (i : ℕ) → getD m i 0 < bit
 
--- The walk of an agent's rule came to the outcome o, and the marks m became n.
-pub record Gathered (B : Program) (c : List ℕ) (bit agent : ℕ) (o : Walked) (m n : List ℕ) : Type 0 where
-  pub outcome : o ≡ gives c (agent-walk B agent)
-  pub fired : Placed B → (w : Walk) → o ≡ going w → n ≡ marked bit (looked B c (record { agent = agent })) m
+-- The walk of a move with this input came to the outcome o, and the marks m became n.
+pub record Gathered (B : Program) (c : List ℕ) (bit : ℕ) (i : Input) (o : Walked) (m n : List ℕ) : Type 0 where
+  pub outcome : o ≡ walked B c i
+  pub fired : Placed B → (w : Walk) → o ≡ going w → n ≡ marked bit (looked B c i) m
   pub refused : Placed B → (r q : ℕ) → o ≡ met r q → (k : ℕ) → bit ≡ 2 ^ k → Below bit m → n ≡ m
   pub silent : Placed B → bit ≡ 0 → n ≡ m

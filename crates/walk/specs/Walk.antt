@@ -1,5 +1,5 @@
 -- What a walk came to, and the walk of the rule at a node.
-use mathlib.Core.List.{List}
+use mathlib.Core.List.{List, []}
 use Prim.Native.Nat.{ℕ}
 use lib.Dec.{eqb}
 use lib.ListN.{set}
@@ -13,10 +13,10 @@ use Rattle.term.specs.Held.{variables-of, agent-of}
 use Rattle.book.specs.Image.{held}
 use Rattle.walk.specs.declared.State.{State}
 
--- ---- a state and the list that goes with it
+-- ---- a state and the list that goes with it: at a walk's end no pick is left
 
 abbrev pub walk-of : State → List ℕ → Walk
-walk-of s l = record { made = items l (s .len); next = s .label }
+walk-of s l = record { made = items l (s .len); next = s .label; left = [] }
 
 -- a refusal's number is not 0
 unfoldable pub outcome : State → List ℕ → Walked

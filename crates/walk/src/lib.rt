@@ -1,20 +1,23 @@
 // The walk of a rule: its instructions or its refusal, and the marks of what it reads.
 use book::Image;
+use engine::Pick;
 use giving::Pace;
 use numbers::Value;
 use pages::Row;
 ghost use mathlib.Core.Path.{_≡_};
+ghost use mathlib.Core.List.{List, []};
+ghost use Prim.Native.Nat.{ℕ};
 ghost use lib.Dec.{eqb};
 ghost use lib.ListN.{length, set};
 ghost use Rattle.text.specs.Words.{if_then_else_};
 ghost use Rattle.book.specs.Book.{node-at};
-ghost use Rattle.engine.specs.Move.{all-dynamic};
+ghost use Rattle.engine.specs.Move.{all-dynamic, input};
 ghost use Rattle.engine.specs.Term.{term-at};
-ghost use Rattle.engine.specs.Rule.{assign, bind, for-all, import, free, after, most-instructions, walk};
+ghost use Rattle.engine.specs.Rule.{assign, bind, for-all, import, free, choose, after, most-instructions, walk};
 ghost use Rattle.term.specs.Held.{variables-of, agent-of};
 ghost use Rattle.book.specs.Image.{held};
 ghost use Rattle.term.specs.Marks.{marked, Runs};
-ghost use Rattle.giving.specs.Giving.{walk-from, reached};
+ghost use Rattle.giving.specs.Giving.{left-of, walk-from, reached};
 ghost use Rattle.walk.specs.Gather.{cleared, Gathered};
 ghost use Rattle.walk.specs.Walk.{outcome, rule-from, walk-at, body-at};
 
@@ -57,7 +60,7 @@ fn assign(
     row: Row,
 ) -> Pace
     requires { ⌜ s .refused ≡ 0 ⌝ }
-    ensures { λ r. ⌜ Runs (held (now (image .entry))) (now (contents .entry)) bit (walk (held (now (image .entry))) (agent-of (now (scope .entry))) (assign n (term-at (node-at (held (now (image .entry)))) depth (row .a)) (term-at (node-at (held (now (image .entry)))) depth (row .b))) (variables-of (now (scope .entry))) (walk-from s (now (list .entry)))) (reached r (now (list .exit))) (now (readers .entry)) (now (readers .exit)) ⌝ }
+    ensures { λ r. ⌜ ((ys : List ℕ) → Runs (held (now (image .entry))) (now (contents .entry)) bit (walk (held (now (image .entry))) (agent-of (now (scope .entry))) (assign n (term-at (node-at (held (now (image .entry)))) depth (row .a)) (term-at (node-at (held (now (image .entry)))) depth (row .b))) (variables-of (now (scope .entry))) (walk-from ys s (now (list .entry)))) (reached ys r (now (list .exit))) (now (readers .entry)) (now (readers .exit))) ⌝ }
 {
     let at = term::aim(image, contents, readers, bit, scope, depth, row.a);
     let x = term::eval(image, contents, readers, bit, scope, depth, row.b);
@@ -79,7 +82,7 @@ fn release(
     row: Row,
 ) -> Pace
     requires { ⌜ s .refused ≡ 0 ⌝ }
-    ensures { λ r. ⌜ Runs (held (now (image .entry))) (now (contents .entry)) bit (walk (held (now (image .entry))) (agent-of (now (scope .entry))) (free n (term-at (node-at (held (now (image .entry)))) depth (row .a))) (variables-of (now (scope .entry))) (walk-from s (now (list .entry)))) (reached r (now (list .exit))) (now (readers .entry)) (now (readers .exit)) ⌝ }
+    ensures { λ r. ⌜ ((ys : List ℕ) → Runs (held (now (image .entry))) (now (contents .entry)) bit (walk (held (now (image .entry))) (agent-of (now (scope .entry))) (free n (term-at (node-at (held (now (image .entry)))) depth (row .a))) (variables-of (now (scope .entry))) (walk-from ys s (now (list .entry)))) (reached ys r (now (list .exit))) (now (readers .entry)) (now (readers .exit))) ⌝ }
 {
     let x = term::eval(image, contents, readers, bit, scope, depth, row.a);
     let v = marking::read_roll(image, contents, readers, bit, x);
@@ -94,12 +97,14 @@ fn walk(
     readers: &mut [u64],
     bit: u64,
     list: &mut [u64; 256],
+    picks: &[Pick],
+    used: &mut [usize; 1],
     scope: &[Value; 9],
     depth: usize,
     s: Pace,
     n: u16,
 ) -> Pace
-    ensures { λ r. ⌜ Runs (held (now (image .entry))) (now (contents .entry)) bit (after (reached s (now (list .entry))) (walk-at (now (image .entry)) (now (scope .entry)) depth n)) (reached r (now (list .exit))) (now (readers .entry)) (now (readers .exit)) ⌝ }
+    ensures { λ r. ⌜ Runs (held (now (image .entry))) (now (contents .entry)) bit (after (reached (left-of (now (picks .entry)) (now (used .entry))) s (now (list .entry))) (walk-at (now (image .entry)) (now (scope .entry)) depth n)) (reached (left-of (now (picks .entry)) (now (used .exit))) r (now (list .exit))) (now (readers .entry)) (now (readers .exit)) ⌝ }
 {
     let mut left = depth;
     let mut at = n;
@@ -112,20 +117,83 @@ fn walk(
         let less = left - 1;
         let k = row.kind;
         match k {
-            20..=27 => match k {
+            20..=28 => match k {
                 21 => return assign(image, contents, readers, bit, list, scope, less, r, at, row),
                 22 => {
-                    r = walk(image, contents, readers, bit, list, scope, less, r, row.a);
+                    r = walk(
+                        image,
+                        contents,
+                        readers,
+                        bit,
+                        list,
+                        picks,
+                        used,
+                        scope,
+                        less,
+                        r,
+                        row.a,
+                    );
                     at = row.b;
                 }
                 23 => {
                     let x = term::eval(image, contents, readers, bit, scope, less, row.a);
                     at = branch(x, row.b, row.c);
                 }
-                24 => return let_in(image, contents, readers, bit, list, scope, less, r, row),
-                25 => return each(image, contents, readers, bit, list, scope, less, r, row),
-                26 => return import(image, contents, readers, bit, list, scope, less, r, at, row),
+                24 => return let_in(
+                    image,
+                    contents,
+                    readers,
+                    bit,
+                    list,
+                    picks,
+                    used,
+                    scope,
+                    less,
+                    r,
+                    row,
+                ),
+                25 => return each(
+                    image,
+                    contents,
+                    readers,
+                    bit,
+                    list,
+                    picks,
+                    used,
+                    scope,
+                    less,
+                    r,
+                    row,
+                ),
+                26 => return import(
+                    image,
+                    contents,
+                    readers,
+                    bit,
+                    list,
+                    picks,
+                    used,
+                    scope,
+                    less,
+                    r,
+                    at,
+                    row,
+                ),
                 27 => return release(image, contents, readers, bit, list, scope, less, r, at, row),
+                28 => return choose(
+                    image,
+                    contents,
+                    readers,
+                    bit,
+                    list,
+                    picks,
+                    used,
+                    scope,
+                    less,
+                    r,
+                    at,
+                    row,
+                ),
                 _ => return r,
             },
             _ => return r,
@@ -142,17 +210,31 @@ fn within(
     readers: &mut [u64],
     bit: u64,
     list: &mut [u64; 256],
+    picks: &[Pick],
+    used: &mut [usize; 1],
     scope: &[Value; 9],
     depth: usize,
     s: Pace,
     row: Row,
     x: Value,
 ) -> Pace
-    ensures { λ r. ⌜ Runs (held (now (image .entry))) (now (contents .entry)) bit (after (reached s (now (list .entry))) (body-at (now (image .entry)) (now (scope .entry)) depth (row .c) (row .a) x)) (reached r (now (list .exit))) (now (readers .entry)) (now (readers .exit)) ⌝ }
+    ensures { λ r. ⌜ Runs (held (now (image .entry))) (now (contents .entry)) bit (after (reached (left-of (now (picks .entry)) (now (used .entry))) s (now (list .entry))) (body-at (now (image .entry)) (now (scope .entry)) depth (row .c) (row .a) x)) (reached (left-of (now (picks .entry)) (now (used .exit))) r (now (list .exit))) (now (readers .entry)) (now (readers .exit)) ⌝ }
 {
     let mut inner = *scope;
     bind(&mut inner, row.a, x);
-    walk(image, contents, readers, bit, list, &inner, depth, s, row.c)
+    walk(
+        image,
+        contents,
+        readers,
+        bit,
+        list,
+        picks,
+        used,
+        &inner,
+        depth,
+        s,
+        row.c,
+    )
 }
 
 // Rule 24: the body c with variable a at the value of term b.
@@ -162,16 +244,31 @@ fn let_in(
     readers: &mut [u64],
     bit: u64,
     list: &mut [u64; 256],
+    picks: &[Pick],
+    used: &mut [usize; 1],
     scope: &[Value; 9],
     depth: usize,
     s: Pace,
     row: Row,
 ) -> Pace
     requires { ⌜ s .refused ≡ 0 ⌝ }
-    ensures { λ r. ⌜ Runs (held (now (image .entry))) (now (contents .entry)) bit (walk (held (now (image .entry))) (agent-of (now (scope .entry))) (bind (row .a) (term-at (node-at (held (now (image .entry)))) depth (row .b)) (rule-from (node-at (held (now (image .entry)))) depth (row .c))) (variables-of (now (scope .entry))) (walk-from s (now (list .entry)))) (reached r (now (list .exit))) (now (readers .entry)) (now (readers .exit)) ⌝ }
+    ensures { λ r. ⌜ Runs (held (now (image .entry))) (now (contents .entry)) bit (walk (held (now (image .entry))) (agent-of (now (scope .entry))) (bind (row .a) (term-at (node-at (held (now (image .entry)))) depth (row .b)) (rule-from (node-at (held (now (image .entry)))) depth (row .c))) (variables-of (now (scope .entry))) (walk-from (left-of (now (picks .entry)) (now (used .entry))) s (now (list .entry)))) (reached (left-of (now (picks .entry)) (now (used .exit))) r (now (list .exit))) (now (readers .entry)) (now (readers .exit)) ⌝ }
 {
     let x = term::eval(image, contents, readers, bit, scope, depth, row.b);
-    within(image, contents, readers, bit, list, scope, depth, s, row, x)
+    within(
+        image,
+        contents,
+        readers,
+        bit,
+        list,
+        picks,
+        used,
+        scope,
+        depth,
+        s,
+        row,
+        x,
+    )
 }
 
 // Rule 25: the body c with variable a at each member of the universe b, ascending.
@@ -181,13 +278,15 @@ fn each(
     readers: &mut [u64],
     bit: u64,
     list: &mut [u64; 256],
+    picks: &[Pick],
+    used: &mut [usize; 1],
     scope: &[Value; 9],
     depth: usize,
     s: Pace,
     row: Row,
 ) -> Pace
     requires { ⌜ s .refused ≡ 0 ⌝ }
-    ensures { λ r. ⌜ Runs (held (now (image .entry))) (now (contents .entry)) bit (walk (held (now (image .entry))) (agent-of (now (scope .entry))) (for-all (row .a) (row .b) (rule-from (node-at (held (now (image .entry)))) depth (row .c))) (variables-of (now (scope .entry))) (walk-from s (now (list .entry)))) (reached r (now (list .exit))) (now (readers .entry)) (now (readers .exit)) ⌝ }
+    ensures { λ r. ⌜ Runs (held (now (image .entry))) (now (contents .entry)) bit (walk (held (now (image .entry))) (agent-of (now (scope .entry))) (for-all (row .a) (row .b) (rule-from (node-at (held (now (image .entry)))) depth (row .c))) (variables-of (now (scope .entry))) (walk-from (left-of (now (picks .entry)) (now (used .entry))) s (now (list .entry)))) (reached (left-of (now (picks .entry)) (now (used .exit))) r (now (list .exit))) (now (readers .entry)) (now (readers .exit)) ⌝ }
 {
     marking::universe(image, readers, bit, row.b);
     let e = image::elements(image);
@@ -195,7 +294,20 @@ fn each(
     let mut r = s;
     let mut y = marking::next_member(contents, f, e, 0);
     while y < e {
-        r = within(image, contents, readers, bit, list, scope, depth, r, row, y);
+        r = within(
+            image,
+            contents,
+            readers,
+            bit,
+            list,
+            picks,
+            used,
+            scope,
+            depth,
+            r,
+            row,
+            y,
+        );
         if r.refused != 0 {
             return r;
         }
@@ -211,6 +323,8 @@ fn import(
     readers: &mut [u64],
     bit: u64,
     list: &mut [u64; 256],
+    picks: &[Pick],
+    used: &mut [usize; 1],
     scope: &[Value; 9],
     depth: usize,
     s: Pace,
@@ -218,11 +332,61 @@ fn import(
     row: Row,
 ) -> Pace
     requires { ⌜ s .refused ≡ 0 ⌝ }
-    ensures { λ r. ⌜ Runs (held (now (image .entry))) (now (contents .entry)) bit (walk (held (now (image .entry))) (agent-of (now (scope .entry))) (import n (row .a) (row .b) (rule-from (node-at (held (now (image .entry)))) depth (row .c))) (variables-of (now (scope .entry))) (walk-from s (now (list .entry)))) (reached r (now (list .exit))) (now (readers .entry)) (now (readers .exit)) ⌝ }
+    ensures { λ r. ⌜ Runs (held (now (image .entry))) (now (contents .entry)) bit (walk (held (now (image .entry))) (agent-of (now (scope .entry))) (import n (row .a) (row .b) (rule-from (node-at (held (now (image .entry)))) depth (row .c))) (variables-of (now (scope .entry))) (walk-from (left-of (now (picks .entry)) (now (used .entry))) s (now (list .entry)))) (reached (left-of (now (picks .entry)) (now (used .exit))) r (now (list .exit))) (now (readers .entry)) (now (readers .exit)) ⌝ }
 {
     let x = marking::lowest(image, contents, readers, bit, s.label);
     let t = giving::enroll(image, list, s, n, row.b, x);
-    within(image, contents, readers, bit, list, scope, depth, t, row, x)
+    within(
+        image,
+        contents,
+        readers,
+        bit,
+        list,
+        picks,
+        used,
+        scope,
+        depth,
+        t,
+        row,
+        x,
+    )
+}
+
+// Rule 28: the move's next pick, a member of the universe b; the body c with variable a at it.
+fn choose(
+    image: &Image,
+    contents: &[Value],
+    readers: &mut [u64],
+    bit: u64,
+    list: &mut [u64; 256],
+    picks: &[Pick],
+    used: &mut [usize; 1],
+    scope: &[Value; 9],
+    depth: usize,
+    s: Pace,
+    n: u16,
+    row: Row,
+) -> Pace
+    requires { ⌜ s .refused ≡ 0 ⌝ }
+    ensures { λ r. ⌜ Runs (held (now (image .entry))) (now (contents .entry)) bit (walk (held (now (image .entry))) (agent-of (now (scope .entry))) (choose n (row .a) (row .b) (rule-from (node-at (held (now (image .entry)))) depth (row .c))) (variables-of (now (scope .entry))) (walk-from (left-of (now (picks .entry)) (now (used .entry))) s (now (list .entry)))) (reached (left-of (now (picks .entry)) (now (used .exit))) r (now (list .exit))) (now (readers .entry)) (now (readers .exit)) ⌝ }
+{
+    let x = giving::next_pick(image, picks, used);
+    let v = marking::read_universe(image, contents, readers, bit, row.b, x);
+    let t = giving::pick(picks, used, s, n, v);
+    within(
+        image,
+        contents,
+        readers,
+        bit,
+        list,
+        picks,
+        used,
+        scope,
+        depth,
+        t,
+        row,
+        x,
+    )
 }
 
 // Takes a refused move's bit, and the higher ones, out of all marks; the moves before it have lower bits.
@@ -236,7 +400,7 @@ pub fn clear(readers: &mut [u64], bit: u64)
 
 // Where a walk with that list ended, as others see it.
 fn ended(s: Pace, list: &[u64]) -> State
-    ensures { λ r. ⌜ outcome r (now (list .entry)) ≡ reached s (now (list .entry)) ⌝ }
+    ensures { λ r. ⌜ outcome r (now (list .entry)) ≡ reached [] s (now (list .entry)) ⌝ }
 {
     State {
         len: s.len as usize,
@@ -246,7 +410,7 @@ fn ended(s: Pace, list: &[u64]) -> State
     }
 }
 
-// The walk of an agent's rule, with its marks; a refused one leaves none. The list keeps its length.
+// The walk of an agent's rule with the move's picks, and its marks; a refused one leaves none. The list keeps its length.
 pub fn gather(
     image: &Image,
     contents: &[Value],
@@ -254,8 +418,9 @@ pub fn gather(
     bit: u64,
     list: &mut [u64; 256],
     agent: u32,
+    picks: &[Pick],
 ) -> State
-    ensures { λ r. ⌜ Gathered (held (now (image .entry))) (now (contents .entry)) bit agent (outcome r (now (list .exit))) (now (readers .entry)) (now (readers .exit)) ⌝ }
+    ensures { λ r. ⌜ Gathered (held (now (image .entry))) (now (contents .entry)) bit (input agent (now (picks .entry))) (outcome r (now (list .exit))) (now (readers .entry)) (now (readers .exit)) ⌝ }
     ensures { λ _. ⌜ length (now (list .exit)) ≡ most-instructions ⌝ }
 {
     let who = image::agent_at(image, agent);
@@ -267,7 +432,21 @@ pub fn gather(
         node: 0,
     };
     let scope = [0, 0, 0, 0, 0, 0, 0, 0, numbers::low(who.element)];
-    let r = walk(image, contents, readers, bit, list, &scope, 32, s, root);
+    let mut used = [0usize; 1];
+    let w = walk(
+        image,
+        contents,
+        readers,
+        bit,
+        list,
+        picks,
+        &mut used,
+        &scope,
+        32,
+        s,
+        root,
+    );
+    let r = giving::all_used(picks, &used, w, root);
     if r.refused == 0 {
         return ended(r, list);
     }

@@ -49,8 +49,17 @@ impl Both {
 
 // One turn of one build at one row.
 fn turn(bench: &Path, what: &str) -> io::Result<Row> {
-    let output = Command::new(bench).args(["--turn", what]).stderr(Stdio::inherit()).output()?;
+    turn_telling(bench, what, Stdio::inherit())
+}
+
+fn turn_telling(bench: &Path, what: &str, errors: Stdio) -> io::Result<Row> {
+    let output = Command::new(bench).args(["--turn", what]).stderr(errors).output()?;
     Row::from_line(&String::from_utf8_lossy(&output.stdout))
+}
+
+// Whether a build can do a row at all; an older library may refuse what the row's book has.
+fn can_do(bench: &Path, what: &str) -> bool {
+    turn_telling(bench, what, Stdio::null()).is_ok()
 }
 
 // The best times of both at one row.
@@ -90,15 +99,24 @@ fn counts([before, after]: [&Path; 2], what: &str) -> io::Result<Both> {
     Ok(Both { before: counted(before, what)?, after: counted(after, what)? })
 }
 
-// The table of the rows with this word, before and after, in times or in instructions.
+// The table of the rows with this word, before and after, in times or in instructions. Rows that the build before cannot do are named below it.
 pub fn compare_builds(benches: [&Path; 2], word: &str, instructions: bool) -> io::Result<()> {
     println!("{}", TABLE.heading());
     let mut rows = Vec::new();
-    for Benchmark { what, .. } in wanted(word) {
+    let (done, new): (Vec<_>, Vec<_>) =
+        wanted(word).into_iter().partition(|benchmark| can_do(benches[0], benchmark.what));
+    if done.is_empty() {
+        return Err(io::Error::other("the library before does none of these rows"));
+    }
+    for Benchmark { what, .. } in done {
         let both = if instructions { counts(benches, what)? } else { times(benches, what)? };
         println!("{}", both.line(if instructions { count } else { time }));
         rows.push(both);
     }
     print_summary(&rows, instructions);
+    if !new.is_empty() {
+        let names: Vec<&str> = new.iter().map(|benchmark| benchmark.what).collect();
+        println!("Not done by the library before: {}.", names.join("; "));
+    }
     Ok(())
 }

@@ -1,7 +1,7 @@
 // A question to both implementations, and what each tells.
 use crate::{check_book, paper_check_book, report, run, step};
 use inputs::{RunInput, StepInput};
-use paper::Answer;
+use paper::{Answer, Pick};
 
 pub enum Asked {
     Book(Vec<u8>),
@@ -51,12 +51,12 @@ fn table<T: std::fmt::Display>(name: &str, records: &[T]) -> Vec<u8> {
     if records.is_empty() { lines } else { format!("{name}\n{lines}") }.into_bytes()
 }
 
-type Step = fn(&[u8], &mut [u16], usize, usize) -> Answer;
+type Step = fn(&[u8], &mut [u16], usize, &[Pick], usize) -> Answer;
 type Run = fn(&[u8], &[u8], &mut [u16], &mut [u64], &mut [u64], usize) -> Answer;
 
 fn told_of_step(input: &StepInput, step: Step) -> Told {
     let mut contents = input.contents.clone();
-    let answer = step(&input.book, &mut contents, input.agent, input.lent);
+    let answer = step(&input.book, &mut contents, input.agent, &input.picks, input.lent);
     Told { contents, ..Told::answer(answer) }
 }
 
@@ -109,6 +109,7 @@ impl Asked {
                 ("book", input.book.clone()),
                 ("contents", table("contents", &input.contents)),
                 ("agent", format!("{}\n", input.agent).into_bytes()),
+                ("picks", table("picks", &input.picks)),
                 ("lent", format!("{}\n", input.lent).into_bytes()),
             ],
             Asked::Run(input) => vec![

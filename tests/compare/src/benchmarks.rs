@@ -79,6 +79,9 @@ const SINGLE_MOVES: &[Benchmark] = &[
     Benchmark::new("single move: two foralls over 1,000 elements, 16 members, 256 sets", |what, meter| {
         step_row(what, meter, &loads::nested_few())
     }),
+    Benchmark::new("single move: forall of 200 members, a choice and a set each", |what, meter| {
+        step_row(what, meter, &loads::two_hundred_picks())
+    }),
     Benchmark::new("single move: a release, L 65,536", |what, meter| {
         step_row(what, meter, &loads::release())
     }),
@@ -95,6 +98,9 @@ const LOGS: &[Benchmark] = &[
     }),
     Benchmark::new("log: 64 foralls of 200 members, a set each", |what, meter| {
         run_row(what, meter, &loads::two_hundred_logged())
+    }),
+    Benchmark::new("log: 64 moves of 4 choices, a set each", |what, meter| {
+        run_row(what, meter, &loads::picks_logged())
     }),
     Benchmark::new("log: 64 small moves with marks, L 65,536", |what, meter| {
         run_row(what, meter, &loads::counts_logged())

@@ -1,8 +1,10 @@
 // Comparisons one after another: counts the answers, and keeps each question that the two sides answer differently.
 use crate::asked::{Asked, Side, KINDS};
 use crate::Tally;
-use inputs::{book_input, report_input, run_input, small_input, step_input, Rng, RunInput, Small, StepInput};
-use paper::INSTRUCTIONS;
+use inputs::{
+    book_input, report_input, run_input, small_input, small_move, step_input, Rng, RunInput, Small, StepInput,
+};
+use paper::{Pick, INSTRUCTIONS};
 use std::fs;
 use std::io;
 use std::path::PathBuf;
@@ -69,16 +71,18 @@ impl Comparison {
         asked.iter().try_for_each(|asked| self.ask(&name, asked))
     }
 
-    // One small input, given to each entry.
+    // One small input, given to each entry; the single move is the log's first, or agent 0's where there is none.
     pub fn ask_small(&mut self, number: u64) -> io::Result<()> {
         let Small { book, log } = small_input(number);
         let name = format!("small-{number}");
-        let locations = paper::check_book(&book).map_or(30, |book| book.locations);
-        let start = paper::check_book(&book).map_or(vec![1; 30], |book| paper::start_table(&book));
+        let checked = paper::check_book(&book).ok();
+        let contents = checked.as_ref().map_or(vec![1; 30], paper::start_table);
+        let (agent, picks) = checked.and_then(|book| first_move(&book, &log)).unwrap_or_default();
+        let locations = contents.len();
         let asked = [
             Asked::Report([&book[..], &log].concat()),
             Asked::Book(book.clone()),
-            Asked::Step(StepInput { book: book.clone(), contents: start, agent: 0, lent: INSTRUCTIONS }),
+            Asked::Step(StepInput { book: book.clone(), contents, agent, picks, lent: INSTRUCTIONS }),
             Asked::Run(RunInput {
                 book,
                 log,
@@ -91,9 +95,20 @@ impl Comparison {
         asked.iter().try_for_each(|asked| self.ask(&name, asked))
     }
 
+    // One small single move, with picks that may be no elements.
+    pub fn ask_small_move(&mut self, number: u64) -> io::Result<()> {
+        self.ask(&format!("picks-{number}"), &Asked::Step(small_move(number)))
+    }
+
     // The counts of each kind of question.
     pub fn counts(&self) -> String {
         let line = |(kind, tally): (&&str, &Tally)| format!("{kind:<6} {tally}\n");
         KINDS.iter().zip(&self.tallies).map(line).collect()
     }
+}
+
+// The agent and the picks of a log's first move.
+fn first_move(book: &paper::Book, log: &[u8]) -> Option<(usize, Vec<Pick>)> {
+    let log = paper::check_log(book, log).ok()?;
+    Some((*log.agents.first()?, log.picks.first()?.clone()))
 }

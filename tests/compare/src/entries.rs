@@ -15,7 +15,7 @@ pub const CALLS: [Calls; 4] = [
         test: "books.rs",
     },
     Calls {
-        entries: &["for_c::rental_step", "lending::step", "lent_step::step"],
+        entries: &["for_c::rental_move", "lending::step", "lent_step::step"],
         rows: &["single move:"],
         test: "moves.rs",
     },

@@ -1,5 +1,5 @@
 // The proved code's exported functions, and what the comparisons share.
-use paper::Answer;
+use paper::{Answer, Pick};
 
 pub mod against;
 pub mod asked;
@@ -39,12 +39,14 @@ pub fn paper_check_book(book: &[u8]) -> Answer {
 }
 
 extern "C" {
-    fn rental_step(
+    fn rental_move(
         book: *const u8,
         length: usize,
         contents: *mut u16,
         locations: usize,
         agent: usize,
+        picks: *const Pick,
+        picks_length: usize,
         lent: usize,
     ) -> u64;
 }
@@ -79,10 +81,19 @@ fn unpacked(answer: u64) -> Answer {
 }
 
 // The proved single-move entry.
-pub fn step(book: &[u8], contents: &mut [u16], agent: usize, lent: usize) -> Answer {
-    // The exported function reads the bytes and reads and writes the records that it is given, and nothing else.
+pub fn step(book: &[u8], contents: &mut [u16], agent: usize, picks: &[Pick], lent: usize) -> Answer {
+    // The exported function reads the bytes and the picks and reads and writes the records that it is given, and nothing else.
     unpacked(unsafe {
-        rental_step(book.as_ptr(), book.len(), contents.as_mut_ptr(), contents.len(), agent, lent)
+        rental_move(
+            book.as_ptr(),
+            book.len(),
+            contents.as_mut_ptr(),
+            contents.len(),
+            agent,
+            picks.as_ptr(),
+            picks.len(),
+            lent,
+        )
     })
 }
 

@@ -1,13 +1,14 @@
 // Books of known size that put weight on one part of the work.
 use crate::pen::Pen;
-use crate::shops::log_of;
+use crate::shops::{log_of, log_with_picks};
 use inputs::DraftLog;
-use paper::padded;
+use paper::{padded, Pick};
 
-// A book, with a table for a single move of agent 0 that is accepted any number of times once these values are put back.
+// A book, with a table and picks for a single move of agent 0 that is accepted any number of times once these values are put back.
 pub struct Single {
     pub book: Vec<u8>,
     pub contents: Vec<u16>,
+    pub picks: Vec<Pick>,
     pub put_back: Vec<(usize, u16)>,
 }
 
@@ -15,7 +16,7 @@ impl Single {
     // A move that toggles needs nothing put back.
     fn from_start(book: Vec<u8>) -> Single {
         let contents = paper::start_table(&paper::check_book(&book).expect("a sound book"));
-        Single { book, contents, put_back: Vec::new() }
+        Single { book, contents, picks: Vec::new(), put_back: Vec::new() }
     }
 }
 
@@ -28,7 +29,8 @@ pub struct Logged {
 impl Single {
     // The same move as a log of one.
     pub fn logged(self) -> Logged {
-        Logged { book: self.book, log: padded("1 0 0 0 / 0 0 0 0") }
+        let log = DraftLog { agents: vec![0], pairs: Vec::new(), picks: vec![self.picks] };
+        Logged { book: self.book, log: log.text() }
     }
 }
 
@@ -242,6 +244,41 @@ pub fn nested_few() -> Single {
     Single::from_start(pen.text())
 }
 
+// ---- choices
+
+// For all x of so many members choose y of 100 pairs: note(x) := y, beside a toggle. The pairs are a dynamic universe.
+fn assigned(members: u32) -> Pen {
+    let mut pen = Pen::new(members + 110, members + 105, &[[1, 1], [1, 3], [1, 2], [0, 3]]);
+    let (location, pair) = (pen.at(3, 0), pen.variable(1));
+    let set = pen.set(location, pair);
+    let choice = pen.choose(1, 2, set);
+    let each = pen.for_all(0, UNIVERSE, choice);
+    let toggle = pen.toggle(4);
+    let root = pen.both(each, toggle);
+    pen.agent(root, 3);
+    (0..members).for_each(|member| pen.holds(UNIVERSE, member, 2));
+    (0..100).for_each(|pair| pen.holds(2, pair, 2));
+    pen
+}
+
+// So many picks among the 100 pairs.
+fn some_pairs(count: u64) -> Vec<Pick> {
+    (0..count).map(|number| number * 37 % 100).collect()
+}
+
+// One move with 200 picks.
+pub fn two_hundred_picks() -> Single {
+    Single { picks: some_pairs(200), ..Single::from_start(assigned(200).text()) }
+}
+
+// 64 moves with four picks each.
+pub fn picks_logged() -> Logged {
+    let book = assigned(4).text();
+    let picks = some_pairs(256).chunks(4).map(<[Pick]>::to_vec).collect();
+    let log = log_with_picks(&book, vec![0; 64], picks);
+    Logged { book, log }
+}
+
 // ---- 65,536 locations
 
 const GRID: u32 = 1;
@@ -339,7 +376,7 @@ pub fn desks_logged(wholly: bool) -> Logged {
         return Logged { book, log };
     }
     let pairs = (1..64).flat_map(|later| (0..later).map(move |earlier| (earlier, later))).collect();
-    Logged { book, log: DraftLog { agents, pairs }.text() }
+    Logged { book, log: DraftLog { agents, pairs, picks: Vec::new() }.text() }
 }
 
 // A small book with a full hook, and an agent whose release of undef is refused.

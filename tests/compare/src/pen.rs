@@ -125,6 +125,10 @@ impl Pen {
         self.0.add([27, label, 0, 0])
     }
 
+    pub fn choose(&mut self, variable: u32, universe: u32, body: u32) -> u32 {
+        self.0.add([28, variable, universe, body])
+    }
+
     // A nullary relation gets its other value: a move that changes something any number of times.
     pub fn toggle(&mut self, relation: u32) -> u32 {
         let old = self.constant(relation);

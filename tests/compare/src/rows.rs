@@ -2,7 +2,7 @@
 use crate::loads::{Logged, Single};
 use crate::meter::Meter;
 use crate::{check_book, paper_check_book, report_into, run, step, MOST_OUTPUT};
-use paper::{Answer, INSTRUCTIONS};
+use paper::{Answer, Pick, INSTRUCTIONS};
 use std::hint::black_box;
 use std::io;
 
@@ -94,14 +94,14 @@ pub fn book_row(what: &str, meter: &mut Meter, book: &[u8]) -> Row {
 
 // ---- single moves
 
-type Step = fn(&[u8], &mut [u16], usize, usize) -> Answer;
+type Step = fn(&[u8], &mut [u16], usize, &[Pick], usize) -> Answer;
 
 // One call after another on one table.
 fn stepping(single: &Single, step: Step) -> impl FnMut() + use<'_> {
     let mut contents = single.contents.clone();
     move || {
         single.put_back.iter().for_each(|&(location, value)| contents[location] = value);
-        black_box(step(black_box(&single.book), &mut contents, 0, INSTRUCTIONS));
+        black_box(step(black_box(&single.book), &mut contents, 0, &single.picks, INSTRUCTIONS));
     }
 }
 
@@ -112,8 +112,9 @@ fn assert_steps_alike(what: &str, single: &Single) {
         for contents in [&mut ours, &mut theirs] {
             single.put_back.iter().for_each(|&(location, value)| contents[location] = value);
         }
-        assert_eq!(step(&single.book, &mut ours, 0, INSTRUCTIONS), Answer::ACCEPTED, "{what}");
-        assert_eq!(paper::step(&single.book, &mut theirs, 0, INSTRUCTIONS), Answer::ACCEPTED, "{what}");
+        let Single { book, picks, .. } = single;
+        assert_eq!(step(book, &mut ours, 0, picks, INSTRUCTIONS), Answer::ACCEPTED, "{what}");
+        assert_eq!(paper::step(book, &mut theirs, 0, picks, INSTRUCTIONS), Answer::ACCEPTED, "{what}");
         assert_eq!(ours, theirs, "{what}");
     }
 }

@@ -1,7 +1,7 @@
 // A shop book of ordinary size with a day's log, and 01's book.
 use crate::pen::Pen;
 use inputs::{fitting_pairs, DraftLog};
-use paper::{check_book, fire_move, padded, start_table, Marks};
+use paper::{check_book, fire_move, padded, start_table, Marks, Pick};
 
 // 01's own book.
 pub const PAPER_BOOK: &str = "8 6 3 13 / 2 3 0 0 / 1 3 0 0 / 1 3 0 0 / 1 2 0 0 / 2 0 0 0 / 5 2 0 0 / 1 3 0 0 / 21 1 2 0 / \
@@ -19,15 +19,22 @@ pub fn paper_log() -> Vec<u8> {
 
 // The log of these agents' moves, which all fire in turn, with just the pairs that it needs.
 pub fn log_of(book: &[u8], agents: Vec<u32>) -> Vec<u8> {
+    let picks = vec![Vec::new(); agents.len()];
+    log_with_picks(book, agents, picks)
+}
+
+// The same with picks for each move.
+pub fn log_with_picks(book: &[u8], agents: Vec<u32>, picks: Vec<Vec<Pick>>) -> Vec<u8> {
     let book = check_book(book).expect("a sound book");
     let mut contents = start_table(&book);
     let (mut readers, mut writers) = (vec![0; book.locations], vec![0; book.locations]);
-    for (number, &agent) in agents.iter().enumerate() {
+    for (number, (&agent, picks)) in agents.iter().zip(&picks).enumerate() {
         let marks = Marks { readers: &mut readers, writers: &mut writers, bit: 1 << number };
-        fire_move(&book, &mut contents, agent as usize, marks, &mut Vec::new()).expect("each move fires");
+        fire_move(&book, &mut contents, agent as usize, picks, marks, &mut Vec::new())
+            .expect("each move fires");
     }
     let pairs = fitting_pairs(&agents, &readers, &writers);
-    DraftLog { agents, pairs }.text()
+    DraftLog { agents, pairs, picks }.text()
 }
 
 // ---- the shop

@@ -1,11 +1,14 @@
 // How often each answer's number came up.
 use std::fmt;
 
-pub struct Tally([u64; 18]);
+// One more than the greatest number.
+const NUMBERS: usize = 20;
+
+pub struct Tally([u64; NUMBERS]);
 
 impl Tally {
     pub fn new() -> Tally {
-        Tally([0; 18])
+        Tally([0; NUMBERS])
     }
 
     pub fn add(&mut self, number: u32) {
@@ -19,7 +22,7 @@ impl Tally {
             let count = std::mem::take(&mut others[number as usize]);
             assert!(count >= least, "{number} only {count} times: {self}");
         }
-        assert_eq!(others, [0; 18], "numbers that are not given: {self}");
+        assert_eq!(others, [0; NUMBERS], "numbers that are not given: {self}");
     }
 }
 

@@ -1,8 +1,8 @@
 // A comparison keeps what is answered differently, and only that; the proved code answers every small input as the independent one.
-use compare::asked::{independent, proved, Asked, Told};
+use compare::asked::{independent, proved, Asked, Side, Told};
 use compare::comparison::Comparison;
-use inputs::{small_input, small_inputs};
-use paper::Answer;
+use inputs::{small_input, small_inputs, small_moves, StepInput};
+use paper::{Answer, Pick};
 use std::fs;
 use std::path::{Path, PathBuf};
 
@@ -66,4 +66,43 @@ fn every_small_input() {
         .for_each(|number| comparison.ask_small(number).expect("a folder that can be written"));
     println!("small inputs:\n{}", comparison.counts());
     assert_eq!(comparison.differences, 0);
+}
+
+#[test]
+fn every_small_move() {
+    let mut comparison = Comparison::new(1, [proved, independent], folder("small-moves"));
+    (0..small_moves())
+        .for_each(|number| comparison.ask_small_move(number).expect("a folder that can be written"));
+    println!("small moves:\n{}", comparison.counts());
+    assert_eq!((comparison.compared, comparison.differences), (small_moves(), 0));
+}
+
+// The proved code, given the low 16 or 32 bits of each pick.
+fn cut_to_16(asked: &Asked) -> Told {
+    cut(asked, 1 << 16)
+}
+
+fn cut_to_32(asked: &Asked) -> Told {
+    cut(asked, 1 << 32)
+}
+
+fn cut(asked: &Asked, bound: Pick) -> Told {
+    let Asked::Step(input) = asked else { return proved(asked) };
+    let picks = input.picks.iter().map(|pick| pick % bound).collect();
+    proved(&Asked::Step(StepInput { picks, ..input.clone() }))
+}
+
+// A library that cuts picks answers small moves and random inputs differently.
+#[test]
+fn cut_picks_differ() {
+    for (name, side) in [("cut-to-16", cut_to_16 as Side), ("cut-to-32", cut_to_32)] {
+        let folder = folder(name);
+        let mut small = Comparison::new(1, [side, independent], folder.clone());
+        (0..small_moves()).for_each(|number| small.ask_small_move(number).expect("a folder"));
+        let mut random = Comparison::new(1, [side, independent], folder.clone());
+        (0..2_000).for_each(|number| random.ask_random(number).expect("a folder"));
+        println!("{name}: {} small moves, {} random inputs differ", small.differences, random.differences);
+        assert!(small.differences >= 1_000 && random.differences >= 5, "{name}");
+        fs::remove_dir_all(folder).expect("the folder");
+    }
 }

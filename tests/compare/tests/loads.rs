@@ -22,7 +22,7 @@ fn instructions(single: &Single) -> usize {
     let lengths = [(); 2].map(|()| {
         single.put_back.iter().for_each(|&(location, value)| contents[location] = value);
         let before = contents.clone();
-        let (answer, list) = paper::step_listed(&single.book, &mut contents, 0, INSTRUCTIONS);
+        let (answer, list) = paper::step_listed(&single.book, &mut contents, 0, &single.picks, INSTRUCTIONS);
         assert_eq!(answer, Answer::ACCEPTED);
         assert_ne!(contents, before, "the move changes nothing");
         list.len()
@@ -68,6 +68,7 @@ fn single_moves() {
     assert_eq!(instructions(&loads::two_hundred()), 200);
     assert_eq!(instructions(&loads::nested()), 100);
     assert_eq!(instructions(&loads::nested_few()), 256);
+    assert_eq!(instructions(&loads::two_hundred_picks()), 201);
     assert_eq!(instructions(&loads::release()), 1);
 }
 
@@ -78,6 +79,7 @@ fn logs() {
         loads::guards(1).logged(),
         loads::guards(16).logged(),
         loads::two_hundred_logged(),
+        loads::picks_logged(),
         loads::counts_logged(),
         loads::releases_logged(),
         loads::desks_logged(false),
@@ -86,6 +88,9 @@ fn logs() {
     ] {
         assert_accepted(&logged);
     }
+    let Logged { book, log } = loads::picks_logged();
+    let log = paper::check_log(&check_book(&book).expect("a sound book"), &log).expect("a sound log");
+    assert_eq!((log.picks.len(), log.picks.iter().all(|picks| picks.len() == 4)), (64, true));
     let refused = run_of(&loads::depot_refused_at_last());
     assert_eq!((refused.number, refused.p), (12, 63));
 }

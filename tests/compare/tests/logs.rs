@@ -1,7 +1,7 @@
 // The proved run of a log answers as the independent one and leaves the same contents and marks; and the moves of an accepted log, run one by one
-// in another order that keeps its pairs, end alike.
+// with their picks in another order that keeps its pairs, end alike.
 use compare::{run, step, Tally};
-use inputs::{idle_ways, random_order, run_input, Idle, Rng, RunInput};
+use inputs::{idle_ways, picked_ways, random_order, run_input, Idle, Picked, Rng, RunInput};
 use paper::{Answer, INSTRUCTIONS};
 use std::collections::BTreeMap;
 
@@ -27,24 +27,32 @@ fn left_by(run: Run, input: &RunInput) -> Left {
     Left { answer, contents, readers, writers }
 }
 
-// Runs the moves of an accepted log by the single-move entry in an order that keeps its pairs; gives whether that order is not the listing.
-fn reordered(input: &RunInput, end: &[u16], rng: &mut Rng) -> bool {
+// An order of an accepted log's moves, and whether those with picks do not come as they are listed.
+struct Order {
+    is_listing: bool,
+    exchanges_picks: bool,
+}
+
+// Runs the moves of an accepted log, each with its picks, by the single-move entry in an order that keeps its pairs.
+fn reordered(input: &RunInput, end: &[u16], rng: &mut Rng) -> Order {
     let book = paper::check_book(&input.book).expect("an accepted book");
     let log = paper::check_log(&book, &input.log).expect("an accepted log");
     let mut contents = paper::start_table(&book);
     let order = random_order(&log.pairs, log.agents.len(), rng);
     for &i in &order {
-        let answer = step(&input.book, &mut contents, log.agents[i] as usize, INSTRUCTIONS);
+        let answer = step(&input.book, &mut contents, log.agents[i], &log.picks[i], INSTRUCTIONS);
         assert_eq!(answer, Answer::ACCEPTED, "move {i} of {order:?}");
     }
     assert_eq!(contents, end[..contents.len()], "{order:?}");
-    order.windows(2).any(|two| two[0] > two[1])
+    let picking: Vec<usize> = order.iter().copied().filter(|&i| !log.picks[i].is_empty()).collect();
+    Order { is_listing: order.is_sorted(), exchanges_picks: !picking.is_sorted() }
 }
 
 #[test]
 fn answers_contents_and_marks_are_the_papers() {
     let mut tally = Tally::new();
     let mut idle: BTreeMap<Idle, u64> = Idle::ALL.map(|way| (way, 0)).into();
+    let mut picked: BTreeMap<Picked, u64> = Picked::ALL.map(|way| (way, 0)).into();
     for i in 0..INPUTS {
         let input = run_input(&mut Rng::for_input(SEED, i));
         let proved = left_by(run, &input);
@@ -53,15 +61,21 @@ fn answers_contents_and_marks_are_the_papers() {
         for way in idle_ways(&input.book, &input.log, proved.answer) {
             idle.entry(way).and_modify(|count| *count += 1);
         }
+        for way in picked_ways(&input.book, &input.log, proved.answer) {
+            picked.entry(way).and_modify(|count| *count += 1);
+        }
     }
-    println!("logs, seed {SEED}: {tally}\nmoves that change nothing: {idle:?}");
+    println!("logs, seed {SEED}: {tally}\nmoves that change nothing: {idle:?}\npicks: {picked:?}");
     tally.assert_all(Answer::NUMBERS, 500);
     assert!(idle.values().all(|&count| count >= 300), "moves that change nothing: {idle:?}");
+    assert!(picked.values().all(|&count| count >= 400), "picks: {picked:?}");
+    assert!(picked[&Picked::Accepted] >= 25_000, "picks: {picked:?}");
 }
 
 #[test]
 fn every_order_that_keeps_the_pairs_ends_alike() {
     let (mut orders, mut others, mut idle, mut beside_release) = (0, 0, 0, 0);
+    let (mut with_picks, mut exchanged) = (0, 0);
     let mut i = 0;
     while orders < ORDERS {
         let mut rng = Rng::for_input(SEED + 1, i);
@@ -69,7 +83,11 @@ fn every_order_that_keeps_the_pairs_ends_alike() {
         let left = left_by(run, &input);
         if left.answer == Answer::ACCEPTED {
             orders += 1;
-            if reordered(&input, &left.contents, &mut rng) {
+            let order = reordered(&input, &left.contents, &mut rng);
+            if !order.is_listing {
+                let picked = picked_ways(&input.book, &input.log, left.answer);
+                with_picks += u64::from(!picked.is_empty());
+                exchanged += u64::from(order.exchanges_picks);
                 let ways = idle_ways(&input.book, &input.log, left.answer);
                 others += 1;
                 idle += u64::from(!ways.is_empty());
@@ -79,8 +97,10 @@ fn every_order_that_keeps_the_pairs_ends_alike() {
         i += 1;
     }
     let counts = format!(
-        "{others} of them not the listing, {idle} with a move that changes nothing, {beside_release} with one unordered with a release"
+        "{others} of them not the listing, {idle} with a move that changes nothing, {beside_release} with one unordered with a release, \
+         {with_picks} with picks, {exchanged} with picking moves that changed places"
     );
     println!("orders, seed {}: {orders}, {counts}", SEED + 1);
     assert!(others >= 10_000 && idle >= 4_000 && beside_release >= 300, "{counts}");
+    assert!(with_picks >= 4_000 && exchanged >= 2_500, "{counts}");
 }

@@ -1,5 +1,6 @@
 // Sound books: functions, contents, rules and agents at random, from tiny to full size.
 
+use crate::clerks::{at_shelf, clerk};
 use crate::draft::*;
 use crate::flavours;
 use crate::rng::Rng;
@@ -30,12 +31,21 @@ const MIDDLING: Size =
 /// The nullary function of a depot that holds a label.
 const HOOK: u32 = 2;
 
+/// The universe that clerks pick from at least.
+const FIRST_UNIVERSE: u32 = 1;
+
+/// The unary function that they set.
+const NOTES: u32 = 2;
+
 /// What the rules of a book are about.
 #[derive(Clone, Copy, PartialEq, Eq)]
 enum Theme {
     Any,
     Desks,
     Depot,
+    Clerks,
+    /// Clerks who look at what others take from the same universe.
+    Shelf,
 }
 
 /// A sound book, mostly small.
@@ -44,8 +54,9 @@ pub fn sound(rng: &mut Rng) -> Draft {
         return full(rng);
     }
     let size = [&TINY, &SMALL, &MIDDLING][rng.weighted(&[47, 45, 8])];
-    let theme = [Theme::Any, Theme::Desks, Theme::Depot][rng.weighted(&[58, 14, 28])];
-    let careful = rng.percent(65);
+    let themes = [Theme::Any, Theme::Desks, Theme::Depot, Theme::Clerks, Theme::Shelf];
+    let theme = themes[rng.weighted(&[33, 8, 17, 34, 8])];
+    let careful = rng.percent(60);
     let mut draft = without_rules(rng, size, theme);
     let count = rng.range(1, size.roots.min(draft.permanent));
     let mut roots: Vec<u32> = (0..count)
@@ -55,6 +66,8 @@ pub fn sound(rng: &mut Rng) -> Draft {
                 Theme::Any => flavours::root(rng, &mut draft, careful, rules),
                 Theme::Desks => flavours::desk(rng, &mut draft),
                 Theme::Depot => flavours::depot(rng, &mut draft, careful),
+                Theme::Clerks => with_clerk(rng, &mut draft, careful),
+                Theme::Shelf => at_shelf(rng, &mut draft, FIRST_UNIVERSE, NOTES),
             }
         })
         .collect();
@@ -87,6 +100,12 @@ fn without_rules(rng: &mut Rng, size: &Size, theme: Theme) -> Draft {
         // A universe and a function for the labels beside the hook.
         draft.functions.extend([[1, 3, 0, 0], [0, 2, 0, 0], [1, 2, 0, 0]]);
     }
+    if theme == Theme::Clerks || theme == Theme::Shelf {
+        // A universe to pick from, and something to set.
+        let universe = if theme == Theme::Shelf { 3 } else { rng.pick(&[1, 3, 3]) };
+        let noted = rng.pick(&[2, 2, 3]);
+        draft.functions.extend([[1, universe, 0, 0], [1, noted, 0, 0]]);
+    }
     for _ in 1..rng.range(size.functions.0, size.functions.1) {
         let mut function = any_function(rng);
         draft.functions.push(function);
@@ -99,7 +118,37 @@ fn without_rules(rng: &mut Rng, size: &Size, theme: Theme) -> Draft {
     if theme == Theme::Depot && rng.percent(60) {
         hang_label(rng, &mut draft);
     }
+    if theme == Theme::Shelf || (theme == Theme::Clerks && rng.percent(90)) {
+        people(rng, &mut draft);
+    }
     draft
+}
+
+/// A clerk's rule, alone or beside a desk's; or a rule without a choice.
+fn with_clerk(rng: &mut Rng, draft: &mut Draft, careful: bool) -> u32 {
+    match rng.weighted(&[64, 14, 8, 14]) {
+        0 => clerk(rng, draft, careful),
+        1 => {
+            let (clerk, other) = (clerk(rng, draft, careful), flavours::desk(rng, draft));
+            draft.add([22, clerk, other, 0])
+        }
+        2 => flavours::depot(rng, draft, careful),
+        _ => flavours::root(rng, draft, careful, 4),
+    }
+}
+
+/// Lets the first universe of a draft have members.
+fn people(rng: &mut Rng, draft: &mut Draft) {
+    let universe = FIRST_UNIVERSE;
+    let bound = if draft.is_dynamic(universe) { draft.elements } else { draft.permanent };
+    for _ in 0..rng.range(1, 5) {
+        let element = rng.below(bound);
+        let given =
+            |function: u32| draft.contents.iter().any(|line| line[0] == function && line[1] == element);
+        if !given(0) && !given(universe) {
+            draft.insert_contents([universe, element, 0, 2]);
+        }
+    }
 }
 
 /// Lets the hook of a depot hold a label in use, if there is one.

@@ -5,12 +5,17 @@ use crate::damage;
 use crate::draft::Draft;
 use crate::idle::changes;
 use crate::logs;
+use crate::no_elements::{no_element, spoil_by_no_element};
+use crate::picks::{fitting_picks, has_choices, spoil_picks};
 use crate::rng::Rng;
 use crate::tables;
-use paper::{check_book, start_table, Book, INSTRUCTIONS, LINE_BYTES};
+use paper::{check_book, fault_in_table, start_table, Book, Pick, INSTRUCTIONS, LINE_BYTES};
 
 /// The most bytes that `rental` reads.
 const MOST_BYTES: usize = 60_000;
+
+/// The most picks that are looked for in a move.
+const MOST_PICKS: usize = 40;
 
 /// What the single-move entry is given.
 #[derive(Debug, Clone, PartialEq, Eq)]
@@ -18,6 +23,7 @@ pub struct StepInput {
     pub book: Vec<u8>,
     pub contents: Vec<u16>,
     pub agent: usize,
+    pub picks: Vec<Pick>,
     /// How many instruction records are lent.
     pub lent: usize,
 }
@@ -56,8 +62,12 @@ fn lively_book(rng: &mut Rng) -> (Draft, Vec<u8>, Book) {
     let mut found = sound_book(rng);
     for _ in 0..3 {
         let book = &found.2;
-        let lively = |agent| changes(book, &start_table(book), agent) == Some(true);
-        if (0..book.agents.len()).any(lively) {
+        let start = start_table(book);
+        let mut lively = |agent| {
+            let picks = fitting_picks(rng, book, &start, agent, MOST_PICKS);
+            changes(book, &start, agent, &picks) == Some(true)
+        };
+        if (0..book.agents.len()).any(&mut lively) {
             break;
         }
         found = sound_book(rng);
@@ -65,26 +75,86 @@ fn lively_book(rng: &mut Rng) -> (Draft, Vec<u8>, Book) {
     found
 }
 
-/// A book, a contents table and an agent.
+/// A book, a contents table, an agent and picks.
 pub fn step_input(rng: &mut Rng) -> StepInput {
+    if rng.below(100) == 0 {
+        return many_picks(rng);
+    }
     if rng.percent(22) {
         let book = damage::damaged(rng);
         let records = rng.below(200) as usize;
         let contents = any_values(rng, records);
-        return StepInput { book, contents, agent: rng.index(3), lent: some_lent(rng) };
+        let picks = if rng.percent(40) { any_picks(rng) } else { Vec::new() };
+        return StepInput { book, contents, agent: rng.index(3), picks, lent: some_lent(rng) };
     }
     let (draft, text, book) = sound_book(rng);
-    let mut contents = match rng.weighted(&[92, 8]) {
+    let mut contents = match rng.weighted(&[90, 10]) {
         0 => tables::sound(rng, &draft, &book),
         _ => tables::damaged(rng, &draft, &book),
     };
+    let agents = book.agents.len();
+    let agent = if rng.percent(3) { rng.pick(&[agents, agents + 1, 1_000_000]) } else { rng.index(agents) };
+    let picks = some_picks(rng, &book, &contents, agent);
     let records = some_length(rng, contents.len());
     let past = records.saturating_sub(contents.len());
     contents.truncate(records);
     contents.extend(any_values(rng, past));
-    let agents = book.agents.len();
-    let agent = if rng.percent(3) { rng.pick(&[agents, agents + 1, 1_000_000]) } else { rng.index(agents) };
-    StepInput { book: text, contents, agent, lent: some_lent(rng) }
+    StepInput { book: text, contents, agent, picks, lent: some_lent(rng) }
+}
+
+/// A few numbers that may be elements or not.
+fn any_picks(rng: &mut Rng) -> Vec<Pick> {
+    let most = rng.pick(&[9, 30, 65_536, Pick::MAX]);
+    (0..rng.range(1, 5)).map(|_| rng.draw() % most).collect()
+}
+
+/// Picks for an agent, if there is such a one: those that fit, mostly; or with one that is none of the book's elements.
+fn some_picks(rng: &mut Rng, book: &Book, contents: &[u16], agent: usize) -> Vec<Pick> {
+    let elements = book.elements as u32;
+    if agent >= book.agents.len() || fault_in_table(book, contents).is_some() {
+        // What comes before the move is asked for: the picks are elements, or not.
+        return match rng.weighted(&[50, 40, 10]) {
+            0 => Vec::new(),
+            1 => (0..rng.range(1, 3)).map(|_| Pick::from(rng.below(elements))).collect(),
+            _ => any_picks(rng),
+        };
+    }
+    let mut picks = fitting_picks(rng, book, contents, agent, MOST_PICKS);
+    if rng.percent(if has_choices(book) { 30 } else { 5 }) {
+        spoil_picks(rng, elements, &mut picks);
+    }
+    if rng.percent(if picks.is_empty() { 1 } else { 9 }) {
+        spoil_by_no_element(rng, elements, &mut picks);
+    }
+    picks
+}
+
+/// More picks than a log has room for: two foralls with a choice in each turn; as many picks as
+/// turns, one fewer, one more, or one that is no element.
+fn many_picks(rng: &mut Rng) -> StepInput {
+    let members = rng.range(16, 24);
+    let nodes = vec![[20, 0, 0, 0], [28, 2, 1, 0], [25, 1, 1, 1], [25, 0, 1, 2]];
+    let draft = Draft {
+        elements: members + 4,
+        permanent: members + 2,
+        functions: vec![[1, 3, 0, 0], [1, rng.pick(&[1, 3]), 0, 0]],
+        nodes,
+        agents: vec![[3, 3, 0, 0]],
+        contents: (0..members).map(|element| [1, element, 0, 2]).collect(),
+    };
+    let turns = members * members;
+    let mut picks: Vec<Pick> = (0..turns).map(|_| Pick::from(rng.below(members))).collect();
+    let place = rng.index(picks.len());
+    match rng.below(6) {
+        0 => drop(picks.pop()),
+        1 => picks.push(Pick::from(rng.below(members))),
+        2 => picks[place] = Pick::from(members + rng.below(2)),
+        3 => picks[place] = no_element(rng, draft.elements, picks[place]),
+        _ => {}
+    }
+    let book = draft.text();
+    let contents = start_table(&check_book(&book).expect("a sound book"));
+    StepInput { book, contents, agent: 0, picks, lent: some_lent(rng) }
 }
 
 /// A book, a log and lent tables.
@@ -103,10 +173,39 @@ pub fn run_input(rng: &mut Rng) -> RunInput {
 
 /// A book and a log, each sound or not, with the locations of the book.
 fn book_and_log(rng: &mut Rng) -> (Vec<u8>, Vec<u8>, usize) {
+    if rng.below(300) == 0 {
+        return full_choices(rng);
+    }
     let (draft, text, book) = lively_book(rng);
     let log = if rng.percent(12) { logs::damaged(rng, &book) } else { logs::sound(rng, &book).text() };
     let text = if rng.percent(12) { damage::damaged(rng) } else { text };
     (text, log, draft.locations())
+}
+
+/// A log of 64 moves with as many choice lines as there may be, one fewer or one more: for all x of four members choose y and
+/// do f(me) := y, by some agents in turn.
+fn full_choices(rng: &mut Rng) -> (Vec<u8>, Vec<u8>, usize) {
+    let agents = rng.range(1, 8);
+    let nodes = vec![[3, 0, 0, 0], [5, 3, 0, 0], [2, 1, 0, 0], [21, 1, 2, 0], [28, 1, 2, 3], [25, 0, 1, 4]];
+    let draft = Draft {
+        elements: 12,
+        permanent: 10,
+        functions: vec![[1, 3, 0, 0], [1, 1, 0, 0], [1, rng.pick(&[1, 3]), 0, 0], [1, 2, 0, 0]],
+        nodes,
+        agents: (0..agents).map(|agent| [5, 1 + agent, 0, 0]).collect(),
+        contents: (0..4).map(|element| [1, element, 0, 2]).chain([[2, 7, 0, 2], [2, 8, 0, 2]]).collect(),
+    };
+    // All picks of a move are alike, as the last one would clash with another.
+    let mut picks: Vec<Vec<Pick>> = (0..64).map(|_| vec![rng.pick(&[7, 8]); 4]).collect();
+    let place = rng.index(64);
+    match rng.below(5) {
+        0 => drop(picks[place].pop()),
+        1 => picks[place].push(7),
+        _ => {}
+    }
+    let pairs = (agents..64).map(|later| (later - agents, later)).collect();
+    let log = logs::DraftLog { agents: (0..64).map(|number| number % agents).collect(), pairs, picks };
+    (draft.text(), log.text(), draft.locations())
 }
 
 /// How long a lent table is: as needed, longer, or rarely short.
@@ -162,7 +261,9 @@ fn brim(rng: &mut Rng) -> Vec<u8> {
     let agents = rng.range(1, 16);
     let moves = 64;
     let pairs = (1..moves).flat_map(|later| (0..later).map(move |earlier| (earlier, later))).collect();
-    let log = logs::DraftLog { agents: (0..moves).map(|_| rng.below(agents)).collect(), pairs }.text();
+    let log =
+        logs::DraftLog { agents: (0..moves).map(|_| rng.below(agents)).collect(), pairs, picks: Vec::new() }
+            .text();
     let rest = MOST_BYTES / LINE_BYTES - log.len() / LINE_BYTES;
     let nodes = vec![[3, 0, 0, 0], [5, 1, 0, 0], [8, 1, 0, 0], [3, 0, 0, 0], [5, 1, 3, 0], [21, 4, 2, 0]];
     let functions = vec![[1, 3, 0, 0], [1, 3, 0, 0], [1, 2, 0, 0]];
@@ -201,6 +302,6 @@ fn wide(rng: &mut Rng) -> Vec<u8> {
         contents: Vec::new(),
     };
     let moves = rng.below(3);
-    let log = logs::DraftLog { agents: vec![0; moves as usize], pairs: Vec::new() };
+    let log = logs::DraftLog { agents: vec![0; moves as usize], pairs: Vec::new(), picks: Vec::new() };
     [draft.text(), log.text()].concat()
 }

@@ -95,7 +95,7 @@ fn spoil_node(rng: &mut Rng, draft: &mut Draft) {
     let own = node as u32;
     let any_node = rng.below(n);
     let value = match field {
-        0 => rng.pick(&[0, 1, 2, 3, 4, 5, 6, 7, 8, 13, 14, 15, 19, 20, 21, 22, 23, 24, 25, 26, 27, 28]),
+        0 => rng.pick(&[0, 1, 2, 3, 4, 5, 6, 7, 8, 13, 14, 15, 19, 20, 21, 22, 23, 24, 25, 26, 27, 28, 29]),
         _ => rng.pick(&[0, 1, 7, 8, own, own + 1, own.saturating_sub(1), any_node, f - 1, f, p - 1, p, e, n]),
     };
     draft.nodes[node][field] = value;
@@ -167,8 +167,7 @@ fn rewrap(rng: &mut Rng, draft: &mut Draft, wrap: impl FnOnce(&mut Rng, &mut Dra
 /// A variable node without a binder around it: beside the root, or by another number.
 fn unbound(rng: &mut Rng, draft: &mut Draft) {
     let variables: Vec<usize> = (0..draft.nodes.len()).filter(|&node| draft.nodes[node][0] == 2).collect();
-    let binders: Vec<usize> =
-        (0..draft.nodes.len()).filter(|&node| (24..=26).contains(&draft.nodes[node][0])).collect();
+    let binders: Vec<usize> = (0..draft.nodes.len()).filter(|&node| is_binder(&draft.nodes[node])).collect();
     let choice = rng.below(3);
     match (choice, rng.any(&variables), rng.any(&binders)) {
         (0, Some(node), _) => draft.nodes[node][1] = rng.below(8),
@@ -188,14 +187,16 @@ fn unbound(rng: &mut Rng, draft: &mut Draft) {
 
 /// A binder of a variable that is bound around it.
 fn bound_again(rng: &mut Rng, draft: &mut Draft) {
-    let binders: Vec<Line> =
-        draft.nodes.iter().copied().filter(|line| (24..=26).contains(&line[0])).collect();
+    let binders: Vec<Line> = draft.nodes.iter().copied().filter(is_binder).collect();
     let universes = draft.universes(false);
     let variable = rng.any(&binders).map_or(rng.below(8), |line| line[1]);
     rewrap(rng, draft, |rng, draft, mut root| {
         for _ in 0..if binders.is_empty() { 2 } else { 1 } {
             root = match rng.any(&universes) {
-                Some(universe) if rng.percent(50) => draft.add([25, variable, universe, root]),
+                Some(universe) if rng.percent(60) => {
+                    let kind = rng.pick(&[25, 28]);
+                    draft.add([kind, variable, universe, root])
+                }
                 _ => {
                     let value = draft.add([3, 0, 0, 0]);
                     draft.add([24, variable, value, root])
@@ -210,8 +211,7 @@ fn bound_again(rng: &mut Rng, draft: &mut Draft) {
 fn third_forall(rng: &mut Rng, draft: &mut Draft) {
     let universes = draft.universes(false);
     let Some(universe) = rng.any(&universes) else { return unbound(rng, draft) };
-    let used: Vec<u32> =
-        draft.nodes.iter().filter(|line| (24..=26).contains(&line[0])).map(|line| line[1]).collect();
+    let used: Vec<u32> = draft.nodes.iter().filter(|line| is_binder(line)).map(|line| line[1]).collect();
     let free: Vec<u32> = (0..8).filter(|variable| !used.contains(variable)).collect();
     let count = rng.range(1, 4) as usize;
     rewrap(rng, draft, |_, draft, mut root| {
@@ -335,6 +335,6 @@ pub fn garbage(rng: &mut Rng) -> Vec<u8> {
 }
 
 fn any_line(rng: &mut Rng) -> Line {
-    let most = rng.pick(&[2, 8, 28]);
+    let most = rng.pick(&[2, 8, 29]);
     [0; 4].map(|_| if rng.percent(60) { rng.below(most) } else { 0 })
 }

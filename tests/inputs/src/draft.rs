@@ -45,7 +45,7 @@ impl Draft {
         (1..self.functions.len() as u32).filter(|&function| test(self, function)).collect()
     }
 
-    /// The unary relations that a forall may run over, or that an import may add to.
+    /// The unary relations that a forall or a choice may name, or that an import may add to.
     pub fn universes(&self, dynamic_only: bool) -> Vec<u32> {
         self.functions_where(|draft, function| {
             draft.arity(function) == 1
@@ -123,9 +123,14 @@ pub fn operand_fields(kind: u32) -> &'static [(usize, bool)] {
         22 => &[(1, true), (2, true)],
         23 => &[(1, false), (2, true), (3, true)],
         24 => &[(2, false), (3, true)],
-        25 | 26 => &[(3, true)],
+        25 | 26 | 28 => &[(3, true)],
         _ => &[],
     }
+}
+
+/// Whether a node binds a variable.
+pub fn is_binder(node: &Line) -> bool {
+    matches!(node[0], 24..=26 | 28)
 }
 
 pub fn is_rule(node: &Line) -> bool {

@@ -13,7 +13,7 @@ const SKIP: paper::Line = [20, 0, 0, 0];
 
 /// One rule as a root, of a flavour drawn at random. `size` bounds the free ones.
 pub fn root(rng: &mut Rng, draft: &mut Draft, careful: bool, size: u32) -> u32 {
-    let flavour = rng.weighted(&[46, 18, 15, 14, 7]);
+    let flavour = rng.weighted(&[42, 14, 14, 23, 7]);
     match flavour {
         0 => Writer::new(rng, draft, careful).rule(size, 12),
         1 => desk(rng, draft),

@@ -1,11 +1,11 @@
 // Moves that change nothing: whether a move is one, and how they stand in the logs that ran to their end.
 
-use paper::{check_book, check_log, fire_move, start_table, Answer, Book, Instruction, Log, Marks};
+use paper::{check_book, check_log, fire_move, start_table, Answer, Book, Instruction, Log, Marks, Pick};
 
-/// Whether the move of an agent from these contents changes a location; nothing if it is refused.
-pub fn changes(book: &Book, contents: &[u16], agent: usize) -> Option<bool> {
+/// Whether the move of an agent from these contents with these picks changes a location; nothing if it is refused.
+pub fn changes(book: &Book, contents: &[u16], agent: usize, picks: &[Pick]) -> Option<bool> {
     let mut after = contents.to_vec();
-    fire_move(book, &mut after, agent, Marks::none(), &mut Vec::new()).ok()?;
+    fire_move(book, &mut after, agent, picks, Marks::none(), &mut Vec::new()).ok()?;
     Some(after != contents)
 }
 
@@ -51,13 +51,13 @@ struct Done {
 fn done_by(book: &Book, log: &Log) -> Vec<Done> {
     let mut contents = start_table(book);
     let mut list = Vec::new();
-    let done = |&agent: &usize| {
+    let done = |(&agent, picks): (&usize, &Vec<Pick>)| {
         let before = contents.clone();
-        fire_move(book, &mut contents, agent, Marks::none(), &mut list).expect("each move fires");
+        fire_move(book, &mut contents, agent, picks, Marks::none(), &mut list).expect("each move fires");
         let release = |instruction: &Instruction| matches!(instruction, Instruction::Release { .. });
         Done { idle: contents == before, instructions: list.len(), releases: list.iter().any(release) }
     };
-    log.agents.iter().map(done).collect()
+    log.agents.iter().zip(&log.picks).map(done).collect()
 }
 
 /// How the moves that change nothing stand in a log whose run gave this answer, each way once.

@@ -3,16 +3,21 @@
 use crate::damage::spoil_text;
 use crate::draft::{one_more, text_of};
 use crate::idle::changes;
+use crate::picks::{fitting_picks, has_choices, spoil_picks};
 use crate::rng::Rng;
-use paper::{fire_move, start_table, Book, Line, Marks};
+use paper::{fire_move, start_table, Book, Line, Marks, Pick, CHOICE_LINES};
 
 const MOST_MOVES: usize = 64;
 
-/// The agents of the moves, and the pairs in any order.
+/// The most picks of one move of a random log.
+const MOST_PICKS: usize = 40;
+
+/// The agents of the moves, the pairs in any order, and the picks of each move, which are elements; moves past these have none.
 #[derive(Debug, Clone, PartialEq, Eq)]
 pub struct DraftLog {
     pub agents: Vec<u32>,
     pub pairs: Vec<(u32, u32)>,
+    pub picks: Vec<Vec<Pick>>,
 }
 
 impl DraftLog {
@@ -20,10 +25,18 @@ impl DraftLog {
         let mut pairs = self.pairs.clone();
         pairs.sort_unstable();
         pairs.dedup();
-        let mut lines = vec![[self.agents.len() as u32, pairs.len() as u32, 0, 0]];
+        let mut lines = vec![[self.agents.len() as u32, pairs.len() as u32, self.choices() as u32, 0]];
         lines.extend(self.agents.iter().map(|&agent| [agent, 0, 0, 0]));
         lines.extend(pairs.into_iter().map(|(earlier, later)| [earlier, later, 0, 0]));
+        for (number, picks) in self.picks.iter().enumerate() {
+            lines.extend(picks.iter().map(|&pick| [number as u32, pick as u32, 0, 0]));
+        }
         lines
+    }
+
+    /// How many choice lines it has.
+    fn choices(&self) -> usize {
+        self.picks.iter().map(Vec::len).sum()
     }
 
     pub fn text(&self) -> Vec<u8> {
@@ -60,9 +73,30 @@ fn some_moves(rng: &mut Rng) -> usize {
 
 /// A log that keeps its lines and counts, with moves that fire or not.
 pub fn sound(rng: &mut Rng, book: &Book) -> DraftLog {
-    match rng.weighted(&[75, 25]) {
+    let mut log = match rng.weighted(&[75, 25]) {
         0 => guided(rng, book),
         _ => loose(rng, book),
+    };
+    let fault = if has_choices(book) { 26 } else { 3 };
+    if !log.agents.is_empty() && rng.percent(fault) {
+        spoil_choices(rng, book, &mut log);
+    }
+    log
+}
+
+/// A pick too few, too many or wrong; or one that another move gets.
+fn spoil_choices(rng: &mut Rng, book: &Book, log: &mut DraftLog) {
+    let any_move = rng.index(log.agents.len());
+    let picking: Vec<usize> = (0..log.picks.len()).filter(|&number| !log.picks[number].is_empty()).collect();
+    match (rng.below(8), rng.any(&picking)) {
+        (0, Some(number)) => {
+            let pick = log.picks[number].remove(0);
+            log.picks[any_move].push(pick);
+        }
+        (1, Some(number)) => log.picks[any_move] = log.picks[number].clone(),
+        (2, Some(number)) => log.picks[number].clear(),
+        (3..=6, Some(number)) => spoil_picks(rng, book.elements as u32, &mut log.picks[number]),
+        _ => log.picks[any_move].push(Pick::from(rng.below(book.elements as u32))),
     }
 }
 
@@ -80,7 +114,25 @@ fn loose(rng: &mut Rng, book: &Book) -> DraftLog {
         }
         _ => {}
     }
-    DraftLog { agents, pairs }
+    let picks = picks_as_listed(rng, book, &agents);
+    DraftLog { agents, pairs, picks }
+}
+
+/// Picks that fit each move as the log lists it, as many as a log has room for; a refused move changes nothing.
+fn picks_as_listed(rng: &mut Rng, book: &Book, agents: &[u32]) -> Vec<Vec<Pick>> {
+    let mut contents = start_table(book);
+    let mut room = CHOICE_LINES;
+    let fitting = |&agent: &u32| {
+        let picks = fitting_picks(rng, book, &contents, agent as usize, room.min(MOST_PICKS));
+        room -= picks.len();
+        let _ = fire_move(book, &mut contents, agent as usize, &picks, Marks::none(), &mut Vec::new());
+        picks
+    };
+    if has_choices(book) {
+        agents.iter().map(fitting).collect()
+    } else {
+        vec![Vec::new(); agents.len()]
+    }
 }
 
 fn any_pairs(rng: &mut Rng, moves: usize, share: u32) -> Vec<(u32, u32)> {
@@ -88,34 +140,38 @@ fn any_pairs(rng: &mut Rng, moves: usize, share: u32) -> Vec<(u32, u32)> {
     all.filter(|_| rng.percent(share)).collect()
 }
 
-/// Moves that were tried and fire, the last one perhaps not, and pairs chosen by what they touch.
+/// Moves that were tried with fitting picks and fire, the last one perhaps not, and pairs chosen by what they touch.
 pub fn guided(rng: &mut Rng, book: &Book) -> DraftLog {
     let wanted = some_moves(rng);
     let mut contents = start_table(book);
     let (mut readers, mut writers) = (vec![0; book.locations], vec![0; book.locations]);
     let mut list = Vec::new();
-    let mut agents: Vec<u32> = Vec::new();
+    let mut log = DraftLog { agents: Vec::new(), pairs: Vec::new(), picks: Vec::new() };
     let refused_at_last = rng.percent(25);
     // Moves that change nothing come as they do, are fewer, or are left out.
     let left_out = rng.pick(&[0, 60, 100]);
     for attempt in 1..=3 * wanted {
         let agent = rng.below(book.agents.len() as u32);
-        let last_chance = attempt == 3 * wanted && agents.is_empty();
-        if !last_chance && rng.percent(left_out) && changes(book, &contents, agent as usize) == Some(false) {
+        let room = (CHOICE_LINES - log.choices()).min(MOST_PICKS);
+        let picks = fitting_picks(rng, book, &contents, agent as usize, room);
+        let last_chance = attempt == 3 * wanted && log.agents.is_empty();
+        let idle = || changes(book, &contents, agent as usize, &picks) == Some(false);
+        if !last_chance && rng.percent(left_out) && idle() {
             continue;
         }
-        let marks = Marks { readers: &mut readers, writers: &mut writers, bit: 1 << agents.len() };
-        let fired = fire_move(book, &mut contents, agent as usize, marks, &mut list).is_ok();
+        let marks = Marks { readers: &mut readers, writers: &mut writers, bit: 1 << log.agents.len() };
+        let fired = fire_move(book, &mut contents, agent as usize, &picks, marks, &mut list).is_ok();
         if fired || refused_at_last || last_chance {
-            agents.push(agent);
+            log.agents.push(agent);
+            log.picks.push(picks);
         }
-        if agents.len() == wanted || (!fired && refused_at_last) {
+        if log.agents.len() == wanted || (!fired && refused_at_last) {
             break;
         }
     }
-    let needed = needed_pairs(&agents, &readers, &writers);
-    let pairs = choose_pairs(rng, needed, &agents);
-    DraftLog { agents, pairs }
+    let needed = needed_pairs(&log.agents, &readers, &writers);
+    log.pairs = choose_pairs(rng, needed, &log.agents);
+    log
 }
 
 /// The pairs of moves that touch or have one agent.
@@ -196,7 +252,11 @@ pub fn damaged(rng: &mut Rng, book: &Book) -> Vec<u8> {
     let mut lines = log.lines();
     let (in_lines, in_text) = [(1, false), (2, false), (1, true), (0, true)][rng.weighted(&[60, 10, 5, 25])];
     for _ in 0..in_lines {
-        spoil_line(rng, &mut lines, log.agents.len(), book.agents.len() as u32);
+        if rng.percent(if log.choices() > 0 { 45 } else { 10 }) {
+            spoil_choice_line(rng, &mut lines, &log, book.elements as u32);
+        } else {
+            spoil_line(rng, &mut lines, &log, book.agents.len() as u32);
+        }
     }
     let mut text = text_of(&lines);
     if in_text {
@@ -206,15 +266,15 @@ pub fn damaged(rng: &mut Rng, book: &Book) -> Vec<u8> {
 }
 
 /// One field past its bound, one out of order, or a count that does not fit.
-fn spoil_line(rng: &mut Rng, lines: &mut Vec<Line>, moves: usize, agents: u32) {
-    let moves = moves.min(lines.len() - 1);
-    let pairs = lines.len() - 1 - moves;
+fn spoil_line(rng: &mut Rng, lines: &mut Vec<Line>, log: &DraftLog, agents: u32) {
+    let moves = log.agents.len().min(lines.len() - 1);
+    let pairs = (lines.len() - 1 - moves).saturating_sub(log.choices());
     let any_move = 1 + rng.index(moves.max(1));
     let any_pair = 1 + moves + rng.index(pairs.max(1));
     match rng.below(10) {
         0 => lines[0][0] = rng.pick(&[65, 66, 999_999]),
         1 => lines[0][1] = rng.pick(&[2_017, 2_018, 999_999]),
-        2 => lines[0][rng.range(2, 3) as usize] = rng.pick(&[1, 999_999]),
+        2 => lines[0][3] = rng.pick(&[1, 999_999]),
         3 => {
             let field = rng.index(2);
             lines[0][field] = rng.pick(&[one_more(lines[0][field]), lines[0][field].saturating_sub(1)]);
@@ -228,14 +288,37 @@ fn spoil_line(rng: &mut Rng, lines: &mut Vec<Line>, moves: usize, agents: u32) {
                 rng.pick(&[[later, earlier], [later, later], [earlier, moves as u32], [moves as u32, 0]]);
             lines[any_pair][..2].copy_from_slice(&pair);
         }
-        8 if pairs > 1 => {
-            let last = lines.len() - 1;
-            lines.swap(any_pair, last);
-        }
+        8 if pairs > 1 => lines.swap(any_pair, moves + pairs),
         _ if pairs > 0 => {
             lines.insert(any_pair, lines[any_pair]);
             lines[0][1] = one_more(lines[0][1]);
         }
         _ => lines.push([0, 1, 0, 0]),
+    }
+}
+
+/// A fault of a choice line, or of their count.
+fn spoil_choice_line(rng: &mut Rng, lines: &mut Vec<Line>, log: &DraftLog, elements: u32) {
+    let moves = log.agents.len() as u32;
+    let choices = log.choices().min(lines.len() - 1);
+    let line = lines.len() - 1 - rng.index(choices.max(1));
+    match rng.below(8) {
+        0 if choices > 0 => lines[line][0] = rng.pick(&[moves, moves + 1, 64, 999_999]),
+        1 if choices > 0 => {
+            let wrapped = 65_536 + lines[line][1];
+            lines[line][1] = rng.pick(&[elements, elements + 1, wrapped, 999_999]);
+        }
+        2 if choices > 1 => {
+            let last = lines.len() - 1;
+            lines.swap(last + 1 - choices, last);
+        }
+        3 | 4 if choices > 0 => lines[line][rng.range(2, 3) as usize] = rng.pick(&[1, 999_999]),
+        5 => lines[0][2] = rng.pick(&[257, 258, 999_999]),
+        6 => lines[0][2] = rng.pick(&[one_more(lines[0][2]), lines[0][2].saturating_sub(1)]),
+        _ => {
+            // One more, for a move or an element that there may be.
+            lines.push([rng.below(moves + 1), rng.below(elements + 2), 0, 0]);
+            lines[0][2] = one_more(lines[0][2]);
+        }
     }
 }

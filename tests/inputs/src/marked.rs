@@ -1,5 +1,5 @@
-// The cases of paper 01 as inputs of `rental`, with all that it prints: the marked ones, the limits, the examples of the refusals, and moves
-// that change nothing.
+// The cases of paper 01 as inputs of `rental`, with all that it prints: the marked ones, the limits, the examples of the refusals, moves
+// that change nothing, and picks.
 
 use paper::{padded, LINE_BYTES};
 
@@ -40,10 +40,15 @@ fn with_line(line: usize, new: &str) -> Vec<u8> {
 
 /// A book of one agent, whose root is the last node, and one move; function lines leave out Reserve.
 fn one_rule(functions: &str, nodes: &str, contents: &str) -> Vec<u8> {
+    one_rule_and_log(functions, nodes, contents, ONE_MOVE)
+}
+
+/// The same book with another log.
+fn one_rule_and_log(functions: &str, nodes: &str, contents: &str, log: &str) -> Vec<u8> {
     let count = |lines: &str| lines.split('/').filter(|line| !line.trim().is_empty()).count();
     let (f, n, c) = (1 + count(functions), count(nodes), count(contents));
     let head = format!("8 6 {f} {n} / 1 {c} 0 0 / 1 3 0 0");
-    padded(&format!("{head} / {functions} / {nodes} / {} 3 0 0 / {contents} / {ONE_MOVE}", n - 1))
+    padded(&format!("{head} / {functions} / {nodes} / {} 3 0 0 / {contents} / {log}", n - 1))
 }
 
 /// f := a ∘ b of two elements; f held number 0, so that undef is a change.
@@ -110,12 +115,29 @@ fn all_set() -> String {
     format!("0 0 0 512 / {}", lines.join(" / "))
 }
 
-/// The limits of moves, instructions and bytes.
+/// 64 moves, each after the one before, that pick four times each, and so many choice lines.
+fn picking(lines: usize) -> Vec<u8> {
+    let pairs: Vec<String> = (1..64).map(|later| format!("{} {later} 0 0", later - 1)).collect();
+    let choices: Vec<String> = (0..lines).map(|line| format!("{} 5 0 0", (line / 4).min(63))).collect();
+    let moves = ["0 0 0 0"; 64].join(" / ");
+    let log = format!("64 63 {lines} 0 / {moves} / {} / {}", pairs.join(" / "), choices.join(" / "));
+    let each = "20 0 0 0 / 28 1 2 0 / 25 0 1 1";
+    let members = "1 0 0 2 / 1 1 0 2 / 1 2 0 2 / 1 3 0 2 / 2 5 0 2";
+    one_rule_and_log("1 1 0 0 / 1 3 0 0", each, members, &log)
+}
+
+/// The limits of moves, choice lines, instructions and bytes.
 pub fn limits() -> Vec<Case> {
     let blanks = |count: usize| vec![b' '; count];
     vec![
         Case::new("64 moves", counted(64), "0 0 0 1 / 1 0 0 67"),
         Case::new("65 moves", counted(65), "9 0 0 0"),
+        Case::new(
+            "256 choice lines",
+            picking(256),
+            "0 0 0 5 / 1 0 0 2 / 1 1 0 2 / 1 2 0 2 / 1 3 0 2 / 2 5 0 2",
+        ),
+        Case::new("257 choice lines", picking(257), "9 0 0 0"),
         Case::new("256 instructions", members(256), &all_set()),
         Case::new("257 instructions", members(257), "14 0 3 0"),
         Case::new("no byte", Vec::new(), "1 0 0 0"),
@@ -153,6 +175,49 @@ pub fn refusals() -> Vec<Case> {
         Case::new("14: forall over 257", members(257), "14 0 3 0"),
         Case::new("15: set 3 and 4", one_rule("0 2 0 0", two_values, ""), "15 0 8 0"),
         Case::new("17: k 0", with_log("2 0 0 0 / 0 0 0 0 / 1 0 0 0"), "17 0 1 0"),
+        Case::new("18: 4 is not in the universe", picks_by(PICK, &[4]), "18 0 3 0"),
+        Case::new("19: no pick", picks_by(PICK, &[]), "19 0 3 0"),
+    ]
+}
+
+/// Choose x in U and do s := x; node 3 is the choose.
+const PICK: &str = "4 2 0 0 / 2 0 0 0 / 21 0 1 0 / 28 0 1 2";
+
+/// One move with these picks; function 1 is the universe U, at 3 and 5, function 2 is s.
+fn picks_by(nodes: &str, picks: &[u32]) -> Vec<u8> {
+    let lines: Vec<String> = picks.iter().map(|pick| format!("0 {pick} 0 0")).collect();
+    let log = format!("1 0 {} 0 / 0 0 0 0 / {}", picks.len(), lines.join(" / "));
+    one_rule_and_log("1 3 0 0 / 0 2 0 0 / 1 2 0 0", nodes, "1 3 0 2 / 1 5 0 2", &log)
+}
+
+/// The clerk's pick (paper 02, F-2).
+pub fn picks() -> Vec<Case> {
+    let start = "1 3 0 2 / 1 5 0 2";
+    let each = "2 0 0 0 / 5 3 0 0 / 2 1 0 0 / 21 1 2 0 / 28 1 1 3 / 25 0 1 4";
+    let two_values = "4 2 0 0 / 1 3 0 0 / 21 0 1 0 / 4 2 0 0 / 1 4 0 0 / 21 3 4 0 / 22 2 5 0";
+    let empty = |picks| one_rule_and_log("1 3 0 0", "20 0 0 0 / 28 0 1 0", "", picks);
+    let faulty = |line: &str| {
+        one_rule_and_log("1 3 0 0", "20 0 0 0 / 28 0 1 0", "1 3 0 2", &format!("1 0 1 0 / 0 0 0 0 / {line}"))
+    };
+    vec![
+        Case::new("a pick", picks_by(PICK, &[5]), &format!("0 0 0 3 / {start} / 2 0 0 5")),
+        Case::new("another pick", picks_by(PICK, &[3]), &format!("0 0 0 3 / {start} / 2 0 0 3")),
+        Case::new(
+            "a pick for each turn",
+            picks_by(each, &[5, 3]),
+            &format!("0 0 0 4 / {start} / 3 3 0 5 / 3 5 0 3"),
+        ),
+        Case::new("no pick for the second turn", picks_by(each, &[5]), "19 0 4 0"),
+        Case::new("a pick left over", picks_by(PICK, &[5, 5]), "19 0 3 0"),
+        Case::new("a pick left over after two turns", picks_by(each, &[5, 3, 3]), "19 0 5 0"),
+        Case::new("a pick left over before a clash", picks_by(two_values, &[3]), "19 0 6 0"),
+        Case::new("the clash", picks_by(two_values, &[]), "15 0 16 0"),
+        Case::new("an empty universe and no pick", empty("1 0 0 0 / 0 0 0 0"), "19 0 1 0"),
+        Case::new("an empty universe and a pick", empty("1 0 1 0 / 0 0 0 0 / 0 3 0 0"), "18 0 1 0"),
+        Case::new("a choice line for move 1 of 1", faulty("1 3 0 0"), "9 2 0 0"),
+        Case::new("a choice line for element 8 of 8", faulty("0 8 0 0"), "9 2 0 0"),
+        Case::new("a choice line with a third field", faulty("0 3 1 0"), "9 2 0 0"),
+        Case::new("a choice line with a fourth field", faulty("0 3 0 1"), "9 2 0 0"),
     ]
 }
 

@@ -7,6 +7,9 @@ use paper::Line;
 /// Steps that a nested forall may take, so that no walk is long.
 const MOST_STEPS: usize = 60_000;
 
+/// Turns that a choice may have in one move.
+const MOST_PICKS: usize = 24;
+
 /// What a term is meant to give.
 #[derive(Debug, Clone, Copy, PartialEq, Eq)]
 pub enum Sort {
@@ -25,11 +28,13 @@ pub struct Writer<'a> {
     /// The variables bound here, with what they are bound to.
     bound: Vec<(u32, Sort)>,
     foralls: u32,
+    /// About how often what is written here is walked in one move.
+    turns: usize,
 }
 
 impl<'a> Writer<'a> {
     pub fn new(rng: &'a mut Rng, draft: &'a mut Draft, careful: bool) -> Writer<'a> {
-        Writer { rng, draft, careful, bound: Vec::new(), foralls: 0 }
+        Writer { rng, draft, careful, bound: Vec::new(), foralls: 0, turns: 1 }
     }
 
     /// Both parts, in either order of their numbers.
@@ -52,12 +57,13 @@ impl<'a> Writer<'a> {
         if size < 2 || depth < 6 {
             return self.small_rule(depth);
         }
-        match self.rng.weighted(&[40, 20, 10, 14, 10, 6]) {
+        match self.rng.weighted(&[40, 20, 10, 14, 10, 10, 6]) {
             0 => self.both(size, depth),
             1 => self.conditional(size, depth),
             2 => self.let_in(size - 1, depth),
             3 => self.for_all(size - 1, depth),
             4 => self.import(size - 1, depth),
+            5 => self.choose(size - 1, depth),
             _ => self.small_rule(depth),
         }
     }
@@ -116,16 +122,44 @@ impl<'a> Writer<'a> {
 
     /// A forall over a universe with this body.
     pub fn for_all_in(&mut self, variable: u32, universe: u32, body: impl FnOnce(&mut Self) -> u32) -> u32 {
-        let labels_only =
-            self.draft.contents.iter().all(|line| line[0] != universe || line[1] >= self.draft.permanent);
-        let sort = if labels_only { Sort::Label } else { Sort::Any };
+        let (sort, turns) = (self.sort_of_members(universe), self.turns);
         self.foralls += 1;
+        self.turns *= self.draft.lines_of(universe).max(1);
         let c = self.inside(variable, sort, body);
         self.foralls -= 1;
+        self.turns = turns;
         self.draft.add([25, variable, universe, c])
     }
 
-    fn may_nest(&self, universe: u32) -> bool {
+    fn sort_of_members(&self, universe: u32) -> Sort {
+        let permanent = self.draft.permanent;
+        let labels_only = self.draft.contents.iter().all(|line| line[0] != universe || line[1] >= permanent);
+        if labels_only {
+            Sort::Label
+        } else {
+            Sort::Any
+        }
+    }
+
+    /// A choice, where a move has not too many of its turns.
+    fn choose(&mut self, size: u32, depth: u32) -> u32 {
+        let universe = self.universe();
+        match (universe, self.free_variable()) {
+            (Some(universe), Some(variable)) if self.turns <= MOST_PICKS => {
+                self.choose_in(variable, universe, |w| w.rule(size, depth - 1))
+            }
+            _ => self.rule(size, depth),
+        }
+    }
+
+    /// A choice in a universe with this body.
+    pub fn choose_in(&mut self, variable: u32, universe: u32, body: impl FnOnce(&mut Self) -> u32) -> u32 {
+        let sort = self.sort_of_members(universe);
+        let c = self.inside(variable, sort, body);
+        self.draft.add([28, variable, universe, c])
+    }
+
+    pub fn may_nest(&self, universe: u32) -> bool {
         let steps = (self.draft.lines_of(universe) + 4) * self.draft.elements as usize;
         self.foralls == 0 || (self.foralls == 1 && steps <= MOST_STEPS)
     }

@@ -2,7 +2,9 @@
 
 use crate::draft::{text_of, Draft, RESERVE};
 use crate::logs::DraftLog;
+use crate::small_picks as picks;
 use paper::{padded, Line};
+use std::sync::OnceLock;
 
 /// A book and a log; `rental` reads one after the other.
 #[derive(Debug, Clone, PartialEq, Eq)]
@@ -17,7 +19,7 @@ struct Kind {
     nth: fn(u64) -> Small,
 }
 
-const KINDS: [Kind; 7] = [
+const KINDS: [Kind; 10] = [
     Kind { count: terms, nth: term },
     Kind { count: logs, nth: log },
     Kind { count: headers, nth: header },
@@ -25,18 +27,26 @@ const KINDS: [Kind; 7] = [
     Kind { count: cuts, nth: cut },
     Kind { count: roots, nth: root },
     Kind { count: pairs_of_nodes, nth: two_nodes },
+    Kind { count: picks::picks, nth: picks::pick },
+    Kind { count: picks::logs, nth: picks::log },
+    Kind { count: picks::choice_lines, nth: picks::choice_line },
 ];
+
+/// How many inputs each kind has.
+fn counts() -> &'static [u64; KINDS.len()] {
+    static COUNTS: OnceLock<[u64; KINDS.len()]> = OnceLock::new();
+    COUNTS.get_or_init(|| KINDS.each_ref().map(|kind| (kind.count)()))
+}
 
 /// How many small inputs there are.
 pub fn small_inputs() -> u64 {
-    KINDS.iter().map(|kind| (kind.count)()).sum()
+    counts().iter().sum()
 }
 
 /// The small input with this number, which is below their count.
 pub fn small_input(number: u64) -> Small {
     let mut left = number;
-    for kind in &KINDS {
-        let count = (kind.count)();
+    for (kind, &count) in KINDS.iter().zip(counts()) {
         if left < count {
             return (kind.nth)(left);
         }
@@ -46,7 +56,7 @@ pub fn small_input(number: u64) -> Small {
 }
 
 /// The next digit of a number to this base; the number keeps the rest.
-fn digit(number: &mut u64, base: u64) -> u32 {
+pub fn digit(number: &mut u64, base: u64) -> u32 {
     let digit = *number % base;
     *number /= base;
     digit as u32
@@ -140,14 +150,14 @@ fn log(mut number: u64) -> Small {
     let agents = (0..m).map(|_| digit(&mut number, DESKS)).collect();
     let all = (1..m as u32).flat_map(|later| (0..later).map(move |earlier| (earlier, later)));
     let pairs = all.filter(|_| digit(&mut number, 2) == 1).collect();
-    Small { book, log: DraftLog { agents, pairs }.text() }
+    Small { book, log: DraftLog { agents, pairs, picks: Vec::new() }.text() }
 }
 
 // ---- headers: every field of both header lines and of the log's at its bounds
 
-const AT_BOUNDS: [u32; 24] = [
-    0, 1, 2, 3, 4, 5, 6, 7, 8, 9, 13, 14, 16, 17, 32, 33, 64, 65, 1_024, 1_025, 10_000, 10_001, 65_537,
-    999_999,
+const AT_BOUNDS: [u32; 26] = [
+    0, 1, 2, 3, 4, 5, 6, 7, 8, 9, 13, 14, 16, 17, 32, 33, 64, 65, 256, 257, 1_024, 1_025, 10_000, 10_001,
+    65_537, 999_999,
 ];
 
 fn headers() -> u64 {
@@ -164,35 +174,54 @@ fn header(mut number: u64) -> Small {
     Small { book, log }
 }
 
-// ---- bytes: each byte of the shown input changed to some others
+// ---- bytes: each byte of the shown inputs changed to some others
 
 const OTHERS: &[u8; 16] = b" \n0123456789-a\0\xff";
 
+/// The shown input, and one with picks.
+fn all_shown() -> [Small; 2] {
+    [shown(), picks::shown_pick()]
+}
+
+/// How many bytes the shown inputs have.
+fn shown_bytes() -> u64 {
+    all_shown().iter().map(|small| (small.book.len() + small.log.len()) as u64).sum()
+}
+
+/// The shown input that has this byte, counted over both, and where the byte stands in it.
+fn shown_at(byte: u64) -> (Small, usize) {
+    let mut at = byte as usize;
+    for small in all_shown() {
+        let bytes = small.book.len() + small.log.len();
+        if at < bytes {
+            return (small, at);
+        }
+        at -= bytes;
+    }
+    panic!("there are only {} bytes", shown_bytes())
+}
+
 fn bytes() -> u64 {
-    let Small { book, log } = shown();
-    OTHERS.len() as u64 * (book.len() + log.len()) as u64
+    OTHERS.len() as u64 * shown_bytes()
 }
 
 fn byte(mut number: u64) -> Small {
     let other = OTHERS[digit(&mut number, OTHERS.len() as u64) as usize];
-    let mut small = shown();
-    let at = number as usize;
+    let (mut small, at) = shown_at(number);
     let split = small.book.len();
     *(if at < split { &mut small.book[at] } else { &mut small.log[at - split] }) = other;
     small
 }
 
-// ---- cuts: the shown input cut at each length, and without each of its bytes
+// ---- cuts: the shown inputs cut at each length, and without each of their bytes
 
 fn cuts() -> u64 {
-    let Small { book, log } = shown();
-    2 * (book.len() + log.len()) as u64
+    2 * shown_bytes()
 }
 
 fn cut(mut number: u64) -> Small {
     let to_the_end = digit(&mut number, 2) == 1;
-    let Small { book, log } = shown();
-    let at = number as usize;
+    let (Small { book, log }, at) = shown_at(number);
     let without = |text: &[u8], at: usize| {
         let rest = if to_the_end { &[] } else { &text[at + 1..] };
         [&text[..at], rest].concat()
@@ -205,9 +234,9 @@ fn cut(mut number: u64) -> Small {
     Small { book, log: if to_the_end { Vec::new() } else { log } }
 }
 
-// ---- roots: every line of kind 0 to 28 with fields to 6 over a term, a location and two skips
+// ---- roots: every line of kind 0 to 29 with fields to 6 over a term, a location and two skips
 
-const KINDS_OF_NODES: u64 = 29;
+const KINDS_OF_NODES: u64 = 30;
 const FIELDS: u64 = 7;
 
 fn roots() -> u64 {

@@ -3,8 +3,12 @@
 use crate::books;
 use crate::draft::Draft;
 use crate::faults;
+use crate::picks::fitting_picks;
 use crate::rng::Rng;
 use paper::{fire_move, start_table, Book, Marks};
+
+/// The most picks of a move that is made to reach a table.
+const MOST_PICKS: usize = 30;
 
 /// A table of L records that keeps the rules, if the book does.
 pub fn sound(rng: &mut Rng, draft: &Draft, book: &Book) -> Vec<u16> {
@@ -21,8 +25,9 @@ pub fn reached(rng: &mut Rng, book: &Book) -> Vec<u16> {
     let mut list = Vec::new();
     for _ in 0..rng.range(1, 8) {
         let agent = rng.index(book.agents.len());
+        let picks = fitting_picks(rng, book, &contents, agent, MOST_PICKS);
         // A refused move leaves the contents as they were.
-        let _ = fire_move(book, &mut contents, agent, Marks::none(), &mut list);
+        let _ = fire_move(book, &mut contents, agent, &picks, Marks::none(), &mut list);
     }
     contents
 }

@@ -1,7 +1,10 @@
-// Each answer of each entry, each reason of the book's refusals, and moves that change nothing occur often enough.
+// Each answer of each entry, each reason of the book's refusals, picks, and moves that change nothing occur often enough.
 
-use inputs::{book_input, idle_ways, report_input, run_input, step_input, Idle, Rng};
-use paper::{check_book, report, run, step, Answer, Line, LINE_BYTES};
+use inputs::{
+    book_input, cuts, idle_ways, picked_ways, report_input, run_input, step_input, Cut, Idle, Picked, Rng,
+    RunInput, StepInput,
+};
+use paper::{check_book, report, run, step, Answer, Line, Pick, LINE_BYTES};
 use std::collections::BTreeMap;
 
 const SEED: u64 = 22;
@@ -32,6 +35,12 @@ fn assert_all<K: Ord + std::fmt::Debug>(
     assert!(counts.keys().all(|key| keys.contains(key)), "more than {keys:?}: {counts:?}");
 }
 
+/// Each key came up at least as often as its floor says, and no other key did.
+fn assert_floors<K: Ord + Copy + std::fmt::Debug>(counts: &BTreeMap<K, u64>, floors: &[(K, u64)]) {
+    assert_all(counts, floors.iter().map(|(key, _)| *key), 1);
+    assert!(floors.iter().all(|(key, least)| counts[key] >= *least), "{counts:?}, not {floors:?}");
+}
+
 fn book_answer(book: &[u8]) -> Answer {
     check_book(book).err().unwrap_or(Answer::ACCEPTED)
 }
@@ -46,22 +55,26 @@ fn answers_of_the_book_check() {
     assert_all(&counts, [0, 1, 3, 4, 5, 6, 7, 8], INPUTS * 75 / 10_000);
 }
 
+fn answer_of_move(input: &StepInput) -> Answer {
+    step(&input.book, &mut input.contents.clone(), input.agent, &input.picks, input.lent)
+}
+
 #[test]
 fn answers_of_a_single_move() {
-    let counts = tally(|rng| {
-        let mut input = step_input(rng);
-        Some(step(&input.book, &mut input.contents, input.agent, input.lent).number)
-    });
-    assert_all(&counts, (0..=9).chain(11..=15), INPUTS * 80 / 10_000);
+    let counts = tally(|rng| Some(answer_of_move(&step_input(rng)).number));
+    println!("single moves: {counts:?}");
+    assert_all(&counts, (0..=9).chain(11..=15).chain([18, 19]), INPUTS * 60 / 10_000);
+}
+
+fn answer_of(input: &mut RunInput) -> Answer {
+    let (contents, readers, writers) = (&mut input.contents, &mut input.readers, &mut input.writers);
+    run(&input.book, &input.log, contents, readers, writers, input.lent)
 }
 
 #[test]
 fn answers_of_a_run() {
-    let counts = tally(|rng| {
-        let mut input = run_input(rng);
-        let (contents, readers, writers) = (&mut input.contents, &mut input.readers, &mut input.writers);
-        Some(run(&input.book, &input.log, contents, readers, writers, input.lent).number)
-    });
+    let counts = tally(|rng| Some(answer_of(&mut run_input(rng)).number));
+    println!("runs: {counts:?}");
     assert_all(&counts, Answer::NUMBERS, INPUTS * 40 / 10_000);
 }
 
@@ -69,13 +82,145 @@ fn answers_of_a_run() {
 fn moves_that_change_nothing() {
     let counts = tally(|rng| {
         let mut input = run_input(rng);
-        let (contents, readers, writers) = (&mut input.contents, &mut input.readers, &mut input.writers);
-        let answer = run(&input.book, &input.log, contents, readers, writers, input.lent);
+        let answer = answer_of(&mut input);
         idle_ways(&input.book, &input.log, answer)
     });
+    println!("moves that change nothing: {counts:?}");
     assert_all(&counts, Idle::ALL, INPUTS * 20 / 10_000);
     let often = [Idle::Bare, Idle::Writing].map(|way| counts[&way]);
     assert!(often.iter().all(|&count| count >= INPUTS * 5 / 100), "{often:?} in accepted logs");
+}
+
+#[test]
+fn picks_in_logs() {
+    let counts = tally(|rng| {
+        let mut input = run_input(rng);
+        let answer = answer_of(&mut input);
+        picked_ways(&input.book, &input.log, answer)
+    });
+    println!("picks in logs: {counts:?}");
+    assert_all(&counts, Picked::ALL, INPUTS * 20 / 10_000);
+    for (way, least) in [
+        (Picked::Accepted, INPUTS * 12 / 100),
+        (Picked::InTurns, INPUTS * 2 / 100),
+        (Picked::Nested, INPUTS / 100),
+        (Picked::NotInUniverse, INPUTS / 100),
+        (Picked::Lacking, INPUTS / 100),
+        (Picked::LeftOver, INPUTS / 100),
+    ] {
+        assert!(counts[&way] >= least, "{way:?} in {counts:?}");
+    }
+}
+
+/// Why a choice line is at fault by 9, or the log's header for their count.
+fn reason_of_9(book: &[u8], log: &[u8], place: usize) -> Option<&'static str> {
+    let elements = check_book(book).unwrap().elements as u32;
+    if place == 0 {
+        return (lines(&log[..LINE_BYTES])[0][2] > 256).then_some("count");
+    }
+    let lines = lines(log);
+    let [m, k, ..] = lines[0];
+    let first = (1 + m + k) as usize;
+    let [of_move, element, third, fourth] = lines[place];
+    match () {
+        _ if place < first => None,
+        _ if of_move >= m => Some("move"),
+        _ if element >= elements => Some("element"),
+        _ if third != 0 => Some("third field"),
+        _ if fourth != 0 => Some("fourth field"),
+        _ if place > first && of_move < lines[place - 1][0] => Some("order"),
+        _ => panic!("line {place} is sound"),
+    }
+}
+
+#[test]
+fn reasons_of_choice_lines() {
+    let counts = tally(|rng| {
+        let mut input = run_input(rng);
+        let answer = answer_of(&mut input);
+        (answer.number == 9).then(|| reason_of_9(&input.book, &input.log, answer.p as usize)).flatten()
+    });
+    println!("choice lines at fault: {counts:?}");
+    assert_all(&counts, ["count", "move", "element", "third field", "fourth field", "order"], 20);
+}
+
+/// How the picks of a single move stand.
+fn way_of_picks(picks: &[Pick], answer: Answer) -> Option<&'static str> {
+    match (answer.number, picks.len()) {
+        (0, 257..) => Some("more than 256, accepted"),
+        (0, 1..) => Some("accepted"),
+        (9, _) if answer.p > 256 => Some("no element past 256"),
+        (9, _) if answer.p > 0 => Some("no element"),
+        (19, 257..) => Some("more than 256, 19"),
+        (19, 0) => Some("19 without picks"),
+        (19, _) => Some("19"),
+        _ => None,
+    }
+}
+
+#[test]
+fn picks_of_single_moves() {
+    let counts = tally(|rng| {
+        let input = step_input(rng);
+        way_of_picks(&input.picks, answer_of_move(&input))
+    });
+    println!("picks of single moves: {counts:?}");
+    let often = ["accepted", "no element", "19 without picks", "19"];
+    let rare = ["more than 256, accepted", "no element past 256", "more than 256, 19"];
+    assert_all(&counts, often.into_iter().chain(rare), 4);
+    assert!(often.iter().all(|way| counts[way] >= 200), "{counts:?}");
+}
+
+#[test]
+fn sizes_of_picks_that_are_no_elements() {
+    let sizes = [("2^16", 1 << 16), ("2^32", 1 << 32), ("2^63", 1 << 63), ("2^64 - 1", Pick::MAX)];
+    let counts = tally(|rng| {
+        let input = step_input(rng);
+        let answer = answer_of_move(&input);
+        let at_fault = answer.number == 9 && answer.p > 0;
+        let pick = if at_fault { input.picks[answer.p as usize - 1] } else { 0 };
+        sizes.into_iter().filter(move |&(_, least)| pick >= least).map(|(size, _)| size)
+    });
+    println!("picks that are no elements, at or past: {counts:?}");
+    assert_floors(&counts, &[("2^16", 300), ("2^32", 200), ("2^63", 80), ("2^64 - 1", 8)]);
+}
+
+#[test]
+fn cut_picks_are_seen() {
+    let counts = tally(|rng| {
+        let input = step_input(rng);
+        let answer = answer_of_move(&input);
+        cuts(&input, answer)
+    });
+    println!("picks cut to fewer bits: {counts:?}");
+    let seen = [(Cut::Seen(16), 200), (Cut::Seen(32), 100), (Cut::Seen(48), 40), (Cut::Seen(63), 30)];
+    let accepted = [16, 32, 48, 63].map(Cut::Accepted).into_iter().zip([30, 15, 8, 6]);
+    assert_floors(&counts, &seen.into_iter().chain(accepted).collect::<Vec<_>>());
+}
+
+/// Whether a log's header says that it has choice lines.
+fn has_choice_lines(log: &[u8]) -> bool {
+    let field = log.get(12..18).and_then(|columns| std::str::from_utf8(columns).ok());
+    field.is_some_and(|field| field.trim().parse::<u32>().is_ok_and(|count| count > 0))
+}
+
+/// The log of an input whose header says where it begins.
+fn log_in(input: &[u8]) -> Option<&[u8]> {
+    let header = std::str::from_utf8(input.get(..2 * LINE_BYTES)?).ok()?;
+    let fields: Option<Vec<usize>> = header.split_whitespace().map(|field| field.parse().ok()).collect();
+    let lines = 2 + fields?.get(2..6)?.iter().sum::<usize>();
+    input.get(lines * LINE_BYTES..)
+}
+
+#[test]
+fn a_third_of_the_inputs_have_picks() {
+    let moves = tally(|rng| (!step_input(rng).picks.is_empty()).then_some(()));
+    let logs = tally(|rng| has_choice_lines(&run_input(rng).log).then_some(()));
+    let reports = tally(|rng| log_in(&report_input(rng)).is_some_and(has_choice_lines).then_some(()));
+    println!("with picks, of {INPUTS}: {moves:?} moves, {logs:?} logs, {reports:?} whole inputs");
+    assert_all(&moves, [()], INPUTS / 3);
+    assert_all(&logs, [()], INPUTS / 3);
+    assert_all(&reports, [()], INPUTS / 3);
 }
 
 #[test]
@@ -83,6 +228,7 @@ fn answers_of_the_printer() {
     let number =
         |text: Vec<u8>| String::from_utf8(text[..6].to_vec()).unwrap().trim().parse::<u32>().unwrap();
     let counts = tally(|rng| Some(number(report(&report_input(rng)))));
+    println!("whole inputs: {counts:?}");
     assert_all(&counts, Answer::NUMBERS, INPUTS * 40 / 10_000);
     let sizes = tally(|rng| {
         let length = report_input(rng).len();
@@ -119,7 +265,7 @@ fn reason_of_6(book: &[u8], node: u32) -> &'static str {
         7 | 9..=13 | 21 | 22 => vec![line[1], line[2]],
         23 => line[1..].to_vec(),
         24 => vec![line[2], line[3]],
-        25 | 26 => vec![line[3]],
+        25 | 26 | 28 => vec![line[3]],
         _ => vec![],
     };
     let users = |node: u32| nodes.iter().filter(move |line| operands(line).contains(&node));
@@ -231,7 +377,7 @@ fn reason_in_table(book: &[u8], contents: &[u16], location: usize) -> &'static s
 fn reasons_in_lent_tables() {
     let counts = tally(|rng| {
         let mut input = step_input(rng);
-        let answer = step(&input.book, &mut input.contents, input.agent, input.lent);
+        let answer = step(&input.book, &mut input.contents, input.agent, &input.picks, input.lent);
         let of_table = answer.number == 8 && check_book(&input.book).is_ok();
         of_table.then(|| reason_in_table(&input.book, &input.contents, answer.p as usize))
     });

@@ -15,12 +15,12 @@ fn check(name: &str, at_least: usize) {
 
 #[test]
 fn decisions() {
-    check("DECISIONS.md", 11);
+    check("DECISIONS.md", 20);
 }
 
 #[test]
 fn refusals() {
-    check("REFUSALS.md", 20);
+    check("REFUSALS.md", 30);
 }
 
 #[test]
@@ -36,5 +36,5 @@ fn examples() {
             shown += 1;
         }
     }
-    assert!(shown >= 6, "{shown} examples");
+    assert!(shown >= 8, "{shown} examples");
 }

@@ -1,13 +1,13 @@
 // The cases of paper 01 print what the independent implementation prints, and the proved table of the definitions has the same ones.
 
-use inputs::marked::{idle, limits, marked, refusals, Case};
+use inputs::marked::{idle, limits, marked, picks, refusals, Case};
 use paper::padded;
 use std::fs;
 
 #[test]
 fn printed_by_the_independent_implementation() {
-    let cases = [marked(), limits(), refusals(), idle()].concat();
-    assert_eq!(cases.len(), 12 + 9 + 16 + 5);
+    let cases = [marked(), limits(), refusals(), idle(), picks()].concat();
+    assert_eq!(cases.len(), 12 + 11 + 18 + 5 + 14);
     for case in cases {
         assert_eq!(paper::report(&case.input), case.output, "{}", case.name);
     }
@@ -15,7 +15,7 @@ fn printed_by_the_independent_implementation() {
 
 #[test]
 fn one_for_each_refusal() {
-    let numbers = (1..=15).chain([17]);
+    let numbers = (1..=15).chain([17, 18, 19]);
     assert_eq!(numbers.clone().count(), refusals().len());
     for (number, case) in numbers.zip(refusals()) {
         assert!(case.name.starts_with(&format!("{number}:")), "{}", case.name);

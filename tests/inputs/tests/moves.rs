@@ -1,12 +1,20 @@
 // What holds of every move: sound contents stay sound, and only what is read decides.
 
-use inputs::{books, step_input, tables, Rng, StepInput};
+use inputs::{books, fitting_picks, spoil_picks, step_input, tables, Rng, StepInput};
 use paper::*;
 
 const SEED: u64 = 21;
 
-/// A sound book, two sound tables with equal static locations, and an agent.
-fn two_tables(input: u64) -> (Book, Vec<u16>, Vec<u16>, usize) {
+/// A sound book, two sound tables with equal static locations, and an agent with picks, which mostly fit the first.
+struct TwoTables {
+    book: Book,
+    first: Vec<u16>,
+    second: Vec<u16>,
+    agent: usize,
+    picks: Vec<Pick>,
+}
+
+fn two_tables(input: u64) -> TwoTables {
     let mut rng = Rng::for_input(SEED, input);
     let draft = books::sound(&mut rng);
     let book = check_book(&draft.text()).expect("a sound book");
@@ -16,47 +24,62 @@ fn two_tables(input: u64) -> (Book, Vec<u16>, Vec<u16>, usize) {
         second[function.run()].copy_from_slice(&first[function.run()]);
     }
     let agent = rng.index(book.agents.len());
-    (book, first, second, agent)
+    let mut picks = fitting_picks(&mut rng, &book, &first, agent, 40);
+    if rng.percent(15) {
+        spoil_picks(&mut rng, draft.elements, &mut picks);
+    }
+    TwoTables { book, first, second, agent, picks }
 }
 
 /// A walk's outcome with its list, and the locations that it read.
-fn walked(book: &Book, contents: &[u16], agent: usize) -> (Result<Vec<Instruction>, Refusal>, Vec<bool>) {
+fn walked(tables: &TwoTables, contents: &[u16]) -> (Result<Vec<Instruction>, Refusal>, Vec<bool>) {
+    let book = &tables.book;
     let mut readers = vec![0; book.locations];
     let mut marks = Marks { readers: &mut readers, writers: &mut [], bit: 1 };
     let mut list = Vec::new();
-    let outcome = walk_move(book, contents, agent, &mut marks, &mut list);
+    let outcome = walk_move(book, contents, tables.agent, &tables.picks, &mut marks, &mut list);
     (outcome.map(|()| list), readers.into_iter().map(|mark| mark != 0).collect())
 }
 
-/// The claim on reads, with tables that agree on the reads, and on Reserve when the walk is refused.
+/// The claim on reads, with equal picks and tables that agree on the reads, and on Reserve when the walk is refused.
 #[test]
 fn only_what_is_read_decides() {
-    let (mut fired, mut refused) = (0, 0);
-    for input in 0..6_000 {
-        let (book, first, mut second, agent) = two_tables(input);
-        let (outcome, read) = walked(&book, &first, agent);
+    let (mut fired, mut with_picks, mut refused, mut by_18, mut by_19) = (0, 0, 0, 0, 0);
+    for input in 0..9_000 {
+        let tables = two_tables(input);
+        let TwoTables { book, first, picks, .. } = &tables;
+        let mut second = tables.second.clone();
+        let (outcome, read) = walked(&tables, first);
         let differ = |a: &[u16], b: &[u16]| a.iter().zip(b).any(|(a, b)| a != b);
         let same = |location: usize| read[location] || (outcome.is_err() && location < book.elements);
         for location in (0..book.locations).filter(|&location| same(location)) {
             second[location] = first[location];
         }
-        if differ(&first, &second) {
-            *(if outcome.is_ok() { &mut fired } else { &mut refused }) += 1;
+        if differ(first, &second) {
+            let number = outcome.as_ref().map_or_else(|refusal| refusal.number, |_| 0);
+            *(if number == 0 { &mut fired } else { &mut refused }) += 1;
+            with_picks += usize::from(number == 0 && !picks.is_empty());
+            by_18 += usize::from(number == 18);
+            by_19 += usize::from(number == 19);
         }
-        assert_eq!(walked(&book, &second, agent).0, outcome, "input {input}");
+        assert_eq!(walked(&tables, &second).0, outcome, "input {input}");
     }
+    println!(
+        "{fired} walks to the end, {with_picks} with picks; {refused} refused, {by_18} by 18, {by_19} by 19"
+    );
     assert!(fired >= 1_000 && refused >= 300, "{fired} walks to the end, {refused} refused ones");
+    assert!(with_picks >= 500 && by_18 >= 50 && by_19 >= 200, "{with_picks} with picks, {by_18}, {by_19}");
 }
 
 #[test]
 fn moves_keep_contents_sound() {
     let (mut changed, mut idle, mut refused) = (0, 0, 0);
     for input in 0..20_000 {
-        let StepInput { book: text, contents: mut after, agent, lent } =
+        let StepInput { book: text, contents: mut after, agent, picks, lent } =
             step_input(&mut Rng::for_input(SEED, input));
         let Ok(book) = check_book(&text) else { continue };
         let before = after.clone();
-        if step(&text, &mut after, agent, lent).number == 0 {
+        if step(&text, &mut after, agent, &picks, lent).number == 0 {
             *(if after == before { &mut idle } else { &mut changed }) += 1;
             assert_eq!(fault_in_table(&book, &after), None, "input {input}");
             assert_eq!(after[book.locations..], before[book.locations..]);
@@ -96,10 +119,10 @@ fn by_the_words(book: &Book, before: &[u16], list: &[Instruction]) -> Vec<u16> {
 fn a_move_leaves_what_its_instructions_say() {
     let mut with_release = 0;
     for input in 0..6_000 {
-        let (book, before, _, agent) = two_tables(input);
+        let TwoTables { book, first: before, agent, picks, .. } = two_tables(input);
         let mut after = before.clone();
         let mut list = Vec::new();
-        if fire_move(&book, &mut after, agent, Marks::none(), &mut list).is_ok() {
+        if fire_move(&book, &mut after, agent, &picks, Marks::none(), &mut list).is_ok() {
             let release = |instruction: &Instruction| matches!(instruction, Instruction::Release { .. });
             with_release += usize::from(list.iter().any(release));
             assert_eq!(after, by_the_words(&book, &before, &list), "input {input}");

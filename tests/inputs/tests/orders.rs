@@ -1,6 +1,6 @@
-// Any order of an accepted log that keeps the pairs fires the same moves and leaves the same end.
+// Any order of an accepted log that keeps the pairs, each move with its picks, fires the same moves and leaves the same end.
 
-use inputs::{idle_ways, random_order, run_input, small_input, small_inputs, Idle, Rng};
+use inputs::{idle_ways, picked_ways, random_order, run_input, small_input, small_inputs, Idle, Picked, Rng};
 use paper::*;
 use std::collections::BTreeSet;
 
@@ -16,7 +16,8 @@ fn carried_out(book: &Book, log: &Log, order: &[usize]) -> Result<(Vec<Updates>,
     let mut list = Vec::new();
     for &number in order {
         let before = contents.clone();
-        fire_move(book, &mut contents, log.agents[number], Marks::none(), &mut list)?;
+        let (agent, picks) = (log.agents[number], &log.picks[number]);
+        fire_move(book, &mut contents, agent, picks, Marks::none(), &mut list)?;
         by_move[number] = updates(book, &before, &list);
     }
     Ok((by_move, contents))
@@ -27,8 +28,9 @@ struct Accepted {
     book: Book,
     log: Log,
     end: Vec<u16>,
-    /// How moves that change nothing stand in it.
+    /// How moves that change nothing stand in it, and how picks do.
     idle: Vec<Idle>,
+    picked: Vec<Picked>,
 }
 
 impl Accepted {
@@ -39,11 +41,19 @@ impl Accepted {
         let (mut readers, mut writers) = (vec![0; book.locations], vec![0; book.locations]);
         run_checked(&book, &log, &mut end, &mut readers, &mut writers, 256).ok()?;
         let idle = idle_ways(book_text, log_text, Answer::ACCEPTED);
-        Some(Accepted { book, log, end, idle })
+        let picked = picked_ways(book_text, log_text, Answer::ACCEPTED);
+        Some(Accepted { book, log, end, idle, picked })
     }
 
     fn listing(&self) -> Vec<usize> {
         (0..self.log.agents.len()).collect()
+    }
+
+    /// Whether the moves that pick do not come as they are listed.
+    fn exchanges_picks(&self, order: &[usize]) -> bool {
+        let picking: Vec<usize> =
+            order.iter().copied().filter(|&number| !self.log.picks[number].is_empty()).collect();
+        !picking.is_sorted()
     }
 
     /// All these orders do what the listing does, and end as the run did.
@@ -60,12 +70,16 @@ impl Accepted {
 }
 
 /// How many orders other than the listing there were: of all logs, of those with a move that changes
-/// nothing, of those with such a move unordered with a release.
+/// nothing, of those with such a move unordered with a release; of those with picks, of those with several picks of one choice in a move;
+/// and of those in which moves that pick changed places.
 #[derive(Debug, Default)]
 struct Others {
     all: usize,
     idle: usize,
     beside_release: usize,
+    picks: usize,
+    in_turns: usize,
+    picks_exchanged: usize,
 }
 
 impl Others {
@@ -78,6 +92,13 @@ impl Others {
         if accepted.idle.contains(&Idle::BesideRelease) {
             self.beside_release += others;
         }
+        if accepted.picked.contains(&Picked::Accepted) {
+            self.picks += others;
+        }
+        if accepted.picked.contains(&Picked::InTurns) {
+            self.in_turns += others;
+        }
+        self.picks_exchanged += orders.iter().filter(|order| accepted.exchanges_picks(order)).count();
     }
 }
 
@@ -99,6 +120,7 @@ fn any_order_that_keeps_the_pairs_does_the_same() {
     }
     println!("random logs: {others:?}");
     assert!(others.all >= 10_000 && others.idle >= 4_000 && others.beside_release >= 300, "{others:?}");
+    assert!(others.picks >= 4_000 && others.in_turns >= 500 && others.picks_exchanged >= 1_500, "{others:?}");
 }
 
 /// All orders of m moves that keep the pairs: each move at every place among those before it.
@@ -127,6 +149,7 @@ fn all_orders_of_the_small_logs_do_the_same() {
     }
     println!("small logs: {others:?}");
     assert!(others.all >= 2_000 && others.idle >= 1_000 && others.beside_release >= 500, "{others:?}");
+    assert!(others.picks >= 250 && others.in_turns >= 150 && others.picks_exchanged >= 250, "{others:?}");
 }
 
 #[test]

@@ -12,7 +12,7 @@ impl Answer {
     pub const ACCEPTED: Answer = Answer { number: 0, p: 0, q: 0 };
 
     /// The numbers that are given. 16, once for a move that changes nothing, stays taken.
-    pub const NUMBERS: [u32; 17] = [0, 1, 2, 3, 4, 5, 6, 7, 8, 9, 10, 11, 12, 13, 14, 15, 17];
+    pub const NUMBERS: [u32; 19] = [0, 1, 2, 3, 4, 5, 6, 7, 8, 9, 10, 11, 12, 13, 14, 15, 17, 18, 19];
 
     /// A refusal; places are bounded by the lines, locations and nodes of checked sizes.
     pub(crate) fn refused(number: u32, p: usize, q: usize) -> Answer {
@@ -26,11 +26,11 @@ impl From<Result<(), Answer>> for Answer {
     }
 }
 
-/// A refusal met inside a move, 11 to 15, before the move's own number is known.
+/// A refusal met inside a move, 11 to 15, 18 or 19, before the move's own number is known.
 #[derive(Debug, Clone, Copy, PartialEq, Eq)]
 pub struct Refusal {
     pub number: u32,
-    /// The node for 11 to 14, the location for 15.
+    /// The node for 11 to 14, 18 and 19, the location for 15.
     pub place: usize,
 }
 

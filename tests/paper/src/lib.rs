@@ -1,5 +1,5 @@
-// Paper 01, as paper 02's F-1 changes it, in plain Rust: the book check, a single move, the run of a log
-// and the log printer.
+// Paper 01, as F-1 and F-2 of paper 02 change it, in plain Rust: the book check, a single move, the run of
+// a log and the log printer.
 #![forbid(unsafe_code)]
 
 mod answer;
@@ -16,11 +16,11 @@ mod walk;
 
 pub use answer::{Answer, Refusal};
 pub use book::{check_book, Agent, Book, Function, FALSE, TRUE, UNDEF};
-pub use log::{check_log, Log};
+pub use log::{check_log, Log, CHOICE_LINES};
 pub use node::Node;
 pub use print::report;
 pub use run::{run, run_checked};
-pub use step::{fire_move, reads_and_writes, step, step_checked, step_listed, updates};
+pub use step::{fire_move, reads_and_writes, step, step_checked, step_listed, updates, MOST_PLACE};
 pub use table::{fault_in_table, start_table};
 pub use text::{padded, write_line, Line, LINE_BYTES};
-pub use walk::{walk_move, Instruction, Marks, INSTRUCTIONS};
+pub use walk::{walk_move, Instruction, Marks, Pick, INSTRUCTIONS};

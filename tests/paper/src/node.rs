@@ -28,6 +28,7 @@ pub enum Node {
     ForAll { variable: usize, universe: usize, body: usize },
     Import { variable: usize, universe: usize, body: usize },
     Release(usize),
+    Choose { variable: usize, universe: usize, body: usize },
 }
 
 impl Node {
@@ -42,6 +43,7 @@ impl Node {
                 | ForAll { .. }
                 | Import { .. }
                 | Release(_)
+                | Choose { .. }
         )
     }
 
@@ -50,7 +52,8 @@ impl Node {
         match *self {
             Node::Let { variable, body, .. }
             | Node::ForAll { variable, body, .. }
-            | Node::Import { variable, body, .. } => Some((variable, body)),
+            | Node::Import { variable, body, .. }
+            | Node::Choose { variable, body, .. } => Some((variable, body)),
             _ => None,
         }
     }
@@ -61,7 +64,7 @@ impl Node {
         let places = match *self {
             Element(_) | Variable(_) | AgentElement | Nullary { .. } | Skip => [None; 3],
             Unary { argument: a, .. } | Not(a) | Release(a) => [Some(a), None, None],
-            ForAll { body, .. } | Import { body, .. } => [Some(body), None, None],
+            ForAll { body, .. } | Import { body, .. } | Choose { body, .. } => [Some(body), None, None],
             Binary { first: a, second: b, .. } | Let { value: a, body: b, .. } => [Some(a), Some(b), None],
             Equal(a, b) | And(a, b) | Or(a, b) => [Some(a), Some(b), None],
             Plus(a, b) | Minus(a, b) | Less(a, b) => [Some(a), Some(b), None],
@@ -120,15 +123,21 @@ impl NodeReader<'_> {
             22 => Node::Both(self.rule(a)?, self.rule(b)?),
             23 => Node::If { guard: self.term(a)?, then: self.rule(b)?, otherwise: self.rule(c)? },
             24 => Node::Let { variable: self.variable(a)?, value: self.term(b)?, body: self.rule(c)? },
-            25 => {
-                Node::ForAll { variable: self.variable(a)?, universe: self.universe(b)?, body: self.rule(c)? }
-            }
-            26 => {
-                Node::Import { variable: self.variable(a)?, universe: self.growing(b)?, body: self.rule(c)? }
-            }
+            25 | 26 | 28 => self.over_universe(kind, a, b, c)?,
             27 => Node::Release(self.term(a)?),
             _ => return None,
         })
+    }
+
+    /// A binder of an element of a universe; imports add to theirs.
+    fn over_universe(&self, kind: u32, a: u32, b: u32, c: u32) -> Option<Node> {
+        let (variable, universe, body) = (self.variable(a)?, self.universe(b)?, self.rule(c)?);
+        match kind {
+            25 => Some(Node::ForAll { variable, universe, body }),
+            26 if !self.functions[universe].dynamic => None,
+            26 => Some(Node::Import { variable, universe, body }),
+            _ => Some(Node::Choose { variable, universe, body }),
+        }
     }
 
     fn permanent(&self, field: u32) -> Option<u16> {
@@ -148,11 +157,6 @@ impl NodeReader<'_> {
 
     fn universe(&self, field: u32) -> Option<usize> {
         self.function(field, 1).filter(|&number| self.functions[number].relation)
-    }
-
-    /// A universe that imports can add to.
-    fn growing(&self, field: u32) -> Option<usize> {
-        self.universe(field).filter(|&number| self.functions[number].dynamic)
     }
 
     fn term(&self, field: u32) -> Option<usize> {

@@ -45,9 +45,10 @@ pub fn run_checked(
     readers.fill(0);
     writers.fill(0);
     let mut list = Vec::with_capacity(INSTRUCTIONS);
-    for (number, &agent) in log.agents.iter().enumerate() {
+    for (number, (&agent, picks)) in log.agents.iter().zip(&log.picks).enumerate() {
         let marks = Marks { readers, writers, bit: 1 << number };
-        fire_move(book, contents, agent, marks, &mut list).map_err(|refusal| refusal.in_move(number))?;
+        fire_move(book, contents, agent, picks, marks, &mut list)
+            .map_err(|refusal| refusal.in_move(number))?;
     }
     match unordered_touch(&log.before, readers, writers) {
         Some((first, second)) => Err(Answer::refused(17, first, second)),

@@ -3,18 +3,23 @@
 use crate::answer::{Answer, Refusal};
 use crate::book::{check_book, Book, Function, TRUE};
 use crate::table::{arguments, fault_in_table};
-use crate::walk::{walk_move, Instruction, Marks, INSTRUCTIONS};
+use crate::walk::{walk_move, Instruction, Marks, Pick, INSTRUCTIONS};
 
-/// Fires one move of an agent, or refuses it and leaves contents and marks as they were.
+/// The greatest place that an answer has room for: places have 24 bits.
+pub const MOST_PLACE: usize = (1 << 24) - 1;
+
+/// Fires one move of an agent with these picks, which are elements, or refuses it and leaves contents and
+/// marks as they were.
 /// The list holds the instructions of a move that was walked to the end, refused by 15 or not.
 pub fn fire_move(
     book: &Book,
     contents: &mut [u16],
     agent: usize,
+    picks: &[Pick],
     mut marks: Marks,
     list: &mut Vec<Instruction>,
 ) -> Result<(), Refusal> {
-    let judged = match walk_move(book, contents, agent, &mut marks, list) {
+    let judged = match walk_move(book, contents, agent, picks, &mut marks, list) {
         Ok(()) => judge(book, contents, list),
         Err(refusal) => {
             list.clear();
@@ -175,19 +180,20 @@ pub fn reads_and_writes(
     book: &Book,
     contents: &[u16],
     agent: usize,
+    picks: &[Pick],
 ) -> Result<(Vec<usize>, Vec<usize>), Refusal> {
     let mut after = contents.to_vec();
     let mut readers = vec![0; book.locations];
     let mut writers = vec![0; book.locations];
     let marks = Marks { readers: &mut readers, writers: &mut writers, bit: 1 };
-    fire_move(book, &mut after, agent, marks, &mut Vec::new())?;
+    fire_move(book, &mut after, agent, picks, marks, &mut Vec::new())?;
     let marked = |marks: &[u64]| (0..marks.len()).filter(|&location| marks[location] != 0).collect();
     Ok((marked(&readers), marked(&writers)))
 }
 
-/// One move of an agent on a lent table, as move 0.
-pub fn step(book: &[u8], contents: &mut [u16], agent: usize, lent: usize) -> Answer {
-    step_listed(book, contents, agent, lent).0
+/// One move of an agent with these picks on a lent table, as move 0.
+pub fn step(book: &[u8], contents: &mut [u16], agent: usize, picks: &[Pick], lent: usize) -> Answer {
+    step_listed(book, contents, agent, picks, lent).0
 }
 
 /// As `step`, with the instruction list of a move that was walked to the end.
@@ -195,24 +201,30 @@ pub fn step_listed(
     book: &[u8],
     contents: &mut [u16],
     agent: usize,
+    picks: &[Pick],
     lent: usize,
 ) -> (Answer, Vec<Instruction>) {
     let mut list = Vec::new();
-    let outcome = check_book(book).and_then(|book| step_checked(&book, contents, agent, lent, &mut list));
+    let outcome =
+        check_book(book).and_then(|book| step_checked(&book, contents, agent, picks, lent, &mut list));
     (outcome.into(), list)
 }
 
-/// The single-move entry after the book's checks: 9, 2, 8, then the move.
+/// The single-move entry after the book's checks: 9 for the agent, 9 for the picks, 2, 8, then the move.
 pub fn step_checked(
     book: &Book,
     contents: &mut [u16],
     agent: usize,
+    picks: &[Pick],
     lent: usize,
     list: &mut Vec<Instruction>,
 ) -> Result<(), Answer> {
     list.clear();
     if agent >= book.agents.len() {
         return Err(Answer::refused(9, 0, 0));
+    }
+    if let Some(index) = picks.iter().position(|&pick| pick >= book.elements as Pick) {
+        return Err(Answer::refused(9, (index + 1).min(MOST_PLACE), 0));
     }
     if contents.len() < book.locations {
         return Err(Answer::refused(2, book.locations, 0));
@@ -223,5 +235,5 @@ pub fn step_checked(
     if let Some(location) = fault_in_table(book, contents) {
         return Err(Answer::refused(8, location, 0));
     }
-    fire_move(book, contents, agent, Marks::none(), list).map_err(|refusal| refusal.in_move(0))
+    fire_move(book, contents, agent, picks, Marks::none(), list).map_err(|refusal| refusal.in_move(0))
 }

@@ -72,7 +72,9 @@ fn at_fault(node: &Node, here: Around) -> bool {
         || match *node {
             Node::Variable(variable) => !bound(variable),
             Node::ForAll { variable, .. } => bound(variable) || here.foralls >= MOST_FORALLS,
-            Node::Let { variable, .. } | Node::Import { variable, .. } => bound(variable),
+            Node::Let { variable, .. } | Node::Import { variable, .. } | Node::Choose { variable, .. } => {
+                bound(variable)
+            }
             _ => false,
         }
 }

@@ -1,4 +1,4 @@
-// The walk of a move: terms, rules, the instruction list and the reads; refusals 11 to 14.
+// The walk of a move: terms, rules, picks, the instruction list and the reads; refusals 11 to 14, 18 and 19.
 
 use crate::answer::Refusal;
 use crate::book::{Book, FALSE, TRUE, UNDEF};
@@ -6,6 +6,9 @@ use crate::node::Node;
 
 /// How many instructions a move may give.
 pub const INSTRUCTIONS: usize = 256;
+
+/// What a choice is given: an element's number in 64 bits. Any other number of 64 bits is no element.
+pub type Pick = u64;
 
 /// The element of number 0.
 const ZERO: u16 = 3;
@@ -53,12 +56,14 @@ impl Marks<'_> {
     }
 }
 
-/// Walks an agent's rule in these contents: fills the instruction list and marks the reads.
-/// When refused, the list holds the instructions before the refusal and some reads are marked.
+/// Walks an agent's rule in these contents with these picks, which are elements: fills the instruction
+/// list and marks the reads. When refused, the list holds the instructions before the refusal and some
+/// reads are marked.
 pub fn walk_move(
     book: &Book,
     contents: &[u16],
     agent: usize,
+    picks: &[Pick],
     marks: &mut Marks,
     list: &mut Vec<Instruction>,
 ) -> Result<(), Refusal> {
@@ -70,10 +75,14 @@ pub fn walk_move(
         element: agent.element,
         variables: [UNDEF; 8],
         unseen: book.permanent,
+        picks,
         marks,
         list,
     };
     walk.rule(agent.root)?;
+    if !walk.picks.is_empty() {
+        return Err(Refusal { number: 19, place: agent.root });
+    }
     if walk.list.iter().any(|instruction| matches!(instruction, Instruction::Release { .. })) {
         let dynamic = book.functions.iter().filter(|function| function.dynamic);
         dynamic.for_each(|function| walk.marks.read_all(function.run()));
@@ -91,6 +100,8 @@ struct Walk<'a, 'm> {
     variables: [u16; 8],
     /// The least label that no import of this move has looked at.
     unseen: usize,
+    /// The move's picks that no choice has taken yet.
+    picks: &'a [Pick],
     marks: &'a mut Marks<'m>,
     list: &'a mut Vec<Instruction>,
 }
@@ -118,6 +129,10 @@ impl Walk<'_, '_> {
                 self.rule(body)
             }
             Node::Release(term) => self.release(node, term),
+            Node::Choose { variable, universe, body } => {
+                self.variables[variable] = self.choose(node, universe)?;
+                self.rule(body)
+            }
             _ => unreachable!("the book check leaves only rules here"),
         }
     }
@@ -166,6 +181,21 @@ impl Walk<'_, '_> {
             return Err(Refusal { number: 12, place: node });
         }
         self.add(node, Instruction::Release { label })
+    }
+
+    /// Takes the next pick, which has to be there and in the universe.
+    fn choose(&mut self, node: usize, universe: usize) -> Result<u16, Refusal> {
+        let (&pick, left) = self.picks.split_first().ok_or(Refusal { number: 19, place: node })?;
+        self.picks = left;
+        let function = self.book.functions[universe];
+        let location = function.first + pick as usize;
+        if function.dynamic {
+            self.marks.read(location);
+        }
+        if self.contents[location] != TRUE {
+            return Err(Refusal { number: 18, place: node });
+        }
+        Ok(pick as u16)
     }
 
     fn add(&mut self, node: usize, instruction: Instruction) -> Result<(), Refusal> {

@@ -52,7 +52,7 @@ fn instructions() {
     assert_eq!(step_of(&many(257, "20 0 0 0")).0, refused(14, 0, 3));
     // More records lent do not make room for more instructions.
     let mut contents = start(&many(257, "20 0 0 0"));
-    assert_eq!(step(&many(257, "20 0 0 0"), &mut contents, 0, 1_000), refused(14, 0, 3));
+    assert_eq!(step(&many(257, "20 0 0 0"), &mut contents, 0, &[], 1_000), refused(14, 0, 3));
     // Repeats count: the 257th has a location and a value that were given before.
     let again = "1 3 0 0 / 5 2 5 0 / 1 3 0 0 / 21 6 7 0";
     assert_eq!(step_of(&many(255, again)).0, accepted());

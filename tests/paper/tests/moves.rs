@@ -4,68 +4,15 @@ mod support;
 use paper::{reads_and_writes, Instruction, FALSE, TRUE, UNDEF};
 use support::*;
 
-/// All books here have E 8 and P 6, so the labels are 6 and 7, and these functions with their first
-/// locations: U (1) at 8 and V (2) at 16, dynamic unary relations; f (3) at 24, dynamic unary;
-/// g (4) at 32 and h (5) at 33, dynamic nullary; S (6) at 34, a static unary relation;
-/// s (7) at 42, static nullary; r (8) at 43, a dynamic nullary relation; L is 44.
-const FUNCTIONS: &str = "1 3 0 0 / 1 3 0 0 / 1 2 0 0 / 0 2 0 0 / 0 2 0 0 / 1 1 0 0 / 0 0 0 0 / 0 3 0 0";
-const U: usize = 8;
-const V: usize = 16;
-const F: usize = 24;
-const G: usize = 32;
-const H: usize = 33;
-const R: usize = 43;
-
-/// g := 3.
-const SET_G: &str = "4 4 0 0 / 1 3 0 0 / 21 0 1 0";
-
-/// A book whose one agent, with element 5, has the last node as root.
-fn rule(nodes: &str, contents: &str) -> Vec<u8> {
-    rules(&[nodes], contents)
-}
-
-/// A book with one agent for each rule; node numbers count anew in each.
-fn rules(rules: &[&str], contents: &str) -> Vec<u8> {
-    let (mut nodes, mut agents, mut base) = (Vec::new(), Vec::new(), 0);
-    for rule in rules {
-        let lines = rule.split('/').map(|line| shifted(line, base));
-        nodes.extend(lines);
-        base = nodes.len();
-        agents.push(format!("{} {} 0 0", base - 1, 6 - rules.len() + agents.len()));
-    }
-    book(8, 6, FUNCTIONS, &nodes.join("/"), &agents.join("/"), contents)
-}
-
-/// A node line with this added to its node operands.
-fn shifted(line: &str, base: usize) -> String {
-    let mut fields: Vec<usize> = line.split_whitespace().map(|field| field.parse().unwrap()).collect();
-    let operands = match fields[0] {
-        5 => 2..3,
-        6 => 2..4,
-        8 | 27 => 1..2,
-        7..=13 | 21 | 22 => 1..3,
-        23 => 1..4,
-        24 => 2..4,
-        25 | 26 => 3..4,
-        _ => 0..0,
-    };
-    fields[operands].iter_mut().for_each(|field| *field += base);
-    fields.iter().map(usize::to_string).collect::<Vec<_>>().join(" ")
-}
-
 /// The locations that agent 0 reads and writes in its first move.
 fn touched(book: &[u8]) -> (Vec<usize>, Vec<usize>) {
     let checked = paper::check_book(book).unwrap();
-    reads_and_writes(&checked, &paper::start_table(&checked), 0).unwrap()
+    reads_and_writes(&checked, &paper::start_table(&checked), 0, &[]).unwrap()
 }
 
 /// The answer of a log with one move of each of two agents, not ordered.
 fn unordered(first: &str, second: &str, contents: &str) -> paper::Answer {
     run_of(&rules(&[first, second], contents), &log(&[0, 1], &[])).answer
-}
-
-fn update(location: usize, value: u16) -> Instruction {
-    Instruction::Update { location, value }
 }
 
 mod inside_a_move {

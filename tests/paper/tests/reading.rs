@@ -150,6 +150,7 @@ mod nodes_and_agents {
         ] {
             let expected = |sound: bool| if sound { accepted() } else { refused(5, 1, 0) };
             assert_eq!(nodes_answer(&format!("20 0 0 0 / 25 0 {universe} 0")), expected(for_all));
+            assert_eq!(nodes_answer(&format!("20 0 0 0 / 28 0 {universe} 0")), expected(for_all));
             assert_eq!(nodes_answer(&format!("20 0 0 0 / 26 0 {universe} 0")), expected(import));
         }
     }
@@ -158,7 +159,7 @@ mod nodes_and_agents {
     fn node_lines() {
         // Each is wrong in one thing: kind, function, arity, operand, sort, unused field.
         for line in [
-            "0 0 0 0", "14 0 1 0", "19 0 0 0", "28 0 0 0", "1 6 0 0", "2 8 0 0", "1 3 1 0", "1 3 0 1",
+            "0 0 0 0", "14 0 1 0", "19 0 0 0", "29 0 1 2", "1 6 0 0", "2 8 0 0", "1 3 1 0", "1 3 0 1",
             "2 0 1 0", "2 0 0 1", "3 1 0 0", "3 0 1 0", "3 0 0 1", "4 0 0 0", "4 4 0 0", "4 7 0 0",
             "4 6 1 0", "4 6 0 1", "5 0 0 0", "5 5 0 0", "5 6 0 0", "5 4 3 0", "5 4 2 0", "5 4 0 1",
             "6 4 0 1", "6 5 0 2", "6 5 2 0", "6 5 3 0", "7 0 2 0", "7 2 0 0", "7 0 3 0", "7 0 1 1",
@@ -166,7 +167,8 @@ mod nodes_and_agents {
             "11 3 0 0", "11 0 1 1", "12 0 4 0", "12 0 1 1", "13 2 0 0", "13 0 1 1", "20 1 0 0", "20 0 1 0",
             "20 0 0 1", "21 0 2 0", "21 0 1 1", "22 2 0 0", "22 0 2 0", "22 2 2 1", "22 2 3 0", "23 2 2 2",
             "23 0 0 2", "23 0 2 0", "23 0 2 3", "24 8 0 2", "24 0 2 2", "24 0 0 0", "25 8 1 2", "25 0 1 0",
-            "25 0 1 3", "26 8 2 2", "26 0 2 0", "27 2 0 0", "27 0 1 0", "27 0 0 1", "27 3 0 0",
+            "25 0 1 3", "26 8 2 2", "26 0 2 0", "27 2 0 0", "27 0 1 0", "27 0 0 1", "27 3 0 0", "28 8 1 2",
+            "28 0 1 0", "28 0 1 3", "28 0 0 2",
         ] {
             let nodes = format!("1 3 0 0 / 1 4 0 0 / 20 0 0 0 / {line}");
             assert_eq!(nodes_answer(&nodes), refused(5, 3, 0), "{line}");
@@ -215,10 +217,11 @@ mod nodes_and_agents {
         let in_let = |variable: u32| format!("2 {variable} 0 0 / 27 0 0 0 / 1 3 0 0 / 24 3 2 1");
         let in_forall = |variable: u32| format!("2 {variable} 0 0 / 27 0 0 0 / 25 3 2 1");
         let in_import = |variable: u32| format!("2 {variable} 0 0 / 27 0 0 0 / 26 3 2 1");
-        for nodes in [in_let(3), in_forall(3), in_import(3)] {
+        let in_choose = |variable: u32| format!("2 {variable} 0 0 / 27 0 0 0 / 28 3 2 1");
+        for nodes in [in_let(3), in_forall(3), in_import(3), in_choose(3)] {
             assert_eq!(nodes_answer(&nodes), accepted(), "{nodes}");
         }
-        for nodes in [in_let(4), in_forall(4), in_import(4)] {
+        for nodes in [in_let(4), in_forall(4), in_import(4), in_choose(4)] {
             assert_eq!(nodes_answer(&nodes), refused(6, 0, 0), "{nodes}");
         }
         let beside = "20 0 0 0 / 25 3 2 0 / 2 3 0 0 / 27 2 0 0 / 22 1 3 0";
@@ -230,6 +233,10 @@ mod nodes_and_agents {
         // The inner binder is at fault, though no variable node stands below.
         assert_eq!(nodes_answer("20 0 0 0 / 25 3 2 0 / 26 3 2 1"), refused(6, 1, 0));
         assert_eq!(nodes_answer("20 0 0 0 / 25 3 2 0 / 26 4 2 1"), accepted());
+        assert_eq!(nodes_answer("20 0 0 0 / 28 3 2 0 / 25 3 2 1"), refused(6, 1, 0));
+        assert_eq!(nodes_answer("20 0 0 0 / 25 3 2 0 / 28 3 2 1"), refused(6, 1, 0));
+        assert_eq!(nodes_answer("20 0 0 0 / 28 3 2 0 / 28 3 2 1"), refused(6, 1, 0));
+        assert_eq!(nodes_answer("20 0 0 0 / 28 3 2 0 / 28 4 2 1"), accepted());
         assert_eq!(nodes_answer("20 0 0 0 / 25 3 2 0 / 20 0 0 0 / 25 3 2 2 / 22 1 3 0"), accepted());
     }
 
@@ -337,7 +344,7 @@ mod contents {
         let mut contents = start(&book);
         changes.iter().for_each(|&(location, value)| contents[location] = value);
         let before = contents.clone();
-        let answer = step(&book, &mut contents, 0, 256);
+        let answer = step(&book, &mut contents, 0, &[], 256);
         assert_eq!(contents, before);
         answer
     }
@@ -377,7 +384,7 @@ mod contents {
         let book = with_contents("");
         let mut contents = start(&book);
         contents.push(60_000);
-        assert_eq!(step(&book, &mut contents, 0, 256), accepted());
+        assert_eq!(step(&book, &mut contents, 0, &[], 256), accepted());
         assert_eq!(contents[105], 60_000);
     }
 
@@ -388,23 +395,23 @@ mod contents {
         let book = book(8, 6, "0 0 0 0 / 0 2 0 0", nodes, "2 3 0 0", "1 0 0 4");
         let mut contents = start(&book);
         contents[8] = 5;
-        assert_eq!(step(&book, &mut contents, 0, 256), accepted());
+        assert_eq!(step(&book, &mut contents, 0, &[], 256), accepted());
         assert_eq!(contents[8..], [5, 5]);
     }
 
     #[test]
     fn order_in_the_single_move_entry() {
         let faulty = with_contents("1 0 0 0");
-        assert_eq!(step(&faulty, &mut [], 5, 0), refused(8, BEFORE, 0));
+        assert_eq!(step(&faulty, &mut [], 5, &[], 0), refused(8, BEFORE, 0));
         let sound = with_contents("");
         let mut contents = start(&sound);
         contents[0] = 9;
-        assert_eq!(step(&sound, &mut contents[..104], 1, 0), refused(9, 0, 0));
-        assert_eq!(step(&sound, &mut contents[..104], 0, 0), refused(2, 105, 0));
-        assert_eq!(step(&sound, &mut contents, 0, 255), refused(2, 256, 3));
-        assert_eq!(step(&sound, &mut contents, 0, 256), refused(8, 0, 0));
+        assert_eq!(step(&sound, &mut contents[..104], 1, &[], 0), refused(9, 0, 0));
+        assert_eq!(step(&sound, &mut contents[..104], 0, &[], 0), refused(2, 105, 0));
+        assert_eq!(step(&sound, &mut contents, 0, &[], 255), refused(2, 256, 3));
+        assert_eq!(step(&sound, &mut contents, 0, &[], 256), refused(8, 0, 0));
         contents[0] = 1;
-        assert_eq!(step(&sound, &mut contents, 0, 256), accepted());
+        assert_eq!(step(&sound, &mut contents, 0, &[], 256), accepted());
     }
 }
 
@@ -416,7 +423,7 @@ mod logs {
         let shown = padded(SHOWN);
         assert_eq!(run_of(&shown, &padded("65 0 0 0")).answer, refused(9, 0, 0));
         assert_eq!(run_of(&shown, &padded("64 2017 0 0")).answer, refused(9, 0, 0));
-        assert_eq!(run_of(&shown, &padded("0 0 1 0")).answer, refused(9, 0, 0));
+        assert_eq!(run_of(&shown, &padded("0 0 257 0")).answer, refused(9, 0, 0));
         assert_eq!(run_of(&shown, &padded("0 0 0 1")).answer, refused(9, 0, 0));
         assert_eq!(run_of(&shown, b"").answer, refused(1, 0, 1));
         assert_eq!(run_of(&shown, &padded("64 2016 0 0")).answer, refused(1, 1, 1));

@@ -39,8 +39,8 @@ fn refusal_2_lent_tables_short() {
 fn refusal_2_in_a_single_move() {
     let book = padded(SHOWN);
     let mut contents = start(&book);
-    assert_eq!(step(&book, &mut contents[..23], 0, 0), refused(2, 24, 0));
-    assert_eq!(step(&book, &mut contents, 0, 255), refused(2, 256, 3));
+    assert_eq!(step(&book, &mut contents[..23], 0, &[], 0), refused(2, 24, 0));
+    assert_eq!(step(&book, &mut contents, 0, &[], 255), refused(2, 256, 3));
     assert_eq!(contents, start(&book));
 }
 

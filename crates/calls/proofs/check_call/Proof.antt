@@ -1,7 +1,8 @@
 -- `check_call` meets its contract.
-use Rattle.calls.proofs.Checks.{nine-refuses, two-refuses, eight-last}
-use Rattle.book.specs.Image.{word, held}
 use borrow.Author.Needs.{needs}
+use Rattle.book.specs.Image.{word, held}
+use Rattle.engine.specs.Move.{input}
+use Rattle.calls.proofs.Checks.{agent-refuses, picks-refuse, two-refuses, eight-last}
 use Rattle.calls.proofs.check_call.Statement.{statement}
 use Rattle.calls.proofs.check_call.Tie as tie
 
@@ -10,29 +11,44 @@ check-agent-requires c κs = search needs
 
 returns : tie.Need-returns
 returns c =
-    let a = c .before .before .before .before .args in
+    let a = c .before .before .before .before .before .args in
     let nine = c .before .before .check-agent in
-    nine-refuses (held (a .image .now)) (word (a .image .now) 6) (a .contents .now) (a .agent) (a .lent) (nine .result) (nine .ensures) (c .if1 .taken)
+    agent-refuses (held (a .image .now)) (word (a .image .now) 6) (a .contents .now) (input (a .agent) (a .picks .now)) (a .lent) (nine .result) (nine .ensures) (c .if1 .taken)
+
+check-picks-requires : tie.Need-check-picks-requires
+check-picks-requires c κs = search needs
+
+returns-2 : tie.Need-returns-2
+returns-2 c =
+    let a = c .before .before .before .before .before .before .before .before .args in
+    let nine = c .before .before .before .before .before .check-agent in
+    let other = c .before .before .check-picks in
+    picks-refuse (held (a .image .now)) (word (a .image .now) 6) (a .contents .now) (input (a .agent) (a .picks .now)) (a .lent) (nine .result) (nine .ensures) (c .before .before .before .if1 .left)
+    (other .result) (other .ensures) (c .if2 .taken)
 
 check-lent-requires : tie.Need-check-lent-requires
 check-lent-requires c κs = search needs
 
-returns-2 : tie.Need-returns-2
-returns-2 c =
-    let a = c .before .before .before .before .before .before .before .args in
-    let nine = c .before .before .before .before .before .check-agent in
+returns-3 : tie.Need-returns-3
+returns-3 c =
+    let a = c .before .before .before .before .before .before .before .before .before .before .before .args in
+    let nine = c .before .before .before .before .before .before .before .before .check-agent in
+    let other = c .before .before .before .before .before .check-picks in
     let two = c .before .before .check-lent in
-    two-refuses (held (a .image .now)) (word (a .image .now) 6) (a .contents .now) (a .agent) (a .lent) (nine .result) (nine .ensures) (c .before .before .before .if1 .left) (two .result) (two .ensures) (c .if2 .taken)
+    two-refuses (held (a .image .now)) (word (a .image .now) 6) (a .contents .now) (input (a .agent) (a .picks .now)) (a .lent) (nine .result) (nine .ensures) (c .before .before .before .before .before .before .if1 .left)
+    (other .result) (other .ensures) (c .before .before .before .if2 .left) (two .result) (two .ensures) (c .if3 .taken)
 
 check-contents-requires : tie.Need-check-contents-requires
 check-contents-requires c κs = search needs
 
-returns-3 : tie.Need-returns-3
-returns-3 c =
-    let a = c .before .before .before .before .before .before .before .before .args in
-    let nine = c .before .before .before .before .before .before .check-agent in
+returns-4 : tie.Need-returns-4
+returns-4 c =
+    let a = c .before .before .before .before .before .before .before .before .before .before .before .before .args in
+    let nine = c .before .before .before .before .before .before .before .before .before .check-agent in
+    let other = c .before .before .before .before .before .before .check-picks in
     let two = c .before .before .before .check-lent in
-    eight-last (held (a .image .now)) (word (a .image .now) 6) (a .contents .now) (a .agent) (a .lent) (nine .result) (nine .ensures) (c .before .before .before .before .if1 .left) (two .result) (two .ensures) (c .before .if2 .left) (c .check-contents .result) (c .check-contents .ensures)
+    eight-last (held (a .image .now)) (word (a .image .now) 6) (a .contents .now) (input (a .agent) (a .picks .now)) (a .lent) (nine .result) (nine .ensures) (c .before .before .before .before .before .before .before .if1 .left)
+    (other .result) (other .ensures) (c .before .before .before .before .if2 .left) (two .result) (two .ensures) (c .before .if3 .left) (c .check-contents .result) (c .check-contents .ensures)
 
 pub check-call-spec : {M : Type 1} → statement M
 check-call-spec =
@@ -40,7 +56,9 @@ check-call-spec =
     (tie.spec
     check-agent-requires
     returns
-    check-lent-requires
+    check-picks-requires
     returns-2
+    check-lent-requires
+    returns-3
     check-contents-requires
-    returns-3)
+    returns-4)

@@ -23,13 +23,13 @@ returns : tie.Need-returns
 returns c =
     let a = c .before .before .before .before .args in
     let h : a .x < held (a .image .now) .E = omega (arith, elements-held _ _ (c .before .before .before .elements .ensures) .0, c .before .before .if1 .taken) in
-    c .take .ensures ∙ sym (enrolling-in (held (a .image .now)) (a .u) (a .x) (a .n) h (reached (a .s) (a .list .now)))
+    λ ys. c .take .ensures ys ∙ sym (enrolling-in (held (a .image .now)) (a .u) (a .x) (a .n) h (reached ys (a .s) (a .list .now)))
 
 returns-2 : tie.Need-returns-2
 returns-2 c =
     let a = c .before .before .before .args in
     let h : held (a .image .now) .E ≤ a .x = omega (arith, elements-held _ _ (c .before .before .elements .ensures) .0, c .before .if1 .left) in
-    c .refuse .ensures (a .list .now) ∙ sym (enrolling-none (held (a .image .now)) (a .u) (a .x) (a .n) h (reached (a .s) (a .list .now)))
+    λ ys. c .refuse .ensures ys (a .list .now) ∙ sym (enrolling-none (held (a .image .now)) (a .u) (a .x) (a .n) h (reached ys (a .s) (a .list .now)))
 
 pub enroll-spec : {M : Type 1} → statement M
 enroll-spec =

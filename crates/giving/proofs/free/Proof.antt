@@ -21,7 +21,7 @@ returns c =
     let a = c .before .before .before .args in
     let B = held (a .image .now) in
     let e : not-free B (a .x) (a .v) ≡ true = rw (← c .before .before .permanent .ensures, lt-ltb (a .x) (c .before .before .permanent .result) (c .before .if1 .taken)) in
-    c .refuse .ensures (a .list .now) ∙ sym (freeing-bad B (a .x) (a .v) (a .n) e (reached (a .s) (a .list .now)))
+    λ ys. c .refuse .ensures ys (a .list .now) ∙ sym (freeing-bad B (a .x) (a .v) (a .n) e (reached ys (a .s) (a .list .now)))
 
 refuse-requires-2 : tie.Need-refuse-requires-2
 refuse-requires-2 c κs = search needs
@@ -34,14 +34,14 @@ returns-2 c =
     let a = c .before .before .before .before .args in
     let B = held (a .image .now) in
     let e : not-free B (a .x) (a .v) ≡ true = rw (← c .before .before .before .permanent .ensures, le-ltb (a .x) (c .before .before .before .permanent .result) (c .before .before .if1 .left), eq-eqb (a .v) 2 (c .before .if2 .taken)) in
-    c .refuse2 .ensures (a .list .now) ∙ sym (freeing-bad B (a .x) (a .v) (a .n) e (reached (a .s) (a .list .now)))
+    λ ys. c .refuse2 .ensures ys (a .list .now) ∙ sym (freeing-bad B (a .x) (a .v) (a .n) e (reached ys (a .s) (a .list .now)))
 
 returns-3 : tie.Need-returns-3
 returns-3 c =
     let a = c .before .before .before .before .before .args in
     let B = held (a .image .now) in
     let e : not-free B (a .x) (a .v) ≡ false = rw (← c .before .before .before .before .permanent .ensures, le-ltb (a .x) (c .before .before .before .before .permanent .result) (c .before .before .before .if1 .left), ne-eqb (a .v) 2 (c .before .before .if2 .left)) in
-    c .give .ensures ∙ sym (freeing-ok B (a .x) (a .v) (a .n) e (reached (a .s) (a .list .now)))
+    λ ys. c .give .ensures ys ∙ sym (freeing-ok B (a .x) (a .v) (a .n) e (reached ys (a .s) (a .list .now)))
 
 pub free-spec : {M : Type 1} → statement M
 free-spec =

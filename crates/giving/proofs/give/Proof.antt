@@ -8,7 +8,7 @@ use Rattle.giving.proofs.give.Statement.{statement}
 use Rattle.giving.proofs.give.Tie as tie
 
 returns : tie.Need-returns
-returns c = rw (reached-met (c .before .before .before .args .s) (c .before .before .before .args .list .now) (c .if1 .taken))
+returns c = λ ys. rw (reached-met ys (c .before .before .before .args .s) (c .before .before .before .args .list .now) (c .if1 .taken))
 
 cast-at : tie.Need-cast-at
 cast-at c = search needs
@@ -34,14 +34,15 @@ same-length c = search needs
 returns-2 : tie.Need-returns-2
 returns-2 c =
     let a = c .before .before .before .before .before .before .before .args in
-    let k = give-room (a .s) (a .list .now) (a .i) (a .n) (c .before .before .before .before .before .before .before .pre) (c .before .code .result) (c .before .before .if2 .taken) (c .before .code .ensures) in
-    reached-going (record { len = a .s .len + 1; label = a .s .label; refused = 0; node = a .s .node }) (set (a .list .now) (a .s .len) (c .before .code .result)) refl
-    ∙ rw (reached-going (a .s) (a .list .now) (c .before .before .before .before .if1 .left)) k
+    λ ys.
+    let k = give-room ys (a .s) (a .list .now) (a .i) (a .n) (c .before .before .before .before .before .before .before .pre) (c .before .code .result) (c .before .before .if2 .taken) (c .before .code .ensures) in
+    reached-going ys (record { len = a .s .len + 1; label = a .s .label; refused = 0; node = a .s .node }) (set (a .list .now) (a .s .len) (c .before .code .result)) refl
+    ∙ rw (reached-going ys (a .s) (a .list .now) (c .before .before .before .before .if1 .left)) k
 
 returns-3 : tie.Need-returns-3
 returns-3 c =
     let a = c .before .before .before .before .before .before .args in
-    c .refuse .ensures (a .list .now) ∙ rw (reached-going (a .s) (a .list .now) (c .before .before .before .if1 .left)) (give-full (a .s) (a .list .now) (a .i) (a .n) (c .before .before .before .before .before .before .pre) (c .before .if2 .left))
+    λ ys. c .refuse .ensures ys (a .list .now) ∙ rw (reached-going ys (a .s) (a .list .now) (c .before .before .before .if1 .left)) (give-full ys (a .s) (a .list .now) (a .i) (a .n) (c .before .before .before .before .before .before .pre) (c .before .if2 .left))
 
 pub give-spec : {M : Type 1} → statement M
 give-spec =

@@ -21,7 +21,7 @@ give-requires-2 c κs = search needs
 returns : tie.Need-returns
 returns c =
     let a = c .before .before .before .before .before .args in
-    c .give2 .ensures ∙ rw (c .before .before .before .give .ensures, c .before .before .location .ensures) (taking-from (held (a .image .now)) (a .u) (a .x) (a .n) (a .s) (a .list .now))
+    λ ys. c .give2 .ensures ys ∙ rw (c .before .before .before .give .ensures ys, c .before .before .location .ensures) (taking-from (held (a .image .now)) (a .u) (a .x) (a .n) ys (a .s) (a .list .now))
 
 pub take-spec : {M : Type 1} → statement M
 take-spec = tie.close (tie.spec add-t10 give-requires location-requires give-requires-2 returns)

@@ -33,21 +33,21 @@ returns c =
     let a = c .before .before .before .before .before .before .before .args in
     let B = held (a .image .now) in
     let e : (relation (function-at B (a .f)) && not (boolean (a .x))) ≡ false = rw (← function-held _ _ _ (c .before .before .before .before .before .before .function-at .ensures), sym (c .before .before .before .before .before .is-relation .ensures) ∙ c .before .before .before .before .if1 .taken, sym (c .before .before .before .boolean .ensures) ∙ c .before .before .if2 .taken) in
-    c .give .ensures ∙ sym (setting-ok B (a .f) (a .at) (a .x) (a .n) e (reached (a .s) (a .list .now)))
+    λ ys. c .give .ensures ys ∙ sym (setting-ok B (a .f) (a .at) (a .x) (a .n) e (reached ys (a .s) (a .list .now)))
 
 returns-2 : tie.Need-returns-2
 returns-2 c =
     let a = c .before .before .before .before .before .before .args in
     let B = held (a .image .now) in
     let e : (relation (function-at B (a .f)) && not (boolean (a .x))) ≡ true = rw (← function-held _ _ _ (c .before .before .before .before .before .function-at .ensures), sym (c .before .before .before .before .is-relation .ensures) ∙ c .before .before .before .if1 .taken, sym (c .before .before .boolean .ensures) ∙ c .before .if2 .left) in
-    c .refuse .ensures (a .list .now) ∙ sym (setting-bad B (a .f) (a .at) (a .x) (a .n) e (reached (a .s) (a .list .now)))
+    λ ys. c .refuse .ensures ys (a .list .now) ∙ sym (setting-bad B (a .f) (a .at) (a .x) (a .n) e (reached ys (a .s) (a .list .now)))
 
 returns-3 : tie.Need-returns-3
 returns-3 c =
     let a = c .before .before .before .before .before .args in
     let B = held (a .image .now) in
     let e : (relation (function-at B (a .f)) && not (boolean (a .x))) ≡ false = rw (← function-held _ _ _ (c .before .before .before .before .function-at .ensures), sym (c .before .before .before .is-relation .ensures) ∙ c .before .before .if1 .left) in
-    c .give2 .ensures ∙ sym (setting-ok B (a .f) (a .at) (a .x) (a .n) e (reached (a .s) (a .list .now)))
+    λ ys. c .give2 .ensures ys ∙ sym (setting-ok B (a .f) (a .at) (a .x) (a .n) e (reached ys (a .s) (a .list .now)))
 
 pub update-spec : {M : Type 1} → statement M
 update-spec =

@@ -1,6 +1,7 @@
 -- `begin` meets its contract.
 use Rattle.halves.proofs.Halves.{begun-on}
 use Rattle.book.specs.Image.{word, held}
+use Rattle.engine.specs.Move.{input}
 use lib.Seq.{length-take-le}
 use lib.ListN.{length}
 use native.Mathlib.Omega.{arith}
@@ -20,7 +21,7 @@ smaller-requires : tie.Need-smaller-requires
 smaller-requires c κs = search needs
 
 slice-aggregate-begin : tie.Need-slice-aggregate-begin
-slice-aggregate-begin c = sym (length-take-le (c .before .smaller .result) (c .before .before .before .before .args .contents .now) (omega (arith, c .before .smaller .ensures)))
+slice-aggregate-begin c = sym (length-take-le (c .before .smaller .result) (c .before .before .before .before .before .args .contents .now) (omega (arith, c .before .smaller .ensures)))
 
 array-borrow-prefix-readers : tie.Need-array-borrow-prefix-readers
 array-borrow-prefix-readers c = search needs
@@ -33,10 +34,10 @@ begin-requires c κs = search needs
 
 returns : tie.Need-returns
 returns c =
-    let a = c .before .before .before .before .before .before .before .before .args in
+    let a = c .before .before .before .before .before .before .before .before .before .args in
     let n = c .before .before .before .before .before .smaller in
     let b = c .before .begin in
-    begun-on (held (a .image .now)) (a .contents .now) (a .agent) (word (a .image .now) 6) (n .result) (b .last .1 .1 .1 .1 .0) (b .result) (b .last .1 .1 .0) (n .ensures ∙ ap (λ (x : ℕ). min x (length (a .contents .now))) (c .before .before .before .before .before .before .locations .ensures)) (b .kept .1 .1 .0) (b .ensures .0) (b .ensures .1) (b .ensures .2)
+    begun-on (held (a .image .now)) (a .contents .now) (input (a .agent) (a .picks .now)) (word (a .image .now) 6) (n .result) (b .last .1 .1 .1 .1 .0) (b .result) (b .last .1 .1 .0) (n .ensures ∙ ap (λ (x : ℕ). min x (length (a .contents .now))) (c .before .before .before .before .before .before .locations .ensures)) (b .kept .1 .1 .0) (b .ensures .0) (b .ensures .1) (b .ensures .2)
 
 pub begin-spec : {M : Type 1} → statement M
 begin-spec =

@@ -1,6 +1,7 @@
 -- `first_half` meets its contract.
 use Rattle.halves.proofs.Halves.{halted-half, begun-half}
 use Rattle.halves.proofs.Whole.{refused-book, refused-call, cleared}
+use Rattle.engine.specs.Move.{input}
 use Rattle.book.proofs.Held.{held-agents-most}
 use mathlib.Core.Path.{_≡_}
 use native.Mathlib.Omega.{arith}
@@ -16,11 +17,11 @@ refused-requires c κs = search needs
 
 returns : tie.Need-returns
 returns c =
-    let a = c .before .before .before .before .before .before .before .args in
+    let a = c .before .before .before .before .before .before .before .before .args in
     let o = c .before .before .before .check-into in
     let h = c .refused in
     let z : (o .result .number ≡ 0) → ⊥ = c .before .if1 .taken in
-    halted-half (a .book .now) (a .contents .now) (a .agent) (a .lent) (o .last .1 .0) (a .work .now) (h .result) (o .result) (h .ensures .0) (h .ensures .1) z (refused-book (a .book .now) (a .contents .now) (a .work .now) (a .agent) (a .lent) (o .result) (o .ensures .0) z)
+    halted-half (a .book .now) (a .contents .now) (input (a .agent) (a .picks .now)) (a .lent) (o .last .1 .0) (a .work .now) (h .result) (o .result) (h .ensures .0) (h .ensures .1) z (refused-book (a .book .now) (a .contents .now) (a .work .now) (input (a .agent) (a .picks .now)) (a .lent) (o .result) (o .ensures .0) z)
 
 check-call-requires : tie.Need-check-call-requires
 check-call-requires c κs = search needs
@@ -30,19 +31,19 @@ refused-requires-2 c κs = search needs
 
 returns-2 : tie.Need-returns-2
 returns-2 c =
-    let a = c .before .before .before .before .before .before .before .before .before .before .before .args in
+    let a = c .before .before .before .before .before .before .before .before .before .before .before .before .args in
     let o = c .before .before .before .before .before .before .before .check-into in
     let d = c .before .before .before .check-call in
     let h = c .refused2 in
     let z : (d .result .number ≡ 0) → ⊥ = c .before .if2 .taken in
-    halted-half (a .book .now) (a .contents .now) (a .agent) (a .lent) (o .last .1 .0) (a .work .now) (h .result) (d .result) (h .ensures .0) (h .ensures .1) z (refused-call (a .book .now) (a .contents .now) (a .work .now) (a .agent) (a .lent) (o .last .1 .0) (o .ensures .1) (o .result) (o .ensures .0) (c .before .before .before .before .before .if1 .left) (d .result) (d .ensures) z)
+    halted-half (a .book .now) (a .contents .now) (input (a .agent) (a .picks .now)) (a .lent) (o .last .1 .0) (a .work .now) (h .result) (d .result) (h .ensures .0) (h .ensures .1) z (refused-call (a .book .now) (a .contents .now) (a .work .now) (input (a .agent) (a .picks .now)) (a .lent) (o .last .1 .0) (o .ensures .1) (o .result) (o .ensures .0) (c .before .before .before .before .before .if1 .left) (d .result) (d .ensures) z)
 
 cast-begin : tie.Need-cast-begin
 cast-begin c =
-    let a = c .before .before .before .before .before .before .before .before .before .before .before .args in
+    let a = c .before .before .before .before .before .before .before .before .before .before .before .before .args in
     let o = c .before .before .before .before .before .before .before .check-into in
     let d = c .before .before .before .check-call in
-    let e = cleared (a .book .now) (a .contents .now) (a .work .now) (a .agent) (a .lent) (o .last .1 .0) (o .ensures .1) (o .result) (o .ensures .0) (c .before .before .before .before .before .if1 .left) (d .result) (d .ensures) (c .before .if2 .left) in
+    let e = cleared (a .book .now) (a .contents .now) (a .work .now) (input (a .agent) (a .picks .now)) (a .lent) (o .last .1 .0) (o .ensures .1) (o .result) (o .ensures .0) (c .before .before .before .before .before .if1 .left) (d .result) (d .ensures) (c .before .if2 .left) in
     record { fits = omega (arith, e .passed .agent, held-agents-most (o .last .1 .0)) }
 
 begin-requires : tie.Need-begin-requires
@@ -50,12 +51,12 @@ begin-requires c κs = search needs
 
 returns-3 : tie.Need-returns-3
 returns-3 c =
-    let a = c .before .before .before .before .before .before .before .before .before .before .before .before .before .args in
+    let a = c .before .before .before .before .before .before .before .before .before .before .before .before .before .before .args in
     let o = c .before .before .before .before .before .before .before .before .before .check-into in
     let d = c .before .before .before .before .before .check-call in
     let b = c .begin in
-    let e = cleared (a .book .now) (a .contents .now) (a .work .now) (a .agent) (a .lent) (o .last .1 .0) (o .ensures .1) (o .result) (o .ensures .0) (c .before .before .before .before .before .before .before .if1 .left) (d .result) (d .ensures) (c .before .before .before .if2 .left) in
-    begun-half (a .book .now) (a .contents .now) (a .agent) (a .lent) (o .last .1 .0) (b .last .1 .1 .1 .0) (record { answer = d .result; begun = b .result }) (c .before .before .before .if2 .left) e (b .ensures)
+    let e = cleared (a .book .now) (a .contents .now) (a .work .now) (input (a .agent) (a .picks .now)) (a .lent) (o .last .1 .0) (o .ensures .1) (o .result) (o .ensures .0) (c .before .before .before .before .before .before .before .if1 .left) (d .result) (d .ensures) (c .before .before .before .if2 .left) in
+    begun-half (a .book .now) (a .contents .now) (input (a .agent) (a .picks .now)) (a .lent) (o .last .1 .0) (b .last .1 .1 .1 .1 .0) (record { answer = d .result; begun = b .result }) (c .before .before .before .if2 .left) e (b .ensures)
 
 pub first-half-spec : {M : Type 1} → statement M
 first-half-spec =

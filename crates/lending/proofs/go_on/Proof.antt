@@ -82,7 +82,7 @@ use Rattle.lending.proofs.go_on.Statement as stated
 use Rattle.lending.proofs.go_on.Code as code
 
 abbrev stayed : Stays (alone.ended .signature .params) (alone.ended .kept)
-stayed = (gave-slice (0 ∷ []) tt (plain (λ _. u16)), (gave-slice (1 ∷ []) tt (plain (λ _. u64)), (gave-slice (2 ∷ []) tt (plain (λ _. u64)), (stay-none (λ _. usize) yes, (stay-none-ref (3 ∷ []) tt (plain (λ _. Array u32 2248)) yes, (stay-none-ref (4 ∷ []) tt (plain (λ _. Array u64 128)) yes, (stay-none (λ _. G.the-row) yes, tt)))))))
+stayed = (gave-slice (0 ∷ []) tt (plain (λ _. u16)), (gave-slice (1 ∷ []) tt (plain (λ _. u64)), (gave-slice (2 ∷ []) tt (plain (λ _. u64)), (stay-none (λ _. usize) yes, (stay-none-ref (3 ∷ []) tt (plain (λ _. Array u32 2248)) yes, (stay-none-ref (4 ∷ []) tt (plain (λ _. Array u64 512)) yes, (stay-none (λ _. G.the-row) yes, tt)))))))
 
 module _ {M : Type 1} (𝓤 : URA M) (H : Heap 𝓤) (A : Atoms 𝓤) (mem : Memory → SProp 𝓤) (run : Routine → Fun 𝓤) where
   -- the contracts that the proof cites
@@ -137,7 +137,7 @@ module _ {M : Type 1} (𝓤 : URA M) (H : Heap 𝓤) (A : Atoms 𝓤) (W : Given
   Image = ShrRef (named 3) κ₃ (Array u32 2248) .own xi (si ∷ [])
 
   abbrev Order : Fml
-  Order = ShrRef (named 4) κ₄ (Array u64 128) .own xo (so ∷ [])
+  Order = ShrRef (named 4) κ₄ (Array u64 512) .own xo (so ∷ [])
 
   -- what `lent_run::go_on` says
   abbrev Said : List Record → Answer → List ℕ → List ℕ → List ℕ → List Record → Type 0
@@ -189,7 +189,7 @@ module _ {M : Type 1} (𝓤 : URA M) (H : Heap 𝓤) (A : Atoms 𝓤) (W : Given
   asked-go : (ν : ℕ) (γ : GName) (j m : ℕ) (ys : List Record) → ent 𝓤 (onEntry 𝓤 H A go.signature (go-lfts ν) go-shares (go-a γ j ys) (go-vals j m)) (Go 𝓤 H A mem run .pre (to-go ν γ j m ys))
   asked-go ν γ j m ys =
       qed W ((‵ (flft κ₀ q₀) ⊛ ‵ (flft κ₁ q₁) ⊛ ‵ (flft κ₂ q₂) ⊛ ‵ (flft (ν ∷ []) fullShare) ⊛ ‵ (flft κ₃ q₃) ⊛ ‵ (flft κ₄ q₄) ⊛ ‵ ftrue)
-      ∷ ‵ (owns (MutSlice (named 0) κ₀ u16 ∷ MutSlice (named 1) κ₁ u64 ∷ MutSlice (named 2) κ₂ u64 ∷ MutSlice (named 3) (ν ∷ []) T.the-row ∷ ShrRef (named 4) κ₃ (Array u32 2248) ∷ ShrRef (named 5) κ₄ (Array u64 128) ∷ G.the-row ∷ []) (go-a γ j ys) (go-vals j m)) ∷ []) ∵ join ! $ frame ! $ done !
+      ∷ ‵ (owns (MutSlice (named 0) κ₀ u16 ∷ MutSlice (named 1) κ₁ u64 ∷ MutSlice (named 2) κ₂ u64 ∷ MutSlice (named 3) (ν ∷ []) T.the-row ∷ ShrRef (named 4) κ₃ (Array u32 2248) ∷ ShrRef (named 5) κ₄ (Array u64 512) ∷ G.the-row ∷ []) (go-a γ j ys) (go-vals j m)) ∷ []) ∵ join ! $ frame ! $ done !
 
   walk : (C : Calls 𝓤 H) (Λ : Loops 𝓤 H) → FmC 𝓤 H (W .laws) C → Triple 𝓤 (C #lending·blank) (Blank 𝓤 H A mem run) → Triple 𝓤 (C #numbers·smaller) (Smaller 𝓤 H A mem run) → Triple 𝓤 (C #lent-run·go-on) (Go 𝓤 H A mem run)
       → ent 𝓤 (onEntry 𝓤 H A alone.signature κs qs a vals) (WpFn 𝓤 H C Λ code.function (sc ∷ sr ∷ sw ∷ vint w64 n ∷ si ∷ so ∷ mach t ∷ []) Post)
@@ -213,7 +213,7 @@ module _ {M : Type 1} (𝓤 : URA M) (H : Heap 𝓤) (A : Atoms 𝓤) (W : Given
       let few : m ≤ 256 = subst (λ (k : ℕ). k ≤ 256) (sym is-min) (min-le-right n 256) in
       land ! (from ! (stop !)) (init ! 18 refl (is-number w₂ m (is-m .0) (is-m .1))) $ rewrite ! 18 (λ (u : Val). ‵ (fat fullShare (tyInt w64) l₁₀ 0 u)) (ap only (is-m .0)) refl $ drop ! $
       -- what is had on entry
-      move ! (38 ∷ []) $ use1 W ((‵ (flft κ₀ q₀) ⊛ ‵ (flft κ₁ q₁) ⊛ ‵ (flft κ₂ q₂) ⊛ ‵ (flft κ₃ q₃) ⊛ ‵ (flft κ₄ q₄) ⊛ ‵ ftrue) ⊛ ‵ (owns (MutSlice (named 0) κ₀ u16 ∷ MutSlice (named 1) κ₁ u64 ∷ MutSlice (named 2) κ₂ u64 ∷ usize ∷ ShrRef (named 3) κ₃ (Array u32 2248) ∷ ShrRef (named 4) κ₄ (Array u64 128) ∷ G.the-row ∷ []) a vals)) (id⊢ 𝓤 _) $ split ! $
+      move ! (38 ∷ []) $ use1 W ((‵ (flft κ₀ q₀) ⊛ ‵ (flft κ₁ q₁) ⊛ ‵ (flft κ₂ q₂) ⊛ ‵ (flft κ₃ q₃) ⊛ ‵ (flft κ₄ q₄) ⊛ ‵ ftrue) ⊛ ‵ (owns (MutSlice (named 0) κ₀ u16 ∷ MutSlice (named 1) κ₁ u64 ∷ MutSlice (named 2) κ₂ u64 ∷ usize ∷ ShrRef (named 3) κ₃ (Array u32 2248) ∷ ShrRef (named 4) κ₄ (Array u64 512) ∷ G.the-row ∷ []) a vals)) (id⊢ 𝓤 _) $ split ! $
       split ! $ move ! (1 ∷ []) $ split ! $ move ! (1 ∷ []) $ split ! $ move ! (1 ∷ []) $ split ! $ move ! (1 ∷ []) $ split ! $ move ! (1 ∷ []) $ drop ! $
       move ! (5 ∷ []) $ fsplit ! $ move ! (1 ∷ []) $ fsplit ! $ move ! (1 ∷ []) $ fsplit ! $ move ! (1 ∷ []) $ fsplit ! $ move ! (1 ∷ []) $ fsplit ! $ move ! (1 ∷ []) $ fsplit ! $ move ! (1 ∷ []) $ fsplit ! $ move ! (1 ∷ []) $ drop ! $
       assigns ! (addr ! (from ! (fld ! refl (hop ! (look-in ! 46 (sub ! 0 refl (whole !))) (stop !))))) (from ! (stop !)) (init ! 27 refl (tt, tt)) $ assigns ! (agg ! (and-then ! (load ! (from ! (stop !)) (look ! 27 refl)) (and-then ! (load ! (from ! (fld ! refl (stop !))) (look-in ! 46 (sub ! 1 refl (whole !)))) (no-more !)))) (from ! (stop !)) (init ! 25 refl (tt, (tt, (record { fits = room-c .0 }, tt)))) $
@@ -225,7 +225,7 @@ module _ {M : Type 1} (𝓤 : URA M) (H : Heap 𝓤) (A : Atoms 𝓤) (W : Given
       lft-new ! tt (λ ν. move ! (13 ∷ []) $ use1 W (later (some (λ (γ : GName). ‵ (MutSlice (named 3) (ν ∷ []) T.the-row .own (ref-at T.the-row l₉ 0 γ (take m ys)) (sliceVal (l₉, 0) (length (take m ys)) ∷ [])) ⊛ ‵ (LentPart T.the-row l₉ 0 (ν ∷ []) m ys γ)))) (lend-part T.the-row l₉ 0 𝓤 H A W (ν ∷ []) ys m (named 3) (room-first ys m l256 few)) $ await ! tt $ pick ! (λ γ. split ! $
       rewrite ! 0 (λ (k : ℕ). ‵ (MutSlice (named 3) (ν ∷ []) T.the-row .own (ref-at T.the-row l₉ 0 γ (take m ys)) (sliceVal (l₉, 0) k ∷ []))) (first-ones ys m l256 few) refl $
       move ! (5 ∷ []) $ use1 W (‵ Image ⊛ ‵ Image) (shr-copy 𝓤 H A W (named 3) κ₃ (Array u32 2248) .twice xi (si ∷ [])) $ split ! $
-      move ! (6 ∷ []) $ use1 W (‵ Order ⊛ ‵ Order) (shr-copy 𝓤 H A W (named 4) κ₄ (Array u64 128) .twice xo (so ∷ [])) $ split ! $
+      move ! (6 ∷ []) $ use1 W (‵ Order ⊛ ‵ Order) (shr-copy 𝓤 H A W (named 4) κ₄ (Array u64 512) .twice xo (so ∷ [])) $ split ! $
       nothing ! $ move ! (13 ∷ 0 ∷ []) $ join ! $ move ! (13 ∷ 0 ∷ []) $ join ! $ move ! (7 ∷ 0 ∷ []) $ join ! $ move ! (12 ∷ 0 ∷ []) $ join ! $ move ! (12 ∷ 0 ∷ []) $ join ! $ move ! (12 ∷ 0 ∷ []) $ join ! $ nothing ! $ owned ! G.the-row (Is G.the-row) (LL.makes G.the-type G′.the-plain 𝓤 H A) t _ is-t $ fjoin ! $ move ! (3 ∷ 0 ∷ []) $ fjoin ! $ move ! (4 ∷ 0 ∷ []) $ fjoin ! $ move ! (4 ∷ 0 ∷ []) $ fjoin ! $ move ! (7 ∷ 0 ∷ []) $ fjoin ! $ move ! (7 ∷ 0 ∷ []) $ fjoin ! $ move ! (7 ∷ 0 ∷ []) $ fjoin ! $
       move ! (1 ∷ 0 ∷ []) $ use2 W (raw (Go 𝓤 H A mem run .pre (to-go ν γ l₉ m (take m ys)))) (asked-go ν γ l₉ m (take m ys)) $
       calls-at ! fm (Go 𝓤 H A mem run) known-go (to-go ν γ l₉ m (take m ys)) (and-then ! (load ! (from ! (stop !)) (look ! 18 refl)) (and-then ! (load ! (from ! (stop !)) (look ! 14 refl)) (and-then ! (load ! (from ! (stop !)) (look ! 10 refl)) (and-then ! (load ! (from ! (stop !)) (look ! 6 refl)) (and-then ! (load ! (from ! (stop !)) (look ! 31 refl)) (and-then ! (load ! (from ! (stop !)) (look ! 29 refl)) (and-then ! (load ! (from ! (stop !)) (look ! 27 refl)) (no-more !)))))))) (λ w₁.
@@ -244,7 +244,7 @@ module _ {M : Type 1} (𝓤 : URA M) (H : Heap 𝓤) (A : Atoms 𝓤) (W : Given
   alone-walks : (C : Calls 𝓤 H) (Λ : Loops 𝓤 H) → FmC 𝓤 H (W .laws) C → Triple 𝓤 (C #lending·blank) (Blank 𝓤 H A mem run) → Triple 𝓤 (C #numbers·smaller) (Smaller 𝓤 H A mem run) → Triple 𝓤 (C #lent-run·go-on) (Go 𝓤 H A mem run) → Walks 𝓤 H A alone.ended stayed (WpFn 𝓤 H C Λ code.function) (alone.clauses 𝓤 H A mem run)
   alone-walks C Λ fm known-blank known-smaller known-go = walked 𝓤 H A alone.ended stayed (alone.clauses 𝓤 H A mem run) (WpFn 𝓤 H C Λ code.function)
       (λ κs. (slice-vals, (slice-vals, (slice-vals, (uint-vals w64, (ptr-vals, (ptr-vals, ((λ t. mach t ∷ []), tt))))))))
-      (λ κs. (mut-slice-tells (named 0) (κs .0) u16, (mut-slice-tells (named 1) (κs .1 .0) u64, (mut-slice-tells (named 2) (κs .1 .1 .0) u64, (uint-tells w64, (shr-tells (named 3) (κs .1 .1 .1 .0) (Array u32 2248), (shr-tells (named 4) (κs .1 .1 .1 .1 .0) (Array u64 128), (LL.tells G.the-type G′.the-laws, tt))))))))
+      (λ κs. (mut-slice-tells (named 0) (κs .0) u16, (mut-slice-tells (named 1) (κs .1 .0) u64, (mut-slice-tells (named 2) (κs .1 .1 .0) u64, (uint-tells w64, (shr-tells (named 3) (κs .1 .1 .1 .0) (Array u32 2248), (shr-tells (named 4) (κs .1 .1 .1 .1 .0) (Array u64 512), (LL.tells G.the-type G′.the-laws, tt))))))))
       (λ κs qs bounds a g are. via 𝓤 _ (fst∗ 𝓤 _ (emp 𝓤))
       (walk 𝓤 H A W mem run (κs .0) (κs .1 .0) (κs .1 .1 .0) (κs .1 .1 .1 .0) (κs .1 .1 .1 .1 .0) (qs .0) (qs .1 .0) (qs .1 .1 .0) (qs .1 .1 .1 .0) (qs .1 .1 .1 .1 .0) (a .0) (a .1 .0) (a .1 .1 .0) (a .1 .1 .1 .0) (a .1 .1 .1 .1 .0) (a .1 .1 .1 .1 .1 .0) (a .1 .1 .1 .1 .1 .1 .0)
       (are .0 .0 .1) (are .1 .0 .0 .1) (are .1 .1 .0 .0 .1) (are .1 .1 .1 .0 .1) (are .1 .1 .1 .1 .1 .1 .0) C Λ fm known-blank known-smaller known-go))
@@ -253,7 +253,7 @@ alone-meets : {M : Type 1} (𝓤 : URA M) (H : Heap 𝓤) (A : Atoms 𝓤) → G
     → Meets 𝓤 H A alone.signature (WpFn 𝓤 H (𝓣 .C) (𝓣 .Λ) code.function) (alone.spec 𝓤 H A mem run)
 alone-meets 𝓤 H A W mem run 𝓣 known-blank known-smaller known-go =
     walk-meets 𝓤 H A alone.ended stayed W
-    (goes-gave-slice 𝓤 H A W 5 0 tt (plain (λ _. u16)), (goes-gave-slice 𝓤 H A W 5 1 tt (plain (λ _. u64)), (goes-gave-slice 𝓤 H A W 5 2 tt (plain (λ _. u64)), (goes-none 𝓤 H A W 5 (λ _. usize) yes (λ κs x f. refl), (goes-none-ref 𝓤 H A W 5 (3 ∷ []) tt (plain (λ _. Array u32 2248)) yes, (goes-none-ref 𝓤 H A W 5 (4 ∷ []) tt (plain (λ _. Array u64 128)) yes, (goes-none 𝓤 H A W 5 (λ _. G.the-row) yes (λ κs x f. refl), tt)))))))
+    (goes-gave-slice 𝓤 H A W 5 0 tt (plain (λ _. u16)), (goes-gave-slice 𝓤 H A W 5 1 tt (plain (λ _. u64)), (goes-gave-slice 𝓤 H A W 5 2 tt (plain (λ _. u64)), (goes-none 𝓤 H A W 5 (λ _. usize) yes (λ κs x f. refl), (goes-none-ref 𝓤 H A W 5 (3 ∷ []) tt (plain (λ _. Array u32 2248)) yes, (goes-none-ref 𝓤 H A W 5 (4 ∷ []) tt (plain (λ _. Array u64 512)) yes, (goes-none 𝓤 H A W 5 (λ _. G.the-row) yes (λ κs x f. refl), tt)))))))
     (alone.clauses 𝓤 H A mem run) (WpFn 𝓤 H (𝓣 .C) (𝓣 .Λ) code.function) (WpFn-mono 𝓤 H (W .laws) 𝓣 code.function) (alone-walks 𝓤 H A W mem run (𝓣 .C) (𝓣 .Λ) (fmOf 𝓤 H (W .laws) 𝓣) known-blank known-smaller known-go)
 
 pub go-on-spec : {M : Type 1} → stated.statement M

@@ -80,7 +80,7 @@ use Rattle.lent_run.proofs.go_on.Statement as stated
 use Rattle.lent_run.proofs.go_on.Code as code
 
 abbrev stayed : Stays (go.ended .signature .params) (go.ended .kept)
-stayed = (stay-slice (0 ∷ []) tt (plain (λ _. u16)), (stay-slice (1 ∷ []) tt (plain (λ _. u64)), (stay-slice (2 ∷ []) tt (plain (λ _. u64)), (gave-slice (3 ∷ []) tt (plain (λ _. T.the-row)), (stay-none-ref (4 ∷ []) tt (plain (λ _. Array u32 2248)) yes, (stay-none-ref (5 ∷ []) tt (plain (λ _. Array u64 128)) yes, (stay-none (λ _. G.the-row) yes, tt)))))))
+stayed = (stay-slice (0 ∷ []) tt (plain (λ _. u16)), (stay-slice (1 ∷ []) tt (plain (λ _. u64)), (stay-slice (2 ∷ []) tt (plain (λ _. u64)), (gave-slice (3 ∷ []) tt (plain (λ _. T.the-row)), (stay-none-ref (4 ∷ []) tt (plain (λ _. Array u32 2248)) yes, (stay-none-ref (5 ∷ []) tt (plain (λ _. Array u64 512)) yes, (stay-none (λ _. G.the-row) yes, tt)))))))
 
 module _ {M : Type 1} (𝓤 : URA M) (H : Heap 𝓤) (A : Atoms 𝓤) (mem : Memory → SProp 𝓤) (run : Routine → Fun 𝓤) where
   -- the contracts that the proof cites
@@ -163,7 +163,7 @@ module _ {M : Type 1} (𝓤 : URA M) (H : Heap 𝓤) (A : Atoms 𝓤) (W : Given
   Image = ShrRef (named 4) κ₄ (Array u32 2248) .own xi (si ∷ [])
 
   abbrev Order : Fml
-  Order = ShrRef (named 5) κ₅ (Array u64 128) .own xo (so ∷ [])
+  Order = ShrRef (named 5) κ₅ (Array u64 512) .own xo (so ∷ [])
 
   abbrev Said : ℕ → Answer → List ℕ → List ℕ → List ℕ → List Record → Type 0
   Said k = MovesMade (xi .now) (xo .now) t (take k C) (take k R) (take k D) (xl .now)
@@ -224,7 +224,7 @@ module _ {M : Type 1} (𝓤 : URA M) (H : Heap 𝓤) (A : Atoms 𝓤) (W : Given
   asked-make : (ν₀ ν₁ ν₂ : ℕ) (γ₀ γ₁ γ₂ : GName) (k : ℕ) → ent 𝓤 (onEntry 𝓤 H A make.signature (make-lfts ν₀ ν₁ ν₂) make-shares (make-a γ₀ γ₁ γ₂ k) (make-vals k)) (Make 𝓤 H A mem run .pre (to-make ν₀ ν₁ ν₂ γ₀ γ₁ γ₂ k))
   asked-make ν₀ ν₁ ν₂ γ₀ γ₁ γ₂ k =
       qed W ((‵ (flft (ν₀ ∷ []) fullShare) ⊛ ‵ (flft (ν₁ ∷ []) fullShare) ⊛ ‵ (flft (ν₂ ∷ []) fullShare) ⊛ ‵ (flft κ₃ q₃) ⊛ ‵ (flft κ₄ q₄) ⊛ ‵ (flft κ₅ q₅) ⊛ ‵ ftrue)
-      ∷ ‵ (owns (MutSlice (named 0) (ν₀ ∷ []) u16 ∷ MutSlice (named 1) (ν₁ ∷ []) u64 ∷ MutSlice (named 2) (ν₂ ∷ []) u64 ∷ MutSlice (named 3) κ₃ T.the-row ∷ ShrRef (named 4) κ₄ (Array u32 2248) ∷ ShrRef (named 5) κ₅ (Array u64 128) ∷ G.the-row ∷ [])
+      ∷ ‵ (owns (MutSlice (named 0) (ν₀ ∷ []) u16 ∷ MutSlice (named 1) (ν₁ ∷ []) u64 ∷ MutSlice (named 2) (ν₂ ∷ []) u64 ∷ MutSlice (named 3) κ₃ T.the-row ∷ ShrRef (named 4) κ₄ (Array u32 2248) ∷ ShrRef (named 5) κ₅ (Array u64 512) ∷ G.the-row ∷ [])
       (make-a γ₀ γ₁ γ₂ k) (make-vals k)) ∷ []) ∵ join ! $ frame ! $ done !
 
   walk : (C₀ : Calls 𝓤 H) (Λ : Loops 𝓤 H) → FmC 𝓤 H (W .laws) C₀ → Triple 𝓤 (C₀ #laps·records-used) (Used 𝓤 H A mem run) → Triple 𝓤 (C₀ #lent-run·make-moves) (Make 𝓤 H A mem run)
@@ -237,7 +237,7 @@ module _ {M : Type 1} (𝓤 : URA M) (H : Heap 𝓤) (A : Atoms 𝓤) (W : Given
       assigns ! (of-opd ! (load ! (from ! (fld ! refl (stop !))) (look-in ! 34 (sub ! 1 refl (whole !))))) (from ! (stop !)) (init ! 18 refl (tt, record { fits = room-r .0 })) $
       assigns ! (of-opd ! (load ! (from ! (fld ! refl (stop !))) (look-in ! 32 (sub ! 1 refl (whole !))))) (from ! (stop !)) (init ! 16 refl (tt, record { fits = room-w .0 })) $
       -- what is had on entry: the tables are opened
-      move ! (40 ∷ []) $ use1 W ((‵ (flft κ₀ q₀) ⊛ ‵ (flft κ₁ q₁) ⊛ ‵ (flft κ₂ q₂) ⊛ ‵ (flft κ₃ q₃) ⊛ ‵ (flft κ₄ q₄) ⊛ ‵ (flft κ₅ q₅) ⊛ ‵ ftrue) ⊛ ‵ (owns (MutSlice (named 0) κ₀ u16 ∷ MutSlice (named 1) κ₁ u64 ∷ MutSlice (named 2) κ₂ u64 ∷ MutSlice (named 3) κ₃ T.the-row ∷ ShrRef (named 4) κ₄ (Array u32 2248) ∷ ShrRef (named 5) κ₅ (Array u64 128) ∷ G.the-row ∷ []) a vals)) (id⊢ 𝓤 _) $ split ! $
+      move ! (40 ∷ []) $ use1 W ((‵ (flft κ₀ q₀) ⊛ ‵ (flft κ₁ q₁) ⊛ ‵ (flft κ₂ q₂) ⊛ ‵ (flft κ₃ q₃) ⊛ ‵ (flft κ₄ q₄) ⊛ ‵ (flft κ₅ q₅) ⊛ ‵ ftrue) ⊛ ‵ (owns (MutSlice (named 0) κ₀ u16 ∷ MutSlice (named 1) κ₁ u64 ∷ MutSlice (named 2) κ₂ u64 ∷ MutSlice (named 3) κ₃ T.the-row ∷ ShrRef (named 4) κ₄ (Array u32 2248) ∷ ShrRef (named 5) κ₅ (Array u64 512) ∷ G.the-row ∷ []) a vals)) (id⊢ 𝓤 _) $ split ! $
       split ! $ move ! (1 ∷ []) $ split ! $ move ! (1 ∷ []) $ split ! $ move ! (1 ∷ []) $ split ! $ move ! (1 ∷ []) $ split ! $ move ! (1 ∷ []) $ split ! $ move ! (1 ∷ []) $ drop ! $
       move ! (6 ∷ []) $ fsplit ! $ move ! (1 ∷ []) $ fsplit ! $ move ! (1 ∷ []) $ fsplit ! $ move ! (1 ∷ []) $ fsplit ! $ move ! (1 ∷ []) $ fsplit ! $ move ! (1 ∷ []) $ fsplit ! $ move ! (1 ∷ []) $ fsplit ! $ move ! (1 ∷ []) $ drop ! $
       move ! (6 ∷ []) $ fsplit ! $ drop ! $ fsplit ! $ move ! (0 ∷ 1 ∷ 13 ∷ []) $ opens-slice ! tt u16 C b₀ o₀ $ move ! (2 ∷ 3 ∷ []) $ fjoin ! $ move ! (2 ∷ 0 ∷ []) $ fjoin ! $
@@ -263,7 +263,7 @@ module _ {M : Type 1} (𝓤 : URA M) (H : Heap 𝓤) (A : Atoms 𝓤) (W : Given
       lft-new ! tt (λ ν₁. move ! (9 ∷ []) $ use1 W (later (some (λ (γ₁ : GName). ‵ (MutSlice (named 1) (ν₁ ∷ []) u64 .own (ref-at u64 b₁ o₁ γ₁ (take k R)) (sliceVal (b₁, o₁) (length (take k R)) ∷ [])) ⊛ ‵ (LentPart u64 b₁ o₁ (ν₁ ∷ []) k R γ₁)))) (lend-part u64 b₁ o₁ 𝓤 H A W (ν₁ ∷ []) R k (named 1) (room-take u64 (length R) k R refl room-r)) $ await ! tt $ pick ! (λ γ₁. split ! $ rewrite ! 0 (λ (j : ℕ). ‵ (MutSlice (named 1) (ν₁ ∷ []) u64 .own (ref-at u64 b₁ o₁ γ₁ (take k R)) (sliceVal (b₁, o₁) j ∷ []))) long-r refl $
       lft-new ! tt (λ ν₂. move ! (10 ∷ []) $ use1 W (later (some (λ (γ₂ : GName). ‵ (MutSlice (named 2) (ν₂ ∷ []) u64 .own (ref-at u64 b₂ o₂ γ₂ (take k D)) (sliceVal (b₂, o₂) (length (take k D)) ∷ [])) ⊛ ‵ (LentPart u64 b₂ o₂ (ν₂ ∷ []) k D γ₂)))) (lend-part u64 b₂ o₂ 𝓤 H A W (ν₂ ∷ []) D k (named 2) (room-take u64 (length D) k D refl room-w)) $ await ! tt $ pick ! (λ γ₂. split ! $ rewrite ! 0 (λ (j : ℕ). ‵ (MutSlice (named 2) (ν₂ ∷ []) u64 .own (ref-at u64 b₂ o₂ γ₂ (take k D)) (sliceVal (b₂, o₂) j ∷ []))) long-w refl $
       move ! (10 ∷ []) $ use1 W (‵ Image ⊛ ‵ Image) (shr-copy 𝓤 H A W (named 4) κ₄ (Array u32 2248) .twice xi (si ∷ [])) $ split ! $
-      move ! (16 ∷ []) $ use1 W (‵ Order ⊛ ‵ Order) (shr-copy 𝓤 H A W (named 5) κ₅ (Array u64 128) .twice xo (so ∷ [])) $ split ! $
+      move ! (16 ∷ []) $ use1 W (‵ Order ⊛ ‵ Order) (shr-copy 𝓤 H A W (named 5) κ₅ (Array u64 512) .twice xo (so ∷ [])) $ split ! $
       nothing ! $ move ! (20 ∷ 0 ∷ []) $ join ! $ move ! (14 ∷ 0 ∷ []) $ join ! $ move ! (19 ∷ 0 ∷ []) $ join ! $ move ! (7 ∷ 0 ∷ []) $ join ! $ move ! (9 ∷ 0 ∷ []) $ join ! $ move ! (11 ∷ 0 ∷ []) $ join ! $ nothing ! $ owned ! G.the-row (Is G.the-row) (LL.makes G.the-type G′.the-plain 𝓤 H A) t _ is-t $ fjoin ! $ move ! (2 ∷ 0 ∷ []) $ fjoin ! $ move ! (3 ∷ 0 ∷ []) $ fjoin ! $ move ! (14 ∷ 0 ∷ []) $ fjoin ! $ move ! (4 ∷ 0 ∷ []) $ fjoin ! $ move ! (5 ∷ 0 ∷ []) $ fjoin ! $ move ! (6 ∷ 0 ∷ []) $ fjoin ! $
       move ! (1 ∷ 0 ∷ []) $ use2 W (raw (Make 𝓤 H A mem run .pre (to-make ν₀ ν₁ ν₂ γ₀ γ₁ γ₂ k))) (asked-make ν₀ ν₁ ν₂ γ₀ γ₁ γ₂ k) $
       calls-at ! fm (Make 𝓤 H A mem run) known-make (to-make ν₀ ν₁ ν₂ γ₀ γ₁ γ₂ k) (and-then ! (load ! (from ! (stop !)) (look ! 22 refl)) (and-then ! (load ! (from ! (stop !)) (look ! 18 refl)) (and-then ! (load ! (from ! (stop !)) (look ! 14 refl)) (and-then ! (load ! (from ! (stop !)) (look ! 10 refl)) (and-then ! (load ! (from ! (stop !)) (look ! 38 refl)) (and-then ! (load ! (from ! (stop !)) (look ! 36 refl)) (and-then ! (load ! (from ! (stop !)) (look ! 34 refl)) (no-more !)))))))) (λ w₁.
@@ -290,7 +290,7 @@ module _ {M : Type 1} (𝓤 : URA M) (H : Heap 𝓤) (A : Atoms 𝓤) (W : Given
   go-walks : (C₀ : Calls 𝓤 H) (Λ : Loops 𝓤 H) → FmC 𝓤 H (W .laws) C₀ → Triple 𝓤 (C₀ #laps·records-used) (Used 𝓤 H A mem run) → Triple 𝓤 (C₀ #lent-run·make-moves) (Make 𝓤 H A mem run) → Walks 𝓤 H A go.ended stayed (WpFn 𝓤 H C₀ Λ code.function) (go.clauses 𝓤 H A mem run)
   go-walks C₀ Λ fm known-used known-make = walked 𝓤 H A go.ended stayed (go.clauses 𝓤 H A mem run) (WpFn 𝓤 H C₀ Λ code.function)
       (λ κs. (slice-vals, (slice-vals, (slice-vals, (slice-vals, (ptr-vals, (ptr-vals, ((λ t. mach t ∷ []), tt))))))))
-      (λ κs. (mut-slice-tells (named 0) (κs .0) u16, (mut-slice-tells (named 1) (κs .1 .0) u64, (mut-slice-tells (named 2) (κs .1 .1 .0) u64, (mut-slice-tells (named 3) (κs .1 .1 .1 .0) T.the-row, (shr-tells (named 4) (κs .1 .1 .1 .1 .0) (Array u32 2248), (shr-tells (named 5) (κs .1 .1 .1 .1 .1 .0) (Array u64 128), (LL.tells G.the-type G′.the-laws, tt))))))))
+      (λ κs. (mut-slice-tells (named 0) (κs .0) u16, (mut-slice-tells (named 1) (κs .1 .0) u64, (mut-slice-tells (named 2) (κs .1 .1 .0) u64, (mut-slice-tells (named 3) (κs .1 .1 .1 .0) T.the-row, (shr-tells (named 4) (κs .1 .1 .1 .1 .0) (Array u32 2248), (shr-tells (named 5) (κs .1 .1 .1 .1 .1 .0) (Array u64 512), (LL.tells G.the-type G′.the-laws, tt))))))))
       (λ κs qs bounds a g are. via 𝓤 _ (fst∗ 𝓤 _ (emp 𝓤))
       (walk 𝓤 H A W mem run (κs .0) (κs .1 .0) (κs .1 .1 .0) (κs .1 .1 .1 .0) (κs .1 .1 .1 .1 .0) (κs .1 .1 .1 .1 .1 .0) (qs .0) (qs .1 .0) (qs .1 .1 .0) (qs .1 .1 .1 .0) (qs .1 .1 .1 .1 .0) (qs .1 .1 .1 .1 .1 .0)
       (a .0 .ptr .0) (a .0 .ptr .1) (a .1 .0 .ptr .0) (a .1 .0 .ptr .1) (a .1 .1 .0 .ptr .0) (a .1 .1 .0 .ptr .1) (a .0 .name) (a .1 .0 .name) (a .1 .1 .0 .name) (a .0 .now) (a .1 .0 .now) (a .1 .1 .0 .now)
@@ -300,7 +300,7 @@ go-meets : {M : Type 1} (𝓤 : URA M) (H : Heap 𝓤) (A : Atoms 𝓤) → Give
     → Meets 𝓤 H A go.signature (WpFn 𝓤 H (𝓣 .C) (𝓣 .Λ) code.function) (go.spec 𝓤 H A mem run)
 go-meets 𝓤 H A W mem run 𝓣 known-used known-make =
     walk-meets 𝓤 H A go.ended stayed W
-    (goes-slice 𝓤 H A W 6 0 tt (plain (λ _. u16)), (goes-slice 𝓤 H A W 6 1 tt (plain (λ _. u64)), (goes-slice 𝓤 H A W 6 2 tt (plain (λ _. u64)), (goes-gave-slice 𝓤 H A W 6 3 tt (plain (λ _. T.the-row)), (goes-none-ref 𝓤 H A W 6 (4 ∷ []) tt (plain (λ _. Array u32 2248)) yes, (goes-none-ref 𝓤 H A W 6 (5 ∷ []) tt (plain (λ _. Array u64 128)) yes, (goes-none 𝓤 H A W 6 (λ _. G.the-row) yes (λ κs x f. refl), tt)))))))
+    (goes-slice 𝓤 H A W 6 0 tt (plain (λ _. u16)), (goes-slice 𝓤 H A W 6 1 tt (plain (λ _. u64)), (goes-slice 𝓤 H A W 6 2 tt (plain (λ _. u64)), (goes-gave-slice 𝓤 H A W 6 3 tt (plain (λ _. T.the-row)), (goes-none-ref 𝓤 H A W 6 (4 ∷ []) tt (plain (λ _. Array u32 2248)) yes, (goes-none-ref 𝓤 H A W 6 (5 ∷ []) tt (plain (λ _. Array u64 512)) yes, (goes-none 𝓤 H A W 6 (λ _. G.the-row) yes (λ κs x f. refl), tt)))))))
     (go.clauses 𝓤 H A mem run) (WpFn 𝓤 H (𝓣 .C) (𝓣 .Λ) code.function) (WpFn-mono 𝓤 H (W .laws) 𝓣 code.function) (go-walks 𝓤 H A W mem run (𝓣 .C) (𝓣 .Λ) (fmOf 𝓤 H (W .laws) 𝓣) known-used known-make)
 
 pub go-on-spec : {M : Type 1} → stated.statement M

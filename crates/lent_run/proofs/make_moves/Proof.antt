@@ -92,7 +92,7 @@ use Rattle.lent_run.proofs.make_moves.Code as code
 use Rattle.lent_run.proofs.make_moves.Code.Mir as mir
 
 abbrev stayed : Stays (made.ended .signature .params) (made.ended .kept)
-stayed = (stay-slice (0 ∷ []) tt (plain (λ _. u16)), (stay-slice (1 ∷ []) tt (plain (λ _. u64)), (stay-slice (2 ∷ []) tt (plain (λ _. u64)), (stay-slice (3 ∷ []) tt (plain (λ _. T.the-row)), (stay-none-ref (4 ∷ []) tt (plain (λ _. Array u32 2248)) yes, (stay-none-ref (5 ∷ []) tt (plain (λ _. Array u64 128)) yes, (stay-none (λ _. G.the-row) yes, tt)))))))
+stayed = (stay-slice (0 ∷ []) tt (plain (λ _. u16)), (stay-slice (1 ∷ []) tt (plain (λ _. u64)), (stay-slice (2 ∷ []) tt (plain (λ _. u64)), (stay-slice (3 ∷ []) tt (plain (λ _. T.the-row)), (stay-none-ref (4 ∷ []) tt (plain (λ _. Array u32 2248)) yes, (stay-none-ref (5 ∷ []) tt (plain (λ _. Array u64 512)) yes, (stay-none (λ _. G.the-row) yes, tt)))))))
 
 module _ {M : Type 1} (𝓤 : URA M) (H : Heap 𝓤) (A : Atoms 𝓤) (mem : Memory → SProp 𝓤) (run : Routine → Fun 𝓤) where
   -- the contracts that the proof cites
@@ -257,7 +257,7 @@ module _ {M : Type 1} (𝓤 : URA M) (H : Heap 𝓤) (A : Atoms 𝓤) (W : Given
   Image = ShrRef (named 4) κ₄ (Array u32 2248) .own xi (si ∷ [])
 
   abbrev Order : Fml
-  Order = ShrRef (named 5) κ₅ (Array u64 128) .own xo (so ∷ [])
+  Order = ShrRef (named 5) κ₅ (Array u64 512) .own xo (so ∷ [])
 
   abbrev Fine : Now → Type 0
   Fine = Good (xi .now) (xo .now) t₀ C R D Y
@@ -307,7 +307,7 @@ module _ {M : Type 1} (𝓤 : URA M) (H : Heap 𝓤) (A : Atoms 𝓤) (W : Given
       → ent 𝓤 (onEntry 𝓤 H A begin.signature (begin-lfts ν₀ ν₁ ν₂) begin-shares (begin-a γ₀ γ₁ γ₂ j s) (begin-vals j s)) (Begin 𝓤 H A mem run .pre (to-begin ν₀ ν₁ ν₂ γ₀ γ₁ γ₂ j s))
   asked-begin ν₀ ν₁ ν₂ γ₀ γ₁ γ₂ j s =
       qed W ((‵ (flft (ν₀ ∷ []) fullShare) ⊛ ‵ (flft (ν₁ ∷ []) fullShare) ⊛ ‵ (flft κ₄ q₄) ⊛ ‵ (flft κ₅ q₅) ⊛ ‵ (flft (ν₂ ∷ []) fullShare) ⊛ ‵ ftrue)
-      ∷ ‵ (owns (ShrSlice (named 0) (ν₀ ∷ []) u16 ∷ MutSlice (named 1) (ν₁ ∷ []) u64 ∷ ShrRef (named 2) κ₄ (Array u32 2248) ∷ ShrRef (named 3) κ₅ (Array u64 128) ∷ MutRef (named 4) (ν₂ ∷ []) (Array u64 256) ∷ G.the-row ∷ [])
+      ∷ ‵ (owns (ShrSlice (named 0) (ν₀ ∷ []) u16 ∷ MutSlice (named 1) (ν₁ ∷ []) u64 ∷ ShrRef (named 2) κ₄ (Array u32 2248) ∷ ShrRef (named 3) κ₅ (Array u64 512) ∷ MutRef (named 4) (ν₂ ∷ []) (Array u64 256) ∷ G.the-row ∷ [])
       (begin-a γ₀ γ₁ γ₂ j s) (begin-vals j s)) ∷ []) ∵ join ! $ frame ! $ done !
 
   abbrev PassArg : Type 0
@@ -348,7 +348,7 @@ module _ {M : Type 1} (𝓤 : URA M) (H : Heap 𝓤) (A : Atoms 𝓤) (W : Given
       → ent 𝓤 (onEntry 𝓤 H A finish.signature (finish-lfts ν₀ ν₁ ν₂ ν₃) finish-shares (finish-a γ₀ γ₁ γ₂ γ₃ j s rs x u) (finish-vals j s u)) (Finish 𝓤 H A mem run .pre (to-finish ν₀ ν₁ ν₂ ν₃ γ₀ γ₁ γ₂ γ₃ j s rs x u))
   asked-finish ν₀ ν₁ ν₂ ν₃ γ₀ γ₁ γ₂ γ₃ j s rs x u =
       qed W ((‵ (flft (ν₀ ∷ []) fullShare) ⊛ ‵ (flft (ν₁ ∷ []) fullShare) ⊛ ‵ (flft (ν₂ ∷ []) fullShare) ⊛ ‵ (flft κ₄ q₄) ⊛ ‵ (flft κ₅ q₅) ⊛ ‵ (flft (ν₃ ∷ []) fullShare) ⊛ ‵ ftrue)
-      ∷ ‵ (owns (MutSlice (named 0) (ν₀ ∷ []) u16 ∷ MutSlice (named 1) (ν₁ ∷ []) u64 ∷ MutSlice (named 2) (ν₂ ∷ []) u64 ∷ ShrRef (named 3) κ₄ (Array u32 2248) ∷ ShrRef (named 4) κ₅ (Array u64 128) ∷ ShrRef (named 5) (ν₃ ∷ []) (Array u64 256) ∷ G.the-row ∷ B.the-row ∷ [])
+      ∷ ‵ (owns (MutSlice (named 0) (ν₀ ∷ []) u16 ∷ MutSlice (named 1) (ν₁ ∷ []) u64 ∷ MutSlice (named 2) (ν₂ ∷ []) u64 ∷ ShrRef (named 3) κ₄ (Array u32 2248) ∷ ShrRef (named 4) κ₅ (Array u64 512) ∷ ShrRef (named 5) (ν₃ ∷ []) (Array u64 256) ∷ G.the-row ∷ B.the-row ∷ [])
       (finish-a γ₀ γ₁ γ₂ γ₃ j s rs x u) (finish-vals j s u)) ∷ []) ∵ join ! $ frame ! $ done !
 
   start-good : Fine (record { t = t₀; cs = C; rs = R; ws = D; us = replicate 256 0; zs = Y })
@@ -371,11 +371,11 @@ module _ {M : Type 1} (𝓤 : URA M) (H : Heap 𝓤) (A : Atoms 𝓤) (W : Given
     Λ = 𝓣 .Λ
 
     abbrev En : Env 𝓤 H
-    En = (N′.mir, l₀) ∷ ((sliceTy (tyRef (named 0) mut (tyInt w16))), l₁) ∷ ((sliceTy (tyRef (named 1) mut (tyInt w64))), l₂) ∷ ((sliceTy (tyRef (named 2) mut (tyInt w64))), l₃) ∷ ((sliceTy (tyRef (named 3) mut (pointee (T.the-row .written)))), l₄) ∷ ((tyRef (named 4) imm (tyArray (tyInt w32) 2248)), l₅) ∷ ((tyRef (named 5) imm (tyArray (tyInt w64) 128)), l₆) ∷ (G′.mir, l₇) ∷ ((tyArray (tyInt w64) 256), l₈) ∷ (G′.mir, l₉) ∷ (B′.mir, l₁₀) ∷ ((tyInt w64), l₁₁) ∷ (tyBool, l₁₂) ∷ ((tyRef erased imm (tyInt w16)), l₁₃) ∷ ((sliceTy (tyRef erased imm (tyInt w16))), l₁₄) ∷ ((tyRef erased mut (tyInt w64)), l₁₅) ∷ ((sliceTy (tyRef erased mut (tyInt w64))), l₁₆) ∷ ((tyRef erased mut (tyArray (tyInt w64) 256)), l₁₇) ∷ (tyUnit, l₁₈) ∷ ((tyRef erased mut (pointee (T.the-row .written))), l₁₉) ∷ ((sliceTy (tyRef erased mut (pointee (T.the-row .written)))), l₂₀) ∷ ((tyRef erased mut (tyArray (tyInt w64) 256)), l₂₁) ∷ ((sliceTy (tyRef erased mut (tyInt w64))), l₂₂) ∷ ((tyRef erased mut (tyInt w16)), l₂₃) ∷ ((sliceTy (tyRef erased mut (tyInt w16))), l₂₄) ∷ ((tyRef erased mut (tyInt w64)), l₂₅) ∷ ((sliceTy (tyRef erased mut (tyInt w64))), l₂₆) ∷ ((tyRef erased mut (tyInt w64)), l₂₇) ∷ ((sliceTy (tyRef erased mut (tyInt w64))), l₂₈) ∷ ((tyRef erased imm (tyArray (tyInt w64) 256)), l₂₉) ∷ []
+    En = (N′.mir, l₀) ∷ ((sliceTy (tyRef (named 0) mut (tyInt w16))), l₁) ∷ ((sliceTy (tyRef (named 1) mut (tyInt w64))), l₂) ∷ ((sliceTy (tyRef (named 2) mut (tyInt w64))), l₃) ∷ ((sliceTy (tyRef (named 3) mut (pointee (T.the-row .written)))), l₄) ∷ ((tyRef (named 4) imm (tyArray (tyInt w32) 2248)), l₅) ∷ ((tyRef (named 5) imm (tyArray (tyInt w64) 512)), l₆) ∷ (G′.mir, l₇) ∷ ((tyArray (tyInt w64) 256), l₈) ∷ (G′.mir, l₉) ∷ (B′.mir, l₁₀) ∷ ((tyInt w64), l₁₁) ∷ (tyBool, l₁₂) ∷ ((tyRef erased imm (tyInt w16)), l₁₃) ∷ ((sliceTy (tyRef erased imm (tyInt w16))), l₁₄) ∷ ((tyRef erased mut (tyInt w64)), l₁₅) ∷ ((sliceTy (tyRef erased mut (tyInt w64))), l₁₆) ∷ ((tyRef erased mut (tyArray (tyInt w64) 256)), l₁₇) ∷ (tyUnit, l₁₈) ∷ ((tyRef erased mut (pointee (T.the-row .written))), l₁₉) ∷ ((sliceTy (tyRef erased mut (pointee (T.the-row .written)))), l₂₀) ∷ ((tyRef erased mut (tyArray (tyInt w64) 256)), l₂₁) ∷ ((sliceTy (tyRef erased mut (tyInt w64))), l₂₂) ∷ ((tyRef erased mut (tyInt w16)), l₂₃) ∷ ((sliceTy (tyRef erased mut (tyInt w16))), l₂₄) ∷ ((tyRef erased mut (tyInt w64)), l₂₅) ∷ ((sliceTy (tyRef erased mut (tyInt w64))), l₂₆) ∷ ((tyRef erased mut (tyInt w64)), l₂₇) ∷ ((sliceTy (tyRef erased mut (tyInt w64))), l₂₈) ∷ ((tyRef erased imm (tyArray (tyInt w64) 256)), l₂₉) ∷ []
 
     -- what no turn changes
     abbrev Frame : List (Item 𝓤)
-    Frame = ‵ (fat fullShare (sliceTy (tyRef (named 0) mut (tyInt w16))) l₁ 0 sc) ∷ ‵ (fat fullShare (sliceTy (tyRef (named 1) mut (tyInt w64))) l₂ 0 sr) ∷ ‵ (fat fullShare (sliceTy (tyRef (named 2) mut (tyInt w64))) l₃ 0 sw) ∷ ‵ (fat fullShare (sliceTy (tyRef (named 3) mut (pointee (T.the-row .written)))) l₄ 0 sl) ∷ ‵ (fat fullShare (tyRef (named 4) imm (tyArray (tyInt w32) 2248)) l₅ 0 si) ∷ ‵ (fat fullShare (tyRef (named 5) imm (tyArray (tyInt w64) 128)) l₆ 0 so) ∷ ‵ (fat fullShare G′.mir l₇ 0 (mach t₀)) ∷ ‵ (froom N′.mir l₀ 0) ∷ ‵ (fsep (fobor κ₀ q₀ (Held u16 (length C) b₀ o₀ δ₀)) (fsep (fobs δ₀ (codedHoleys u16 .code (heres u16 C))) (fauth δ₀ (codedHoleys u16 .code (heres u16 C))))) ∷ ‵ (fsep (fobor κ₁ q₁ (Held u64 (length R) b₁ o₁ δ₁)) (fsep (fobs δ₁ (codedHoleys u64 .code (heres u64 R))) (fauth δ₁ (codedHoleys u64 .code (heres u64 R))))) ∷ ‵ (fsep (fobor κ₂ q₂ (Held u64 (length D) b₂ o₂ δ₂)) (fsep (fobs δ₂ (codedHoleys u64 .code (heres u64 D))) (fauth δ₂ (codedHoleys u64 .code (heres u64 D))))) ∷ ‵ (fsep (fobor κ₃ q₃ (Held T.the-row (length Y) b₃ o₃ δ₃)) (fsep (fobs δ₃ (codedHoleys T.the-row .code (heres T.the-row Y))) (fauth δ₃ (codedHoleys T.the-row .code (heres T.the-row Y))))) ∷ ‵ (flft κ₄ q₄) ∷ ‵ (flft κ₅ q₅) ∷ ‵ Image ∷ ‵ Order ∷ ‵ (fdies N′.mir l₀) ∷ ‵ (fdies (sliceTy (tyRef (named 0) mut (tyInt w16))) l₁) ∷ ‵ (fdies (sliceTy (tyRef (named 1) mut (tyInt w64))) l₂) ∷ ‵ (fdies (sliceTy (tyRef (named 2) mut (tyInt w64))) l₃) ∷ ‵ (fdies (sliceTy (tyRef (named 3) mut (pointee (T.the-row .written)))) l₄) ∷ ‵ (fdies (tyRef (named 4) imm (tyArray (tyInt w32) 2248)) l₅) ∷ ‵ (fdies (tyRef (named 5) imm (tyArray (tyInt w64) 128)) l₆) ∷ ‵ (fdies G′.mir l₇) ∷ ‵ (fdies (tyArray (tyInt w64) 256) l₈) ∷ ‵ (fdies G′.mir l₉) ∷ ‵ (fdies B′.mir l₁₀) ∷ ‵ (fdies (tyInt w64) l₁₁) ∷ ‵ (fdies tyBool l₁₂) ∷ ‵ (fdies (tyRef erased imm (tyInt w16)) l₁₃) ∷ ‵ (fdies (sliceTy (tyRef erased imm (tyInt w16))) l₁₄) ∷ ‵ (fdies (tyRef erased mut (tyInt w64)) l₁₅) ∷ ‵ (fdies (sliceTy (tyRef erased mut (tyInt w64))) l₁₆) ∷ ‵ (fdies (tyRef erased mut (tyArray (tyInt w64) 256)) l₁₇) ∷ ‵ (fdies tyUnit l₁₈) ∷ ‵ (fdies (tyRef erased mut (pointee (T.the-row .written))) l₁₉) ∷ ‵ (fdies (sliceTy (tyRef erased mut (pointee (T.the-row .written)))) l₂₀) ∷ ‵ (fdies (tyRef erased mut (tyArray (tyInt w64) 256)) l₂₁) ∷ ‵ (fdies (sliceTy (tyRef erased mut (tyInt w64))) l₂₂) ∷ ‵ (fdies (tyRef erased mut (tyInt w16)) l₂₃) ∷ ‵ (fdies (sliceTy (tyRef erased mut (tyInt w16))) l₂₄) ∷ ‵ (fdies (tyRef erased mut (tyInt w64)) l₂₅) ∷ ‵ (fdies (sliceTy (tyRef erased mut (tyInt w64))) l₂₆) ∷ ‵ (fdies (tyRef erased mut (tyInt w64)) l₂₇) ∷ ‵ (fdies (sliceTy (tyRef erased mut (tyInt w64))) l₂₈) ∷ ‵ (fdies (tyRef erased imm (tyArray (tyInt w64) 256)) l₂₉) ∷ []
+    Frame = ‵ (fat fullShare (sliceTy (tyRef (named 0) mut (tyInt w16))) l₁ 0 sc) ∷ ‵ (fat fullShare (sliceTy (tyRef (named 1) mut (tyInt w64))) l₂ 0 sr) ∷ ‵ (fat fullShare (sliceTy (tyRef (named 2) mut (tyInt w64))) l₃ 0 sw) ∷ ‵ (fat fullShare (sliceTy (tyRef (named 3) mut (pointee (T.the-row .written)))) l₄ 0 sl) ∷ ‵ (fat fullShare (tyRef (named 4) imm (tyArray (tyInt w32) 2248)) l₅ 0 si) ∷ ‵ (fat fullShare (tyRef (named 5) imm (tyArray (tyInt w64) 512)) l₆ 0 so) ∷ ‵ (fat fullShare G′.mir l₇ 0 (mach t₀)) ∷ ‵ (froom N′.mir l₀ 0) ∷ ‵ (fsep (fobor κ₀ q₀ (Held u16 (length C) b₀ o₀ δ₀)) (fsep (fobs δ₀ (codedHoleys u16 .code (heres u16 C))) (fauth δ₀ (codedHoleys u16 .code (heres u16 C))))) ∷ ‵ (fsep (fobor κ₁ q₁ (Held u64 (length R) b₁ o₁ δ₁)) (fsep (fobs δ₁ (codedHoleys u64 .code (heres u64 R))) (fauth δ₁ (codedHoleys u64 .code (heres u64 R))))) ∷ ‵ (fsep (fobor κ₂ q₂ (Held u64 (length D) b₂ o₂ δ₂)) (fsep (fobs δ₂ (codedHoleys u64 .code (heres u64 D))) (fauth δ₂ (codedHoleys u64 .code (heres u64 D))))) ∷ ‵ (fsep (fobor κ₃ q₃ (Held T.the-row (length Y) b₃ o₃ δ₃)) (fsep (fobs δ₃ (codedHoleys T.the-row .code (heres T.the-row Y))) (fauth δ₃ (codedHoleys T.the-row .code (heres T.the-row Y))))) ∷ ‵ (flft κ₄ q₄) ∷ ‵ (flft κ₅ q₅) ∷ ‵ Image ∷ ‵ Order ∷ ‵ (fdies N′.mir l₀) ∷ ‵ (fdies (sliceTy (tyRef (named 0) mut (tyInt w16))) l₁) ∷ ‵ (fdies (sliceTy (tyRef (named 1) mut (tyInt w64))) l₂) ∷ ‵ (fdies (sliceTy (tyRef (named 2) mut (tyInt w64))) l₃) ∷ ‵ (fdies (sliceTy (tyRef (named 3) mut (pointee (T.the-row .written)))) l₄) ∷ ‵ (fdies (tyRef (named 4) imm (tyArray (tyInt w32) 2248)) l₅) ∷ ‵ (fdies (tyRef (named 5) imm (tyArray (tyInt w64) 512)) l₆) ∷ ‵ (fdies G′.mir l₇) ∷ ‵ (fdies (tyArray (tyInt w64) 256) l₈) ∷ ‵ (fdies G′.mir l₉) ∷ ‵ (fdies B′.mir l₁₀) ∷ ‵ (fdies (tyInt w64) l₁₁) ∷ ‵ (fdies tyBool l₁₂) ∷ ‵ (fdies (tyRef erased imm (tyInt w16)) l₁₃) ∷ ‵ (fdies (sliceTy (tyRef erased imm (tyInt w16))) l₁₄) ∷ ‵ (fdies (tyRef erased mut (tyInt w64)) l₁₅) ∷ ‵ (fdies (sliceTy (tyRef erased mut (tyInt w64))) l₁₆) ∷ ‵ (fdies (tyRef erased mut (tyArray (tyInt w64) 256)) l₁₇) ∷ ‵ (fdies tyUnit l₁₈) ∷ ‵ (fdies (tyRef erased mut (pointee (T.the-row .written))) l₁₉) ∷ ‵ (fdies (sliceTy (tyRef erased mut (pointee (T.the-row .written)))) l₂₀) ∷ ‵ (fdies (tyRef erased mut (tyArray (tyInt w64) 256)) l₂₁) ∷ ‵ (fdies (sliceTy (tyRef erased mut (tyInt w64))) l₂₂) ∷ ‵ (fdies (tyRef erased mut (tyInt w16)) l₂₃) ∷ ‵ (fdies (sliceTy (tyRef erased mut (tyInt w16))) l₂₄) ∷ ‵ (fdies (tyRef erased mut (tyInt w64)) l₂₅) ∷ ‵ (fdies (sliceTy (tyRef erased mut (tyInt w64))) l₂₆) ∷ ‵ (fdies (tyRef erased mut (tyInt w64)) l₂₇) ∷ ‵ (fdies (sliceTy (tyRef erased mut (tyInt w64))) l₂₈) ∷ ‵ (fdies (tyRef erased imm (tyArray (tyInt w64) 256)) l₂₉) ∷ []
 
     abbrev At : Now → List (Item 𝓤)
     At s = ‵ (row u16 fullShare (s .cs) b₀ o₀) ∷ ‵ (row u64 fullShare (s .rs) b₁ o₁) ∷ ‵ (row u64 fullShare (s .ws) b₂ o₂) ∷ ‵ (row T.the-row fullShare (s .zs) b₃ o₃) ∷ ‵ (partAt (Array (UInt w64) 256) fullShare (s .us) l₈ 0) ∷ ‵ (fat fullShare G′.mir l₉ 0 (mach (s .t))) ∷ ‵ (froom B′.mir l₁₀ 0) ∷ ‵ (froom (tyInt w64) l₁₁ 0) ∷ ‵ (froom tyBool l₁₂ 0) ∷ ‵ (froom (tyRef erased imm (tyInt w16)) l₁₃ 0) ∷ ‵ (froom (sliceTy (tyRef erased imm (tyInt w16))) l₁₄ 0) ∷ ‵ (froom (tyRef erased mut (tyInt w64)) l₁₅ 0) ∷ ‵ (froom (sliceTy (tyRef erased mut (tyInt w64))) l₁₆ 0) ∷ ‵ (froom (tyRef erased mut (tyArray (tyInt w64) 256)) l₁₇ 0) ∷ ‵ (froom tyUnit l₁₈ 0) ∷ ‵ (froom (tyRef erased mut (pointee (T.the-row .written))) l₁₉ 0) ∷ ‵ (froom (sliceTy (tyRef erased mut (pointee (T.the-row .written)))) l₂₀ 0) ∷ ‵ (froom (tyRef erased mut (tyArray (tyInt w64) 256)) l₂₁ 0) ∷ ‵ (froom (sliceTy (tyRef erased mut (tyInt w64))) l₂₂ 0) ∷ ‵ (froom (tyRef erased mut (tyInt w16)) l₂₃ 0) ∷ ‵ (froom (sliceTy (tyRef erased mut (tyInt w16))) l₂₄ 0) ∷ ‵ (froom (tyRef erased mut (tyInt w64)) l₂₅ 0) ∷ ‵ (froom (sliceTy (tyRef erased mut (tyInt w64))) l₂₆ 0) ∷ ‵ (froom (tyRef erased mut (tyInt w64)) l₂₇ 0) ∷ ‵ (froom (sliceTy (tyRef erased mut (tyInt w64))) l₂₈ 0) ∷ ‵ (froom (tyRef erased imm (tyArray (tyInt w64) 256)) l₂₉ 0) ∷ Frame
@@ -408,7 +408,7 @@ module _ {M : Type 1} (𝓤 : URA M) (H : Heap 𝓤) (A : Atoms 𝓤) (W : Given
         lft-new ! tt (λ ν₁. move ! (4 ∷ []) $ use1 W (later (some (λ (γ₁ : GName). ‵ (MutSlice (named 1) (ν₁ ∷ []) u64 .own (ref-at u64 b₁ o₁ γ₁ (s .rs)) (sliceVal (b₁, o₁) (length (s .rs)) ∷ [])) ⊛ ‵ (LentMut u64 b₁ o₁ (ν₁ ∷ []) (length (s .rs)) γ₁)))) (lend-mut u64 b₁ o₁ 𝓤 H A W (ν₁ ∷ []) (s .rs) (named 1) (room-of u64 (length R) (length (s .rs)) room-r (good .readers))) $ await ! tt $ pick ! (λ γ₁. split ! $ rewrite ! 0 (λ (k : ℕ). ‵ (MutSlice (named 1) (ν₁ ∷ []) u64 .own (ref-at u64 b₁ o₁ γ₁ (s .rs)) (sliceVal (b₁, o₁) k ∷ []))) (good .readers) refl $
         lft-new ! tt (λ ν₂. move ! (9 ∷ []) $ use1 W (later (some (λ (γ₂ : GName). ‵ (MutRef (named 4) (ν₂ ∷ []) (Array (UInt w64) 256) .own (array-at w64 256 l₈ γ₂ (s .us)) (vptr l₈ 0 ∷ [])) ⊛ ‵ (LentArray w64 256 (ν₂ ∷ []) l₈ γ₂)))) (lend-array 𝓤 H A W w64 256 l₈ (named 4) (ν₂ ∷ []) (s .us)) $ await ! tt $ pick ! (λ γ₂. split ! $
         move ! (46 ∷ []) $ use1 W (‵ Image ⊛ ‵ Image) (shr-copy 𝓤 H A W (named 4) κ₄ (Array u32 2248) .twice xi (si ∷ [])) $ split ! $
-        move ! (48 ∷ []) $ use1 W (‵ Order ⊛ ‵ Order) (shr-copy 𝓤 H A W (named 5) κ₅ (Array u64 128) .twice xo (so ∷ [])) $ split ! $
+        move ! (48 ∷ []) $ use1 W (‵ Order ⊛ ‵ Order) (shr-copy 𝓤 H A W (named 5) κ₅ (Array u64 512) .twice xo (so ∷ [])) $ split ! $
         nothing ! $ move ! (7 ∷ 0 ∷ []) $ join ! $ move ! (49 ∷ 0 ∷ []) $ join ! $ move ! (48 ∷ 0 ∷ []) $ join ! $ move ! (9 ∷ 0 ∷ []) $ join ! $ move ! (11 ∷ 0 ∷ []) $ join ! $ nothing ! $ owned ! G.the-row (Is G.the-row) (LL.makes G.the-type G′.the-plain 𝓤 H A) (s .t) _ (good .is) $ fjoin ! $ move ! (6 ∷ 0 ∷ []) $ fjoin ! $ move ! (3 ∷ 0 ∷ []) $ fjoin ! $ move ! (4 ∷ 0 ∷ []) $ fjoin ! $ move ! (5 ∷ 0 ∷ []) $ fjoin ! $ move ! (6 ∷ 0 ∷ []) $ fjoin ! $
         move ! (1 ∷ 0 ∷ []) $ use2 W (raw (Begin 𝓤 H A mem run .pre (to-begin ν₀ ν₁ ν₂ γ₀ γ₁ γ₂ l₈ s))) (asked-begin ν₀ ν₁ ν₂ γ₀ γ₁ γ₂ l₈ s) $
         calls-at ! (fmOf 𝓤 H (W .laws) 𝓣) (Begin 𝓤 H A mem run) known-begin (to-begin ν₀ ν₁ ν₂ γ₀ γ₁ γ₂ l₈ s) (and-then ! (load ! (from ! (stop !)) (look ! 13 refl)) (and-then ! (load ! (from ! (stop !)) (look ! 15 refl)) (and-then ! (load ! (from ! (stop !)) (look ! 33 refl)) (and-then ! (load ! (from ! (stop !)) (look ! 34 refl)) (and-then ! (load ! (from ! (stop !)) (look ! 16 refl)) (and-then ! (load ! (from ! (stop !)) (look ! 8 refl)) (no-more !))))))) (λ w₁.
@@ -448,7 +448,7 @@ module _ {M : Type 1} (𝓤 : URA M) (H : Heap 𝓤) (A : Atoms 𝓤) (W : Given
         lft-new ! tt (λ ν₇. move ! (13 ∷ []) $ use1 W (later (some (λ (γ₇ : GName). ‵ (MutSlice (named 2) (ν₇ ∷ []) u64 .own (ref-at u64 b₂ o₂ γ₇ (s .ws)) (sliceVal (b₂, o₂) (length (s .ws)) ∷ [])) ⊛ ‵ (LentMut u64 b₂ o₂ (ν₇ ∷ []) (length (s .ws)) γ₇)))) (lend-mut u64 b₂ o₂ 𝓤 H A W (ν₇ ∷ []) (s .ws) (named 2) (room-of u64 (length D) (length (s .ws)) room-w (good .writers))) $ await ! tt $ pick ! (λ γ₇. split ! $ rewrite ! 0 (λ (k : ℕ). ‵ (MutSlice (named 2) (ν₇ ∷ []) u64 .own (ref-at u64 b₂ o₂ γ₇ (s .ws)) (sliceVal (b₂, o₂) k ∷ []))) (good .writers) refl $
         lft-new ! tt (λ ν₈. move ! (10 ∷ []) $ use1 W (later (some (λ (γ₈ : GName). ‵ (ShrRef (named 5) (ν₈ ∷ []) (Array (UInt w64) 256) .own (array-at w64 256 l₈ γ₈ (ps .1 .0)) (vptr l₈ 0 ∷ [])) ⊛ ‵ (flent (ν₈ ∷ []) (partAt (Array (UInt w64) 256) fullShare (ps .1 .0) l₈ 0))))) (share-array 𝓤 H A W w64 256 l₈ (named 5) (ν₈ ∷ []) (ps .1 .0)) $ await ! tt $ pick ! (λ γ₈. split ! $
         move ! (16 ∷ []) $ use1 W (‵ Image ⊛ ‵ Image) (shr-copy 𝓤 H A W (named 4) κ₄ (Array u32 2248) .twice xi (si ∷ [])) $ split ! $
-        move ! (17 ∷ []) $ use1 W (‵ Order ⊛ ‵ Order) (shr-copy 𝓤 H A W (named 5) κ₅ (Array u64 128) .twice xo (so ∷ [])) $ split ! $
+        move ! (17 ∷ []) $ use1 W (‵ Order ⊛ ‵ Order) (shr-copy 𝓤 H A W (named 5) κ₅ (Array u64 512) .twice xo (so ∷ [])) $ split ! $
         nothing ! $ move ! (7 ∷ 0 ∷ []) $ join ! $ move ! (17 ∷ 0 ∷ []) $ join ! $ move ! (17 ∷ 0 ∷ []) $ join ! $ move ! (9 ∷ 0 ∷ []) $ join ! $ move ! (11 ∷ 0 ∷ []) $ join ! $ move ! (13 ∷ 0 ∷ []) $ join ! $ nothing ! $ owned ! B.the-row (Is B.the-row) (LL.makes B.the-type B′.the-plain 𝓤 H A) u _ (is-begun u w₁ isu) $ fjoin ! $ owned ! G.the-row (Is G.the-row) (LL.makes G.the-type G′.the-plain 𝓤 H A) (s .t) _ (good .is) $ fjoin ! $ move ! (6 ∷ 0 ∷ []) $ fjoin ! $ move ! (3 ∷ 0 ∷ []) $ fjoin ! $ move ! (4 ∷ 0 ∷ []) $ fjoin ! $ move ! (5 ∷ 0 ∷ []) $ fjoin ! $ move ! (6 ∷ 0 ∷ []) $ fjoin ! $ move ! (7 ∷ 0 ∷ []) $ fjoin ! $
         move ! (1 ∷ 0 ∷ []) $ use2 W (raw (Finish 𝓤 H A mem run .pre (to-finish ν₅ ν₆ ν₇ ν₈ γ₅ γ₆ γ₇ γ₈ l₈ s (bs .1 .0) (ps .1 .0) u))) (asked-finish ν₅ ν₆ ν₇ ν₈ γ₅ γ₆ γ₇ γ₈ l₈ s (bs .1 .0) (ps .1 .0) u) $
         calls-at-last ! (fmOf 𝓤 H (W .laws) 𝓣) (Finish 𝓤 H A mem run) known-finish (to-finish ν₅ ν₆ ν₇ ν₈ γ₅ γ₆ γ₇ γ₈ l₈ s (bs .1 .0) (ps .1 .0) u) (and-then ! (load ! (from ! (stop !)) (look ! 23 refl)) (and-then ! (load ! (from ! (stop !)) (look ! 25 refl)) (and-then ! (load ! (from ! (stop !)) (look ! 27 refl)) (and-then ! (load ! (from ! (stop !)) (look ! 33 refl)) (and-then ! (load ! (from ! (stop !)) (look ! 34 refl)) (and-then ! (load ! (from ! (stop !)) (look ! 28 refl)) (and-then ! (load ! (from ! (stop !)) (look ! 8 refl)) (and-then ! (load ! (from ! (stop !)) (look ! 9 refl)) (no-more !))))))))) (λ w₃.
@@ -517,7 +517,7 @@ module _ {M : Type 1} (𝓤 : URA M) (H : Heap 𝓤) (A : Atoms 𝓤) (W : Given
       assigns ! (rep ! 256 (lit ! tt)) (from ! (stop !)) (init ! 42 refl (fresh-typed 𝓤 H A W w64 256 0 (lit< tt))) $ move ! (42 ∷ []) $ use1 W (‵ (partAt (Array (UInt w64) 256) fullShare (replicate 256 0) l₈ 0)) (begins 𝓤 H A W w64 256 l₈ 0 (lit< tt)) $
       assigns ! (of-opd ! (load ! (from ! (stop !)) (look ! 44 refl))) (from ! (stop !)) (init ! 41 refl (LL.lawful G.the-type G′.the-laws 𝓤 H A W .typed t₀ _ is₀ .0)) $
       -- what is had on entry: the tables and the list are opened
-      move ! (60 ∷ []) $ use1 W ((‵ (flft κ₀ q₀) ⊛ ‵ (flft κ₁ q₁) ⊛ ‵ (flft κ₂ q₂) ⊛ ‵ (flft κ₃ q₃) ⊛ ‵ (flft κ₄ q₄) ⊛ ‵ (flft κ₅ q₅) ⊛ ‵ ftrue) ⊛ ‵ (owns (MutSlice (named 0) κ₀ u16 ∷ MutSlice (named 1) κ₁ u64 ∷ MutSlice (named 2) κ₂ u64 ∷ MutSlice (named 3) κ₃ T.the-row ∷ ShrRef (named 4) κ₄ (Array u32 2248) ∷ ShrRef (named 5) κ₅ (Array u64 128) ∷ G.the-row ∷ []) a vals)) (id⊢ 𝓤 _) $ split ! $
+      move ! (60 ∷ []) $ use1 W ((‵ (flft κ₀ q₀) ⊛ ‵ (flft κ₁ q₁) ⊛ ‵ (flft κ₂ q₂) ⊛ ‵ (flft κ₃ q₃) ⊛ ‵ (flft κ₄ q₄) ⊛ ‵ (flft κ₅ q₅) ⊛ ‵ ftrue) ⊛ ‵ (owns (MutSlice (named 0) κ₀ u16 ∷ MutSlice (named 1) κ₁ u64 ∷ MutSlice (named 2) κ₂ u64 ∷ MutSlice (named 3) κ₃ T.the-row ∷ ShrRef (named 4) κ₄ (Array u32 2248) ∷ ShrRef (named 5) κ₅ (Array u64 512) ∷ G.the-row ∷ []) a vals)) (id⊢ 𝓤 _) $ split ! $
       split ! $ move ! (1 ∷ []) $ split ! $ move ! (1 ∷ []) $ split ! $ move ! (1 ∷ []) $ split ! $ move ! (1 ∷ []) $ split ! $ move ! (1 ∷ []) $ split ! $ move ! (1 ∷ []) $ drop ! $
       move ! (6 ∷ []) $ fsplit ! $ move ! (1 ∷ []) $ fsplit ! $ move ! (1 ∷ []) $ fsplit ! $ move ! (1 ∷ []) $ fsplit ! $ move ! (1 ∷ []) $ fsplit ! $ move ! (1 ∷ []) $ fsplit ! $ move ! (1 ∷ []) $ fsplit ! $ move ! (1 ∷ []) $ drop ! $
       move ! (6 ∷ []) $ fsplit ! $ drop ! $ fsplit ! $ move ! (0 ∷ 1 ∷ 13 ∷ []) $ opens-slice ! tt u16 C b₀ o₀ $ move ! (2 ∷ 3 ∷ []) $ fjoin ! $ move ! (2 ∷ 0 ∷ []) $ fjoin ! $
@@ -531,7 +531,7 @@ module _ {M : Type 1} (𝓤 : URA M) (H : Heap 𝓤) (A : Atoms 𝓤) (W : Given
       → Walks 𝓤 H A made.ended stayed (WpFn 𝓤 H (𝓣 .C) (𝓣 .Λ) code.function) (made.clauses 𝓤 H A mem run)
   made-walks 𝓣 known-begin known-pass known-finish = walked 𝓤 H A made.ended stayed (made.clauses 𝓤 H A mem run) (WpFn 𝓤 H (𝓣 .C) (𝓣 .Λ) code.function)
       (λ κs. (slice-vals, (slice-vals, (slice-vals, (slice-vals, (ptr-vals, (ptr-vals, ((λ t. mach t ∷ []), tt))))))))
-      (λ κs. (mut-slice-tells (named 0) (κs .0) u16, (mut-slice-tells (named 1) (κs .1 .0) u64, (mut-slice-tells (named 2) (κs .1 .1 .0) u64, (mut-slice-tells (named 3) (κs .1 .1 .1 .0) T.the-row, (shr-tells (named 4) (κs .1 .1 .1 .1 .0) (Array u32 2248), (shr-tells (named 5) (κs .1 .1 .1 .1 .1 .0) (Array u64 128), (LL.tells G.the-type G′.the-laws, tt))))))))
+      (λ κs. (mut-slice-tells (named 0) (κs .0) u16, (mut-slice-tells (named 1) (κs .1 .0) u64, (mut-slice-tells (named 2) (κs .1 .1 .0) u64, (mut-slice-tells (named 3) (κs .1 .1 .1 .0) T.the-row, (shr-tells (named 4) (κs .1 .1 .1 .1 .0) (Array u32 2248), (shr-tells (named 5) (κs .1 .1 .1 .1 .1 .0) (Array u64 512), (LL.tells G.the-type G′.the-laws, tt))))))))
       (λ κs qs bounds a g are. via 𝓤 _ (fst∗ 𝓤 _ (emp 𝓤))
       (walk 𝓤 H A W mem run (κs .0) (κs .1 .0) (κs .1 .1 .0) (κs .1 .1 .1 .0) (κs .1 .1 .1 .1 .0) (κs .1 .1 .1 .1 .1 .0) (qs .0) (qs .1 .0) (qs .1 .1 .0) (qs .1 .1 .1 .0) (qs .1 .1 .1 .1 .0) (qs .1 .1 .1 .1 .1 .0)
       (a .0 .ptr .0) (a .0 .ptr .1) (a .1 .0 .ptr .0) (a .1 .0 .ptr .1) (a .1 .1 .0 .ptr .0) (a .1 .1 .0 .ptr .1) (a .1 .1 .1 .0 .ptr .0) (a .1 .1 .1 .0 .ptr .1)
@@ -542,7 +542,7 @@ made-meets : {M : Type 1} (𝓤 : URA M) (H : Heap 𝓤) (A : Atoms 𝓤) → Gi
     → Meets 𝓤 H A made.signature (WpFn 𝓤 H (𝓣 .C) (𝓣 .Λ) code.function) (made.spec 𝓤 H A mem run)
 made-meets 𝓤 H A W mem run 𝓣 known-begin known-pass known-finish =
     walk-meets 𝓤 H A made.ended stayed W
-    (goes-slice 𝓤 H A W 6 0 tt (plain (λ _. u16)), (goes-slice 𝓤 H A W 6 1 tt (plain (λ _. u64)), (goes-slice 𝓤 H A W 6 2 tt (plain (λ _. u64)), (goes-slice 𝓤 H A W 6 3 tt (plain (λ _. T.the-row)), (goes-none-ref 𝓤 H A W 6 (4 ∷ []) tt (plain (λ _. Array u32 2248)) yes, (goes-none-ref 𝓤 H A W 6 (5 ∷ []) tt (plain (λ _. Array u64 128)) yes, (goes-none 𝓤 H A W 6 (λ _. G.the-row) yes (λ κs x f. refl), tt)))))))
+    (goes-slice 𝓤 H A W 6 0 tt (plain (λ _. u16)), (goes-slice 𝓤 H A W 6 1 tt (plain (λ _. u64)), (goes-slice 𝓤 H A W 6 2 tt (plain (λ _. u64)), (goes-slice 𝓤 H A W 6 3 tt (plain (λ _. T.the-row)), (goes-none-ref 𝓤 H A W 6 (4 ∷ []) tt (plain (λ _. Array u32 2248)) yes, (goes-none-ref 𝓤 H A W 6 (5 ∷ []) tt (plain (λ _. Array u64 512)) yes, (goes-none 𝓤 H A W 6 (λ _. G.the-row) yes (λ κs x f. refl), tt)))))))
     (made.clauses 𝓤 H A mem run) (WpFn 𝓤 H (𝓣 .C) (𝓣 .Λ) code.function) (WpFn-mono 𝓤 H (W .laws) 𝓣 code.function) (made-walks 𝓤 H A W mem run 𝓣 known-begin known-pass known-finish)
 
 pub make-moves-spec : {M : Type 1} → stated.statement M

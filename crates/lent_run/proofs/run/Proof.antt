@@ -196,7 +196,7 @@ module _ {M : Type 1} (𝓤 : URA M) (H : Heap 𝓤) (A : Atoms 𝓤) (W : Given
   OpenArg = RefT (List ℕ) × (RefT (List ℕ) × (RefT (List ℕ) × (RefT (List ℕ) × (RefT (List ℕ) × (ℕ × (RefT (List ℕ) × (RefT (List ℕ) × Unit {0})))))))
 
   abbrev open-a : GName → GName → GName → GName → GName → ℕ → ℕ → OpenArg
-  open-a γ₀ γ₁ γ₂ γ₃ γ₄ i j = (xb, (xg, (ref-at u16 b₂ o₂ γ₀ C, (ref-at u64 b₃ o₃ γ₁ R, (ref-at u64 b₄ o₄ γ₂ D, (n, (array-at w32 2248 i γ₃ (replicate 2248 0), (array-at w64 128 j γ₄ (replicate 128 0), tt))))))))
+  open-a γ₀ γ₁ γ₂ γ₃ γ₄ i j = (xb, (xg, (ref-at u16 b₂ o₂ γ₀ C, (ref-at u64 b₃ o₃ γ₁ R, (ref-at u64 b₄ o₄ γ₂ D, (n, (array-at w32 2248 i γ₃ (replicate 2248 0), (array-at w64 512 j γ₄ (replicate 512 0), tt))))))))
 
   abbrev open-vals : ℕ → ℕ → List Val × (List Val × (List Val × (List Val × (List Val × (List Val × (List Val × (List Val × Unit {0})))))))
   open-vals i j = (sb ∷ [], (sg ∷ [], (sc ∷ [], (sr ∷ [], (sw ∷ [], (vint w64 n ∷ [], (vptr i 0 ∷ [], (vptr j 0 ∷ [], tt))))))))
@@ -214,14 +214,14 @@ module _ {M : Type 1} (𝓤 : URA M) (H : Heap 𝓤) (A : Atoms 𝓤) (W : Given
       → ent 𝓤 (onEntry 𝓤 H A prepare.signature (open-lfts ν₀ ν₁ ν₂ ν₃ ν₄) open-shares (open-a γ₀ γ₁ γ₂ γ₃ γ₄ i j) (open-vals i j)) (Open 𝓤 H A mem run .pre (to-open ν₀ ν₁ ν₂ ν₃ ν₄ γ₀ γ₁ γ₂ γ₃ γ₄ i j))
   asked-open ν₀ ν₁ ν₂ ν₃ ν₄ γ₀ γ₁ γ₂ γ₃ γ₄ i j =
       qed W ((‵ (flft κ₀ q₀) ⊛ ‵ (flft κ₁ q₁) ⊛ ‵ (flft (ν₀ ∷ []) fullShare) ⊛ ‵ (flft (ν₁ ∷ []) fullShare) ⊛ ‵ (flft (ν₂ ∷ []) fullShare) ⊛ ‵ (flft (ν₃ ∷ []) fullShare) ⊛ ‵ (flft (ν₄ ∷ []) fullShare) ⊛ ‵ ftrue)
-      ∷ ‵ (owns (ShrSlice (named 0) κ₀ u8 ∷ ShrSlice (named 1) κ₁ u8 ∷ MutSlice (named 2) (ν₀ ∷ []) u16 ∷ MutSlice (named 3) (ν₁ ∷ []) u64 ∷ MutSlice (named 4) (ν₂ ∷ []) u64 ∷ usize ∷ MutRef (named 5) (ν₃ ∷ []) (Array u32 2248) ∷ MutRef (named 6) (ν₄ ∷ []) (Array u64 128) ∷ [])
+      ∷ ‵ (owns (ShrSlice (named 0) κ₀ u8 ∷ ShrSlice (named 1) κ₁ u8 ∷ MutSlice (named 2) (ν₀ ∷ []) u16 ∷ MutSlice (named 3) (ν₁ ∷ []) u64 ∷ MutSlice (named 4) (ν₂ ∷ []) u64 ∷ usize ∷ MutRef (named 5) (ν₃ ∷ []) (Array u32 2248) ∷ MutRef (named 6) (ν₄ ∷ []) (Array u64 512) ∷ [])
       (open-a γ₀ γ₁ γ₂ γ₃ γ₄ i j) (open-vals i j)) ∷ []) ∵ join ! $ frame ! $ done !
 
   abbrev GoArg : Type 0
   GoArg = RefT (List ℕ) × (RefT (List ℕ) × (RefT (List ℕ) × (RefT (List Record) × (RefT (List ℕ) × (RefT (List ℕ) × (Turn × Unit {0}))))))
 
   abbrev go-a : GName → GName → GName → GName → GName → GName → ℕ → ℕ → Opened → GoArg
-  go-a γ₀ γ₁ γ₂ γ₃ γ₄ γ₅ i j s = (ref-at u16 b₂ o₂ γ₀ (s .cs), (ref-at u64 b₃ o₃ γ₁ (s .rs), (ref-at u64 b₄ o₄ γ₂ (s .ws), (ref-at T.the-row b₅ o₅ γ₃ Y, (array-at w32 2248 i γ₄ (s .mi), (array-at w64 128 j γ₅ (s .od), (s .t, tt)))))))
+  go-a γ₀ γ₁ γ₂ γ₃ γ₄ γ₅ i j s = (ref-at u16 b₂ o₂ γ₀ (s .cs), (ref-at u64 b₃ o₃ γ₁ (s .rs), (ref-at u64 b₄ o₄ γ₂ (s .ws), (ref-at T.the-row b₅ o₅ γ₃ Y, (array-at w32 2248 i γ₄ (s .mi), (array-at w64 512 j γ₅ (s .od), (s .t, tt)))))))
 
   abbrev go-vals : ℕ → ℕ → Opened → List Val × (List Val × (List Val × (List Val × (List Val × (List Val × (List Val × Unit {0}))))))
   go-vals i j s = (sc ∷ [], (sr ∷ [], (sw ∷ [], (sl ∷ [], (vptr i 0 ∷ [], (vptr j 0 ∷ [], (mach (s .t) ∷ [], tt)))))))
@@ -239,7 +239,7 @@ module _ {M : Type 1} (𝓤 : URA M) (H : Heap 𝓤) (A : Atoms 𝓤) (W : Given
       → ent 𝓤 (onEntry 𝓤 H A go.signature (go-lfts ν₀ ν₁ ν₂ ν₃ ν₄ ν₅) go-shares (go-a γ₀ γ₁ γ₂ γ₃ γ₄ γ₅ i j s) (go-vals i j s)) (Go 𝓤 H A mem run .pre (to-go ν₀ ν₁ ν₂ ν₃ ν₄ ν₅ γ₀ γ₁ γ₂ γ₃ γ₄ γ₅ i j s))
   asked-go ν₀ ν₁ ν₂ ν₃ ν₄ ν₅ γ₀ γ₁ γ₂ γ₃ γ₄ γ₅ i j s =
       qed W ((‵ (flft (ν₀ ∷ []) fullShare) ⊛ ‵ (flft (ν₁ ∷ []) fullShare) ⊛ ‵ (flft (ν₂ ∷ []) fullShare) ⊛ ‵ (flft (ν₃ ∷ []) fullShare) ⊛ ‵ (flft (ν₄ ∷ []) fullShare) ⊛ ‵ (flft (ν₅ ∷ []) fullShare) ⊛ ‵ ftrue)
-      ∷ ‵ (owns (MutSlice (named 0) (ν₀ ∷ []) u16 ∷ MutSlice (named 1) (ν₁ ∷ []) u64 ∷ MutSlice (named 2) (ν₂ ∷ []) u64 ∷ MutSlice (named 3) (ν₃ ∷ []) T.the-row ∷ ShrRef (named 4) (ν₄ ∷ []) (Array u32 2248) ∷ ShrRef (named 5) (ν₅ ∷ []) (Array u64 128) ∷ G.the-row ∷ [])
+      ∷ ‵ (owns (MutSlice (named 0) (ν₀ ∷ []) u16 ∷ MutSlice (named 1) (ν₁ ∷ []) u64 ∷ MutSlice (named 2) (ν₂ ∷ []) u64 ∷ MutSlice (named 3) (ν₃ ∷ []) T.the-row ∷ ShrRef (named 4) (ν₄ ∷ []) (Array u32 2248) ∷ ShrRef (named 5) (ν₅ ∷ []) (Array u64 512) ∷ G.the-row ∷ [])
       (go-a γ₀ γ₁ γ₂ γ₃ γ₄ γ₅ i j s) (go-vals i j s)) ∷ []) ∵ join ! $ frame ! $ done !
 
   walk : (C₀ : Calls 𝓤 H) (Λ : Loops 𝓤 H) → FmC 𝓤 H (W .laws) C₀ → Triple 𝓤 (C₀ #laps·prepare) (Open 𝓤 H A mem run) → Triple 𝓤 (C₀ #lent-run·go-on) (Go 𝓤 H A mem run)
@@ -250,7 +250,7 @@ module _ {M : Type 1} (𝓤 : URA M) (H : Heap 𝓤) (A : Atoms 𝓤) (W : Given
       pass1 ! (init ! 54 refl (tt, (tt, (record { fits = room-b .0 }, tt)))) $ pass1 ! (init ! 52 refl (tt, (tt, (record { fits = room-g .0 }, tt)))) $ pass1 ! (init ! 50 refl (tt, (tt, (record { fits = room-c .0 }, tt)))) $ pass1 ! (init ! 48 refl (tt, (tt, (record { fits = room-r .0 }, tt)))) $ pass1 ! (init ! 46 refl (tt, (tt, (record { fits = room-w .0 }, tt)))) $ pass1 ! (init ! 44 refl (tt, (tt, (record { fits = room-l .0 }, tt)))) $ pass0 ! $
       assigns ! (of-opd ! (load ! (from ! (fld ! refl (stop !))) (look-in ! 44 (sub ! 1 refl (whole !))))) (from ! (stop !)) (init ! 42 refl (tt, record { fits = room-l .0 })) $
       assigns ! (rep ! 2248 (lit ! tt)) (from ! (stop !)) (init ! 40 refl (fresh-typed 𝓤 H A W w32 2248 0 (lit< tt))) $ move ! (40 ∷ []) $ use1 W (‵ (partAt (Array (UInt w32) 2248) fullShare (replicate 2248 0) l₈ 0)) (begins 𝓤 H A W w32 2248 l₈ 0 (lit< tt)) $
-      assigns ! (rep ! 128 (lit ! tt)) (from ! (stop !)) (init ! 39 refl (fresh-typed 𝓤 H A W w64 128 0 (lit< tt))) $ move ! (39 ∷ []) $ use1 W (‵ (partAt (Array (UInt w64) 128) fullShare (replicate 128 0) l₉ 0)) (begins 𝓤 H A W w64 128 l₉ 0 (lit< tt)) $
+      assigns ! (rep ! 512 (lit ! tt)) (from ! (stop !)) (init ! 39 refl (fresh-typed 𝓤 H A W w64 512 0 (lit< tt))) $ move ! (39 ∷ []) $ use1 W (‵ (partAt (Array (UInt w64) 512) fullShare (replicate 512 0) l₉ 0)) (begins 𝓤 H A W w64 512 l₉ 0 (lit< tt)) $
       -- what is had on entry: the tables and the list are opened
       move ! (58 ∷ []) $ use1 W ((‵ (flft κ₀ q₀) ⊛ ‵ (flft κ₁ q₁) ⊛ ‵ (flft κ₂ q₂) ⊛ ‵ (flft κ₃ q₃) ⊛ ‵ (flft κ₄ q₄) ⊛ ‵ (flft κ₅ q₅) ⊛ ‵ ftrue) ⊛ ‵ (owns (ShrSlice (named 0) κ₀ u8 ∷ ShrSlice (named 1) κ₁ u8 ∷ MutSlice (named 2) κ₂ u16 ∷ MutSlice (named 3) κ₃ u64 ∷ MutSlice (named 4) κ₄ u64 ∷ MutSlice (named 5) κ₅ T.the-row ∷ []) a vals)) (id⊢ 𝓤 _) $ split ! $
       split ! $ move ! (1 ∷ []) $ split ! $ move ! (1 ∷ []) $ split ! $ move ! (1 ∷ []) $ split ! $ move ! (1 ∷ []) $ split ! $ move ! (1 ∷ []) $ split ! $ move ! (1 ∷ []) $ drop ! $
@@ -269,7 +269,7 @@ module _ {M : Type 1} (𝓤 : URA M) (H : Heap 𝓤) (A : Atoms 𝓤) (W : Given
       lft-new ! tt (λ ν₁. move ! (9 ∷ []) $ use1 W (later (some (λ (γ₁ : GName). ‵ (MutSlice (named 3) (ν₁ ∷ []) u64 .own (ref-at u64 b₃ o₃ γ₁ R) (sliceVal (b₃, o₃) (length R) ∷ [])) ⊛ ‵ (LentMut u64 b₃ o₃ (ν₁ ∷ []) (length R) γ₁)))) (lend-mut u64 b₃ o₃ 𝓤 H A W (ν₁ ∷ []) R (named 3) room-r) $ await ! tt $ pick ! (λ γ₁. split ! $
       lft-new ! tt (λ ν₂. move ! (10 ∷ []) $ use1 W (later (some (λ (γ₂ : GName). ‵ (MutSlice (named 4) (ν₂ ∷ []) u64 .own (ref-at u64 b₄ o₄ γ₂ D) (sliceVal (b₄, o₄) (length D) ∷ [])) ⊛ ‵ (LentMut u64 b₄ o₄ (ν₂ ∷ []) (length D) γ₂)))) (lend-mut u64 b₄ o₄ 𝓤 H A W (ν₂ ∷ []) D (named 4) room-w) $ await ! tt $ pick ! (λ γ₂. split ! $
       lft-new ! tt (λ ν₃. move ! (20 ∷ []) $ use1 W (later (some (λ (γ₃ : GName). ‵ (MutRef (named 5) (ν₃ ∷ []) (Array (UInt w32) 2248) .own (array-at w32 2248 l₈ γ₃ (replicate 2248 0)) (vptr l₈ 0 ∷ [])) ⊛ ‵ (LentArray w32 2248 (ν₃ ∷ []) l₈ γ₃)))) (lend-array 𝓤 H A W w32 2248 l₈ (named 5) (ν₃ ∷ []) (replicate 2248 0)) $ await ! tt $ pick ! (λ γ₃. split ! $
-      lft-new ! tt (λ ν₄. move ! (22 ∷ []) $ use1 W (later (some (λ (γ₄ : GName). ‵ (MutRef (named 6) (ν₄ ∷ []) (Array (UInt w64) 128) .own (array-at w64 128 l₉ γ₄ (replicate 128 0)) (vptr l₉ 0 ∷ [])) ⊛ ‵ (LentArray w64 128 (ν₄ ∷ []) l₉ γ₄)))) (lend-array 𝓤 H A W w64 128 l₉ (named 6) (ν₄ ∷ []) (replicate 128 0)) $ await ! tt $ pick ! (λ γ₄. split ! $
+      lft-new ! tt (λ ν₄. move ! (22 ∷ []) $ use1 W (later (some (λ (γ₄ : GName). ‵ (MutRef (named 6) (ν₄ ∷ []) (Array (UInt w64) 512) .own (array-at w64 512 l₉ γ₄ (replicate 512 0)) (vptr l₉ 0 ∷ [])) ⊛ ‵ (LentArray w64 512 (ν₄ ∷ []) l₉ γ₄)))) (lend-array 𝓤 H A W w64 512 l₉ (named 6) (ν₄ ∷ []) (replicate 512 0)) $ await ! tt $ pick ! (λ γ₄. split ! $
       move ! (21 ∷ []) $ use1 W (‵ Program ⊛ ‵ Program) (shr-slice-copy 𝓤 H A W (named 0) κ₀ u8 .twice xb (sb ∷ [])) $ split ! $ move ! (22 ∷ []) $ use1 W (‵ Log′ ⊛ ‵ Log′) (shr-slice-copy 𝓤 H A W (named 1) κ₁ u8 .twice xg (sg ∷ [])) $ split ! $
       nothing ! $ move ! (7 ∷ 0 ∷ []) $ join ! $ move ! (9 ∷ 0 ∷ []) $ join ! $ move ! (11 ∷ 0 ∷ []) $ join ! $ move ! (13 ∷ 0 ∷ []) $ join ! $ move ! (15 ∷ 0 ∷ []) $ join ! $ move ! (20 ∷ 0 ∷ []) $ join ! $ move ! (20 ∷ 0 ∷ []) $ join ! $ nothing ! $ move ! (6 ∷ 0 ∷ []) $ fjoin ! $ move ! (7 ∷ 0 ∷ []) $ fjoin ! $ owned ! usize (Is usize) (uint-makes 𝓤 H A W w64) n _ (refl, room-l .0) $ fjoin ! $ move ! (8 ∷ 0 ∷ []) $ fjoin ! $ move ! (9 ∷ 0 ∷ []) $ fjoin ! $ move ! (10 ∷ 0 ∷ []) $ fjoin ! $ move ! (3 ∷ 0 ∷ []) $ fjoin ! $ move ! (4 ∷ 0 ∷ []) $ fjoin ! $
       move ! (1 ∷ 0 ∷ []) $ use2 W (raw (Open 𝓤 H A mem run .pre (to-open ν₀ ν₁ ν₂ ν₃ ν₄ γ₀ γ₁ γ₂ γ₃ γ₄ l₈ l₉))) (asked-open ν₀ ν₁ ν₂ ν₃ ν₄ γ₀ γ₁ γ₂ γ₃ γ₄ l₈ l₉) $
@@ -283,7 +283,7 @@ module _ {M : Type 1} (𝓤 : URA M) (H : Heap 𝓤) (A : Atoms 𝓤) (W : Given
       move ! (4 ∷ []) $ lft-end ! tt $ move ! (0 ∷ 16 ∷ 10 ∷ []) $ use3 W (later (‵ (row u64 fullShare (os .1 .1 .1 .0) b₃ o₃))) (mut-back u64 b₃ o₃ 𝓤 H A W (ν₁ ∷ []) (os .1 .1 .1 .0) (length R) γ₁) $ await ! tt $
       move ! (4 ∷ []) $ lft-end ! tt $ move ! (0 ∷ 14 ∷ 9 ∷ []) $ use3 W (later (‵ (row u64 fullShare (os .1 .1 .1 .1 .0) b₄ o₄))) (mut-back u64 b₄ o₄ 𝓤 H A W (ν₂ ∷ []) (os .1 .1 .1 .1 .0) (length D) γ₂) $ await ! tt $
       move ! (4 ∷ []) $ lft-end ! tt $ move ! (0 ∷ 12 ∷ 8 ∷ []) $ use3 W (later (‵ (partAt (Array (UInt w32) 2248) fullShare (os .1 .1 .1 .1 .1 .1 .0) l₈ 0))) (array-back 𝓤 H A W w32 2248 l₈ (ν₃ ∷ []) γ₃ (os .1 .1 .1 .1 .1 .1 .0)) $ await ! tt $
-      move ! (4 ∷ []) $ lft-end ! tt $ move ! (0 ∷ 10 ∷ 7 ∷ []) $ use3 W (later (‵ (partAt (Array (UInt w64) 128) fullShare (os .1 .1 .1 .1 .1 .1 .1 .0) l₉ 0))) (array-back 𝓤 H A W w64 128 l₉ (ν₄ ∷ []) γ₄ (os .1 .1 .1 .1 .1 .1 .1 .0)) $ await ! tt $
+      move ! (4 ∷ []) $ lft-end ! tt $ move ! (0 ∷ 10 ∷ 7 ∷ []) $ use3 W (later (‵ (partAt (Array (UInt w64) 512) fullShare (os .1 .1 .1 .1 .1 .1 .1 .0) l₉ 0))) (array-back 𝓤 H A W w64 512 l₉ (ν₄ ∷ []) γ₄ (os .1 .1 .1 .1 .1 .1 .1 .0)) $ await ! tt $
       assigns ! (addr ! (from ! (fld ! refl (hop ! (look-in ! 62 (sub ! 0 refl (whole !))) (stop !))))) (from ! (stop !)) (init ! 32 refl (tt, tt)) $ assigns ! (agg ! (and-then ! (load ! (from ! (stop !)) (look ! 32 refl)) (and-then ! (load ! (from ! (fld ! refl (stop !))) (look-in ! 62 (sub ! 1 refl (whole !)))) (no-more !)))) (from ! (stop !)) (init ! 30 refl (tt, (tt, (record { fits = room-c .0 }, tt)))) $
       assigns ! (addr ! (from ! (fld ! refl (hop ! (look-in ! 60 (sub ! 0 refl (whole !))) (stop !))))) (from ! (stop !)) (init ! 28 refl (tt, tt)) $ assigns ! (agg ! (and-then ! (load ! (from ! (stop !)) (look ! 28 refl)) (and-then ! (load ! (from ! (fld ! refl (stop !))) (look-in ! 60 (sub ! 1 refl (whole !)))) (no-more !)))) (from ! (stop !)) (init ! 26 refl (tt, (tt, (record { fits = room-r .0 }, tt)))) $
       assigns ! (addr ! (from ! (fld ! refl (hop ! (look-in ! 58 (sub ! 0 refl (whole !))) (stop !))))) (from ! (stop !)) (init ! 24 refl (tt, tt)) $ assigns ! (agg ! (and-then ! (load ! (from ! (stop !)) (look ! 24 refl)) (and-then ! (load ! (from ! (fld ! refl (stop !))) (look-in ! 58 (sub ! 1 refl (whole !)))) (no-more !)))) (from ! (stop !)) (init ! 22 refl (tt, (tt, (record { fits = room-w .0 }, tt)))) $
@@ -296,7 +296,7 @@ module _ {M : Type 1} (𝓤 : URA M) (H : Heap 𝓤) (A : Atoms 𝓤) (W : Given
       lft-new ! tt (λ ν₇. move ! (9 ∷ []) $ use1 W (later (some (λ (γ₇ : GName). ‵ (MutSlice (named 2) (ν₇ ∷ []) u64 .own (ref-at u64 b₄ o₄ γ₇ (os .1 .1 .1 .1 .0)) (sliceVal (b₄, o₄) (length (os .1 .1 .1 .1 .0)) ∷ [])) ⊛ ‵ (LentMut u64 b₄ o₄ (ν₇ ∷ []) (length (os .1 .1 .1 .1 .0)) γ₇)))) (lend-mut u64 b₄ o₄ 𝓤 H A W (ν₇ ∷ []) (os .1 .1 .1 .1 .0) (named 2) (room-of u64 (length D) (length (os .1 .1 .1 .1 .0)) room-w lw₁)) $ await ! tt $ pick ! (λ γ₇. split ! $ rewrite ! 0 (λ (k : ℕ). ‵ (MutSlice (named 2) (ν₇ ∷ []) u64 .own (ref-at u64 b₄ o₄ γ₇ (os .1 .1 .1 .1 .0)) (sliceVal (b₄, o₄) k ∷ []))) lw₁ refl $
       lft-new ! tt (λ ν₈. move ! (17 ∷ []) $ use1 W (later (some (λ (γ₈ : GName). ‵ (MutSlice (named 3) (ν₈ ∷ []) T.the-row .own (ref-at T.the-row b₅ o₅ γ₈ Y) (sliceVal (b₅, o₅) (length Y) ∷ [])) ⊛ ‵ (LentMut T.the-row b₅ o₅ (ν₈ ∷ []) (length Y) γ₈)))) (lend-mut T.the-row b₅ o₅ 𝓤 H A W (ν₈ ∷ []) Y (named 3) room-l) $ await ! tt $ pick ! (λ γ₈. split ! $
       lft-new ! tt (λ ν₉. move ! (14 ∷ []) $ use1 W (later (some (λ (γ₉ : GName). ‵ (ShrRef (named 4) (ν₉ ∷ []) (Array (UInt w32) 2248) .own (array-at w32 2248 l₈ γ₉ (os .1 .1 .1 .1 .1 .1 .0)) (vptr l₈ 0 ∷ [])) ⊛ ‵ (flent (ν₉ ∷ []) (partAt (Array (UInt w32) 2248) fullShare (os .1 .1 .1 .1 .1 .1 .0) l₈ 0))))) (share-array 𝓤 H A W w32 2248 l₈ (named 4) (ν₉ ∷ []) (os .1 .1 .1 .1 .1 .1 .0)) $ await ! tt $ pick ! (λ γ₉. split ! $
-      lft-new ! tt (λ ν₁₀. move ! (16 ∷ []) $ use1 W (later (some (λ (γ₁₀ : GName). ‵ (ShrRef (named 5) (ν₁₀ ∷ []) (Array (UInt w64) 128) .own (array-at w64 128 l₉ γ₁₀ (os .1 .1 .1 .1 .1 .1 .1 .0)) (vptr l₉ 0 ∷ [])) ⊛ ‵ (flent (ν₁₀ ∷ []) (partAt (Array (UInt w64) 128) fullShare (os .1 .1 .1 .1 .1 .1 .1 .0) l₉ 0))))) (share-array 𝓤 H A W w64 128 l₉ (named 5) (ν₁₀ ∷ []) (os .1 .1 .1 .1 .1 .1 .1 .0)) $ await ! tt $ pick ! (λ γ₁₀. split ! $
+      lft-new ! tt (λ ν₁₀. move ! (16 ∷ []) $ use1 W (later (some (λ (γ₁₀ : GName). ‵ (ShrRef (named 5) (ν₁₀ ∷ []) (Array (UInt w64) 512) .own (array-at w64 512 l₉ γ₁₀ (os .1 .1 .1 .1 .1 .1 .1 .0)) (vptr l₉ 0 ∷ [])) ⊛ ‵ (flent (ν₁₀ ∷ []) (partAt (Array (UInt w64) 512) fullShare (os .1 .1 .1 .1 .1 .1 .1 .0) l₉ 0))))) (share-array 𝓤 H A W w64 512 l₉ (named 5) (ν₁₀ ∷ []) (os .1 .1 .1 .1 .1 .1 .1 .0)) $ await ! tt $ pick ! (λ γ₁₀. split ! $
       nothing ! $ move ! (3 ∷ 0 ∷ []) $ join ! $ move ! (5 ∷ 0 ∷ []) $ join ! $ move ! (7 ∷ 0 ∷ []) $ join ! $ move ! (9 ∷ 0 ∷ []) $ join ! $ move ! (11 ∷ 0 ∷ []) $ join ! $ move ! (13 ∷ 0 ∷ []) $ join ! $ nothing ! $ owned ! G.the-row (Is G.the-row) (LL.makes G.the-type G′.the-plain 𝓤 H A) t _ (is-turn t w₁ ist) $ fjoin ! $ move ! (2 ∷ 0 ∷ []) $ fjoin ! $ move ! (3 ∷ 0 ∷ []) $ fjoin ! $ move ! (4 ∷ 0 ∷ []) $ fjoin ! $ move ! (5 ∷ 0 ∷ []) $ fjoin ! $ move ! (6 ∷ 0 ∷ []) $ fjoin ! $ move ! (7 ∷ 0 ∷ []) $ fjoin ! $
       move ! (1 ∷ 0 ∷ []) $ use2 W (raw (Go 𝓤 H A mem run .pre (to-go ν₅ ν₆ ν₇ ν₈ ν₉ ν₁₀ γ₅ γ₆ γ₇ γ₈ γ₉ γ₁₀ l₈ l₉ (record { cs = (os .1 .1 .0); rs = (os .1 .1 .1 .0); ws = (os .1 .1 .1 .1 .0); mi = (os .1 .1 .1 .1 .1 .1 .0); od = (os .1 .1 .1 .1 .1 .1 .1 .0); t = t })))) (asked-go ν₅ ν₆ ν₇ ν₈ ν₉ ν₁₀ γ₅ γ₆ γ₇ γ₈ γ₉ γ₁₀ l₈ l₉ (record { cs = (os .1 .1 .0); rs = (os .1 .1 .1 .0); ws = (os .1 .1 .1 .1 .0); mi = (os .1 .1 .1 .1 .1 .1 .0); od = (os .1 .1 .1 .1 .1 .1 .1 .0); t = t })) $
       calls-at ! fm (Go 𝓤 H A mem run) known-go (to-go ν₅ ν₆ ν₇ ν₈ ν₉ ν₁₀ γ₅ γ₆ γ₇ γ₈ γ₉ γ₁₀ l₈ l₉ (record { cs = (os .1 .1 .0); rs = (os .1 .1 .1 .0); ws = (os .1 .1 .1 .1 .0); mi = (os .1 .1 .1 .1 .1 .1 .0); od = (os .1 .1 .1 .1 .1 .1 .1 .0); t = t })) (and-then ! (load ! (from ! (stop !)) (look ! 31 refl)) (and-then ! (load ! (from ! (stop !)) (look ! 27 refl)) (and-then ! (load ! (from ! (stop !)) (look ! 23 refl)) (and-then ! (load ! (from ! (stop !)) (look ! 19 refl)) (and-then ! (load ! (from ! (stop !)) (look ! 17 refl)) (and-then ! (load ! (from ! (stop !)) (look ! 15 refl)) (and-then ! (load ! (from ! (stop !)) (look ! 51 refl)) (no-more !)))))))) (λ w₂.
@@ -316,7 +316,7 @@ module _ {M : Type 1} (𝓤 : URA M) (H : Heap 𝓤) (A : Atoms 𝓤) (W : Given
       move ! (15 ∷ []) $ fsplit ! $ move ! (1 ∷ []) $ fsplit ! $ move ! (12 ∷ 2 ∷ 0 ∷ 1 ∷ []) $ closes-slice ! tt u64 D (gs .1 .1 .0) (lw ∙ lw₁) b₄ o₄ $
       move ! (16 ∷ []) $ fsplit ! $ move ! (1 ∷ []) $ fsplit ! $ move ! (14 ∷ 2 ∷ 0 ∷ 1 ∷ []) $ closes-slice ! tt T.the-row Y (gs .1 .1 .1 .0) ll b₅ o₅ $
       move ! (13 ∷ []) $ use1 W (‵ (froom (tyArray (tyInt w32) 2248) l₈ 0)) (over 𝓤 H A W w32 2248 l₈ (os .1 .1 .1 .1 .1 .1 .0)) $
-      move ! (13 ∷ []) $ use1 W (‵ (froom (tyArray (tyInt w64) 128) l₉ 0)) (over 𝓤 H A W w64 128 l₉ (os .1 .1 .1 .1 .1 .1 .1 .0)) $
+      move ! (13 ∷ []) $ use1 W (‵ (froom (tyArray (tyInt w64) 512) l₉ 0)) (over 𝓤 H A W w64 512 l₉ (os .1 .1 .1 .1 .1 .1 .1 .0)) $
       returns ! (look ! 72 refl) $ forget ! 72 refl $ forget ! 70 refl $ forget ! 68 refl $ forget ! 66 refl $ forget ! 64 refl $ forget ! 62 refl $ forget ! 60 refl $ forget ! 58 refl $ forget ! 54 refl $ forget ! 52 refl $ forget ! 50 refl $ forget ! 48 refl $ forget ! 46 refl $ forget ! 44 refl $ forget ! 42 refl $ forget ! 40 refl $ forget ! 38 refl $ forget ! 36 refl $ forget ! 34 refl $ forget ! 32 refl $ forget ! 30 refl $ forget ! 28 refl $ forget ! 26 refl $ forget ! 24 refl $ forget ! 22 refl $ forget ! 20 refl $ forget ! 18 refl $
       move ! (72 ∷ 73 ∷ []) $ free1 ! $ move ! (70 ∷ 71 ∷ []) $ free1 ! $ move ! (68 ∷ 69 ∷ []) $ free1 ! $ move ! (66 ∷ 67 ∷ []) $ free1 ! $ move ! (64 ∷ 65 ∷ []) $ free1 ! $ move ! (62 ∷ 63 ∷ []) $ free1 ! $ move ! (60 ∷ 61 ∷ []) $ free1 ! $ move ! (58 ∷ 59 ∷ []) $ free1 ! $ move ! (1 ∷ 57 ∷ []) $ free1 ! $ move ! (0 ∷ 55 ∷ []) $ free1 ! $ move ! (52 ∷ 53 ∷ []) $ free1 ! $ move ! (50 ∷ 51 ∷ []) $ free1 ! $ move ! (48 ∷ 49 ∷ []) $ free1 ! $ move ! (46 ∷ 47 ∷ []) $ free1 ! $ move ! (44 ∷ 45 ∷ []) $ free1 ! $ move ! (42 ∷ 43 ∷ []) $ free1 ! $ move ! (40 ∷ 41 ∷ []) $ free1 ! $ move ! (38 ∷ 39 ∷ []) $ free1 ! $ move ! (36 ∷ 37 ∷ []) $ free1 ! $ move ! (34 ∷ 35 ∷ []) $ free1 ! $ move ! (32 ∷ 33 ∷ []) $ free1 ! $ move ! (30 ∷ 31 ∷ []) $ free1 ! $ move ! (28 ∷ 29 ∷ []) $ free1 ! $ move ! (26 ∷ 27 ∷ []) $ free1 ! $ move ! (24 ∷ 25 ∷ []) $ free1 ! $ move ! (22 ∷ 23 ∷ []) $ free1 ! $ move ! (20 ∷ 21 ∷ []) $ free1 ! $ move ! (18 ∷ 19 ∷ []) $ free1 ! $ move ! (16 ∷ 17 ∷ []) $ free1 ! $ free0 ! $
       keep ! (13 ∷ 12 ∷ 11 ∷ 8 ∷ 5 ∷ 2 ∷ 15 ∷ 14 ∷ 9 ∷ 10 ∷ 6 ∷ 7 ∷ 3 ∷ 4 ∷ 0 ∷ 1 ∷ []) $ by ! (exits r w₂ isr (gs .0) (gs .1 .0) (gs .1 .1 .0) (gs .1 .1 .1 .0) (lc ∙ lc₁) (lr ∙ lr₁) (lw ∙ lw₁) ll (e₂ lent (log-call (xb .now) (xg .now) lent n) lists e₁))))))))))))))))))))))))))))))))))))))))))))))))))))))))))))))))))))))

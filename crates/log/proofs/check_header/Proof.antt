@@ -2,7 +2,6 @@
 use mathlib.Core.Path.{ap, _∙_}
 use mathlib.Core.Bool.{Bool}
 use Rattle.text.specs.Words.{must, answer-of}
-use Rattle.order.specs.Log.{log-header-ok}
 use native.Mathlib.Omega.{arith}
 use Rattle.log.proofs.Answers.{stops, goes}
 use Rattle.text.proofs.Checks.{must-numbered}
@@ -10,10 +9,6 @@ use Rattle.log.specs.Read.{header-judged}
 use borrow.Author.Needs.{needs}
 use Rattle.log.proofs.check_header.Statement.{statement}
 use Rattle.log.proofs.check_header.Tie as tie
-use Rattle.log.proofs.check_header.Reads as reads
-use Rattle.log.proofs.check_header.Lts as lts
-use Rattle.log.proofs.header_fits.Reads as header-fits-reads
-use Rattle.text.proofs.must.Reads as must-reads
 
 must-requires : tie.Need-must-requires
 must-requires c κs = search needs

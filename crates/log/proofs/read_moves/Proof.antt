@@ -1,18 +1,13 @@
 -- `read_moves` meets its contract.
 use borrow.Author.Tests.{not-true, not-false}
-use mathlib.Core.Path.{_≡_, sym, _∙_}
+use mathlib.Core.Path.{sym, _∙_}
 use Prim.Native.Nat.{_-_, _≤_}
-use lib.Seq.{lt-length-set}
+use lib.ListN.{length-set}
 use Rattle.log.proofs.Turns.{Moved, moved-start, moved-stop, moved-turn, moved-end}
 use native.Mathlib.Omega.{arith}
 use borrow.Author.Needs.{needs}
 use Rattle.log.proofs.read_moves.Statement.{statement}
 use Rattle.log.proofs.read_moves.Tie as tie
-use Rattle.log.proofs.read_moves.Reads as reads
-use Rattle.log.proofs.read_moves.Lts as lts
-use Rattle.log.proofs.move_fault.Reads as move-fault-reads
-use Rattle.log.proofs.or_here.Reads as or-here-reads
-use Rattle.text.proofs.parse.Reads as parse-reads
 
 abbrev Inv-loop : tie.InvT-loop
 Inv-loop log agents m order₀ fault₀ i₀ order fault i = (i ≤ m) × Moved agents log m i order fault
@@ -69,7 +64,31 @@ mul-order-2 : tie.Need-mul-order-2 Inv-loop μ-loop
 mul-order-2 c = search needs
 
 slice-write-order-2 : tie.Need-slice-write-order-2 Inv-loop μ-loop
-slice-write-order-2 c = let l = c .before .before .before .before .before .before .before .before .loop in lt-length-set (l .order) (l .i) _ (omega (arith, l .inv .1 .table .long, c .before .before .before .before .before .before .before .before .before .before .before .pre .0))
+slice-write-order-2 c = let l = c .before .before .before .before .before .before .before .before .loop in simp (length-set) (omega (arith, l .inv .1 .table .long, c .before .before .before .before .before .before .before .before .before .before .before .pre .0))
+
+cast-order-4 : tie.Need-cast-order-4 Inv-loop μ-loop
+cast-order-4 c = search needs
+
+add-order-2 : tie.Need-add-order-2 Inv-loop μ-loop
+add-order-2 c = search needs
+
+mul-order-3 : tie.Need-mul-order-3 Inv-loop μ-loop
+mul-order-3 c = search needs
+
+slice-write-order-3 : tie.Need-slice-write-order-3 Inv-loop μ-loop
+slice-write-order-3 c = let l = c .before .before .before .before .before .before .before .before .loop in simp (length-set) (omega (arith, l .inv .1 .table .long, c .before .before .before .before .before .before .before .before .before .before .before .pre .0))
+
+cast-order-5 : tie.Need-cast-order-5 Inv-loop μ-loop
+cast-order-5 c = search needs
+
+add-order-3 : tie.Need-add-order-3 Inv-loop μ-loop
+add-order-3 c = search needs
+
+mul-order-4 : tie.Need-mul-order-4 Inv-loop μ-loop
+mul-order-4 c = search needs
+
+slice-write-order-4 : tie.Need-slice-write-order-4 Inv-loop μ-loop
+slice-write-order-4 c = let l = c .before .before .before .before .before .before .before .before .loop in simp (length-set) (omega (arith, l .inv .1 .table .long, c .before .before .before .before .before .before .before .before .before .before .before .pre .0))
 
 add-i : tie.Need-add-i Inv-loop μ-loop
 add-i c = search needs
@@ -83,8 +102,8 @@ loop-again c =
     let l = c .before .before .before .before .before .before .before .before .loop in
     let p = c .before .before .before .before .before .before .parse in (
       omega arith,
-      moved-turn (a .agents) (a .log .now) (a .m) (l .i) (l .order) (l .fault) (l .inv .1) (c .before .before .before .before .before .before .before .loop-test .taken) (p .result) (p .ensures)
-          (c .before .before .before .before .before .before .before .before .before .before .before .pre .0) (not-false (p .result .ok) (c .before .before .before .if1 .left)) (c .before .before .move-fault .result) (c .before .before .move-fault .ensures) (c .before .or-here .result) (c .before .or-here .ensures),
+      moved-turn (a .agents) (a .log .now) (a .m) (l .i) (l .order) (l .fault) (l .inv .1) (c .before .before .before .before .before .before .before .loop-test .taken) (p .result) (p .ensures) (c .before .before .before .before .before .before .before .before .before .before .before .pre .0)
+          (not-false (p .result .ok) (c .before .before .before .if1 .left)) (c .before .before .move-fault .result) (c .before .before .move-fault .ensures) (c .before .or-here .result) (c .before .or-here .ensures),
     )
 
 same-length-2 : tie.Need-same-length-2 Inv-loop μ-loop
@@ -116,6 +135,14 @@ read-moves-spec =
     add-order
     mul-order-2
     slice-write-order-2
+    cast-order-4
+    add-order-2
+    mul-order-3
+    slice-write-order-3
+    cast-order-5
+    add-order-3
+    mul-order-4
+    slice-write-order-4
     add-i
     loop-less
     loop-again

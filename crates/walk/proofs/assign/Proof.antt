@@ -38,10 +38,11 @@ returns c =
     let B = held m in
     let s = a .scope .now in
     let t = term-at (node-at B) (a .depth) (a .row .a) in
-    let w = walk-from (a .s) (a .list .now) in
+    λ ys.
+    let w = walk-from ys (a .s) (a .list .now) in
     runs-bind B (a .contents .now) (a .bit) (aim-at m s (a .depth) (a .row .a)) (λ l. value-at m s (a .depth) (a .row .b) >>= λ v. done (refuse-if (not-boolean B t v) non-boolean (a .n) w then give (a .n) (Update l v))) _ _ _ _ _ (c .before .before .before .before .before .before .before .before .before .aim .ensures)
     (runs-bind B (a .contents .now) (a .bit) (value-at m s (a .depth) (a .row .b)) (λ v. done (refuse-if (not-boolean B t v) non-boolean (a .n) w then give (a .n) (Update (c .before .before .before .before .before .before .before .before .before .aim .result) v))) _ _ _ _ _ (c .before .before .before .before .before .eval .ensures)
-    (runs-gives B (a .contents .now) (a .bit) _ _ _ (c .update .ensures ∙ rw (reached-going (a .s) (a .list .now) (c .before .before .before .before .before .before .before .before .before .before .before .before .before .pre), c .before .before .named .ensures))))
+    (runs-gives B (a .contents .now) (a .bit) _ _ _ (c .update .ensures ys ∙ rw (reached-going ys (a .s) (a .list .now) (c .before .before .before .before .before .before .before .before .before .before .before .before .before .pre), c .before .before .named .ensures))))
 
 pub assign-spec : {M : Type 1} → statement M
 assign-spec =

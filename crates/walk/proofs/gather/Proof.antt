@@ -7,7 +7,8 @@ use Rattle.book.specs.declared.Agent.{Agent}
 use Rattle.book.specs.Book.{agent-at}
 use Rattle.book.specs.Image.{held}
 use Rattle.book.proofs.Held.{agent-held}
-use Rattle.giving.specs.Giving.{walk-from}
+use Rattle.engine.specs.Move.{input}
+use Rattle.giving.specs.Giving.{walk-from, reached}
 use Rattle.giving.proofs.Steps.{reached-going, reached-met}
 use Rattle.walk.specs.Walk.{walk-at}
 use Rattle.walk.proofs.Steps.{runs-from}
@@ -31,6 +32,9 @@ low-requires-2 c κs = search needs
 walk-requires : tie.Need-walk-requires
 walk-requires c κs = search needs
 
+all-used-requires : tie.Need-all-used-requires
+all-used-requires c κs = search needs
+
 ended-requires : tie.Need-ended-requires
 ended-requires c κs = search needs
 
@@ -39,19 +43,20 @@ same-length c = search needs
 
 returns : tie.Need-returns
 returns c =
-    let a = c .before .before .before .before .before .before .before .before .before .before .before .before .before .before .before .before .before .args in
+    let a = c .before .before .before .before .before .before .before .before .before .before .before .before .before .before .before .before .before .before .before .before .before .args in
     let m = a .image .now in
     let B = held m in
-    let who : Agent = record { root = c .before .before .before .before .before .before .before .before .before .before .before .before .before .low .result; element = c .before .before .before .before .before .before .before .before .before .before .before .low2 .result } in
-    let is : who ≡ agent-at B (a .agent) = rw (c .before .before .before .before .before .before .before .before .before .before .before .before .before .low .ensures, c .before .before .before .before .before .before .before .before .before .before .before .low2 .ensures) (agent-held _ _ _ (c .before .before .before .before .before .before .before .before .before .before .before .before .before .before .agent-at .ensures)) in
-    let r = c .before .before .before .before .before .before .before .walk .result in
-    let l = c .before .before .before .before .before .before .before .walk .last .1 .1 .1 .1 .0 in
+    let who : Agent = record { root = c .before .before .before .before .before .before .before .before .before .before .before .before .before .before .before .before .low .result; element = c .before .before .before .before .before .before .before .before .before .before .before .before .before .before .low2 .result } in
+    let is : who ≡ agent-at B (a .agent) = rw (c .before .before .before .before .before .before .before .before .before .before .before .before .before .before .before .before .low .ensures, c .before .before .before .before .before .before .before .before .before .before .before .before .before .before .low2 .ensures) (agent-held _ _ _ (c .before .before .before .before .before .before .before .before .before .before .before .before .before .before .before .before .before .agent-at .ensures)) in
+    let w = c .before .before .before .before .before .before .before .before .before .walk in
+    let r = c .before .before .before .before .before .all-used .result in
+    let l = w .last .1 .1 .1 .1 .0 in
     let long : length l ≡ 256 = omega (arith, c .before .ended-arg2 .given) in (
       rw (c .ended .ensures)
-          (gathered B (a .contents .now) (a .bit) (a .agent) _ _ _
-          (runs-agent B (a .contents .now) (a .bit) _ _ _ (a .agent) (c .before .before .before .before .before .before .before .before .before .before .before .before .permanent .result) who is (c .before .before .before .before .before .before .before .before .before .before .before .before .permanent .ensures)
-          (runs-from B (a .contents .now) (a .bit) (walk-at m (0 ∷ 0 ∷ 0 ∷ 0 ∷ 0 ∷ 0 ∷ 0 ∷ 0 ∷ who .element ∷ []) 32 (who .root)) (record { len = 0; label = c .before .before .before .before .before .before .before .before .before .before .before .before .permanent .result; refused = 0; node = 0 }) (a .list .now) refl _ _ _ (c .before .before .before .before .before .before .before .walk .ensures)))
-          (walk-from r l) (reached-going r l (c .before .before .before .if1 .taken))),
+          (gathered B (a .contents .now) (a .bit) (input (a .agent) (a .picks .now)) _ _ _
+          (runs-agent B (a .contents .now) (a .bit) _ _ _ (a .agent) (c .before .before .before .before .before .before .before .before .before .before .before .before .before .before .before .permanent .result) (a .picks .now) who (reached [] r l) is (c .before .before .before .before .before .before .before .before .before .before .before .before .before .before .before .permanent .ensures)
+          (runs-from B (a .contents .now) (a .bit) (walk-at m (0 ∷ 0 ∷ 0 ∷ 0 ∷ 0 ∷ 0 ∷ 0 ∷ 0 ∷ who .element ∷ []) 32 (who .root)) (a .picks .now) (record { len = 0; label = c .before .before .before .before .before .before .before .before .before .before .before .before .before .before .before .permanent .result; refused = 0; node = 0 }) (a .list .now) refl _ _ _ (w .ensures)) (c .before .before .before .before .before .all-used .ensures l))
+          (walk-from [] r l) (reached-going [] r l (c .before .before .before .if1 .taken))),
       long,
     )
 
@@ -66,19 +71,20 @@ same-length-2 c = search needs
 
 returns-2 : tie.Need-returns-2
 returns-2 c =
-    let a = c .before .before .before .before .before .before .before .before .before .before .before .before .before .before .before .before .before .before .before .before .before .args in
+    let a = c .before .before .before .before .before .before .before .before .before .before .before .before .before .before .before .before .before .before .before .before .before .before .before .before .before .args in
     let m = a .image .now in
     let B = held m in
-    let who : Agent = record { root = c .before .before .before .before .before .before .before .before .before .before .before .before .before .before .before .before .before .low .result; element = c .before .before .before .before .before .before .before .before .before .before .before .before .before .before .before .low2 .result } in
-    let is : who ≡ agent-at B (a .agent) = rw (c .before .before .before .before .before .before .before .before .before .before .before .before .before .before .before .before .before .low .ensures, c .before .before .before .before .before .before .before .before .before .before .before .before .before .before .before .low2 .ensures) (agent-held _ _ _ (c .before .before .before .before .before .before .before .before .before .before .before .before .before .before .before .before .before .before .agent-at .ensures)) in
-    let r = c .before .before .before .before .before .before .before .before .before .before .before .walk .result in
-    let l = c .before .before .before .before .before .before .before .before .before .before .before .walk .last .1 .1 .1 .1 .0 in
+    let who : Agent = record { root = c .before .before .before .before .before .before .before .before .before .before .before .before .before .before .before .before .before .before .before .before .low .result; element = c .before .before .before .before .before .before .before .before .before .before .before .before .before .before .before .before .before .before .low2 .result } in
+    let is : who ≡ agent-at B (a .agent) = rw (c .before .before .before .before .before .before .before .before .before .before .before .before .before .before .before .before .before .before .before .before .low .ensures, c .before .before .before .before .before .before .before .before .before .before .before .before .before .before .before .before .before .before .low2 .ensures) (agent-held _ _ _ (c .before .before .before .before .before .before .before .before .before .before .before .before .before .before .before .before .before .before .before .before .before .agent-at .ensures)) in
+    let w = c .before .before .before .before .before .before .before .before .before .before .before .before .before .walk in
+    let r = c .before .before .before .before .before .before .before .before .before .all-used .result in
+    let l = w .last .1 .1 .1 .1 .0 in
     let long : length l ≡ 256 = omega (arith, c .before .ended-arg4 .given) in (
       rw (c .ended2 .ensures)
-          (gathered-back B (a .contents .now) (a .bit) (a .agent) _ _ _
-          (runs-agent B (a .contents .now) (a .bit) _ _ _ (a .agent) (c .before .before .before .before .before .before .before .before .before .before .before .before .before .before .before .before .permanent .result) who is (c .before .before .before .before .before .before .before .before .before .before .before .before .before .before .before .before .permanent .ensures)
-          (runs-from B (a .contents .now) (a .bit) (walk-at m (0 ∷ 0 ∷ 0 ∷ 0 ∷ 0 ∷ 0 ∷ 0 ∷ 0 ∷ who .element ∷ []) 32 (who .root)) (record { len = 0; label = c .before .before .before .before .before .before .before .before .before .before .before .before .before .before .before .before .permanent .result; refused = 0; node = 0 }) (a .list .now) refl _ _ _ (c .before .before .before .before .before .before .before .before .before .before .before .walk .ensures)))
-          (r .refused) (r .node) _ (reached-met r l (c .before .before .before .before .before .before .before .if1 .left)) (c .before .before .before .before .before .clear .ensures)),
+          (gathered-back B (a .contents .now) (a .bit) (input (a .agent) (a .picks .now)) _ _ _
+          (runs-agent B (a .contents .now) (a .bit) _ _ _ (a .agent) (c .before .before .before .before .before .before .before .before .before .before .before .before .before .before .before .before .before .before .before .permanent .result) (a .picks .now) who (reached [] r l) is (c .before .before .before .before .before .before .before .before .before .before .before .before .before .before .before .before .before .before .before .permanent .ensures)
+          (runs-from B (a .contents .now) (a .bit) (walk-at m (0 ∷ 0 ∷ 0 ∷ 0 ∷ 0 ∷ 0 ∷ 0 ∷ 0 ∷ who .element ∷ []) 32 (who .root)) (a .picks .now) (record { len = 0; label = c .before .before .before .before .before .before .before .before .before .before .before .before .before .before .before .before .before .before .before .permanent .result; refused = 0; node = 0 }) (a .list .now) refl _ _ _ (w .ensures)) (c .before .before .before .before .before .before .before .before .before .all-used .ensures l))
+          (r .refused) (r .node) _ (reached-met [] r l (c .before .before .before .before .before .before .before .if1 .left)) (c .before .before .before .before .before .clear .ensures)),
       long,
     )
 
@@ -91,6 +97,7 @@ gather-spec =
     permanent-requires
     low-requires-2
     walk-requires
+    all-used-requires
     ended-requires
     same-length
     returns

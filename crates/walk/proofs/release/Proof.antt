@@ -32,11 +32,12 @@ returns c =
     let a = c .before .before .before .before .before .before .before .before .before .before .before .before .args in
     let m = a .image .now in
     let B = held m in
-    let w = walk-from (a .s) (a .list .now) in
+    λ ys.
+    let w = walk-from ys (a .s) (a .list .now) in
     let y = c .before .before .before .before .before .before .before .before .eval .result in
     runs-bind B (a .contents .now) (a .bit) (value-at m (a .scope .now) (a .depth) (a .row .a)) (λ y. read (reserve y) >>= λ v. done (refuse-if (not-free B y v) not-releasable (a .n) w then give (a .n) (Release y))) _ _ _ _ _ (c .before .before .before .before .before .before .before .before .eval .ensures)
     (runs-bind B (a .contents .now) (a .bit) (read (reserve y)) (λ v. done (refuse-if (not-free B y v) not-releasable (a .n) w then give (a .n) (Release y))) _ _ _ _ _ (c .before .before .before .before .read-roll .ensures)
-    (runs-gives B (a .contents .now) (a .bit) _ _ _ (c .free .ensures ∙ rw (reached-going (a .s) (a .list .now) (c .before .before .before .before .before .before .before .before .before .before .before .before .pre)))))
+    (runs-gives B (a .contents .now) (a .bit) _ _ _ (c .free .ensures ys ∙ rw (reached-going ys (a .s) (a .list .now) (c .before .before .before .before .before .before .before .before .before .before .before .before .pre)))))
 
 pub release-spec : {M : Type 1} → statement M
 release-spec =

@@ -2,7 +2,7 @@
 // Usage: fuzz SECONDS [SEED] [FOLDER]; the seed is the time of day and the folder tests/differences where none is given.
 use compare::asked::{independent, proved};
 use compare::comparison::Comparison;
-use inputs::small_inputs;
+use inputs::{small_inputs, small_moves};
 use std::io;
 use std::path::{Path, PathBuf};
 use std::process::ExitCode;
@@ -28,22 +28,25 @@ fn options() -> Option<Options> {
     words.next().is_none().then_some(Options { seconds, seed, folder })
 }
 
-// Random inputs and small ones in turn; how many of the small ones were seen.
-fn compare_for(comparison: &mut Comparison, time: Duration) -> io::Result<u64> {
-    let (began, small) = (Instant::now(), small_inputs());
-    // Another part of the small inputs comes first for each seed.
-    let first = comparison.seed.wrapping_mul(0x9E37_79B9_7F4A_7C15) % small;
+// Random inputs and small ones in turn; how many of the small inputs and of the small moves were seen.
+fn compare_for(comparison: &mut Comparison, time: Duration) -> io::Result<[u64; 2]> {
+    let (began, small, moves) = (Instant::now(), small_inputs(), small_moves());
+    // Another part of the small ones comes first for each seed.
+    let first = comparison.seed.wrapping_mul(0x9E37_79B9_7F4A_7C15);
     let mut number = 0;
     while began.elapsed() < time {
         comparison.ask_random(number)?;
         for i in 8 * number..8 * (number + 1) {
             if i < small {
-                comparison.ask_small((first + i) % small)?;
+                comparison.ask_small((first % small + i) % small)?;
             }
+        }
+        if number < moves {
+            comparison.ask_small_move((first % moves + number) % moves)?;
         }
         number += 1;
     }
-    Ok(small.min(8 * number))
+    Ok([small.min(8 * number), moves.min(number)])
 }
 
 fn main() -> ExitCode {
@@ -53,7 +56,7 @@ fn main() -> ExitCode {
     };
     println!("seed {seed}; differences are kept in {}", folder.display());
     let mut comparison = Comparison::new(seed, [proved, independent], folder);
-    let seen = match compare_for(&mut comparison, Duration::from_secs(seconds)) {
+    let [seen, seen_moves] = match compare_for(&mut comparison, Duration::from_secs(seconds)) {
         Ok(seen) => seen,
         Err(error) => {
             eprintln!("fuzz: a difference could not be kept: {error}");
@@ -62,7 +65,7 @@ fn main() -> ExitCode {
     };
     print!("{}", comparison.counts());
     comparison.kept.iter().for_each(|folder| println!("a difference: {}", folder.display()));
-    println!("{seen} of {} small inputs", small_inputs());
+    println!("{seen} of {} small inputs, {seen_moves} of {} small moves", small_inputs(), small_moves());
     println!("{} compared, {} differences", comparison.compared, comparison.differences);
     if comparison.differences == 0 {
         ExitCode::SUCCESS

@@ -5,7 +5,7 @@ use paper::{check_book, report, run, step};
 use std::time::Instant;
 
 /// One more than the greatest answer number.
-const NUMBERS: usize = 18;
+const NUMBERS: usize = 20;
 
 type Counts = [u64; NUMBERS];
 
@@ -42,7 +42,7 @@ fn of_book(rng: &mut Rng) -> u32 {
 
 fn of_step(rng: &mut Rng) -> u32 {
     let mut input = step_input(rng);
-    step(&input.book, &mut input.contents, input.agent, input.lent).number
+    step(&input.book, &mut input.contents, input.agent, &input.picks, input.lent).number
 }
 
 fn of_run(rng: &mut Rng) -> u32 {

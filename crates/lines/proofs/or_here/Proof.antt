@@ -1,10 +1,7 @@
 -- `or_here` meets its contract.
 use borrow.Author.Needs.{needs}
-use Rattle.log.proofs.or_here.Statement.{statement}
-use Rattle.log.proofs.or_here.Tie as tie
-use Rattle.log.proofs.or_here.Reads as reads
-use Rattle.log.proofs.or_here.Lts as lts
-use Rattle.log.proofs.first_of.Reads as first-of-reads
+use Rattle.lines.proofs.or_here.Statement.{statement}
+use Rattle.lines.proofs.or_here.Tie as tie
 
 first-of-requires : tie.Need-first-of-requires
 first-of-requires c κs = search needs

@@ -1,9 +1,7 @@
 -- `first_of` meets its contract.
 use borrow.Author.Needs.{needs}
-use Rattle.log.proofs.first_of.Statement.{statement}
-use Rattle.log.proofs.first_of.Tie as tie
-use Rattle.log.proofs.first_of.Reads as reads
-use Rattle.log.proofs.first_of.Lts as lts
+use Rattle.lines.proofs.first_of.Statement.{statement}
+use Rattle.lines.proofs.first_of.Tie as tie
 
 enum-told : tie.Need-enum-told
 enum-told c = search needs
