@@ -12,8 +12,8 @@ uint64_t rental_check_book(const uint8_t *book, size_t length);
 /* One move of an agent on a contents table: 0 when it fires, else number * 2^48 + p * 2^24 + q, and the table is as it was. `picks` are the elements
    that the move's choices (nodes of kind 28) take, one for each in the order in which they are met, any number of them: a choice without a pick and a
    pick without a choice are refused. A pick is an element's number in 64 bits, so that no number is cut: any number not below the book's count of
-   elements is refused, 9 with p its index + 1, at most 16,777,215. Picks are only read, and `picks` may be any pointer when picks_length is 0. `lent` is how many instruction records the
-   caller has; 256 are enough. */
+   elements is refused, 9 with p its index + 1, at most 16,777,215. Picks are only read, and `picks` may be any pointer when picks_length is 0. `lent`
+   is how many instruction records the caller has; 256 are enough. */
 uint64_t rental_move(const uint8_t *book, size_t length, uint16_t *contents, size_t locations, size_t agent, const uint64_t *picks,
                      size_t picks_length, size_t lent);
 
