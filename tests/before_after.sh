@@ -4,7 +4,8 @@
 # instructions (valgrind counts them). Both libraries are linked with the benchmarks as they are here. A function that grows or shrinks moves those
 # after it, and where a loop starts in a cache line alone can be a tenth of a row: with --aligned each function of both libraries starts at a
 # multiple of 64 bytes, to tell that from what the code does. A library of before F-2 has rental_step, which takes no picks, in place of
-# rental_move: then the rows without picks are measured through it, and the others are named below the table. All files go to a temporary folder.
+# rental_move: then the rows without picks are measured through it, and the others are named below the table. One of before F-3 refuses logs with a
+# release unordered beside other moves: these rows are named there too. All files go to a temporary folder.
 # Usage: tests/before_after.sh [--instructions] [--aligned] OLD.a NEW.a [WORD]; with a word, only the rows whose name has it.
 set -eu
 

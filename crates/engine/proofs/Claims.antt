@@ -1,8 +1,9 @@
 -- The claims of specs/Claims hold.
-use mathlib.Core.Path.{_∙_}
-use Rattle.engine.specs.Claims.{MovesReadEqual, MovesLeave, IdleMovesLeave, MovesRefuse, StepsAnswer, ImportsRead, ChoicesRead, ChoicesLack, PicksTaken, PicksAreElements, TreesWhole}
+use mathlib.Core.Path.{sym, _∙_}
+use Rattle.engine.specs.Claims.{MovesReadEqual, MovesFireEqual, MovesLeave, IdleMovesLeave, MovesRefuse, StepsAnswer, ImportsRead, ChoicesRead, ChoicesLack, PicksTaken, PicksAreElements, TreesWhole}
 use Rattle.engine.proofs.EqualReads.{same-instructions, same-refusal}
 use Rattle.engine.proofs.Moves.{fire-length, fired-frame, fired-static, fired-keep, one-value, idle-leaves, leaves-idle}
+use Rattle.engine.proofs.Same.{updates-same, same-fired}
 use Rattle.engine.proofs.Numbers.{move-number}
 use Rattle.engine.proofs.Refusals.{step-small}
 use Rattle.engine.proofs.Import.{lowest-reads}
@@ -13,7 +14,11 @@ pub moves-read-equal : MovesReadEqual
 moves-read-equal B c d i s = record {
   instructions = λ w e h. same-instructions B c d i s w e h .0;
   refusal = λ n q e h r. same-refusal B c d i s n q e h r;
+  updates = λ w e h k. (same-instructions B c d i s w e h .0, sym (updates-same B c d (w .made) k));
 }
+
+pub moves-fire-equal : MovesFireEqual
+moves-fire-equal B c d i f s e k h w = same-fired B c d i s f e h w k
 
 pub moves-leave : MovesLeave
 moves-leave B ok c s i f e = record {

@@ -10,13 +10,15 @@ use native.Mathlib.Decide.{decLt}
 use lib.Dec.{eqb}
 use lib.ListN.{length, List·getD-eq-default}
 use borrow.Author.Tests.{eqb-true, eq-eqb}
-use Rattle.text.specs.Words.{has, if_then_else_}
+use Rattle.text.specs.Words.{has, if_then_else_, least}
+use Rattle.text.specs.declared.Found.{Found}
+use Rattle.text.specs.declared.Found.the-variants.{Nowhere, Here}
 use Rattle.book.specs.Book.{Program, L, dynamic-at}
 use Rattle.book.specs.Sound.{at}
 use Rattle.engine.specs.Look.{seen}
-use Rattle.engine.specs.Rule.{Walk, going, met, agent-walk}
+use Rattle.engine.specs.Rule.{Walk, Walked, going, met, agent-walk}
 use Rattle.engine.specs.Claims.{SameStatic}
-use Rattle.engine.specs.Move.{Input, walked, looked, reads, dynamic-among, extra-reads, updates}
+use Rattle.engine.specs.Move.{Input, Fired, fires, unless-clash, clashes, walked, looked, fired-of, judged, settle, move, reads-of, reads, dynamic-among, extra-reads}
 use Rattle.engine.proofs.Look.{Agree, local, seen-local}
 
 -- past the last location both give 0
@@ -29,7 +31,7 @@ has-append [] q i = refl
 has-append (j ∷ p) q i = rw (has-append p q i) (sym (or-assoc (eqb j i) (has p i) (has q i)))
 
 -- a list's dynamic locations
-pub has-dynamic : (B : Program) (ls : List ℕ) (l : ℕ) → has ls l ≡ true → dynamic-at B l ≡ true → has (dynamic-among B ls) l ≡ true
+has-dynamic : (B : Program) (ls : List ℕ) (l : ℕ) → has ls l ≡ true → dynamic-at B l ≡ true → has (dynamic-among B ls) l ≡ true
 unfolding dynamic-among
 has-dynamic B [] l h e = h
 has-dynamic B (k ∷ ls) l h e = go (eqb k l) refl h (has-dynamic B ls l)
@@ -43,20 +45,30 @@ has-dynamic B (k ∷ ls) l h e = go (eqb k l) refl h (has-dynamic B ls l)
     go true q h r = rw (eqb-true k l q, e, eq-eqb l l refl)
     go false q h r = keep (dynamic-at B k) (r h e)
 
+-- what the walk looks at is read, whatever becomes of the move
+looked-read : (B : Program) (c : List ℕ) (i : Input) (l : ℕ) → has (looked B c i) l ≡ true → has (reads B c i) l ≡ true
+unfolding reads move settle judged
+looked-read B c i l h = go (walked B c i)
+  where
+    judge : (o : Found) (f : Fired) → has (f .reads) l ≡ true → has (reads-of (looked B c i) (unless-clash o (fires f))) l ≡ true
+    judge Nowhere f m = m
+    judge (Here k) f m = h
+
+    go : (w : Walked) → has (reads-of (looked B c i) (settle B c (looked B c i) w)) l ≡ true
+    go (met n q) = h
+    go (going w) =
+        let f = fired-of B c (looked B c i) (w .made) in
+        judge (least (clashes (f .instructions) (f .updates)) (length (f .updates))) f (rw (has-append (looked B c i) (extra-reads B c (w .made) (f .updates)) l, h))
+
 -- none of 11 to 14, 18 and 19 met: the same instructions, and the same places looked at
 pub same-instructions : (B : Program) (c d : List ℕ) (i : Input) → SameStatic B c d → (w : Walk) → walked B c i ≡ going w
     → ((l : ℕ) → has (reads B c i) l ≡ true → at c l ≡ at d l) → (walked B d i ≡ going w) × (looked B d i ≡ looked B c i)
-unfolding reads
 same-instructions B c d i s w e h =
     (sym (local c d (agent-walk B (i .agent) (i .picks)) agree) ∙ e, ap (dynamic-among B) (sym (seen-local c d (agent-walk B (i .agent) (i .picks)) agree)))
   where
     by : (l : ℕ) → has (seen c (agent-walk B (i .agent) (i .picks))) l ≡ true → (b : Bool) → dynamic-at B l ≡ b → at c l ≡ at d l
     by l m false q = static-agree s l q
-    by l m true q = h l (rw (
-      e,
-      has-append (looked B c i) (extra-reads B (w .made) (updates B c (w .made))) l,
-      has-dynamic B (seen c (agent-walk B (i .agent) (i .picks))) l m q,
-    ))
+    by l m true q = h l (looked-read B c i l (has-dynamic B (seen c (agent-walk B (i .agent) (i .picks))) l m q))
 
     agree : Agree c d (seen c (agent-walk B (i .agent) (i .picks)))
     agree l m = by l m (dynamic-at B l) refl
@@ -65,10 +77,9 @@ same-instructions B c d i s w e h =
 -- the contents need only agree past Reserve.
 pub same-refusal : (B : Program) (c d : List ℕ) (i : Input) → SameStatic B c d → (n q : ℕ) → walked B c i ≡ met n q
     → ((l : ℕ) → B .E ≤ l → has (reads B c i) l ≡ true → at c l ≡ at d l) → ((x : ℕ) → x < B .E → at c x ≡ at d x) → walked B d i ≡ met n q
-unfolding reads
 same-refusal B c d i s n q e h r = sym (local c d (agent-walk B (i .agent) (i .picks)) (λ l m. by l m (dynamic-at B l) refl)) ∙ e
   where
     by : (l : ℕ) → has (seen c (agent-walk B (i .agent) (i .picks))) l ≡ true → (b : Bool) → dynamic-at B l ≡ b → at c l ≡ at d l
     by l m false p = static-agree s l p
     by l m true p = dite (decLt l (B .E)) (r l)
-        (λ (z : ¬ (l < B .E)). h l (omega arith) (rw (e, has-dynamic B (seen c (agent-walk B (i .agent) (i .picks))) l m p)))
+        (λ (z : ¬ (l < B .E)). h l (omega arith) (looked-read B c i l (has-dynamic B (seen c (agent-walk B (i .agent) (i .picks))) l m p)))

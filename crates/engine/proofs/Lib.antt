@@ -6,7 +6,10 @@ pub mod EqualReads
 pub mod Decode
 pub mod Values
 pub mod Walks
+pub mod Append
+pub mod Extra
 pub mod Moves
+pub mod Same
 pub mod Clash
 pub mod Numbers
 pub mod Refusals

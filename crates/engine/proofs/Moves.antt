@@ -1,20 +1,20 @@
 -- A move that fires: its updates and no others change the contents, static locations are never written, all that sound contents have, the roll rule
--- with it, is kept, and contents that agree on its reads give the same move. An idle one leaves the contents as they are.
+-- with it, is kept; what it releases is cleared, and it reads Reserve at each label that it takes out of a location. An idle one leaves the contents as they are.
 use mathlib.Core.Path.{_≡_, refl, sym, ap, subst, _∙_}
 use mathlib.Core.Logic.{_⊎_, inl, inr, dite, _≢_}
 use mathlib.Core.Bool.{Bool, true, false, not, or-true, true≢false, false≢true}
 use mathlib.Core.List.{List, [], _∷_, _++_}
-use Prim.Native.Nat.{ℕ, zero, suc, _+_, _≤_, _<_}
+use Prim.Native.Nat.{ℕ, zero, suc, _≤_, _<_}
 use native.Mathlib.Omega.{arith}
 use native.Mathlib.Decide.{ℕ-discrete, decLt}
 use lib.Dec.{eqb}
 use lib.ListN.{length, getD, replicate, List·getD-eq-default}
 use lib.Seq.{ext-getD}
 use borrow.Author.Tests.{eq-eqb, eqb-true, not-false}
-use Rattle.text.specs.Words.{if_then_else_, has, table-from, table, some-below, least}
+use Rattle.text.specs.Words.{if_then_else_, has, some-below, least}
 use Rattle.text.specs.declared.Found.{Found}
 use Rattle.text.specs.declared.Found.the-variants.{Nowhere, Here}
-use Rattle.text.proofs.Words.{or-no, least-none, some-below-true, some-below-from, table-ext, refuted}
+use Rattle.text.proofs.Words.{or-no, least-none, some-below-true, some-below-from, refuted}
 use Rattle.book.specs.Book.{Program, L, true-element, false-element, boolean, node-at, agent-at, place, relation-at, dynamic-at, default-at, arguments-at}
 use Rattle.book.specs.Sound.{Lawful, at, Argument, OnRoll, Sound}
 use Rattle.book.proofs.Places.{roll-place, roll-inside, roll-argument, default-low}
@@ -22,12 +22,13 @@ use Rattle.engine.specs.declared.Instruction.{Instruction}
 use Rattle.engine.specs.declared.Instruction.the-variants.{Update, Release}
 use Rattle.engine.specs.Look.{done, gives}
 use Rattle.engine.specs.Rule.{Walk, Walked, going, met, _then_, all-taken, walk, agent-walk, rule-at, no-variables}
-use Rattle.engine.specs.Move.{given, values, updates, values-at, released, other, two-values, clashes, idle, new-value, fire, writes, all-dynamic, extra-reads, Input, Fired, fires, unless-clash, walked, looked, fired-of, judged, settle, move, reads}
+use Rattle.engine.specs.Move.{values, updates, values-at, released, other, two-values, clashes, idle, new-value, fire, is-some, writes, append-from, release-reads, changed-reads, extra-reads, Input, Fired, fires, unless-clash, walked, looked, fired-of, judged, settle, move, reads}
 use Rattle.engine.proofs.Look.{gives-bind}
-use Rattle.engine.proofs.EqualReads.{has-append, has-dynamic, same-instructions}
-use Rattle.engine.specs.Claims.{SameStatic}
+use Rattle.engine.proofs.EqualReads.{has-append}
+use Rattle.engine.proofs.Append.{append-has}
+use Rattle.engine.proofs.Extra.{taken-has}
 use Rattle.engine.proofs.Decode.{proper-rule}
-use Rattle.engine.proofs.Values.{Sets, Frees, frees-has, set-to-none, Cleared, Origin, origin, sets-values, frees-values, length-updates, updates-at, updates-past, new-cases, only-value, fire-inside, fire-at}
+use Rattle.engine.proofs.Values.{Sets, Frees, frees-has, has-frees, set-to-none, Cleared, Origin, origin, sets-values, frees-values, length-updates, updates-at, updates-past, new-cases, only-value, fire-inside, fire-at}
 use Rattle.engine.proofs.Walks.{Fine, sets-fine, frees-fine, Made, Comes, walk-comes, taken-comes, low-clean}
 
 pub fire-length : (us : List (List ℕ)) (c : List ℕ) → length (fire us c) ≡ length c
@@ -73,7 +74,10 @@ module _ (B : Program) (c : List ℕ) (i : Input) (f : Fired) (moves : move B c 
 
   pub fired-reads : reads B c i ≡ f .reads
   unfolding reads
-  fired-reads = let s = firing B c i f moves in rw (s .went) (ap (λ (g : Fired). g .reads) (s .gave))
+  fired-reads = rw moves
+
+  reads-parts : f .reads ≡ looked B c i ++ extra-reads B c (f .instructions) (f .updates)
+  reads-parts = subst (λ (g : Fired). g .reads ≡ looked B c i ++ extra-reads B c (g .instructions) (g .updates)) (firing B c i f moves .gave) refl
 
   -- no location is given two values
   pub one-value : (l v : ℕ) → has (values-at (f .updates) l) v ≡ true → new-value (at c l) (values-at (f .updates) l) ≡ v
@@ -98,6 +102,13 @@ no-value v = go 8 v
     go zero v = refl
     go (suc n) zero = refl
     go (suc n) (suc v) = go n v
+
+-- a location that holds a label is one of the book's
+pub held-inside : (B : Program) → Lawful B → (c : List ℕ) → Sound B c → (l : ℕ) → B .P ≤ at c l → l < L B
+held-inside B B-ok c c-ok l p = dite (decLt l (L B)) (λ h. h)
+    (λ (h : ¬ (l < L B)).
+    let e : at c l ≡ 0 = List·getD-eq-default c 0 {n = l} (omega (arith, c-ok .long)) in
+    absurd (omega (arith, B-ok .low)))
 
 module _ (B : Program) (B-ok : Lawful B) (c : List ℕ) (c-ok : Sound B c) (i : Input) where
   walked-made : (w : Walk) → walked B c i ≡ going w → Made B c w
@@ -243,20 +254,30 @@ module _ (B : Program) (B-ok : Lawful B) (c : List ℕ) (c-ok : Sound B c) (i : 
         go (inl r) = freed r (dynamic-at B l) refl
         go (inr (p, b)) = cases (λ v. v ≡ default-at B l) l (λ e. c-ok .arguments x l p h n a) (λ v m. given b p v (from l v m .1))
 
+    has-some : (ws : List ℕ) (v : ℕ) → has ws v ≡ true → is-some ws ≡ true
+    has-some [] v h = h
+    has-some (w ∷ ws) v h = refl
+
+    -- a location that holds a label which is released is written
+    holder-written : (x l : ℕ) → Frees x is → l < L B → at c l ≡ x → writes us l ≡ true
+    holder-written x l r h e = go (dynamic-at B l) refl
+      where
+        by : (v : ℕ) → Cleared B c x l v → writes us l ≡ true
+        by v z = has-some (values-at us l) v (to l v h (frees-values B c is x l v r z))
+
+        go : (b : Bool) → dynamic-at B l ≡ b → writes us l ≡ true
+        go false q = absurd (omega (arith, c-ok .fixed-values l h q, label x r .0))
+        go true q = dite (ℕ-discrete x l) (λ z. by true-element (inl (z, refl)))
+            (λ z. by (default-at B l) (inr (z, q, (rw (eq-eqb (at c l) x e) (or-true (has (arguments-at B l) x))), refl)))
+
     values-kept : (x l : ℕ) → OnRoll B d x → l < L B → at d l ≢ x
     unfolding is us clashes
     values-kept x l o h = go (cause x o)
       where
-        -- a location that holds a released label is given a value
-        held : Frees x is → values-at us l ≡ [] → at c l ≡ x → (b : Bool) → dynamic-at B l ≡ b → ⊥
-        held r n e false q = omega (arith, c-ok .fixed-values l h q, label x r .0)
-        held r n e true q = dite (ℕ-discrete x l) (λ z. given true-element (inl (z, refl)))
-            (λ z. given (default-at B l) (inr (z, q, (rw (eq-eqb (at c l) x e) (or-true (has (arguments-at B l) x))), refl)))
-          where
-            given : (v : ℕ) → Cleared B c x l v → ⊥
-            given v z = false≢true (rw n at (to l v h (frees-values B c is x l v r z)))
+        held : Frees x is → values-at us l ≡ [] → at c l ≡ x → ⊥
+        held r n e = false≢true (rw n at (holder-written x l r h e))
 
-        -- and none is set to it
+        -- no location is set to a released label
         unset : has (released (f .instructions)) x ≡ true → Sets l x is → ⊥
         unset r t =
             let e = least-none (clashes (f .instructions) (f .updates)) (length (f .updates)) (s .no-clash) l (omega (arith, fired-length B c i f moves)) in
@@ -271,7 +292,7 @@ module _ (B : Program) (B-ok : Lawful B) (c : List ℕ) (c-ok : Sound B c) (i : 
         stays b p v (inr (y, t, z)) e = omega (arith, given-low y l v z, c-ok .labels x p)
 
         go : Frees x is ⊎ (OnRoll B c x × (s .walk .next ≤ x)) → at d l ≢ x
-        go (inl r) = cases (λ v. v ≢ x) l (λ n e. held r n e (dynamic-at B l) refl) (λ v m. freed r v (from l v m .1))
+        go (inl r) = cases (λ v. v ≢ x) l (λ n e. held r n e) (λ v m. freed r v (from l v m .1))
         go (inr (p, b)) = cases (λ v. v ≢ x) l (λ n. c-ok .values x l p h) (λ v m. stays b p v (from l v m .1))
 
     labels : (x : ℕ) → OnRoll B d x → B .P ≤ x
@@ -304,67 +325,47 @@ module _ (B : Program) (B-ok : Lawful B) (c : List ℕ) (c-ok : Sound B c) (i : 
         booleans l v e (inr (x, r, inl (p, z))) = rw z
         booleans l v e (inr (x, r, inr (n, a, b, z))) = rw (z, e)
 
--- ---- the same move on contents that agree
+    -- ---- labels
 
--- with no release the updates are the instructions' own
-kept : (B : Program) (c d : List ℕ) (l : ℕ) (is : List Instruction) → released is ≡ [] → values B c l is ≡ values B d l is
-unfolding values released given
-kept B c d l [] f = refl
-kept B c d l (Update k v ∷ is) f = ap (λ (ws : List ℕ). (if eqb k l then v ∷ [] else []) ++ ws) (kept B c d l is f)
-kept B c d l (Release x ∷ is) f = let z : _≡_ {A = ℕ} 0 1 = cc in absurd (omega arith)
+    freed-is : (x : ℕ) → has (released (f .instructions)) x ≡ true → Frees x is
+    freed-is x h = has-frees is x (rw (← gave-is) at h)
 
-kept-updates : (B : Program) (c d : List ℕ) (is : List Instruction) → released is ≡ [] → updates B c is ≡ updates B d is
-unfolding updates
-kept-updates B c d is f = table-ext (λ l. values B c l is) (λ l. values B d l is) (L B) (λ l h. kept B c d l is f)
+    -- what is released is a label
+    pub fired-label : (x : ℕ) → has (released (f .instructions)) x ≡ true → (B .P ≤ x) × (x < B .E)
+    fired-label x h = let t = label x (freed-is x h) in (t .0, t .1)
 
-has-table : (i n l : ℕ) → i ≤ l → l < i + n → has (table-from (λ k. k) i n) l ≡ true
-unfolding table-from
-has-table i zero l h k = absurd (omega arith)
-has-table i (suc n) l h k = dite (ℕ-discrete i l) (λ e. rw (eq-eqb i l e)) (λ e. rw (has-table (suc i) n l (omega arith) (omega arith)) (or-true (eqb i l)))
+    -- a release writes Reserve at its label, which is true afterwards
+    pub fired-returns : (x : ℕ) → has (released (f .instructions)) x ≡ true → (writes (f .updates) x ≡ true) × (at (fire (f .updates) c) x ≡ true-element)
+    unfolding us d
+    fired-returns x h =
+        let r = freed-is x h in
+        let b : x < L B = omega (arith, label x r .1, roll-inside B B-ok) in (
+          has-some (values-at us x) true-element (to x true-element b (frees-values B c is x x true-element r (inl (refl, refl)))),
+          swept x x true-element r b (inl (refl, refl)),
+        )
 
-module _ (B : Program) (c d : List ℕ) (i : Input) (t : SameStatic B c d) (f : Fired) (moves : move B c i ≡ fires f)
-    (agree : (l : ℕ) → has (f .reads) l ≡ true → at c l ≡ at d l) where
-  w : Walk
-  w = firing B c i f moves .walk
+    -- a release writes each location that holds its label
+    pub fired-clears : (x l : ℕ) → has (released (f .instructions)) x ≡ true → at c l ≡ x → writes (f .updates) l ≡ true
+    unfolding us
+    fired-clears x l h e =
+        let r = freed-is x h in
+        holder-written x l r (held-inside B B-ok c c-ok l (omega (arith, label x r .0))) e
 
-  -- with a release every dynamic location is read
-  all-read : (y : ℕ) (ys : List ℕ) → released (w .made) ≡ y ∷ ys → (l : ℕ) → l < L B → dynamic-at B l ≡ true → has (f .reads) l ≡ true
-  unfolding all-dynamic w
-  all-read y ys e l h q =
-      subst (λ (g : Fired). has (g .reads) l ≡ true) (firing B c i f moves .gave)
-      (rw (
-        has-append (looked B c i) (extra-reads B (w .made) (updates B c (w .made))) l,
-        e,
-        has-dynamic B (table (λ k. k) (L B)) l (has-table 0 (L B) l (omega arith) (omega arith)) q,
-      )
-      (or-true (has (looked B c i) l)))
-
-  -- so the contents are the same throughout
-  at-once : (y : ℕ) (ys : List ℕ) → released (w .made) ≡ y ∷ ys → c ≡ d
-  at-once y ys e = ext-getD 0 c d (t .long ∙ sym (t .as-long)) (λ l h. go l (omega (arith, t .long)) (dynamic-at B l) refl)
-    where
-      go : (l : ℕ) → l < L B → (b : Bool) → dynamic-at B l ≡ b → at c l ≡ at d l
-      go l h false q = t .static l h q
-      go l h true q = agree l (all-read y ys e l h q)
-
-  pub fired-same : move B d i ≡ fires f
-  unfolding w move settle judged
-  fired-same = go (released (w .made)) refl
-    where
-      -- with none it is settled alike
-      apiece : released (w .made) ≡ [] → move B d i ≡ fires f
-      apiece e =
-          let s = firing B c i f moves in
-          let r = same-instructions B c d i t (s .walk) (s .went) (λ l h. agree l (rw (fired-reads B c i f moves) at h)) in
-          let u : fired-of B d (looked B c i) (s .walk .made) ≡ f =
-          ap (λ (us : List (List ℕ)). record { instructions = s .walk .made; updates = us; reads = looked B c i ++ extra-reads B (s .walk .made) us })
-          (sym (kept-updates B c d (s .walk .made) e))
-          ∙ s .gave in
-          rw (r .0, r .1) (ap judged u ∙ rw (s .no-clash))
-
-      go : (ys : List ℕ) → released (w .made) ≡ ys → move B d i ≡ fires f
-      go [] e = apiece e
-      go (y ∷ ys) e = subst (λ (z : List ℕ). move B z i ≡ fires f) (at-once y ys e) moves
+    -- what changes a location from a label to another value reads Reserve at the label
+    pub fired-takes : (l : ℕ) → B .P ≤ at c l → at (fire (f .updates) c) l ≢ at c l → has (f .reads) (at c l) ≡ true
+    unfolding extra-reads
+    fired-takes l p n =
+        let one : has (changed-reads B c (f .updates) l) (at c l) ≡ true =
+        taken-has (B .P) (at c l) (new-value (at c l) (values-at (f .updates) l)) p (λ q. n (fired-frame l ∙ q)) in
+        let m = append-has (changed-reads B c (f .updates)) 0 (L B) l (at c l) (omega arith) (omega (arith, held-inside B B-ok c c-ok l p)) one in
+        rw (
+          reads-parts B c i f moves,
+          has-append (looked B c i) _ (at c l),
+          has-append (append-from (release-reads B c (released (f .instructions))) 0 (L B)) _ (at c l),
+          m,
+          or-true (has (append-from (release-reads B c (released (f .instructions))) 0 (L B)) (at c l)),
+        )
+        (or-true (has (looked B c i) (at c l)))
 
 -- ---- an idle move
 

@@ -36,6 +36,16 @@ frees-has (Update k w ∷ is) x f = frees-has is x f
 frees-has (Release y ∷ is) x (inl e) = rw (eq-eqb y x e)
 frees-has (Release y ∷ is) x (inr f) = rw (frees-has is x f) (or-true (eqb y x))
 
+pub has-frees : (is : List Instruction) (x : ℕ) → has (released is) x ≡ true → Frees x is
+unfolding released
+has-frees [] x h = absurd (false≢true h)
+has-frees (Update k w ∷ is) x h = has-frees is x h
+has-frees (Release y ∷ is) x h = go (or-cases (eqb y x) (has (released is) x) h) (has-frees is x)
+  where
+    go : (eqb y x ≡ true) ⊎ (has (released is) x ≡ true) → (has (released is) x ≡ true → Frees x is) → Frees x (Release y ∷ is)
+    go (inl e) r = inl (eqb-true y x e)
+    go (inr e) r = inr (r e)
+
 -- no update sets l to a label of xs
 pub set-to-none : (xs : List ℕ) (is : List Instruction) (l v : ℕ) → set-to-label xs l is ≡ false → Sets l v is → has xs v ≡ false
 unfolding set-to-label

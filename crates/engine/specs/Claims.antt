@@ -1,5 +1,5 @@
 -- What is claimed of single moves, and proved in proofs/Claims: equal reads, the frame, the roll rule, idle moves, refusals, what imports and choices
--- read, and that trees are whole (01, "What a move does", "Node kinds"; 02, F-1 and F-2).
+-- read, and that trees are whole (01, "What a move does", "Node kinds"; 02, F-1 to F-3).
 use mathlib.Core.Path.{_≡_}
 use mathlib.Core.Logic.{_↔_, _≢_}
 use mathlib.Core.Bool.{true, false}
@@ -14,7 +14,8 @@ use Rattle.book.specs.Around.{most-depth}
 use Rattle.book.specs.Sound.{Lawful, at, Sound}
 use Rattle.engine.specs.Look.{gives, seen}
 use Rattle.engine.specs.Rule.{Rule, choose, Walk, going, met, after, take-pick, refuse-if, lowest, not-member, walk, rule-shape, rule-tree, rule-at}
-use Rattle.engine.specs.Move.{Input, Fired, fires, stopped, idle, move, walked, reads, values-at, new-value, fire, writes}
+use Rattle.engine.specs.Move.{Input, Fired, fires, stopped, idle, move, walked, reads, released, values-at, new-value, fire, writes}
+use Rattle.engine.specs.Move as move
 use Rattle.engine.specs.Single.{check-step, step-call}
 
 -- ---- equal reads
@@ -25,13 +26,19 @@ pub record SameStatic (B : Program) (c d : List ℕ) : Type 0 where
   pub as-long : length d ≡ L B
   pub static : (l : ℕ) → l < L B → dynamic-at B l ≡ false → at c l ≡ at d l
 
+-- both contents hold each of these labels at the same locations
+abbrev pub SameHolders : List ℕ → List ℕ → List ℕ → Type 0
+SameHolders c d xs = (x l : ℕ) → has xs x ≡ true → (at c l ≡ x) ↔ (at d l ≡ x)
+
 -- Two contents with equal static functions that agree on what a move reads in one of them give it, with its picks, the same instructions if none of 11
 -- to 14, 18 and 19 is met there, and otherwise the same refusal if they agree on Reserve throughout; what the move reads elsewhere is past Reserve's E
--- locations.
+-- locations. For a release to give the same updates, both must also hold its label at the same locations (02, F-3).
 pub record EqualReads (B : Program) (c d : List ℕ) (i : Input) : Type 0 where
   pub instructions : (w : Walk) → walked B c i ≡ going w → ((l : ℕ) → has (reads B c i) l ≡ true → at c l ≡ at d l) → walked B d i ≡ going w
   pub refusal : (n q : ℕ) → walked B c i ≡ met n q → ((l : ℕ) → B .E ≤ l → has (reads B c i) l ≡ true → at c l ≡ at d l)
       → ((x : ℕ) → x < B .E → at c x ≡ at d x) → walked B d i ≡ met n q
+  pub updates : (w : Walk) → walked B c i ≡ going w → ((l : ℕ) → has (reads B c i) l ≡ true → at c l ≡ at d l)
+      → SameHolders c d (released (w .made)) → (walked B d i ≡ going w) × (move.updates B d (w .made) ≡ move.updates B c (w .made))
 
 -- ---- what a move that fires leaves
 
@@ -49,6 +56,11 @@ pub record Leaves (B : Program) (c : List ℕ) (f : Fired) : Type 0 where
 
 abbrev pub MovesReadEqual : Type 0
 MovesReadEqual = (B : Program) (c d : List ℕ) (i : Input) → SameStatic B c d → EqualReads B c d i
+
+-- a move that fires does the same, reads included, if both contents also agree on what it writes
+abbrev pub MovesFireEqual : Type 0
+MovesFireEqual = (B : Program) (c d : List ℕ) (i : Input) (f : Fired) → SameStatic B c d → move B c i ≡ fires f → SameHolders c d (released (f .instructions))
+    → ((l : ℕ) → has (f .reads) l ≡ true → at c l ≡ at d l) → ((l : ℕ) → writes (f .updates) l ≡ true → at c l ≡ at d l) → move B d i ≡ fires f
 
 abbrev pub MovesLeave : Type 0
 MovesLeave = (B : Program) → Lawful B → (c : List ℕ) → Sound B c → (i : Input) (f : Fired) → move B c i ≡ fires f → Leaves B c f

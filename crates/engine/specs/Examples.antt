@@ -1,4 +1,4 @@
--- Single moves and what they leave and read, as a table under the lemma of Quoted: 01's plausible misreadings, 02's F-1 and F-2, and 11 to 15, 18 and 19.
+-- Single moves and what they leave and read, as a table under the lemma of Quoted: 01's plausible misreadings, 02's F-1 to F-3, and 11 to 15, 18 and 19.
 use mathlib.Core.Path.{_≡_, refl}
 use mathlib.Core.Bool.{true}
 use mathlib.Core.List.{List, [], _∷_, _++_}
@@ -61,6 +61,14 @@ guard-book =
 abbrev pub release-book : List ℕ
 release-book = padded "6 4 3 3 / 1 0 0 0 / 1 3 0 0 / 1 3 0 0 / 1 2 0 0 / 2 0 0 0 / 27 0 0 0 / 25 0 1 1 / 2 3 0 0"
 
+-- t := u; t and u are functions 1 and 2, of no argument, at locations 6 and 7. Labels are 4 and 5
+abbrev pub put-book : List ℕ
+put-book = padded "6 4 3 3 / 1 0 0 0 / 1 3 0 0 / 0 2 0 0 / 0 2 0 0 / 4 1 0 0 / 4 2 0 0 / 21 0 1 0 / 2 3 0 0"
+
+-- release t beside t := 3; t is function 1, of no argument, at location 6. Labels are 4 and 5
+abbrev pub release-put-book : List ℕ
+release-put-book = padded "6 4 2 6 / 1 0 0 0 / 1 3 0 0 / 0 2 0 0 / 4 1 0 0 / 27 0 0 0 / 4 1 0 0 / 1 3 0 0 / 21 2 3 0 / 22 1 4 0 / 5 3 0 0"
+
 -- choose v0 in U do s := v0, node 3; U is function 1, dynamic, at locations 8 to 15, and s is location 16. 6 is a label, 7 one on the roll
 abbrev pub choose-book : List ℕ
 choose-book = padded "8 6 3 4 / 1 0 0 0 / 1 3 0 0 / 1 3 0 0 / 0 2 0 0 / 4 2 0 0 / 2 0 0 0 / 21 0 1 0 / 28 0 1 2 / 3 4 0 0"
@@ -99,6 +107,20 @@ examples =
     -- a release clears arguments and values: 4 is a member, has a value and is one
     ∷ case (leaves release-book (none ++ ((1 ∷ 1 ∷ 1 ∷ 1 ∷ 2 ∷ 1 ∷ []) ++ (0 ∷ 0 ∷ 0 ∷ 4 ∷ 3 ∷ 0 ∷ []))))
     (0 ∷ 0 ∷ 0 ∷ (1 ∷ 1 ∷ 1 ∷ 1 ∷ 2 ∷ 1 ∷ []) ++ (none ++ replicate 6 0))
+    -- what a release of 4 reads (02, F-3): the universe, and Reserve at 4, for 12; each location that it gives a value; Reserve at 4, which location 15 held
+    ∷ case (reads-in release-book (none ++ ((1 ∷ 1 ∷ 1 ∷ 1 ∷ 2 ∷ 1 ∷ []) ++ (0 ∷ 0 ∷ 0 ∷ 4 ∷ 3 ∷ 0 ∷ []))))
+    (6 ∷ 7 ∷ 8 ∷ 9 ∷ 10 ∷ 11 ∷ 4 ∷ (4 ∷ 10 ∷ 15 ∷ 16 ∷ []) ++ (4 ∷ []))
+    -- the same, where location 16 held another label: Reserve at 5
+    ∷ case (reads-in release-book (none ++ ((1 ∷ 1 ∷ 1 ∷ 1 ∷ 2 ∷ 1 ∷ []) ++ (0 ∷ 0 ∷ 0 ∷ 0 ∷ 5 ∷ 0 ∷ []))))
+    (6 ∷ 7 ∷ 8 ∷ 9 ∷ 10 ∷ 11 ∷ 4 ∷ (4 ∷ 10 ∷ 16 ∷ []) ++ (5 ∷ []))
+    -- a release that is refused, by 15, reads what its walk looks at: t, and Reserve at 4
+    ∷ case (leaves release-put-book (none ++ (4 ∷ []))) (15 ∷ 0 ∷ 6 ∷ none ++ (4 ∷ []))
+    ∷ case (reads-in release-put-book (none ++ (4 ∷ []))) (6 ∷ 4 ∷ [])
+    -- what t := u reads beside u: Reserve at the label that t held, where u is a number, or another label; nothing more where t keeps its label, or held none
+    ∷ case (reads-in put-book (none ++ (4 ∷ 3 ∷ []))) (7 ∷ 4 ∷ [])
+    ∷ case (reads-in put-book (none ++ (4 ∷ 5 ∷ []))) (7 ∷ 4 ∷ [])
+    ∷ case (reads-in put-book (none ++ (4 ∷ 4 ∷ []))) (7 ∷ [])
+    ∷ case (reads-in put-book (none ++ (3 ∷ 4 ∷ []))) (7 ∷ [])
     -- a permanent member: 12
     ∷ case (leaves release-book (none ++ ((2 ∷ 1 ∷ 1 ∷ 1 ∷ 1 ∷ 1 ∷ []) ++ replicate 6 0))) (12 ∷ 0 ∷ 1 ∷ none ++ ((2 ∷ 1 ∷ 1 ∷ 1 ∷ 1 ∷ 1 ∷ []) ++ replicate 6 0))
     -- a lent table with a trace of a label on the roll: 8, and too short: 2

@@ -1,9 +1,9 @@
 -- A move: the updates that its instructions give, 15, the contents that it leaves, what it reads and what it writes
--- (01, "What a move does"; 02, F-1 and F-2; idle after 003, 2.5).
+-- (01, "What a move does"; 02, F-1 to F-3; idle after 003, 2.5).
 use mathlib.Core.Bool.{Bool, true, false, _&&_, _||_, not}
 use mathlib.Core.List.{List, [], _∷_, _++_}
-use Prim.Native.Nat.{ℕ}
-use lib.Dec.{eqb}
+use Prim.Native.Nat.{ℕ, zero, suc}
+use lib.Dec.{eqb, leb}
 use lib.ListN.{length, getD}
 use Rattle.text.specs.Words.{if_then_else_, has, table, some-below, least}
 use Rattle.text.specs.Refusals.{clash}
@@ -100,17 +100,33 @@ unfoldable pub dynamic-among : Program → List ℕ → List ℕ
 dynamic-among B [] = []
 dynamic-among B (l ∷ ls) = let r = dynamic-among B ls in if dynamic-at B l then l ∷ r else r
 
--- every dynamic location
-unfoldable pub all-dynamic : Program → List ℕ
-all-dynamic B = dynamic-among B (table (λ l. l) (L B))
+-- what f gives at each of the n numbers from i on, one list after the other
+unfoldable pub append-from : (ℕ → List ℕ) → ℕ → ℕ → List ℕ
+append-from f i zero = []
+append-from f i (suc n) = f i ++ append-from f (suc i) n
 
--- what a move reads beside what its walk looks at: with a release, every dynamic location
-abbrev pub if-releasing : Program → List ℕ → List ℕ
-if-releasing B [] = []
-if-releasing B (x ∷ xs) = all-dynamic B
+-- Beside what its walk looks at, a move that fires reads two things (02, F-3): each location that a release gives a value, and Reserve at each label that
+-- it takes out of a location.
 
-abbrev pub extra-reads : Program → List Instruction → List (List ℕ) → List ℕ
-extra-reads B is us = if-releasing B (released is)
+-- the release of one of the labels xs gives location l a value
+unfoldable pub release-gives : Program → List ℕ → List ℕ → ℕ → Bool
+release-gives B c [] l = false
+release-gives B c (x ∷ xs) l = is-some (given B c l (Release x)) || release-gives B c xs l
+
+-- a release reads it then
+abbrev pub release-reads : Program → List ℕ → List ℕ → ℕ → List ℕ
+release-reads B c xs l = if release-gives B c xs l then l ∷ [] else []
+
+-- Reserve at the label v, if a location that held v gets another value w, a label or not. The elements from P on are labels.
+abbrev pub taken-reads : ℕ → ℕ → ℕ → List ℕ
+taken-reads P v w = if leb P v && not (eqb w v) then reserve v ∷ [] else []
+
+-- whatever changes location l, an update or a release
+abbrev pub changed-reads : Program → List ℕ → List (List ℕ) → ℕ → List ℕ
+changed-reads B c us l = taken-reads (B .P) (getD c l 0) (new-value (getD c l 0) (values-at us l))
+
+unfoldable pub extra-reads : Program → List ℕ → List Instruction → List (List ℕ) → List ℕ
+extra-reads B c is us = append-from (release-reads B c (released is)) 0 (L B) ++ append-from (changed-reads B c us) 0 (L B)
 
 -- ---- the move
 
@@ -153,7 +169,7 @@ looked B c i = dynamic-among B (seen c (agent-walk B (i .agent) (i .picks)))
 abbrev pub fired-of : Program → List ℕ → List ℕ → List Instruction → Fired
 fired-of B c ls is =
     let us = updates B c is in
-    record { instructions = is; updates = us; reads = ls ++ extra-reads B is us }
+    record { instructions = is; updates = us; reads = ls ++ extra-reads B c is us }
 
 -- 15, or it fires
 unfoldable pub judged : Fired → Moved
@@ -167,10 +183,10 @@ settle B c ls (going w) = judged (fired-of B c ls (w .made))
 unfoldable pub move : Program → List ℕ → Input → Moved
 move B c i = settle B c (looked B c i) (walked B c i)
 
--- what a move reads, whether it fires or not
-abbrev pub reads-after : Program → List ℕ → List ℕ → Walked → List ℕ
-reads-after B c ls (met n q) = ls
-reads-after B c ls (going w) = fired-of B c ls (w .made) .reads
+-- what a move reads; one that is refused, what its walk looks at
+abbrev pub reads-of : List ℕ → Moved → List ℕ
+reads-of ls (fires f) = f .reads
+reads-of ls (stopped n q) = ls
 
 unfoldable pub reads : Program → List ℕ → Input → List ℕ
-reads B c i = reads-after B c (looked B c i) (walked B c i)
+reads B c i = reads-of (looked B c i) (move B c i)

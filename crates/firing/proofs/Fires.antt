@@ -21,7 +21,7 @@ use Rattle.engine.specs.Move.{given, values, updates, values-at, released, othe
 use Rattle.engine.proofs.Values.{length-updates, updates-at, updates-past, fire-inside}
 use Rattle.engine.proofs.Moves.{fire-length}
 use Rattle.sweep.specs.Marks.{each, mark}
-use Rattle.firing.specs.Outcome.{marked}
+use Rattle.firing.specs.Outcome.{write-marked}
 use Rattle.traces.specs.Traces.{own, gets, any}
 use Rattle.clearing.specs.Steps.{trace, wiped, clear-of, clear-marks-of, clears, clear-marks}
 use Rattle.firing.specs.Steps.{puts, put-marks}
@@ -53,7 +53,7 @@ mark-mark bit false t m = refl
 -- ---- one location, l; v is what it holds
 
 module _ (B : Program) (l : ℕ) where
-  abbrev rest : ℕ
+  abbrev pub rest : ℕ
   rest = default-at B l
 
   abbrev wipe-of : Instruction → ℕ → ℕ
@@ -61,7 +61,7 @@ module _ (B : Program) (l : ℕ) where
   wipe-of (Release x) v = wiped B x l v
 
   -- what clearing leaves there
-  unfoldable wipe-by : List Instruction → ℕ → ℕ
+  unfoldable pub wipe-by : List Instruction → ℕ → ℕ
   wipe-by [] v = v
   wipe-by (i ∷ is) v = wipe-by is (wipe-of i v)
 
@@ -70,11 +70,11 @@ module _ (B : Program) (l : ℕ) where
   put-by [] v = v
   put-by (i ∷ is) v = put-by is (if eqb (own i) l then gets i else v)
 
-  abbrev about : Instruction → Bool
+  abbrev pub about : Instruction → Bool
   about i = eqb (own i) l
 
   -- a release has a trace there
-  abbrev trace-of : ℕ → Instruction → Bool
+  abbrev pub trace-of : ℕ → Instruction → Bool
   trace-of v (Update k w) = false
   trace-of v (Release x) = trace B l v x
 
@@ -101,10 +101,10 @@ module _ (B : Program) (l : ℕ) where
   past-wipe h (Update k w ∷ is) v = past-wipe h is v
   past-wipe h (Release x ∷ is) v = rw (past-trace h v x) (past-wipe h is v)
 
-  wiped-true : (x v : ℕ) → trace B l v x ≡ true → wiped B x l v ≡ rest
+  pub wiped-true : (x v : ℕ) → trace B l v x ≡ true → wiped B x l v ≡ rest
   wiped-true x v e = rw e
 
-  wiped-false : (x v : ℕ) → trace B l v x ≡ false → wiped B x l v ≡ v
+  pub wiped-false : (x v : ℕ) → trace B l v x ≡ false → wiped B x l v ≡ v
   wiped-false x v e = rw e
 
   -- the default stays the default
@@ -116,7 +116,7 @@ module _ (B : Program) (l : ℕ) where
       step true e = wiped-true x rest e
       step false e = wiped-false x rest e
 
-  wipe-by-rest : (is : List Instruction) → wipe-by is rest ≡ rest
+  pub wipe-by-rest : (is : List Instruction) → wipe-by is rest ≡ rest
   unfolding wipe-by
   wipe-by-rest [] = refl
   wipe-by-rest (i ∷ is) = ap (wipe-by is) (wipe-rest i) ∙ wipe-by-rest is
@@ -179,13 +179,13 @@ module _ (B : Program) (l : ℕ) where
             look true e = ap (wipe-by is) (wiped-true x held e) ∙ wipe-by-rest is ∙ rw (given-release x true f e)
             look false e = ap (wipe-by is) (wiped-false x held e) ∙ r ∙ rw (given-release x false f e)
 
-    own-is : (i : Instruction) (w : ℕ) → about i ≡ true → other w (given B c l i) ≡ false → gets i ≡ w
+    pub own-is : (i : Instruction) (w : ℕ) → about i ≡ true → other w (given B c l i) ≡ false → gets i ≡ w
     unfolding other
     own-is i w f k =
         let g : not (eqb (gets i) w) || false ≡ false = rw (own-given B c l i (eqb-true (own i) l f)) at k in
         eqb-true (gets i) w (not-false (eqb (gets i) w) (sym (or-false (not (eqb (gets i) w))) ∙ g))
 
-    both : (i : Instruction) (is : List Instruction) (w : ℕ) → other w (values B c l (i ∷ is)) ≡ false → (other w (given B c l i) ≡ false) × (other w (values B c l is) ≡ false)
+    pub both : (i : Instruction) (is : List Instruction) (w : ℕ) → other w (values B c l (i ∷ is)) ≡ false → (other w (given B c l i) ≡ false) × (other w (values B c l is) ≡ false)
     unfolding values
     both i is w h =
         or-no (other w (given B c l i)) (other w (values B c l is)) (sym (other-append w (given B c l i) (values B c l is)) ∙ h)
@@ -220,7 +220,7 @@ module _ (B : Program) (l : ℕ) where
     some-append [] ys = refl
     some-append (x ∷ xs) ys = refl
 
-    some-given : (i : Instruction) → is-some (given B c l i) ≡ about i || trace-of held i
+    pub some-given : (i : Instruction) → is-some (given B c l i) ≡ about i || trace-of held i
     unfolding given
     some-given (Update k w) = step (eqb k l)
       where
@@ -234,7 +234,7 @@ module _ (B : Program) (l : ℕ) where
         step false true = refl
         step false false = refl
 
-    some-values : (is : List Instruction) → is-some (values B c l is) ≡ any about is || any (trace-of held) is
+    pub some-values : (is : List Instruction) → is-some (values B c l is) ≡ any about is || any (trace-of held) is
     unfolding values any
     some-values [] = refl
     some-values (i ∷ is) =
@@ -266,16 +266,16 @@ module _ (B : Program) (l : ℕ) where
 
 -- ---- the whole tables
 
-length-clear-of : (B : Program) (i : Instruction) (c : List ℕ) → length (clear-of B i c) ≡ length c
+pub length-clear-of : (B : Program) (i : Instruction) (c : List ℕ) → length (clear-of B i c) ≡ length c
 length-clear-of B (Update k w) c = refl
 length-clear-of B (Release x) c = length-each (wiped B x) 0 c
 
-length-clears : (B : Program) (is : List Instruction) (c : List ℕ) → length (clears B is c) ≡ length c
+pub length-clears : (B : Program) (is : List Instruction) (c : List ℕ) → length (clears B is c) ≡ length c
 unfolding clears
 length-clears B [] c = refl
 length-clears B (i ∷ is) c = length-clears B is (clear-of B i c) ∙ length-clear-of B i c
 
-length-put : (b : Bool) (c : List ℕ) (k v : ℕ) → length (if b then set c k v else c) ≡ length c
+pub length-put : (b : Bool) (c : List ℕ) (k v : ℕ) → length (if b then set c k v else c) ≡ length c
 length-put true c k v = length-set c k v
 length-put false c k v = refl
 
@@ -300,18 +300,18 @@ unfolding put-marks
 length-put-marks bit n [] ms = refl
 length-put-marks bit n (i ∷ is) ms = length-put-marks bit n is (set ms (own i) (mark bit (ltb (own i) n) (getD ms (own i) 0))) ∙ simp length-set
 
-clear-of-at : (B : Program) (i : Instruction) (c : List ℕ) (l : ℕ) → l < length c → getD (clear-of B i c) l 0 ≡ wipe-of B l i (getD c l 0)
+pub clear-of-at : (B : Program) (i : Instruction) (c : List ℕ) (l : ℕ) → l < length c → getD (clear-of B i c) l 0 ≡ wipe-of B l i (getD c l 0)
 clear-of-at B (Update k w) c l h = refl
 clear-of-at B (Release x) c l h = getD-each (wiped B x) c l h
 
-clears-at : (B : Program) (is : List Instruction) (c : List ℕ) (l : ℕ) → l < length c → getD (clears B is c) l 0 ≡ wipe-by B l is (getD c l 0)
+pub clears-at : (B : Program) (is : List Instruction) (c : List ℕ) (l : ℕ) → l < length c → getD (clears B is c) l 0 ≡ wipe-by B l is (getD c l 0)
 unfolding clears wipe-by
 clears-at B [] c l h = refl
 clears-at B (i ∷ is) c l h =
     clears-at B is (clear-of B i c) l (omega (arith, length-clear-of B i c)) ∙ ap (wipe-by B l is) (clear-of-at B i c l h)
 
 -- a store seen from one place
-set-at : (c : List ℕ) (k v l : ℕ) → l < length c → getD (set c k v) l 0 ≡ (if eqb k l then v else getD c l 0)
+pub set-at : (c : List ℕ) (k v l : ℕ) → l < length c → getD (set c k v) l 0 ≡ (if eqb k l then v else getD c l 0)
 set-at c k v l h = step (eqb k l) refl
   where
     step : (b : Bool) → eqb k l ≡ b → getD (set c k v) l 0 ≡ (if b then v else getD c l 0)
@@ -387,7 +387,7 @@ put-marks-at bit n (i ∷ is) ms l h =
 -- ---- both together
 
 module _ (B : Program) (is : List Instruction) (c : List ℕ) where
-  unclashed : least (clashes is (updates B c is)) (length (updates B c is)) ≡ Nowhere → (l : ℕ) → l < L B → two-values (values B c l is) ≡ false
+  pub unclashed : least (clashes is (updates B c is)) (length (updates B c is)) ≡ Nowhere → (l : ℕ) → l < L B → two-values (values B c l is) ≡ false
   unfolding clashes
   unclashed h l k =
       let e = least-none (clashes is (updates B c is)) (length (updates B c is)) h l (omega (arith, length-updates B c is)) in
@@ -420,7 +420,7 @@ module _ (B : Program) (is : List Instruction) (c : List ℕ) where
   n = min (L B) (length (clears B is c))
 
   pub marked-is : (bit : ℕ) (ms : List ℕ)
-      → put-marks bit n is (clear-marks bit B is c ms) ≡ marked bit (length c) (updates B c is) ms
+      → put-marks bit n is (clear-marks bit B is c ms) ≡ write-marked bit (length c) (updates B c is) ms
   marked-is bit ms =
       each-is (λ (l m : ℕ). mark bit (ltb l (length c) && writes (updates B c is) l) m) ms (put-marks bit n is (clear-marks bit B is c ms))
       (length-put-marks bit n is (clear-marks bit B is c ms) ∙ length-clear-marks bit B is c ms)

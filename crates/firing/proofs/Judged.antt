@@ -16,26 +16,39 @@ use Rattle.engine.specs.Move.{fires, stopped, fire, judged}
 use Rattle.engine.specs.Move as move
 use Rattle.firing.specs.declared.Outcome.the-variants.{Fired, Clash}
 use Rattle.clash.specs.Clash.{updates-by, clash-by}
-use Rattle.firing.specs.Outcome.{move-by, marked, contents-after, marks-after, Settled}
+use Rattle.firing.specs.Outcome.{move-by, write-marked, read-marked, contents-after, readers-after, writers-after, Settled}
+use Rattle.firing.specs.Tables.{Tables}
 
-module _ (image c list : List ℕ) (n bit : ℕ) (ms : List ℕ) where
+module _ (image list : List ℕ) (n bit : ℕ) (t : Tables) where
   abbrev f : List ℕ → move.Fired
-  f ls = move-by image c list n ls
+  f ls = move-by image (t .contents) list n ls
 
-  pub clash-settled : (l : ℕ) → clash-by image c list n ≡ Here l → Settled f bit c ms (Clash l) c ms
+  pub clash-settled : (l : ℕ) → clash-by image (t .contents) list n ≡ Here l → Settled image list n bit t (Clash l) t
   unfolding judged
   clash-settled l e =
-      record { outcome = q; contents = λ ls. sym (ap (contents-after c) (q ls)); writers = λ ls. sym (ap (marks-after bit (length c) ms) (q ls)) }
+      record {
+        outcome = q;
+        contents = λ ls. sym (ap (contents-after (t .contents)) (q ls));
+        readers = λ ls. sym (ap (readers-after bit (held image) (t .contents) (t .readers)) (q ls));
+        writers = λ ls. sym (ap (writers-after bit (length (t .contents)) (t .writers)) (q ls));
+      }
     where
       q : (ls : List ℕ) → judged (f ls) ≡ stopped clash l
       q ls = rw e
 
   pub fire-settled :
-      clash-by image c list n ≡ Nowhere → (left marks : List ℕ) →
-      left ≡ fire (updates-by image c list n) c → marks ≡ marked bit (length c) (updates-by image c list n) ms → Settled f bit c ms Fired left marks
+      clash-by image (t .contents) list n ≡ Nowhere → (u : Tables) →
+      u .contents ≡ fire (updates-by image (t .contents) list n) (t .contents) →
+      u .readers ≡ read-marked bit (held image) (items list n) (t .contents) (t .readers) →
+      u .writers ≡ write-marked bit (length (t .contents)) (updates-by image (t .contents) list n) (t .writers) → Settled image list n bit t Fired u
   unfolding judged
-  fire-settled e left marks h k =
-      record { outcome = q; contents = λ ls. h ∙ sym (ap (contents-after c) (q ls)); writers = λ ls. k ∙ sym (ap (marks-after bit (length c) ms) (q ls)) }
+  fire-settled e u h r k =
+      record {
+        outcome = q;
+        contents = λ ls. h ∙ sym (ap (contents-after (t .contents)) (q ls));
+        readers = λ ls. r ∙ sym (ap (readers-after bit (held image) (t .contents) (t .readers)) (q ls));
+        writers = λ ls. k ∙ sym (ap (writers-after bit (length (t .contents)) (t .writers)) (q ls));
+      }
     where
       q : (ls : List ℕ) → judged (f ls) ≡ fires (f ls)
       q ls = rw e

@@ -1,3 +1,4 @@
 pub mod Fires
 pub mod Judged
 pub mod Own
+pub mod Taken

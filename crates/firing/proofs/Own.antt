@@ -46,6 +46,17 @@ module _ (B : Program) where
       go true e = lt-ltb l (part-of B l .end) (part-numbered B l (ltb-true l (L B) e) .inside)
       go false e = let h = ltb-false l (L B) e in rw (part-past B l h, le-ltb l (L B) h)
 
+  pub part-min : (l n : ℕ) → ltb l (min (part-of B l .end) n) ≡ ltb l (min (L B) n)
+  part-min l n = ltb-min (part-of B l .end) ∙ ap (λ (b : Bool). b && ltb l n) (part-has l) ∙ sym (ltb-min (L B))
+    where
+      ltb-min : (k : ℕ) → ltb l (min k n) ≡ ltb l k && ltb l n
+      ltb-min k = go (ltb l k) refl (ltb l n) refl
+        where
+          go : (s : Bool) → ltb l k ≡ s → (t : Bool) → ltb l n ≡ t → ltb l (min k n) ≡ s && t
+          go true e true f = lt-ltb l (min k n) (omega (arith, ltb-true l k e, ltb-true l n f))
+          go true e false f = le-ltb l (min k n) (omega (arith, ltb-false l n f))
+          go false e t f = le-ltb l (min k n) (omega (arith, ltb-false l k e))
+
   -- ---- put in the part of a location, put in the table
 
   pub put-value : (l v : ℕ) (c : List ℕ) → put-in (part-of B l .first) (part-of B l .end) l v c ≡ (if ltb l (L B) then set c l v else c)

@@ -1,22 +1,26 @@
-// The firing of a move: whether it clashes, and the contents and the writer marks after it.
+// The firing of a move: whether it clashes, and the contents and the marks after it.
 use book::Image;
 use numbers::Value;
 use pages::Part;
 ghost use mathlib.Core.Path.{_≡_};
+ghost use mathlib.Core.List.{[]};
 ghost use Prim.Native.Nat.{_≤_, _<_, min};
 ghost use lib.Bits.{bitOr};
 ghost use lib.Dec.{ltb};
 ghost use lib.ListN.{length, getD, set};
+ghost use Rattle.text.specs.Words.{if_then_else_};
 ghost use Rattle.text.specs.declared.Found.the-variants.{Nowhere};
 ghost use Rattle.book.specs.Book.{L};
 ghost use Rattle.book.specs.Image.{held};
 ghost use Rattle.pages.specs.Part.{put-in};
-ghost use Rattle.engine.specs.Move.{fire};
+ghost use Rattle.engine.specs.Move.{taken-reads, fire};
 ghost use Rattle.records.specs.Code.{items};
 ghost use Rattle.clash.specs.Clash.{updates-by, clash-by};
+ghost use Rattle.term.specs.Marks.{marked};
 ghost use Rattle.sweep.specs.Marks.{mark};
-ghost use Rattle.firing.specs.Outcome.{move-by, marked, Settled};
-ghost use Rattle.firing.specs.Steps.{part-after, puts, put-marks};
+ghost use Rattle.firing.specs.Outcome.{write-marked, read-marked, Settled};
+ghost use Rattle.firing.specs.Steps.{part-after, puts, put-marks, put-reads};
+ghost use Rattle.firing.specs.Tables.{tables};
 
 // What becomes of a move.
 pub enum Outcome {
@@ -58,7 +62,7 @@ fn mark_in(writers: &mut [u64], first: usize, end: usize, at: usize, bit: u64)
 {
     let e = numbers::smaller(end, writers.len());
     if at < e {
-        sweep::or_at(&mut writers[first..e], at - first, bit);
+        term::mark(&mut writers[first..e], bit, at - first);
     }
 }
 
@@ -83,6 +87,24 @@ fn put_in(
     }
 }
 
+// Location `at`, of a part that goes to `end`, is to get v: if it holds a label other than v, Reserve at that label is marked as read.
+fn mark_put(
+    contents: &[Value],
+    readers: &mut [u64],
+    end: usize,
+    at: usize,
+    v: Value,
+    p: Value,
+    bit: u64,
+)
+    ensures { λ _. ⌜ now (readers .exit) ≡ marked bit (if ltb at (min end (length (now (contents .entry)))) then taken-reads p (getD (now (contents .entry)) at 0) v else []) (now (readers .entry)) ⌝ }
+{
+    let e = numbers::smaller(end, contents.len());
+    if at < e {
+        sweep::mark_taken(readers, p, contents[at], v, bit);
+    }
+}
+
 // The part that location `at` is in; the last one, if that has it.
 fn part_at(image: &Image, last: Part, at: usize) -> Part
     ensures { λ r. ⌜ r ≡ part-after (held (now (image .entry))) last at ⌝ }
@@ -94,52 +116,51 @@ fn part_at(image: &Image, last: Part, at: usize) -> Part
     }
 }
 
-// Each instruction's own location gets its own value, in its function's part.
+// Each instruction's own location gets its own value, in its function's part; what that reads and writes is marked.
 fn put_all(
     image: &Image,
     contents: &mut [Value],
+    readers: &mut [u64],
     writers: &mut [u64],
     list: &[u64],
     len: usize,
     bit: u64,
 )
     ensures { λ _. ⌜ now (contents .exit) ≡ puts (L (held (now (image .entry)))) (items (now (list .entry)) len) (now (contents .entry)) ⌝ }
+    ensures { λ _. ⌜ now (readers .exit) ≡ marked bit (put-reads (held (now (image .entry)) .P) (L (held (now (image .entry)))) (items (now (list .entry)) len) (now (contents .entry))) (now (readers .entry)) ⌝ }
     ensures { λ _. ⌜ now (writers .exit) ≡ put-marks bit (min (L (held (now (image .entry)))) (length (now (contents .entry)))) (items (now (list .entry)) len) (now (writers .entry)) ⌝ }
 {
     let n = numbers::smaller(len, list.len());
+    let p = pages::permanent(image);
     let mut part = Part { first: 0, end: 0 };
     let mut j: usize = 0;
     while j < n {
         let what = records::decode(list[j]);
         let at = traces::own_location(what) as usize;
+        let v = traces::own_value(what);
         part = part_at(image, part, at);
-        put_in(
-            contents,
-            writers,
-            part.first,
-            part.end,
-            at,
-            traces::own_value(what),
-            bit,
-        );
+        mark_put(contents, readers, part.end, at, v, p, bit);
+        put_in(contents, writers, part.first, part.end, at, v, bit);
         j = j + 1;
     }
 }
 
-// The contents and the writer marks after a move that does not clash: traces of released labels go first, then each update is put.
+// The contents and the marks after a move that does not clash: traces of released labels go first, then each update is put.
 fn fire(
     image: &Image,
     contents: &mut [Value],
+    readers: &mut [u64],
     writers: &mut [u64],
     list: &[u64],
     len: usize,
     bit: u64,
 )
     ensures { λ _. ⌜ (clash-by (now (image .entry)) (now (contents .entry)) (now (list .entry)) len ≡ Nowhere → now (contents .exit) ≡ fire (updates-by (now (image .entry)) (now (contents .entry)) (now (list .entry)) len) (now (contents .entry))) ⌝ }
-    ensures { λ _. ⌜ now (writers .exit) ≡ marked bit (length (now (contents .entry))) (updates-by (now (image .entry)) (now (contents .entry)) (now (list .entry)) len) (now (writers .entry)) ⌝ }
+    ensures { λ _. ⌜ now (readers .exit) ≡ read-marked bit (held (now (image .entry))) (items (now (list .entry)) len) (now (contents .entry)) (now (readers .entry)) ⌝ }
+    ensures { λ _. ⌜ now (writers .exit) ≡ write-marked bit (length (now (contents .entry))) (updates-by (now (image .entry)) (now (contents .entry)) (now (list .entry)) len) (now (writers .entry)) ⌝ }
 {
-    clearing::clear_all(image, contents, writers, list, len, bit);
-    put_all(image, contents, writers, list, len, bit);
+    clearing::clear_all(image, contents, readers, writers, list, len, bit);
+    put_all(image, contents, readers, writers, list, len, bit);
 }
 
 // ---- the move
@@ -148,17 +169,18 @@ fn fire(
 pub fn settle(
     image: &Image,
     contents: &mut [Value],
+    readers: &mut [u64],
     writers: &mut [u64],
     list: &[u64],
     len: usize,
     bit: u64,
 ) -> Outcome
-    ensures { λ r. ⌜ Settled (move-by (now (image .entry)) (now (contents .entry)) (now (list .entry)) len) bit (now (contents .entry)) (now (writers .entry)) r (now (contents .exit)) (now (writers .exit)) ⌝ }
+    ensures { λ r. ⌜ Settled (now (image .entry)) (now (list .entry)) len bit (tables (now (contents .entry)) (now (readers .entry)) (now (writers .entry))) r (tables (now (contents .exit)) (now (readers .exit)) (now (writers .exit))) ⌝ }
 {
     let at = clash::first_clash(image, contents, list, len, NO_LOCATION);
     if is_location(image, at) {
         return Outcome::Clash { location: at };
     }
-    fire(image, contents, writers, list, len, bit);
+    fire(image, contents, readers, writers, list, len, bit);
     Outcome::Fired
 }

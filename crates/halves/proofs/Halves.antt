@@ -18,7 +18,8 @@ use Rattle.walk.specs.Gather.{Gathered}
 use Rattle.moves.specs.declared.Begun.{Begun}
 use Rattle.moves.specs.Count.{given-of}
 use Rattle.firing.specs.Outcome.{contents-after}
-use Rattle.moves.specs.Effect.{tables, move-answer}
+use Rattle.firing.specs.Tables.{tables}
+use Rattle.moves.specs.Effect.{move-answer}
 use Rattle.moves.specs.Close.{Completed}
 use Rattle.moves.proofs.Count.{given-few, made-of, same-outcome}
 use Rattle.halves.specs.declared.Paused.{Paused}

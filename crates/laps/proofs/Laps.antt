@@ -17,7 +17,8 @@ use Rattle.records.specs.Code.{items}
 use Rattle.walk.specs.Walk.{outcome}
 use Rattle.walk.specs.Gather.{Gathered}
 use Rattle.moves.specs.declared.Begun.{Begun}
-use Rattle.moves.specs.Effect.{tables, Fit, Effect}
+use Rattle.firing.specs.Tables.{tables}
+use Rattle.moves.specs.Effect.{Fit, Effect}
 use Rattle.moves.specs.Close.{Completed}
 use Rattle.moves.specs.Count.{given-of}
 use Rattle.moves.proofs.Count.{made-of, given-few, same-outcome}

@@ -12,7 +12,8 @@ use Rattle.engine.specs.Move.{Input, Moved, fires, stopped, move, fire}
 use Rattle.engine.proofs.Claims.{moves-leave}
 use Rattle.engine.proofs.Numbers.{move-number}
 use Rattle.text.specs.declared.Answer.{Answer}
-use Rattle.moves.specs.Effect.{Tables, left, move-answer, Fit, Effect, tables}
+use Rattle.firing.specs.Tables.{Tables, tables}
+use Rattle.moves.specs.Effect.{left, move-answer, Fit, Effect}
 use Rattle.order.specs.Log.{Log, move-at}
 use Rattle.order.specs.Run.{Run, halted, moved, run, readers}
 use Rattle.order.proofs.Marks.{run-left}

@@ -9,7 +9,8 @@ use Rattle.book.specs.Book.{L}
 use Rattle.book.specs.Image.{word, held}
 use Rattle.engine.specs.declared.Instruction.{Instruction}
 use Rattle.engine.specs.Rule.{most-instructions}
-use Rattle.moves.specs.Effect as effect
+use Rattle.firing.specs.Tables as firing
+use Rattle.moves.specs.Effect.{After}
 use Rattle.moves.specs.declared.Begun.{Begun}
 use Rattle.moves.specs.Count.{given-of}
 use Rattle.order.specs.Log.{Log}
@@ -46,9 +47,9 @@ pub record Stage (m o : List ℕ) (g : Log) (c : List ℕ) (rest : List (List In
 
 -- move t.at was begun on the tables `old`: its walk came to s, with its instructions in x
 pub record Walked (m o : List ℕ) (g : Log) (c : List ℕ) (t : Turn) (s : Begun) (x d rs ws : List ℕ) : Type 0 where
-  pub old : effect.Tables
+  pub old : firing.Tables
   pub next : Next m o g c t (old .contents) (old .readers) (old .writers)
-  pub after : effect.After (held m) (input-in o (t .at)) (2 ^ t .at) old (s .walk) x (effect.tables d rs ws)
+  pub after : After (held m) (input-in o (t .at)) (2 ^ t .at) old (s .walk) x (firing.tables d rs ws)
   pub room : length x ≡ most-instructions
   pub count : s .count ≡ given-of (s .walk)
 

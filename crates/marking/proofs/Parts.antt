@@ -6,17 +6,17 @@ use Prim.Native.Nat.{ℕ, zero, suc, _+_, _-_, _≤_, _<_, min}
 use native.Mathlib.Omega.{arith}
 use native.Mathlib.Decide.{decLt}
 use lib.Bits.{bitOr}
-use lib.ListN.{length, getD, take, drop, length-set}
+use lib.ListN.{length, getD, take, drop}
 use lib.Seq.{set-out}
 use Rattle.text.specs.Words.{table-from}
 use Rattle.term.specs.Marks.{mark-one, marked}
-use Rattle.term.proofs.Marking.{marked-append}
+use Rattle.term.proofs.Marking.{marked-append, length-marked}
 
 -- k locations from a on
 abbrev pub run : ℕ → ℕ → List ℕ
 run a k = table-from (λ l. l) a k
 
-pub run-append : (a j i : ℕ) → run a (j + i) ≡ run a j ++ run (a + j) i
+run-append : (a j i : ℕ) → run a (j + i) ≡ run a j ++ run (a + j) i
 unfolding table-from
 run-append a zero i = let e : zero + i ≡ i = omega arith in let f : a + zero ≡ a = omega arith in rw (e, f)
 run-append a (suc j) i =
@@ -29,11 +29,6 @@ run-append a (suc j) i =
 module _ (bit : ℕ) where
   abbrev pub put-bit : ℕ → ℕ
   put-bit v = bitOr v bit
-
-  pub length-marked : (ls m : List ℕ) → length (marked bit ls m) ≡ length m
-  unfolding marked
-  length-marked [] m = refl
-  length-marked (l ∷ ls) m = length-marked ls (mark-one bit l m) ∙ length-set m l (bitOr (getD m l 0) bit)
 
   marked-none : (ls : List ℕ) → marked bit ls [] ≡ []
   unfolding marked
@@ -53,7 +48,7 @@ module _ (bit : ℕ) where
       ap (λ (z : ℕ). marked bit (run a z) m) e
       ∙ ap (λ (s : List ℕ). marked bit s m) (run-append a j (k - j))
       ∙ marked-append bit (run a j) (run (a + j) (k - j)) m
-      ∙ marked-past (k - j) (a + j) (marked bit (run a j) m) (rw (length-marked (run a j) m) h)
+      ∙ marked-past (k - j) (a + j) (marked bit (run a j) m) (rw (length-marked bit (run a j) m) h)
 
   marked-shift : (k a x : ℕ) (m : List ℕ) → marked bit (run (suc a) k) (x ∷ m) ≡ x ∷ marked bit (run a k) m
   unfolding marked table-from

@@ -6,7 +6,6 @@ ghost use mathlib.Core.Path.{_≡_};
 ghost use mathlib.Core.List.{map};
 ghost use Prim.Native.Nat.{_+_, _-_, _≤_};
 ghost use lib.Bits.{bitOr, bitAnd};
-ghost use lib.Dec.{leb};
 ghost use Rattle.text.specs.Words.{if_then_else_, table, table-from};
 ghost use Rattle.book.specs.Book.{offset, reserve, dynamic-at};
 ghost use Rattle.engine.specs.Look.{read};
@@ -46,15 +45,6 @@ fn mark_between(readers: &mut [u64], bit: u64, first: usize, end: usize)
     let stop = numbers::smaller(end, readers.len());
     let start = numbers::smaller(first, stop);
     mark_part(&mut readers[start..stop], bit);
-}
-
-// Marks the locations from first to end if their function's kind is dynamic.
-pub fn mark_function(readers: &mut [u64], bit: u64, kind: u32, first: usize, end: usize)
-    ensures { λ _. ⌜ now (readers .exit) ≡ (if leb 2 kind then marked bit (table-from (λ l. l) first (end - first)) (now (readers .entry)) else now (readers .entry)) ⌝ }
-{
-    if 2 <= kind {
-        mark_between(readers, bit, first, end);
-    }
 }
 
 // ---- labels and Reserve

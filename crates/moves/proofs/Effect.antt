@@ -1,6 +1,6 @@
 -- A move's effect from what its walk gathered and how it was completed. Assumes nothing.
 use mathlib.Core.Path.{_≡_, refl, sym, ap, subst, _∙_}
-use mathlib.Core.Bool.{Bool, true, false, _&&_}
+use mathlib.Core.Bool.{Bool, true, false, _&&_, _||_}
 use mathlib.Core.List.{List, _++_}
 use Prim.Native.Nat.{ℕ}
 use native.Mathlib.Omega.{arith}
@@ -15,10 +15,13 @@ use Rattle.text.specs.Refusals.{clash}
 use Rattle.book.specs.Book.{Program}
 use Rattle.engine.specs.declared.Instruction.{Instruction}
 use Rattle.engine.specs.Rule.{Walked, going, met}
-use Rattle.engine.specs.Move.{Moved, fires, stopped, updates, clashes, is-some, writes, released, if-releasing, Input, Fired, looked, fired-of, judged, settle, move}
+use Rattle.engine.specs.Move.{Moved, fires, stopped, updates, clashes, is-some, writes, extra-reads, Input, Fired, looked, fired-of, judged, settle, move}
 use Rattle.engine.proofs.Values.{updates-past}
-use Rattle.firing.specs.Outcome.{contents-after, marks-after}
-use Rattle.firing.specs.Outcome as outcome
+use Rattle.engine.proofs.EqualReads.{has-append}
+use Rattle.engine.proofs.Moves.{fired-label}
+use Rattle.firing.specs.Steps.{fire-reads}
+use Rattle.firing.specs.Outcome.{contents-after, write-marked, read-marked, writers-after}
+use Rattle.firing.proofs.Taken.{fire-reads-are}
 use Rattle.term.specs.Marks.{marked}
 use Rattle.term.proofs.Leaves.{placed}
 use Rattle.term.proofs.Marking.{marked-append}
@@ -28,18 +31,24 @@ use Rattle.walk.specs.declared.State.{State}
 use Rattle.walk.specs.Walk as walk
 use Rattle.walk.specs.Gather.{cleared, Gathered}
 use Rattle.walk.proofs.Kept.{taken-back}
-use Rattle.moves.specs.Effect.{Tables, tables, joined, left, move-answer, Fit, Effect, After}
+use Rattle.firing.specs.Tables.{Tables, tables}
+use Rattle.moves.specs.Effect.{joined, left, move-answer, Fit, Effect, After}
 use Rattle.moves.specs.Close.{closed-after, Completed}
 use Rattle.moves.proofs.Marks.{marked-joined}
+
+joined-same : (bit : ℕ) (s t : ℕ → Bool) (ms : List ℕ) → ((k : ℕ) → s k ≡ t k) → joined bit s ms ≡ joined bit t ms
+joined-same bit s t ms h =
+    each-is (λ (l m : ℕ). mark bit (t l) m) ms (joined bit s ms) (length-each (λ (l m : ℕ). mark bit (s l) m) 0 ms)
+    (λ l k. getD-each (λ (l m : ℕ). mark bit (s l) m) ms l k ∙ ap (λ (b : Bool). mark bit b (getD ms l 0)) (h l))
 
 module _ (B : Program) (i : Input) (bit at : ℕ) (c rs ws : List ℕ) (fit : Fit B i bit (tables c rs ws)) where
   abbrev ls : List ℕ
   ls = looked B c i
 
   -- the writer marks: contents of an accepted book have all its locations
-  all-marked : (is : List Instruction) → outcome.marked bit (length c) (updates B c is) ws ≡ joined bit (writes (updates B c is)) ws
+  all-marked : (is : List Instruction) → write-marked bit (length c) (updates B c is) ws ≡ joined bit (writes (updates B c is)) ws
   all-marked is =
-      each-is (λ (l m : ℕ). mark bit (writes (updates B c is) l) m) ws (outcome.marked bit (length c) (updates B c is) ws)
+      each-is (λ (l m : ℕ). mark bit (writes (updates B c is) l) m) ws (write-marked bit (length c) (updates B c is) ws)
       (length-each (λ (l m : ℕ). mark bit (ltb l (length c) && writes (updates B c is) l) m) 0 ws)
       (λ l h. getD-each (λ (l m : ℕ). mark bit (ltb l (length c) && writes (updates B c is) l) m) ws l h
       ∙ ap (λ (b : Bool). mark bit b (getD ws l 0)) (go l (ltb l (length c)) refl))
@@ -54,12 +63,12 @@ module _ (B : Program) (i : Input) (bit at : ℕ) (c rs ws : List ℕ) (fit : Fi
     unfolding move
     same = ap (settle B c ls) (sym (walks .outcome))
 
-    whole : (m : Moved) → settle B c ls o ≡ m → tables c″ rs″ ws″ ≡ tables (contents-after c m) (closed-after B bit o m rs′) (marks-after bit (length c) ws m)
+    whole : (m : Moved) → settle B c ls o ≡ m → tables c″ rs″ ws″ ≡ tables (contents-after c m) (closed-after B bit c o m rs′) (writers-after bit (length c) ws m)
     whole m e = rw (done .contents ls, done .readers ls, done .writers ls, e)
 
     -- where the move comes to m
     ends : (m : Moved) → settle B c ls o ≡ m
-        → tables (contents-after c m) (closed-after B bit o m rs′) (marks-after bit (length c) ws m) ≡ left bit (tables c rs ws) m
+        → tables (contents-after c m) (closed-after B bit c o m rs′) (writers-after bit (length c) ws m) ≡ left bit (tables c rs ws) m
         → Effect B i bit at (tables c rs ws) r (tables c″ rs″ ws″)
     ends m e t =
         record {
@@ -86,14 +95,22 @@ module _ (B : Program) (i : Input) (bit at : ℕ) (c rs ws : List ℕ) (fit : Fi
       back : cleared bit rs′ ≡ rs
       back = let p = fit .power in ap (cleared bit) noted ∙ taken-back bit (p .0) ls rs (p .1) (fit .unmarked)
 
-      rest : marked bit (if-releasing B (released (w .made))) rs′ ≡ joined bit (has (ls ++ if-releasing B (released (w .made)))) rs
-      rest =
-          ap (marked bit (if-releasing B (released (w .made)))) noted
-          ∙ sym (marked-append bit ls (if-releasing B (released (w .made))) rs)
-          ∙ marked-joined bit (ls ++ if-releasing B (released (w .made))) rs
+      -- and those that firing adds: what it reads is what the definition says
+      rest : move B c i ≡ fires f → least (clashes (f .instructions) (f .updates)) (length (f .updates)) ≡ Nowhere
+          → read-marked bit B (w .made) c rs′ ≡ joined bit (has (f .reads)) rs
+      rest fired e =
+          ap (marked bit (fire-reads B (w .made) c)) noted
+          ∙ sym (marked-append bit ls (fire-reads B (w .made) c) rs)
+          ∙ marked-joined bit (ls ++ fire-reads B (w .made) c) rs
+          ∙ joined-same bit (has (ls ++ fire-reads B (w .made) c)) (has (f .reads)) rs
+          (λ k. has-append ls (fire-reads B (w .made) c) k
+          ∙ ap (λ (b : Bool). has ls k || b) (fire-reads-are B (fit .lawful) c (fit .sound .long) (w .made) e (λ x h. fired-label B (fit .lawful) c (fit .sound) i f fired x h .1) k)
+          ∙ sym (has-append ls (extra-reads B c (w .made) (f .updates)) k))
 
       go : (x : Found) → least (clashes (f .instructions) (f .updates)) (length (f .updates)) ≡ x → Effect B i bit at (tables c rs ws) r (tables c″ rs″ ws″)
-      go Nowhere e = ends (going w) rs′ walks r c″ rs″ ws″ done (fires f) (rw e) (rw (rest, all-marked (w .made)))
+      go Nowhere e =
+          let fired : move B c i ≡ fires f = same (going w) rs′ walks r c″ rs″ ws″ done ∙ rw e in
+          ends (going w) rs′ walks r c″ rs″ ws″ done (fires f) (rw e) (rw (rest fired e, all-marked (w .made)))
       go (Here l) e = ends (going w) rs′ walks r c″ rs″ ws″ done (stopped clash l) (rw e) (rw back)
 
 -- as the code has it: the tables c, rs and ws that the walk, begun on t, left with its state s and the list l

@@ -1,4 +1,3 @@
 pub mod Marks
 pub mod Effect
-pub mod Releases
 pub mod Count

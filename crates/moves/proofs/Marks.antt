@@ -11,15 +11,11 @@ use lib.ListN.{length, getD, length-set}
 use lib.Seq.{getD-set-same, getD-set-other}
 use Rattle.text.specs.Words.{has}
 use Rattle.term.specs.Marks.{mark-one, marked}
+use Rattle.term.proofs.Marking.{length-marked}
 use Rattle.sweep.specs.Marks.{mark}
 use Rattle.sweep.proofs.Sweep.{each-is}
 use Rattle.firing.proofs.Fires.{mark-mark}
 use Rattle.moves.specs.Effect.{joined}
-
-length-marked : (bit : ℕ) (ls m : List ℕ) → length (marked bit ls m) ≡ length m
-unfolding marked
-length-marked bit [] m = refl
-length-marked bit (l ∷ ls) m = length-marked bit ls (mark-one bit l m) ∙ length-set m l (bitOr (getD m l 0) bit)
 
 mark-one-at : (bit l : ℕ) (m : List ℕ) (k : ℕ) → k < length m → getD (mark-one bit l m) k 0 ≡ mark bit (eqb l k) (getD m k 0)
 mark-one-at bit l m k h = go (eqb l k) refl

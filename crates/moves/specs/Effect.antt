@@ -10,15 +10,10 @@ use Rattle.book.specs.Book.{Program}
 use Rattle.book.specs.Sound.{Lawful, Sound}
 use Rattle.engine.specs.Move.{Input, Moved, fires, stopped, move, fire, writes}
 use Rattle.sweep.specs.Marks.{each, mark}
+use Rattle.firing.specs.Tables.{Tables}
 use Rattle.walk.specs.declared.State.{State}
 use Rattle.walk.specs.Walk.{outcome}
 use Rattle.walk.specs.Gather.{Gathered}
-
--- the contents, and the reader and writer marks of each location
-pub record Tables : Type 0 where
-  pub contents : List ℕ
-  pub readers : List ℕ
-  pub writers : List ℕ
 
 -- marks with the bit joined wherever the test passes
 abbrev pub joined : ℕ → (ℕ → Bool) → List ℕ → List ℕ
@@ -51,9 +46,6 @@ pub record Fit (B : Program) (x : Input) (bit : ℕ) (t : Tables) : Type 0 where
 pub record Effect (B : Program) (x : Input) (bit i : ℕ) (t : Tables) (r : Answer) (u : Tables) : Type 0 where
   pub answer : r ≡ move-answer i (move B (t .contents) x)
   pub tables : u ≡ left bit t (move B (t .contents) x)
-
-abbrev pub tables : List ℕ → List ℕ → List ℕ → Tables
-tables c rs ws = record { contents = c; readers = rs; writers = ws }
 
 -- the walk of the move with input x, made on the tables t, came to the state s with the list l, and left the tables u
 pub record After (B : Program) (x : Input) (bit : ℕ) (t : Tables) (s : State) (l : List ℕ) (u : Tables) : Type 0 where

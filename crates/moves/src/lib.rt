@@ -1,6 +1,5 @@
 // One move: begun, which is its walk, and finished: fired and marked, or refused.
 use book::Image;
-use engine::Instruction;
 use engine::Pick;
 use firing::Outcome;
 use numbers::Value;
@@ -12,14 +11,14 @@ ghost use Prim.Native.Nat.{ℕ};
 ghost use lib.ListN.{length};
 ghost use Rattle.book.specs.Image.{held};
 ghost use Rattle.engine.specs.Rule.{going};
-ghost use Rattle.engine.specs.Move.{Fired, label-of, released, is-some, if-releasing, input};
+ghost use Rattle.engine.specs.Move.{Fired, input};
 ghost use Rattle.records.specs.Code.{items};
 ghost use Rattle.firing.specs.Outcome.{moved-by};
-ghost use Rattle.term.specs.Marks.{marked};
+ghost use Rattle.firing.specs.Tables.{tables};
 ghost use Rattle.walk.specs.Gather.{cleared, Gathered};
 ghost use Rattle.walk.specs.Walk.{outcome};
-ghost use Rattle.moves.specs.Effect.{move-answer, tables};
-ghost use Rattle.moves.specs.Close.{told, closed, Completed};
+ghost use Rattle.moves.specs.Effect.{move-answer};
+ghost use Rattle.moves.specs.Close.{told, kept, Completed};
 ghost use Rattle.moves.specs.Count.{given-of};
 
 // Instructions of a move, at most.
@@ -44,7 +43,7 @@ fn given(s: State) -> usize
     MOST_INSTRUCTIONS
 }
 
-// An agent's move is begun: its rule is walked with these picks, and what it reads is marked.
+// An agent's move is begun: its rule is walked with these picks, and what the walk looks at is marked.
 pub fn begin(
     image: &Image,
     contents: &[Value],
@@ -64,43 +63,6 @@ pub fn begin(
     }
 }
 
-fn is_release(what: Instruction) -> bool
-    ensures { λ r. ⌜ r ≡ is-some (label-of what []) ⌝ }
-{
-    match what {
-        Instruction::Update {
-            location: _,
-            value: _,
-        } => false,
-        Instruction::Release { label: _ } => true,
-    }
-}
-
-// An instruction of the list is one.
-fn has_release(list: &[u64], len: usize) -> bool
-    ensures { λ r. ⌜ r ≡ is-some (released (items (now (list .entry)) len)) ⌝ }
-{
-    let n = numbers::smaller(len, list.len());
-    let mut j: usize = 0;
-    while j < n {
-        let what = records::decode(list[j]);
-        if is_release(what) {
-            return true;
-        }
-        j = j + 1;
-    }
-    false
-}
-
-// A move with a release reads every dynamic location.
-fn mark_rest(image: &Image, readers: &mut [u64], bit: u64, list: &[u64], len: usize)
-    ensures { λ _. ⌜ now (readers .exit) ≡ marked bit (if-releasing (held (now (image .entry))) (released (items (now (list .entry)) len))) (now (readers .entry)) ⌝ }
-{
-    if has_release(list, len) {
-        walk::mark_all(image, readers, bit);
-    }
-}
-
 // The answer to move `at` where it is refused; its reader marks are taken back.
 fn refuse(readers: &mut [u64], bit: u64, number: u32, at: u32, q: u32) -> Answer
     ensures { λ r. ⌜ r ≡ told number at q ⌝ }
@@ -114,28 +76,17 @@ fn refuse(readers: &mut [u64], bit: u64, number: u32, at: u32, q: u32) -> Answer
     }
 }
 
-// The answer to move `at`, which is settled, and its reader marks: all that it reads, or none.
-fn close(
-    image: &Image,
-    readers: &mut [u64],
-    bit: u64,
-    list: &[u64],
-    len: usize,
-    at: u32,
-    what: Outcome,
-) -> Answer
+// The answer to move `at`, which is settled; if it is refused, its reader marks are taken back.
+fn close(readers: &mut [u64], bit: u64, at: u32, what: Outcome) -> Answer
     ensures { λ r. ⌜ ((f : Fired) → r ≡ move-answer at (moved-by f what)) ⌝ }
-    ensures { λ _. ⌜ ((f : Fired) → now (readers .exit) ≡ closed (held (now (image .entry))) bit (items (now (list .entry)) len) (moved-by f what) (now (readers .entry))) ⌝ }
+    ensures { λ _. ⌜ ((f : Fired) → now (readers .exit) ≡ kept bit (moved-by f what) (now (readers .entry))) ⌝ }
 {
     match what {
-        Outcome::Fired => {
-            mark_rest(image, readers, bit, list, len);
-            Answer {
-                number: 0,
-                p: 0,
-                q: 0,
-            }
-        }
+        Outcome::Fired => Answer {
+            number: 0,
+            p: 0,
+            q: 0,
+        },
         Outcome::Clash { location } => refuse(readers, bit, text::CLASH, at, location),
     }
 }
@@ -153,8 +104,8 @@ fn settle_listed(
 ) -> Answer
     ensures { λ r. ⌜ ((next : ℕ) → Completed (held (now (image .entry))) bit at (going (record { made = items (now (list .entry)) len; next = next; left = [] })) (tables (now (contents .entry)) (now (readers .entry)) (now (writers .entry))) r (tables (now (contents .exit)) (now (readers .exit)) (now (writers .exit)))) ⌝ }
 {
-    let what = firing::settle(image, contents, writers, list, len, bit);
-    close(image, readers, bit, list, len, at, what)
+    let what = firing::settle(image, contents, readers, writers, list, len, bit);
+    close(readers, bit, at, what)
 }
 
 // The rest of move `at`, whose walk came to the state s: refused as the walk was, or settled by the first s.len of the list.

@@ -13,11 +13,11 @@ use Rattle.order.specs.Log.{Log}
 use Rattle.order.specs.Run.{Run, Ran, ran, halted, run, reads-at, writes-at, fired-at}
 use Rattle.order.specs.Orders.{Reads, Writes, listed}
 use Rattle.order.specs.Demand.{moves-of}
-use Rattle.order.specs.Claims.{OrdersAgree, MovesSwap, RowsAreOrder, Did, Marked, RunsLeave, RunsAnswer, PicksAreElements}
+use Rattle.order.specs.Claims.{OrdersAgree, MovesSwap, TakingTouches, RowsAreOrder, Did, Marked, RunsLeave, RunsAnswer, PicksAreElements}
 use Rattle.order.specs.Claims as claims
 use Rattle.order.proofs.Log.{passed}
 use Rattle.order.proofs.Listed.{agrees}
-use Rattle.order.proofs.Swap.{laws, writes-value}
+use Rattle.order.proofs.Swap.{laws, touching, writes-value}
 use Rattle.order.proofs.Rows.{rows-set}
 use Rattle.order.proofs.Marks.{readers-bit, writers-bit, Left, run-left, run-halted, halted-number}
 use Rattle.order.proofs.Numbers.{log-small}
@@ -27,6 +27,9 @@ orders-agree S law start m pair log is k = agrees S law start m pair log is k
 
 pub moves-swap : MovesSwap
 moves-swap B ok g = laws B ok g
+
+pub taking-touches : TakingTouches
+taking-touches B ok g i j c d a b sc sd da db x l h e n = touching B ok g i j c d a b sc sd da db x l h e n
 
 pub rows-are-order : RowsAreOrder
 rows-are-order ps up m j i h = rows-set ps up m j i h

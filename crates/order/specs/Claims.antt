@@ -8,8 +8,8 @@ use Prim.Native.Nat.{ℕ, _<_}
 use lib.ListN.{getD}
 use Rattle.text.specs.Words.{has, good}
 use Rattle.book.specs.Book.{Program, L}
-use Rattle.book.specs.Sound.{Lawful}
-use Rattle.engine.specs.Move.{Fired, stopped, move}
+use Rattle.book.specs.Sound.{Lawful, at, Sound}
+use Rattle.engine.specs.Move.{Fired, stopped, move, fire, released}
 use Rattle.engine.specs.Claims.{Inside}
 use Rattle.order.specs.Sets.{bit}
 use Rattle.order.specs.Pairs.{Pair, rows}
@@ -36,6 +36,12 @@ OrdersAgree = (S : Moves) → Laws S → (start : S .Con) (m : ℕ) (pair : ℕ 
 -- the moves of a log over a lawful book have that law: frame, keep and swap
 abbrev pub MovesSwap : Type 0
 MovesSwap = (B : Program) → Lawful B → (g : Log) → Laws (moves-of B g)
+
+-- a move that takes a label out of a location touches whatever releases that label (02, F-3)
+abbrev pub TakingTouches : Type 0
+TakingTouches = (B : Program) → Lawful B → (g : Log) (i j : ℕ) (c d : List ℕ) (a b : Fired) → Sound B c → Sound B d
+    → moves-of B g .does i c ≡ some a → moves-of B g .does j d ≡ some b
+    → (x l : ℕ) → has (released (b .instructions)) x ≡ true → at c l ≡ x → at (fire (a .updates) c) l ≢ x → Touch (moves-of B g) a b
 
 -- ---- rows are exactly the order that follows from the pairs by chaining
 

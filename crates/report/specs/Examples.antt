@@ -1,5 +1,5 @@
--- One example and more for each refusal but 16, which is never given, for moves that change nothing and choices (02, F-1 and F-2), and the limits (01, column
--- 'Example' and the unmarked cases), as a second table under the same lemma.
+-- One example and more for each refusal but 16, which is never given, for moves that change nothing, choices and retirements (02, F-1 to F-3), and the limits (01,
+-- column 'Example' and the unmarked cases), as tables under the same lemma.
 use mathlib.Core.Path.{_≡_, refl}
 use mathlib.Core.Bool.{true}
 use mathlib.Core.List.{List, [], _∷_, _++_}
@@ -128,7 +128,7 @@ examples =
     "8 6 3 6 / 1 1 0 0 / 1 3 0 0 / 0 2 0 0 / 0 2 0 0 / 4 2 0 0 / 4 1 0 0 / 21 0 1 0 / 4 1 0 0 / 27 3 0 0 / 22 2 4 0 / 5 3 0 0 / 1 0 0 6 / 1 0 0 0 / 0 0 0 0")
     (padded "15 0 9 0")
     ∷ case (book ++ padded "2 0 0 0 / 0 0 0 0 / 1 0 0 0") (padded "17 0 1 0")
-    -- 02, F-1: a rule that does nothing; s := 3 by two unordered moves, where s is 3 already; a release beside a move that does nothing, and beside s := s
+    -- 02, F-1: a rule that does nothing; s := 3 by two unordered moves, where s is 3 already; a release beside a move that does nothing, and beside s := s (F-3)
     ∷ case (padded "8 6 1 1 / 1 0 0 0 / 1 3 0 0 / 20 0 0 0 / 0 3 0 0 / 1 0 0 0 / 0 0 0 0") (padded "0 0 0 0")
     ∷ case
     (padded
@@ -140,7 +140,7 @@ examples =
     ∷ case
     (padded
     "8 6 3 5 / 2 1 0 0 / 1 3 0 0 / 0 2 0 0 / 0 2 0 0 / 4 1 0 0 / 27 0 0 0 / 4 2 0 0 / 4 2 0 0 / 21 2 3 0 / 1 3 0 0 / 4 4 0 0 / 1 0 0 6 / 2 0 0 0 / 0 0 0 0 / 1 0 0 0")
-    (padded "17 0 1 0")
+    (padded "0 0 0 1 / 0 6 0 2")
     -- 65 moves
     ∷ case (counted 64) (padded "9 0 0 0")
     ∷ []
@@ -231,6 +231,49 @@ choices =
     (padded "0 0 0 0")
     ∷ []
 
+-- ---- retirements (F-3)
+
+-- two moves of two agents, unordered
+abbrev pub unordered : List ℕ
+unordered = padded "2 0 0 0 / 0 0 0 0 / 1 0 0 0"
+
+-- t := 3 beside release s; t and s are functions 1 and 2
+abbrev pub number-put : List ℕ
+number-put = padded "8 6 3 5 / 2 2 0 0 / 1 3 0 0 / 0 2 0 0 / 0 2 0 0 / 4 1 0 0 / 1 3 0 0 / 21 0 1 0 / 4 2 0 0 / 27 3 0 0 / 2 3 0 0 / 4 4 0 0"
+
+-- t := t beside it
+abbrev pub label-kept : List ℕ
+label-kept = padded "8 6 3 5 / 2 2 0 0 / 1 3 0 0 / 0 2 0 0 / 0 2 0 0 / 4 1 0 0 / 4 1 0 0 / 21 0 1 0 / 4 2 0 0 / 27 3 0 0 / 2 3 0 0 / 4 4 0 0"
+
+-- t := u beside it; u is function 3
+abbrev pub label-put : List ℕ
+label-put =
+    padded "8 6 4 5 / 2 3 0 0 / 1 3 0 0 / 0 2 0 0 / 0 2 0 0 / 0 2 0 0 / 4 1 0 0 / 4 3 0 0 / 21 0 1 0 / 4 2 0 0 / 27 3 0 0 / 2 3 0 0 / 4 4 0 0"
+
+-- release t beside release s; own is function 3, of one argument; C contents lines
+abbrev pub both-released : ℕ → List ℕ
+both-released C =
+    padded "8 6 4 4"
+    ++ (all-written (four 2 C 0 0 ∷ []) ++ padded "1 3 0 0 / 0 2 0 0 / 0 2 0 0 / 1 2 0 0 / 4 1 0 0 / 27 0 0 0 / 4 2 0 0 / 27 2 0 0 / 1 3 0 0 / 3 4 0 0")
+
+unfoldable pub retirements : List (Case (List ℕ))
+retirements =
+    -- t := 3, where t held the label that is released, or another
+    case (number-put ++ (padded "1 0 0 6 / 2 0 0 6" ++ unordered)) (padded "17 0 1 0")
+    ∷ case (number-put ++ (padded "1 0 0 7 / 2 0 0 6" ++ unordered)) (padded "0 0 0 2 / 0 6 0 2 / 1 0 0 3")
+    -- t := t, where t holds the label: the release writes t
+    ∷ case (label-kept ++ (padded "1 0 0 6 / 2 0 0 6" ++ unordered)) (padded "17 0 1 0")
+    ∷ case (label-kept ++ (padded "1 0 0 7 / 2 0 0 6" ++ unordered)) (padded "0 0 0 2 / 0 6 0 2 / 1 0 0 7")
+    -- t := u, where t held the label and gets another
+    ∷ case (label-put ++ (padded "1 0 0 6 / 2 0 0 6 / 3 0 0 7" ++ unordered)) (padded "17 0 1 0")
+    ∷ case (label-put ++ (padded "1 0 0 7 / 2 0 0 6 / 3 0 0 7" ++ unordered)) (padded "0 0 0 3 / 0 6 0 2 / 1 0 0 7 / 3 0 0 7")
+    -- releases of 7 and 6, where own(7) is 6 and is cleared; without own
+    ∷ case (both-released 3 ++ (padded "1 0 0 7 / 2 0 0 6 / 3 7 0 6" ++ unordered)) (padded "17 0 1 0")
+    ∷ case (both-released 2 ++ (padded "1 0 0 7 / 2 0 0 6" ++ unordered)) (padded "0 0 0 2 / 0 6 0 2 / 0 7 0 2")
+    -- of one label: the second finds s cleared, 12
+    ∷ case (both-released 2 ++ (padded "1 0 0 6 / 2 0 0 6" ++ unordered)) (padded "12 1 3 0")
+    ∷ []
+
 -- the limits: 256 instructions fit, and 64 moves
 unfoldable pub limits : List (Case (List ℕ))
 limits =
@@ -247,6 +290,10 @@ choices-right : all-right rental choices ≡ true
 unfolding choices everything
 choices-right = refl
 
+retirements-right : all-right rental retirements ≡ true
+unfolding retirements everything
+retirements-right = refl
+
 limits-right : all-right rental limits ≡ true
 unfolding limits squares squares-and-one counted everything
 limits-right = refl
@@ -260,6 +307,9 @@ printed-examples i h = each-right rental examples no-example i examples-right h
 
 pub printed-choices : (i : ℕ) → i < length choices → rental (getD choices i no-example .question) ≡ getD choices i no-example .answer
 printed-choices i h = each-right rental choices no-example i choices-right h
+
+pub printed-retirements : (i : ℕ) → i < length retirements → rental (getD retirements i no-example .question) ≡ getD retirements i no-example .answer
+printed-retirements i h = each-right rental retirements no-example i retirements-right h
 
 pub printed-limits : (i : ℕ) → i < length limits → rental (getD limits i no-example .question) ≡ getD limits i no-example .answer
 printed-limits i h = each-right rental limits no-example i limits-right h

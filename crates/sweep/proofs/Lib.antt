@@ -1,1 +1,4 @@
+pub mod Next
 pub mod Sweep
+pub mod Row
+pub mod Upto

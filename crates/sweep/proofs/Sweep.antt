@@ -56,6 +56,20 @@ sweep-next f i s₀ s t v w e q =
         let o : k < i = omega (arith, n) in
         getD-set-other s i k v 0 n ∙ w .done k o m
 
+-- places that are put as they are may be passed over
+pub sweep-pass : (f : ℕ → ℕ → ℕ) (i j : ℕ) (s₀ s : List ℕ) → Swept f i s₀ s → i ≤ j → ((k : ℕ) → i ≤ k → k < j → f k (getD s₀ k 0) ≡ getD s₀ k 0)
+    → Swept f j s₀ s
+sweep-pass f i j s₀ s w h same =
+    record {
+      same = w .same;
+      done = λ k l m. place k l m (ltb k i) refl;
+      left = λ k l. w .left k (omega arith);
+    }
+  where
+    place : (k : ℕ) → k < j → k < length s₀ → (b : Bool) → ltb k i ≡ b → getD s k 0 ≡ f k (getD s₀ k 0)
+    place k l m true e = w .done k (ltb-true k i e) m
+    place k l m false e = let n : i ≤ k = ltb-false k i e in w .left k n ∙ sym (same k n l)
+
 pub sweep-end : (f : ℕ → ℕ → ℕ) (i : ℕ) (s₀ s : List ℕ) → Swept f i s₀ s → ((k : ℕ) → i ≤ k → k < length s₀ → f k (getD s₀ k 0) ≡ getD s₀ k 0) → s ≡ each f 0 s₀
 sweep-end f i s₀ s w h = each-is f s₀ s (w .same) (λ k l. place k l (ltb k i) refl)
   where

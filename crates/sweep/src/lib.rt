@@ -1,73 +1,168 @@
-// A function's part of the contents swept: each trace of a label gets the default, and its mark the bit.
+// A function's part of the contents swept: each trace of a label gets the default, and what that reads and writes is marked.
 use book::Function;
 use numbers::Value;
 ghost use mathlib.Core.Path.{_≡_};
-ghost use Prim.Native.Nat.{_+_, _/_, _%_, _<_};
-ghost use lib.Bits.{bitOr};
+ghost use mathlib.Core.Bool.{false};
+ghost use mathlib.Core.List.{[], _∷_};
+ghost use Prim.Native.Nat.{ℕ, _+_, _/_, _%_, _≤_, _<_};
+ghost use lib.Dec.{eqb};
 ghost use lib.ListN.{length, getD, set};
+ghost use Rattle.text.specs.Words.{has};
+ghost use Rattle.book.specs.Book.{default, arguments};
+ghost use Rattle.engine.specs.Move.{taken-reads};
+ghost use Rattle.term.specs.Marks.{marked};
 ghost use Rattle.traces.specs.Traces.{trace-in};
 ghost use Rattle.sweep.specs.Marks.{mark};
-ghost use Rattle.sweep.specs.Part.{wiped-in, part-cleared, part-marked};
+ghost use Rattle.sweep.specs.Part.{wiped-in, part-cleared, part-marked, cleared-reads, reads-in, part-reads};
 
-// Adds a bit to the mark at i, if there is one.
-pub fn or_at(s: &mut [u64], i: usize, bit: u64)
-    ensures { λ _. ⌜ now (s .exit) ≡ set (now (s .entry)) i (bitOr (getD (now (s .entry)) i 0) bit) ⌝ }
+// A label that a move releases, and what clearing its traces in a function's part needs: E and P, the function with its first location, the move's bit.
+pub struct Released {
+    pub label: Value,
+    pub elements: Value,
+    pub permanent: Value,
+    pub function: Function,
+    pub first: u32,
+    pub bit: u64,
+}
+
+// A location that held a value gets v: if that was a label other than v, Reserve at it is marked as read.
+pub fn mark_taken(readers: &mut [u64], p: Value, held: Value, v: Value, bit: u64)
+    ensures { λ _. ⌜ now (readers .exit) ≡ marked bit (taken-reads p held v) (now (readers .entry)) ⌝ }
 {
-    if i < s.len() {
-        s[i] = s[i] | bit;
+    if (p <= held) & (v != held) {
+        term::mark(readers, bit, held as usize);
     }
 }
 
-// The row and the column of the place after i.
-fn next_row(e: Value, i: usize, row: usize, col: usize) -> usize
-    requires { ⌜ (i < 9223372036854775808) × (row ≡ i / e) × (col ≡ i % e) ⌝ }
-    ensures { λ r. ⌜ r ≡ (i + 1) / e ⌝ }
+// Marks what clearing location i of the part reads: the location, and Reserve at the label that it held, if any.
+fn mark_cleared(readers: &mut [u64], r: Released, i: usize, held: Value)
+    requires { ⌜ i < 9223372036854775808 ⌝ }
+    ensures { λ _. ⌜ now (readers .exit) ≡ marked (r .bit) (cleared-reads (r .permanent) (default (r .function)) (r .first + i) held) (now (readers .entry)) ⌝ }
 {
-    if col + 1 == e as usize { row + 1 } else { row }
+    let d = pages::default_of(r.function);
+    term::mark(readers, r.bit, r.first as usize + i);
+    mark_taken(readers, r.permanent, held, d, r.bit);
 }
 
-fn next_col(e: Value, i: usize, col: usize) -> usize
-    requires { ⌜ (i < 9223372036854775808) × (col ≡ i % e) ⌝ }
-    ensures { λ r. ⌜ r ≡ (i + 1) % e ⌝ }
+// ---- places passed over
+
+// The row and the column of place i.
+fn row_of(e: Value, i: usize) -> usize
+    ensures { λ r. ⌜ r ≡ i / e ⌝ }
 {
-    if col + 1 == e as usize { 0 } else { col + 1 }
+    if e == 0 {
+        return 0;
+    }
+    i / e as usize
 }
 
-// Location i of f's part gets its default and its mark the bit, if it is a trace of x.
-fn clear_one(
-    part: &mut [Value],
-    marks: &mut [u64],
-    e: Value,
-    f: Function,
-    x: Value,
-    bit: u64,
-    i: usize,
-    row: usize,
-    col: usize,
-)
-    requires { ⌜ (i < length (now part)) × (row ≡ i / e) × (col ≡ i % e) ⌝ }
-    ensures { λ _. ⌜ now (part .exit) ≡ set (now (part .entry)) i (wiped-in e f x i (getD (now (part .entry)) i 0)) ⌝ }
-    ensures { λ _. ⌜ now (marks .exit) ≡ set (now (marks .entry)) i (mark bit (trace-in e f i (getD (now (part .entry)) i 0) x) (getD (now (marks .entry)) i 0)) ⌝ }
+fn column_of(e: Value, i: usize) -> usize
+    ensures { λ r. ⌜ r ≡ i % e ⌝ }
+{
+    if e == 0 {
+        return i;
+    }
+    i % e as usize
+}
+
+// A place from i on, of a binary function, up to which none has x as argument: i itself, column x of its row, or where the next row starts.
+fn pass_row(e: Value, x: Value, i: usize) -> usize
+    requires { ⌜ i < 9223372036854775808 ⌝ }
+    ensures { λ r. ⌜ (i ≤ r) × ((k : ℕ) → i ≤ k → k < r → has ((k / e) ∷ (k % e) ∷ []) x ≡ false) ⌝ }
+{
+    let y = x as usize;
+    let w = e as usize;
+    let col = column_of(e, i);
+    if w <= col {
+        return i;
+    }
+    if row_of(e, i) == y {
+        return i;
+    }
+    if y < col {
+        return i + (w - col);
+    }
+    if w <= y {
+        return i + (w - col);
+    }
+    i + (y - col)
+}
+
+// A place from i on up to which none has x as argument, at most n.
+fn pass_arguments(arity: u32, e: Value, x: Value, i: usize, n: usize) -> usize
+    requires { ⌜ (i ≤ n) × (n < 9223372036854775808) ⌝ }
+    ensures { λ r. ⌜ (i ≤ r) × (r ≤ n) × ((k : ℕ) → i ≤ k → k < r → has (arguments e arity k) x ≡ false) ⌝ }
+{
+    if arity == 0 {
+        return n;
+    }
+    if arity == 1 {
+        let y = x as usize;
+        if y < i {
+            return n;
+        }
+        return numbers::smaller(y, n);
+    }
+    numbers::smaller(pass_row(e, x, i), n)
+}
+
+// The first of the places from i to `stop` that holds x, or `stop`.
+fn pass_values(part: &[Value], x: Value, i: usize, stop: usize) -> usize
+    requires { ⌜ (i ≤ stop) × (stop ≤ length (now part)) ⌝ }
+    ensures { λ r. ⌜ (i ≤ r) × (r ≤ stop) × ((k : ℕ) → i ≤ k → k < r → eqb (getD (now (part .entry)) k 0) x ≡ false) ⌝ }
+{
+    let mut k = i;
+    while k < stop {
+        if part[k] == x {
+            return k;
+        }
+        k = k + 1;
+    }
+    k
+}
+
+// A place from i on up to which none is a trace of the label: most of a part is passed over in this way.
+fn pass_over(part: &[Value], r: Released, i: usize) -> usize
+    requires { ⌜ i ≤ length (now part) ⌝ }
+    ensures { λ j. ⌜ (i ≤ j) × (j ≤ length (now (part .entry))) × ((k : ℕ) → i ≤ k → k < j → trace-in (r .elements) (r .function) k (getD (now (part .entry)) k 0) (r .label) ≡ false) ⌝ }
+{
+    let n = part.len();
+    let f = r.function;
+    if pages::is_dynamic(f) {
+        let stop = pass_arguments(f.arity, r.elements, r.label, i, n);
+        return pass_values(part, r.label, i, stop);
+    }
+    n
+}
+
+// ---- traces cleared
+
+// Location i of the part gets its default, if it is a trace of the label; what that reads and writes is marked.
+fn clear_one(part: &mut [Value], readers: &mut [u64], writers: &mut [u64], r: Released, i: usize)
+    requires { ⌜ i < length (now part) ⌝ }
+    ensures { λ _. ⌜ now (part .exit) ≡ set (now (part .entry)) i (wiped-in (r .elements) (r .function) (r .label) i (getD (now (part .entry)) i 0)) ⌝ }
+    ensures { λ _. ⌜ now (writers .exit) ≡ set (now (writers .entry)) i (mark (r .bit) (trace-in (r .elements) (r .function) i (getD (now (part .entry)) i 0) (r .label)) (getD (now (writers .entry)) i 0)) ⌝ }
+    ensures { λ _. ⌜ now (readers .exit) ≡ marked (r .bit) (reads-in (r .elements) (r .permanent) (r .function) (r .label) (r .first) i (getD (now (part .entry)) i 0)) (now (readers .entry)) ⌝ }
 {
     let held = part[i];
-    if traces::is_trace_at(f, i, row, col, held, x) {
-        part[i] = pages::default_of(f);
-        or_at(marks, i, bit);
+    let row = row_of(r.elements, i);
+    let col = column_of(r.elements, i);
+    if traces::is_trace_at(r.function, i, row, col, held, r.label) {
+        part[i] = pages::default_of(r.function);
+        mark_cleared(readers, r, i, held);
+        term::mark(writers, r.bit, i);
     }
 }
 
-// The traces of x in f's part.
-pub fn clear_part(part: &mut [Value], marks: &mut [u64], e: Value, f: Function, x: Value, bit: u64)
-    ensures { λ _. ⌜ now (part .exit) ≡ part-cleared e f x (now (part .entry)) ⌝ }
-    ensures { λ _. ⌜ now (marks .exit) ≡ part-marked bit e f x (now (part .entry)) (now (marks .entry)) ⌝ }
+// Each trace of the label in the part gets its default; what that reads and writes is marked.
+pub fn clear_part(part: &mut [Value], readers: &mut [u64], writers: &mut [u64], r: Released)
+    ensures { λ _. ⌜ now (part .exit) ≡ part-cleared (r .elements) (r .function) (r .label) (now (part .entry)) ⌝ }
+    ensures { λ _. ⌜ now (writers .exit) ≡ part-marked (r .bit) (r .elements) (r .function) (r .label) (now (part .entry)) (now (writers .entry)) ⌝ }
+    ensures { λ _. ⌜ now (readers .exit) ≡ marked (r .bit) (part-reads (r .elements) (r .permanent) (r .function) (r .label) (r .first) (now (part .entry))) (now (readers .entry)) ⌝ }
 {
-    let mut i: usize = 0;
-    let mut row: usize = 0;
-    let mut col: usize = 0;
+    let mut i = pass_over(part, r, 0);
     while i < part.len() {
-        clear_one(part, marks, e, f, x, bit, i, row, col);
-        row = next_row(e, i, row, col);
-        col = next_col(e, i, col);
-        i = i + 1;
+        clear_one(part, readers, writers, r, i);
+        i = pass_over(part, r, i + 1);
     }
 }

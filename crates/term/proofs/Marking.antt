@@ -3,7 +3,8 @@ use mathlib.Core.Path.{_≡_, refl, ap, sym, _∙_}
 use mathlib.Core.Bool.{Bool, true, false}
 use mathlib.Core.List.{List, [], _∷_, _++_}
 use Prim.Native.Nat.{ℕ}
-use lib.ListN.{getD}
+use lib.Bits.{bitOr}
+use lib.ListN.{length, getD, length-set}
 use Rattle.text.specs.Words.{if_then_else_}
 use Rattle.book.specs.Book.{Program, dynamic-at}
 use Rattle.engine.specs.Look.{Look, done, read, gives, seen, _>>=_}
@@ -25,6 +26,15 @@ pub marked-append : (bit : ℕ) (xs ys m : List ℕ) → marked bit (xs ++ ys) m
 unfolding marked
 marked-append bit [] ys m = refl
 marked-append bit (x ∷ xs) ys m = marked-append bit xs ys (mark-one bit x m)
+
+-- one list after the other
+pub marked-on : (bit : ℕ) (xs ys m n o : List ℕ) → n ≡ marked bit xs m → o ≡ marked bit ys n → o ≡ marked bit (xs ++ ys) m
+marked-on bit xs ys m n o p q = q ∙ ap (marked bit ys) p ∙ sym (marked-append bit xs ys m)
+
+pub length-marked : (bit : ℕ) (ls m : List ℕ) → length (marked bit ls m) ≡ length m
+unfolding marked
+length-marked bit [] m = refl
+length-marked bit (l ∷ ls) m = length-marked bit ls (mark-one bit l m) ∙ length-set m l (bitOr (getD m l 0) bit)
 
 -- one location more
 pub marked-noted : (B : Program) (bit l : ℕ) (ls m : List ℕ) → marked bit (dynamic-among B (l ∷ ls)) m ≡ marked bit (dynamic-among B ls) (noted B bit l m)

@@ -1,4 +1,3 @@
 pub mod Steps
 pub mod Sweep
 pub mod Kept
-pub mod Functions

@@ -11,12 +11,12 @@ ghost use lib.Dec.{eqb};
 ghost use lib.ListN.{length, set};
 ghost use Rattle.text.specs.Words.{if_then_else_};
 ghost use Rattle.book.specs.Book.{node-at};
-ghost use Rattle.engine.specs.Move.{all-dynamic, input};
+ghost use Rattle.engine.specs.Move.{input};
 ghost use Rattle.engine.specs.Term.{term-at};
 ghost use Rattle.engine.specs.Rule.{assign, bind, for-all, import, free, choose, after, most-instructions, walk};
 ghost use Rattle.term.specs.Held.{variables-of, agent-of};
 ghost use Rattle.book.specs.Image.{held};
-ghost use Rattle.term.specs.Marks.{marked, Runs};
+ghost use Rattle.term.specs.Marks.{Runs};
 ghost use Rattle.giving.specs.Giving.{left-of, walk-from, reached};
 ghost use Rattle.walk.specs.Gather.{cleared, Gathered};
 ghost use Rattle.walk.specs.Walk.{outcome, rule-from, walk-at, body-at};
@@ -452,19 +452,4 @@ pub fn gather(
     }
     clear(readers, bit);
     ended(r, list)
-}
-
-// Marks every dynamic location, function by function: what a move with a release reads.
-pub fn mark_all(image: &Image, readers: &mut [u64], bit: u64)
-    ensures { λ _. ⌜ now (readers .exit) ≡ marked bit (all-dynamic (held (now (image .entry)))) (now (readers .entry)) ⌝ }
-{
-    let count = image::functions(image);
-    let mut first: u32 = 0;
-    let mut f: u16 = 0;
-    while f < count {
-        let own = pages::part_from(image, f, first);
-        marking::mark_function(readers, bit, own.function.kind, own.first, own.end);
-        first = own.end as u32;
-        f += 1;
-    }
 }

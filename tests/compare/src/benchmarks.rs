@@ -108,6 +108,9 @@ const LOGS: &[Benchmark] = &[
     Benchmark::new("log: 32 imports and 32 releases, L 65,536", |what, meter| {
         run_row(what, meter, &loads::releases_logged())
     }),
+    Benchmark::new("log: 32 releases and 32 counts, unordered, L 60,000", |what, meter| {
+        run_row(what, meter, &loads::retirement_logged(10_000))
+    }),
 ];
 
 const ORDER_CHECKS: &[Benchmark] = &[
@@ -116,6 +119,9 @@ const ORDER_CHECKS: &[Benchmark] = &[
     }),
     Benchmark::new("order: 64 moves, all 2,016 pairs", |what, meter| {
         run_row(what, meter, &loads::desks_logged(true))
+    }),
+    Benchmark::new("order: 32 releases and 32 counts, unordered, L 1,200", |what, meter| {
+        run_row(what, meter, &loads::retirement_logged(200))
     }),
     Benchmark::new("order: 32 releases and 32 imports, L 801", |what, meter| {
         run_row(what, meter, &loads::depot_logged())

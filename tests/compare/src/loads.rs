@@ -351,6 +351,49 @@ pub fn counts_logged() -> Logged {
     Logged { book, log }
 }
 
+// ---- releases beside other moves
+
+const SLOT: u32 = 2;
+const WEAR: u32 = 3;
+const RETIRING: u32 = 8;
+const COUNTING: u32 = 8;
+
+// Six functions of one argument. Eight agents retire a pair that they pick, and eight add one to the wear of the pair in their slot. Each of the 32
+// pairs to retire is held by three slots.
+fn retirement(elements: u32) -> Pen {
+    const PERMANENT: u32 = 120;
+    let mut pen = Pen::new(elements, PERMANENT, &[[1, 3], [1, 2], [1, 2], [1, 2], [1, 2]]);
+    let pair = pen.variable(0);
+    let release = pen.release(pair);
+    let retire = pen.choose(0, UNIVERSE, release);
+    let wear = |pen: &mut Pen| {
+        let pair = pen.mine(SLOT);
+        pen.of(WEAR, pair)
+    };
+    let old = wear(&mut pen);
+    let new = pen.next(old);
+    let location = wear(&mut pen);
+    let count = pen.set(location, new);
+    (0..RETIRING).for_each(|agent| pen.agent(retire, agent));
+    (RETIRING..RETIRING + COUNTING).for_each(|agent| pen.agent(count, agent));
+    let pairs = PERMANENT..PERMANENT + 32 + COUNTING;
+    pairs.clone().for_each(|pair| pen.holds(UNIVERSE, pair, 2));
+    (0..COUNTING).for_each(|agent| pen.holds(SLOT, RETIRING + agent, PERMANENT + 32 + agent));
+    (0..96).for_each(|slot| pen.holds(SLOT, RETIRING + COUNTING + slot, PERMANENT + slot % 32));
+    pairs.for_each(|pair| pen.holds(WEAR, pair, 3));
+    pen
+}
+
+// 64 moves: 32 releases and 32 counts in turn, each agent's own in order and no others.
+pub fn retirement_logged(elements: u32) -> Logged {
+    let book = retirement(elements).text();
+    let agents = (0..64).map(|number| number / 2 % 8 + number % 2 * RETIRING).collect();
+    let picks =
+        (0..64).map(|number| if number % 2 == 0 { vec![120 + number / 2] } else { Vec::new() }).collect();
+    let log = log_with_picks(&book, agents, picks);
+    Logged { book, log }
+}
+
 // ---- the order check
 
 // Desks that toggle their own flag after a look at every element of a dynamic universe.
@@ -393,7 +436,7 @@ fn small_depot() -> Vec<u8> {
     pen.text()
 }
 
-// 64 moves, releases and imports in turn, the last an import: each release reads all 801 locations.
+// 64 moves, releases and imports in turn, the last an import.
 pub fn depot_logged() -> Logged {
     let book = small_depot();
     let log = log_of(&book, vec![0; 64]);

@@ -138,7 +138,6 @@ pub fn slope_row(what: &str, meter: &mut Meter, small: &Single, large: &Single, 
 // ---- logs
 
 // The tables of a run.
-#[derive(PartialEq)]
 struct Tables {
     contents: Vec<u16>,
     readers: Vec<u64>,
@@ -167,12 +166,14 @@ fn run_on(logged: &Logged, run: Run, tables: &mut Tables) -> Answer {
     run(black_box(&logged.book), black_box(&logged.log), contents, readers, writers, INSTRUCTIONS)
 }
 
+// Reader marks are left to tests/loads.rs: a library of before F-3 has more of them where a move releases, and is to be measured too.
 fn assert_runs_alike(what: &str, logged: &Logged, number: u32) {
     let (mut ours, mut theirs) = (Tables::of(&logged.book), Tables::of(&logged.book));
     let answer = run_on(logged, run, &mut ours);
     assert_eq!(answer, run_on(logged, paper::run, &mut theirs), "{what}");
     assert_eq!(answer.number, number, "{what}: {answer:?}");
-    assert!(ours == theirs, "{what}: what is left");
+    assert!(ours.contents == theirs.contents, "{what}: contents");
+    assert!(ours.writers == theirs.writers, "{what}: writer marks");
 }
 
 pub fn run_row(what: &str, meter: &mut Meter, logged: &Logged) -> Row {

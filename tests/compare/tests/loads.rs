@@ -1,14 +1,27 @@
-// The benchmarks' books and logs are what their names say: the independent implementation accepts them. Every move of them changes something, so
-// that a library that still refuses others can be measured too.
+// The benchmarks' books and logs are what their names say: the independent implementation accepts them, and the proved code leaves the same. Every
+// move of them changes something, so that a library that still refuses others can be measured too.
 use compare::loads::{self, Logged, Single};
 use compare::shops::{paper_book, paper_log, shop, shop_log};
-use inputs::idle_ways;
+use inputs::{idle_ways, retired_ways, Retired};
 use paper::{check_book, Answer, INSTRUCTIONS};
 
-fn run_of(logged: &Logged) -> Answer {
+type Run = fn(&[u8], &[u8], &mut [u16], &mut [u64], &mut [u64], usize) -> Answer;
+
+// The answer of a run, its contents, and its reader and writer marks.
+type Left = (Answer, Vec<u16>, Vec<u64>, Vec<u64>);
+
+fn left_by(run: Run, logged: &Logged) -> Left {
     let records = check_book(&logged.book).expect("a sound book").locations;
     let (mut contents, mut readers, mut writers) = (vec![0; records], vec![0; records], vec![0; records]);
-    paper::run(&logged.book, &logged.log, &mut contents, &mut readers, &mut writers, INSTRUCTIONS)
+    let answer = run(&logged.book, &logged.log, &mut contents, &mut readers, &mut writers, INSTRUCTIONS);
+    (answer, contents, readers, writers)
+}
+
+// The answer of both.
+fn run_of(logged: &Logged) -> Answer {
+    let left = left_by(paper::run, logged);
+    assert!(left_by(compare::run, logged) == left, "the proved code leaves something else");
+    left.0
 }
 
 fn assert_accepted(logged: &Logged) {
@@ -50,6 +63,8 @@ fn sizes() {
     assert_eq!(locations(&loads::release().book), 65_536);
     assert_eq!(locations(&loads::counts_logged().book), 65_536);
     assert_eq!(locations(&loads::releases_logged().book), 65_536);
+    assert_eq!(locations(&loads::retirement_logged(10_000).book), 60_000);
+    assert_eq!(locations(&loads::retirement_logged(200).book), 1_200);
 }
 
 #[test]
@@ -85,12 +100,25 @@ fn logs() {
         loads::desks_logged(false),
         loads::desks_logged(true),
         loads::depot_logged(),
+        loads::retirement_logged(10_000),
+        loads::retirement_logged(200),
     ] {
         assert_accepted(&logged);
     }
     let Logged { book, log } = loads::picks_logged();
     let log = paper::check_log(&check_book(&book).expect("a sound book"), &log).expect("a sound log");
     assert_eq!((log.picks.len(), log.picks.iter().all(|picks| picks.len() == 4)), (64, true));
+    let Logged { book, log } = loads::retirement_logged(200);
+    let beside = [
+        Retired::Unordered,
+        Retired::BesideWork,
+        Retired::BesideLabel,
+        Retired::BesideRelease,
+        Retired::BesidePick,
+    ];
+    assert_eq!(retired_ways(&book, &log, Answer::ACCEPTED), beside);
+    let log = paper::check_log(&check_book(&book).expect("a sound book"), &log).expect("a sound log");
+    assert_eq!((log.agents.len(), log.pairs.len()), (64, 64 - 16));
     let refused = run_of(&loads::depot_refused_at_last());
     assert_eq!((refused.number, refused.p), (12, 63));
 }

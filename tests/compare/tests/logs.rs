@@ -1,7 +1,9 @@
 // The proved run of a log answers as the independent one and leaves the same contents and marks; and the moves of an accepted log, run one by one
 // with their picks in another order that keeps its pairs, end alike.
 use compare::{run, step, Tally};
-use inputs::{idle_ways, picked_ways, random_order, run_input, Idle, Picked, Rng, RunInput};
+use inputs::{
+    idle_ways, picked_ways, random_order, retired_ways, run_input, Idle, Picked, Retired, Rng, RunInput,
+};
 use paper::{Answer, INSTRUCTIONS};
 use std::collections::BTreeMap;
 
@@ -53,6 +55,7 @@ fn answers_contents_and_marks_are_the_papers() {
     let mut tally = Tally::new();
     let mut idle: BTreeMap<Idle, u64> = Idle::ALL.map(|way| (way, 0)).into();
     let mut picked: BTreeMap<Picked, u64> = Picked::ALL.map(|way| (way, 0)).into();
+    let mut retired: BTreeMap<Retired, u64> = Retired::ALL.map(|way| (way, 0)).into();
     for i in 0..INPUTS {
         let input = run_input(&mut Rng::for_input(SEED, i));
         let proved = left_by(run, &input);
@@ -64,18 +67,22 @@ fn answers_contents_and_marks_are_the_papers() {
         for way in picked_ways(&input.book, &input.log, proved.answer) {
             picked.entry(way).and_modify(|count| *count += 1);
         }
+        for way in retired_ways(&input.book, &input.log, proved.answer) {
+            retired.entry(way).and_modify(|count| *count += 1);
+        }
     }
-    println!("logs, seed {SEED}: {tally}\nmoves that change nothing: {idle:?}\npicks: {picked:?}");
+    println!("logs, seed {SEED}: {tally}\nmoves that change nothing: {idle:?}\npicks: {picked:?}\nreleases: {retired:?}");
     tally.assert_all(Answer::NUMBERS, 500);
     assert!(idle.values().all(|&count| count >= 300), "moves that change nothing: {idle:?}");
     assert!(picked.values().all(|&count| count >= 400), "picks: {picked:?}");
     assert!(picked[&Picked::Accepted] >= 25_000, "picks: {picked:?}");
+    assert!(retired.values().all(|&count| count >= 200), "releases: {retired:?}");
 }
 
 #[test]
 fn every_order_that_keeps_the_pairs_ends_alike() {
-    let (mut orders, mut others, mut idle, mut beside_release) = (0, 0, 0, 0);
-    let (mut with_picks, mut exchanged) = (0, 0);
+    let (mut orders, mut others, mut idle, mut idle_beside_release) = (0, 0, 0, 0);
+    let (mut with_picks, mut exchanged, mut with_release, mut with_work) = (0, 0, 0, 0);
     let mut i = 0;
     while orders < ORDERS {
         let mut rng = Rng::for_input(SEED + 1, i);
@@ -91,16 +98,21 @@ fn every_order_that_keeps_the_pairs_ends_alike() {
                 let ways = idle_ways(&input.book, &input.log, left.answer);
                 others += 1;
                 idle += u64::from(!ways.is_empty());
-                beside_release += u64::from(ways.contains(&Idle::BesideRelease));
+                idle_beside_release += u64::from(ways.contains(&Idle::BesideRelease));
+                let retired = retired_ways(&input.book, &input.log, left.answer);
+                with_release += u64::from(retired.contains(&Retired::Unordered));
+                with_work += u64::from(retired.contains(&Retired::BesideWork));
             }
         }
         i += 1;
     }
     let counts = format!(
-        "{others} of them not the listing, {idle} with a move that changes nothing, {beside_release} with one unordered with a release, \
-         {with_picks} with picks, {exchanged} with picking moves that changed places"
+        "{others} of them not the listing, {idle} with a move that changes nothing, {idle_beside_release} with one unordered with a release, \
+         {with_picks} with picks, {exchanged} with picking moves that changed places, {with_release} with a release unordered with another move, \
+         {with_work} with one unordered with a move that changes something"
     );
     println!("orders, seed {}: {orders}, {counts}", SEED + 1);
-    assert!(others >= 10_000 && idle >= 4_000 && beside_release >= 300, "{counts}");
+    assert!(others >= 10_000 && idle >= 4_000 && idle_beside_release >= 300, "{counts}");
     assert!(with_picks >= 4_000 && exchanged >= 2_500, "{counts}");
+    assert!(5 * with_work >= others, "{counts}");
 }

@@ -4,6 +4,7 @@ use crate::clerks::{at_shelf, clerk};
 use crate::draft::*;
 use crate::flavours;
 use crate::rng::Rng;
+use crate::stations::{self, station};
 use paper::Line;
 use std::collections::BTreeMap;
 
@@ -46,6 +47,8 @@ enum Theme {
     Clerks,
     /// Clerks who look at what others take from the same universe.
     Shelf,
+    /// Stations that retire pairs while others work.
+    Stations,
 }
 
 /// A sound book, mostly small.
@@ -54,13 +57,14 @@ pub fn sound(rng: &mut Rng) -> Draft {
         return full(rng);
     }
     let size = [&TINY, &SMALL, &MIDDLING][rng.weighted(&[47, 45, 8])];
-    let themes = [Theme::Any, Theme::Desks, Theme::Depot, Theme::Clerks, Theme::Shelf];
-    let theme = themes[rng.weighted(&[33, 8, 17, 34, 8])];
+    let themes = [Theme::Any, Theme::Desks, Theme::Depot, Theme::Clerks, Theme::Shelf, Theme::Stations];
+    let theme = themes[rng.weighted(&[26, 4, 11, 25, 10, 24])];
     let careful = rng.percent(60);
     let mut draft = without_rules(rng, size, theme);
-    let count = rng.range(1, size.roots.min(draft.permanent));
+    let least = if theme == Theme::Stations { 2 } else { 1 };
+    let count = rng.range(least, (size.roots + least - 1).min(draft.permanent));
     let mut roots: Vec<u32> = (0..count)
-        .map(|_| {
+        .map(|number| {
             let rules = rng.range(1, size.rules);
             match theme {
                 Theme::Any => flavours::root(rng, &mut draft, careful, rules),
@@ -68,6 +72,7 @@ pub fn sound(rng: &mut Rng) -> Draft {
                 Theme::Depot => flavours::depot(rng, &mut draft, careful),
                 Theme::Clerks => with_clerk(rng, &mut draft, careful),
                 Theme::Shelf => at_shelf(rng, &mut draft, FIRST_UNIVERSE, NOTES),
+                Theme::Stations => station(rng, &mut draft, careful, number),
             }
         })
         .collect();
@@ -80,14 +85,21 @@ pub fn sound(rng: &mut Rng) -> Draft {
         return sound(rng);
     }
     add_agents(rng, &mut draft, &roots, size.agents);
+    if theme == Theme::Stations {
+        stations::equip(rng, &mut draft);
+    }
     draft
 }
 
 /// Elements, functions and contents of a size.
 fn without_rules(rng: &mut Rng, size: &Size, theme: Theme) -> Draft {
-    let elements = rng.range(size.elements.0, size.elements.1);
+    let least = if theme == Theme::Stations { stations::ELEMENTS } else { size.elements.0 };
+    let elements = rng.range(least.max(size.elements.0), size.elements.1);
     let most_labels = (elements - 4).min(elements / 2 + 1);
-    let labels = if theme == Theme::Depot { most_labels } else { rng.range(0, most_labels) };
+    let labels = match theme {
+        Theme::Depot | Theme::Stations => most_labels,
+        _ => rng.range(0, most_labels),
+    };
     let mut draft = Draft {
         elements,
         permanent: elements - labels,
@@ -106,6 +118,9 @@ fn without_rules(rng: &mut Rng, size: &Size, theme: Theme) -> Draft {
         let noted = rng.pick(&[2, 2, 3]);
         draft.functions.extend([[1, universe, 0, 0], [1, noted, 0, 0]]);
     }
+    if theme == Theme::Stations {
+        draft.functions.extend(stations::FUNCTIONS);
+    }
     for _ in 1..rng.range(size.functions.0, size.functions.1) {
         let mut function = any_function(rng);
         draft.functions.push(function);
@@ -114,7 +129,13 @@ fn without_rules(rng: &mut Rng, size: &Size, theme: Theme) -> Draft {
             *draft.functions.last_mut().expect("just added") = function;
         }
     }
-    draft.contents = entries(rng, &draft);
+    draft.contents = match theme {
+        Theme::Stations => {
+            let share = rng.pick(&[0, 30, 50]);
+            entries_with(rng, &draft, share)
+        }
+        _ => entries(rng, &draft),
+    };
     if theme == Theme::Depot && rng.percent(60) {
         hang_label(rng, &mut draft);
     }
@@ -173,6 +194,11 @@ fn any_function(rng: &mut Rng) -> Line {
 /// Contents lines that keep the rules, for the functions of a draft.
 pub fn entries(rng: &mut Rng, draft: &Draft) -> Vec<Line> {
     let share = rng.pick(&[0, 30, 60, 60, 100]);
+    entries_with(rng, draft, share)
+}
+
+/// The same, with this share of the labels on the roll, in hundredths.
+fn entries_with(rng: &mut Rng, draft: &Draft, share: u32) -> Vec<Line> {
     let free: Vec<bool> =
         (0..draft.elements).map(|element| element >= draft.permanent && rng.percent(share)).collect();
     let on_roll = (0..draft.elements).filter(|&element| free[element as usize]);

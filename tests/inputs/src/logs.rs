@@ -4,6 +4,7 @@ use crate::damage::spoil_text;
 use crate::draft::{one_more, text_of};
 use crate::idle::changes;
 use crate::picks::{fitting_picks, has_choices, spoil_picks};
+use crate::retired::{has_releases, pairs_by_other_reads};
 use crate::rng::Rng;
 use paper::{fire_move, start_table, Book, Line, Marks, Pick, CHOICE_LINES};
 
@@ -140,7 +141,8 @@ fn any_pairs(rng: &mut Rng, moves: usize, share: u32) -> Vec<(u32, u32)> {
     all.filter(|_| rng.percent(share)).collect()
 }
 
-/// Moves that were tried with fitting picks and fire, the last one perhaps not, and pairs chosen by what they touch.
+/// Moves that were tried with fitting picks and fire, the last one perhaps not, and pairs chosen by what they touch; some logs lack just those
+/// for the labels that moves take out.
 pub fn guided(rng: &mut Rng, book: &Book) -> DraftLog {
     let wanted = some_moves(rng);
     let mut contents = start_table(book);
@@ -170,12 +172,16 @@ pub fn guided(rng: &mut Rng, book: &Book) -> DraftLog {
         }
     }
     let needed = needed_pairs(&log.agents, &readers, &writers);
-    log.pairs = choose_pairs(rng, needed, &log.agents);
+    let fewer = has_releases(book).then(|| pairs_by_other_reads(book, &log.agents, &log.picks));
+    log.pairs = match fewer {
+        Some(fewer) if fewer.len() < needed.len() && rng.percent(50) => reduced(&fewer),
+        _ => choose_pairs(rng, needed, &log.agents),
+    };
     log
 }
 
 /// The pairs of moves that touch or have one agent.
-fn needed_pairs(agents: &[u32], readers: &[u64], writers: &[u64]) -> Vec<(u32, u32)> {
+pub fn needed_pairs(agents: &[u32], readers: &[u64], writers: &[u64]) -> Vec<(u32, u32)> {
     let mut touched = [0u64; MOST_MOVES];
     for (&read, &written) in readers.iter().zip(writers).filter(|(_, &written)| written != 0) {
         for (number, touched) in touched.iter_mut().enumerate().take(agents.len()) {

@@ -1,5 +1,5 @@
 // The cases of paper 01 as inputs of `rental`, with all that it prints: the marked ones, the limits, the examples of the refusals, moves
-// that change nothing, and picks.
+// that change nothing, picks, and releases beside other moves.
 
 use paper::{padded, LINE_BYTES};
 
@@ -247,7 +247,45 @@ pub fn idle() -> Vec<Case> {
         Case::new(
             "s := s beside a release",
             beside_a_release(&["4 2 0 0", "4 2 0 0", "21 2 3 0"]),
-            "17 0 1 0",
+            "0 0 0 2 / 0 6 0 2 / 2 0 0 3",
         ),
+    ]
+}
+
+/// Agent 0 has the first rule, agent 1 releases s; their moves are unordered. Functions 1 and 2 are t and s, 3 is own, and s holds 6.
+fn with_a_release(first: &str, t: u32, own: &str) -> Vec<u8> {
+    let root = first.split('/').count() - 1;
+    let nodes = format!("{first} / 4 2 0 0 / 27 {} 0 0", root + 1);
+    let lines = if own.is_empty() { 2 } else { 3 };
+    padded(&format!(
+        "8 6 4 {} / 2 {lines} 0 0 / 1 3 0 0 / 0 2 0 0 / 0 2 0 0 / 1 2 0 0 / {nodes} / {root} 3 0 0 / {} 4 0 0 / 1 0 0 {t} / 2 0 0 6 / {own} / \
+         2 0 0 0 / 0 0 0 0 / 1 0 0 0",
+        root + 3,
+        root + 2
+    ))
+}
+
+/// A release unordered beside other moves (paper 02, F-3).
+pub fn releases() -> Vec<Case> {
+    let (release, set, keep) =
+        ("4 1 0 0 / 27 0 0 0", "4 1 0 0 / 1 3 0 0 / 21 0 1 0", "4 1 0 0 / 4 1 0 0 / 21 0 1 0");
+    // t := own(3).
+    let exchange = "4 1 0 0 / 1 3 0 0 / 5 3 1 0 / 21 0 2 0";
+    vec![
+        Case::new("7 released, own(7) being 6, and 6", with_a_release(release, 7, "3 7 0 6"), "17 0 1 0"),
+        Case::new("7 and 6 released", with_a_release(release, 7, ""), "0 0 0 2 / 0 6 0 2 / 0 7 0 2"),
+        Case::new("t := 3, t being 6, and 6 released", with_a_release(set, 6, ""), "17 0 1 0"),
+        Case::new(
+            "t := 3, t being 7, and 6 released",
+            with_a_release(set, 7, ""),
+            "0 0 0 2 / 0 6 0 2 / 1 0 0 3",
+        ),
+        Case::new("t := t, t being 6, and 6 released", with_a_release(keep, 6, ""), "17 0 1 0"),
+        Case::new(
+            "t := t, t being 7, and 6 released",
+            with_a_release(keep, 7, ""),
+            "0 0 0 2 / 0 6 0 2 / 1 0 0 7",
+        ),
+        Case::new("t := 7, t being 6, and 6 released", with_a_release(exchange, 6, "3 3 0 7"), "17 0 1 0"),
     ]
 }

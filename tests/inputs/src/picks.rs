@@ -223,7 +223,7 @@ fn takers(book: &Book, contents: &[u16], agent: usize, picks: &[Pick]) -> Vec<us
 }
 
 /// The nodes of the tree under a node, itself included.
-fn under(book: &Book, node: usize) -> Vec<usize> {
+pub fn under(book: &Book, node: usize) -> Vec<usize> {
     let mut nodes = vec![node];
     let mut next = 0;
     while next < nodes.len() {

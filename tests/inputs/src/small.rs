@@ -110,7 +110,8 @@ fn term(mut number: u64) -> Small {
 
 // ---- logs: up to four moves of three desks of each book, with every set of pairs
 
-const BOOKS: [fn() -> Vec<u8>; 3] = [desks, || shown().book, retiring];
+const BOOKS: [fn() -> Vec<u8>; 6] =
+    [desks, || shown().book, retiring, working_beside, || taking_out(4, 3), || taking_out(3, 5)];
 const DESKS: u64 = 3;
 const MOST_MOVES: u64 = 4;
 
@@ -138,6 +139,28 @@ fn retiring() -> Vec<u8> {
          21 3 4 0 / 26 0 1 5 / 4 2 0 0 / 27 7 0 0 / 23 2 6 8 / 20 0 0 0 / 4 3 0 0 / 4 3 0 0 / 21 11 12 0 / 9 0 0 0 / \
          10 1 0 0 / 13 2 0 0 / 2 0 0 4 / 3 0 0 3",
     )
+}
+
+/// Desk 0 takes a label to an empty hook t and releases it from a full one; desk 1, for the one member of a static universe, changes whether the
+/// label of s is in the dynamic one; desk 2 takes the label off a full hook u and imports one to an empty one. At the start t holds 8, s and u hold 7,
+/// and 4 and 5 are free.
+fn working_beside() -> Vec<u8> {
+    padded(
+        "9 4 6 28 / 3 6 0 0 / 1 3 0 0 / 1 3 0 0 / 0 2 0 0 / 0 2 0 0 / 0 2 0 0 / 1 1 0 0 / 4 2 0 0 / 1 0 0 0 / 7 0 1 0 / 4 2 0 0 / \
+         2 0 0 0 / 21 3 4 0 / 26 0 1 5 / 4 2 0 0 / 27 7 0 0 / 23 2 6 8 / 4 3 0 0 / 5 1 10 0 / 4 3 0 0 / 5 1 12 0 / 8 13 0 0 / \
+         21 11 14 0 / 25 0 5 15 / 4 4 0 0 / 1 0 0 0 / 7 17 18 0 / 4 4 0 0 / 2 0 0 0 / 21 20 21 0 / 26 0 1 22 / 4 4 0 0 / 1 0 0 0 / \
+         21 24 25 0 / 23 19 23 26 / 9 0 0 0 / 16 1 0 0 / 27 2 0 0 / 0 4 0 2 / 0 5 0 2 / 2 0 0 8 / 3 0 0 7 / 4 0 0 7 / 5 3 0 2",
+    )
+}
+
+/// Desk 0 releases the label 5 of a full hook t; desk 1 releases the label 4 of a full hook s; desk 2 sets u, which holds 4, to w. Function 1 at 5 and w
+/// hold these elements.
+fn taking_out(at_5: u32, w: u32) -> Vec<u8> {
+    padded(&format!(
+        "6 4 6 17 / 3 5 0 0 / 1 3 0 0 / 1 2 0 0 / 0 2 0 0 / 0 2 0 0 / 0 2 0 0 / 0 2 0 0 / 4 2 0 0 / 1 0 0 0 / 7 0 1 0 / 20 0 0 0 / \
+         4 2 0 0 / 27 4 0 0 / 23 2 3 5 / 4 3 0 0 / 1 0 0 0 / 7 7 8 0 / 20 0 0 0 / 4 3 0 0 / 27 11 0 0 / 23 9 10 12 / 4 4 0 0 / \
+         4 5 0 0 / 21 14 15 0 / 6 0 0 0 / 13 1 0 0 / 16 2 0 0 / 1 5 0 {at_5} / 2 0 0 5 / 3 0 0 4 / 4 0 0 4 / 5 0 0 {w}"
+    ))
 }
 
 fn log(mut number: u64) -> Small {

@@ -1,8 +1,8 @@
-// Each answer of each entry, each reason of the book's refusals, picks, and moves that change nothing occur often enough.
+// Each answer of each entry, each reason of the book's refusals, picks, releases, and moves that change nothing occur often enough.
 
 use inputs::{
-    book_input, cuts, idle_ways, picked_ways, report_input, run_input, step_input, Cut, Idle, Picked, Rng,
-    RunInput, StepInput,
+    book_input, cuts, idle_ways, picked_ways, report_input, retired_ways, run_input, step_input, Cut, Idle,
+    Picked, Retired, Rng, RunInput, StepInput,
 };
 use paper::{check_book, report, run, step, Answer, Line, Pick, LINE_BYTES};
 use std::collections::BTreeMap;
@@ -110,6 +110,19 @@ fn picks_in_logs() {
     ] {
         assert!(counts[&way] >= least, "{way:?} in {counts:?}");
     }
+}
+
+#[test]
+fn releases_in_logs() {
+    let counts = tally(|rng| {
+        let mut input = run_input(rng);
+        let answer = answer_of(&mut input);
+        retired_ways(&input.book, &input.log, answer)
+    });
+    println!("releases in logs: {counts:?}");
+    assert_all(&counts, Retired::ALL, INPUTS * 20 / 10_000);
+    let often = [Retired::Unordered, Retired::BesideWork].map(|way| counts[&way]);
+    assert!(often.iter().all(|&count| count >= INPUTS * 3 / 100), "{often:?} in accepted logs");
 }
 
 /// Why a choice line is at fault by 9, or the log's header for their count.

@@ -36,5 +36,5 @@ fn examples() {
             shown += 1;
         }
     }
-    assert!(shown >= 8, "{shown} examples");
+    assert!(shown >= 9, "{shown} examples");
 }

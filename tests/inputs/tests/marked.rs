@@ -1,13 +1,13 @@
 // The cases of paper 01 print what the independent implementation prints, and the proved table of the definitions has the same ones.
 
-use inputs::marked::{idle, limits, marked, picks, refusals, Case};
+use inputs::marked::{idle, limits, marked, picks, refusals, releases, Case};
 use paper::padded;
 use std::fs;
 
 #[test]
 fn printed_by_the_independent_implementation() {
-    let cases = [marked(), limits(), refusals(), idle(), picks()].concat();
-    assert_eq!(cases.len(), 12 + 11 + 18 + 5 + 14);
+    let cases = [marked(), limits(), refusals(), idle(), picks(), releases()].concat();
+    assert_eq!(cases.len(), 12 + 11 + 18 + 5 + 14 + 7);
     for case in cases {
         assert_eq!(paper::report(&case.input), case.output, "{}", case.name);
     }

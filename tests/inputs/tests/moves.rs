@@ -1,6 +1,6 @@
-// What holds of every move: sound contents stay sound, and only what is read decides.
+// What holds of every move: sound contents stay sound, and only what is read decides; where a release is, also where its label is held.
 
-use inputs::{books, fitting_picks, spoil_picks, step_input, tables, Rng, StepInput};
+use inputs::{books, fitting_picks, is_release, spoil_picks, step_input, tables, Rng, StepInput};
 use paper::*;
 
 const SEED: u64 = 21;
@@ -45,6 +45,7 @@ fn walked(tables: &TwoTables, contents: &[u16]) -> (Result<Vec<Instruction>, Ref
 #[test]
 fn only_what_is_read_decides() {
     let (mut fired, mut with_picks, mut refused, mut by_18, mut by_19) = (0, 0, 0, 0, 0);
+    let (mut with_release, mut by_12) = (0, 0);
     for input in 0..9_000 {
         let tables = two_tables(input);
         let TwoTables { book, first, picks, .. } = &tables;
@@ -59,16 +60,54 @@ fn only_what_is_read_decides() {
             let number = outcome.as_ref().map_or_else(|refusal| refusal.number, |_| 0);
             *(if number == 0 { &mut fired } else { &mut refused }) += 1;
             with_picks += usize::from(number == 0 && !picks.is_empty());
+            with_release += usize::from(outcome.as_ref().is_ok_and(|list| list.iter().any(is_release)));
+            by_12 += usize::from(number == 12);
             by_18 += usize::from(number == 18);
             by_19 += usize::from(number == 19);
         }
         assert_eq!(walked(&tables, &second).0, outcome, "input {input}");
     }
     println!(
-        "{fired} walks to the end, {with_picks} with picks; {refused} refused, {by_18} by 18, {by_19} by 19"
+        "{fired} walks to the end, {with_picks} with picks, {with_release} with a release; {refused} refused, {by_12} by 12, {by_18} by 18, {by_19} by 19"
     );
     assert!(fired >= 1_000 && refused >= 300, "{fired} walks to the end, {refused} refused ones");
     assert!(with_picks >= 500 && by_18 >= 50 && by_19 >= 200, "{with_picks} with picks, {by_18}, {by_19}");
+    assert!(with_release >= 200 && by_12 >= 200, "{with_release} with a release, {by_12} refused by 12");
+}
+
+/// With equal picks and tables that agree on the reads, a move that releases gives the same updates if both tables hold the released labels at
+/// the same locations; otherwise it may not.
+#[test]
+fn equal_reads_and_equal_holders_give_equal_updates() {
+    let (mut fired, mut others) = (0, 0);
+    for input in 0..18_000 {
+        let TwoTables { book, first, mut second, agent, picks } = two_tables(input);
+        let mut list = Vec::new();
+        let walk = walk_move(&book, &first, agent, &picks, &mut Marks::none(), &mut list);
+        if walk.is_err() || !list.iter().any(is_release) {
+            continue;
+        }
+        let Ok((reads, _)) = reads_and_writes(&book, &first, agent, &picks) else { continue };
+        reads.into_iter().for_each(|location| second[location] = first[location]);
+        if first == second {
+            continue;
+        }
+        fired += 1;
+        let mut again = Vec::new();
+        let walk = walk_move(&book, &second, agent, &picks, &mut Marks::none(), &mut again);
+        assert_eq!((walk, &again), (Ok(()), &list), "input {input}");
+        let expected = updates(&book, &first, &list);
+        others += usize::from(updates(&book, &second, &list) != expected);
+        let is_released = |value: u16| list.contains(&Instruction::Release { label: value });
+        for (value, &held) in second.iter_mut().zip(&first) {
+            if is_released(*value) {
+                *value = held;
+            }
+        }
+        assert_eq!(updates(&book, &second, &list), expected, "input {input}");
+    }
+    println!("{fired} moves that release, {others} with other updates where other locations hold the label");
+    assert!(fired >= 500 && others >= 50, "{fired} moves that release, {others} with other updates");
 }
 
 #[test]
@@ -123,8 +162,7 @@ fn a_move_leaves_what_its_instructions_say() {
         let mut after = before.clone();
         let mut list = Vec::new();
         if fire_move(&book, &mut after, agent, &picks, Marks::none(), &mut list).is_ok() {
-            let release = |instruction: &Instruction| matches!(instruction, Instruction::Release { .. });
-            with_release += usize::from(list.iter().any(release));
+            with_release += usize::from(list.iter().any(is_release));
             assert_eq!(after, by_the_words(&book, &before, &list), "input {input}");
         }
     }

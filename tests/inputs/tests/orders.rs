@@ -1,6 +1,9 @@
 // Any order of an accepted log that keeps the pairs, each move with its picks, fires the same moves and leaves the same end.
 
-use inputs::{idle_ways, picked_ways, random_order, run_input, small_input, small_inputs, Idle, Picked, Rng};
+use inputs::{
+    idle_ways, is_release, picked_ways, random_order, retired_ways, run_input, small_input, small_inputs,
+    Idle, Picked, Retired, Rng,
+};
 use paper::*;
 use std::collections::BTreeSet;
 
@@ -23,14 +26,29 @@ fn carried_out(book: &Book, log: &Log, order: &[usize]) -> Result<(Vec<Updates>,
     Ok((by_move, contents))
 }
 
+/// The moves of a log that release, as listed.
+fn releasing(book: &Book, log: &Log) -> Vec<usize> {
+    let mut contents = start_table(book);
+    let mut list = Vec::new();
+    let mut releases = |number: &usize| {
+        let (agent, picks) = (log.agents[*number], &log.picks[*number]);
+        fire_move(book, &mut contents, agent, picks, Marks::none(), &mut list).expect("each move fires");
+        list.iter().any(is_release)
+    };
+    (0..log.agents.len()).filter(|number| releases(number)).collect()
+}
+
 /// A log whose run is accepted.
 struct Accepted {
     book: Book,
     log: Log,
     end: Vec<u16>,
-    /// How moves that change nothing stand in it, and how picks do.
+    /// How moves that change nothing stand in it, how picks do, and how releases do.
     idle: Vec<Idle>,
     picked: Vec<Picked>,
+    retired: Vec<Retired>,
+    /// The moves that release.
+    releasing: Vec<usize>,
 }
 
 impl Accepted {
@@ -42,7 +60,9 @@ impl Accepted {
         run_checked(&book, &log, &mut end, &mut readers, &mut writers, 256).ok()?;
         let idle = idle_ways(book_text, log_text, Answer::ACCEPTED);
         let picked = picked_ways(book_text, log_text, Answer::ACCEPTED);
-        Some(Accepted { book, log, end, idle, picked })
+        let retired = retired_ways(book_text, log_text, Answer::ACCEPTED);
+        let releasing = releasing(&book, &log);
+        Some(Accepted { book, log, end, idle, picked, retired, releasing })
     }
 
     fn listing(&self) -> Vec<usize> {
@@ -54,6 +74,15 @@ impl Accepted {
         let picking: Vec<usize> =
             order.iter().copied().filter(|&number| !self.log.picks[number].is_empty()).collect();
         !picking.is_sorted()
+    }
+
+    /// Whether a move that releases and another one do not come as they are listed.
+    fn exchanges_release(&self, order: &[usize]) -> bool {
+        let place = |number: usize| order.iter().position(|&other| other == number);
+        let exchanged = |release: usize| {
+            self.listing().into_iter().any(|other| (place(other) < place(release)) != (other < release))
+        };
+        self.releasing.iter().any(|&release| exchanged(release))
     }
 
     /// All these orders do what the listing does, and end as the run did.
@@ -71,15 +100,20 @@ impl Accepted {
 
 /// How many orders other than the listing there were: of all logs, of those with a move that changes
 /// nothing, of those with such a move unordered with a release; of those with picks, of those with several picks of one choice in a move;
-/// and of those in which moves that pick changed places.
+/// and of those in which moves that pick changed places. Then how many logs had such an order: all, those with a release unordered with
+/// another move, those with one unordered with a move that changes something, those with an order in which a release and another move changed places.
 #[derive(Debug, Default)]
 struct Others {
     all: usize,
     idle: usize,
-    beside_release: usize,
+    idle_beside_release: usize,
     picks: usize,
     in_turns: usize,
     picks_exchanged: usize,
+    logs: usize,
+    logs_with_release: usize,
+    logs_with_work: usize,
+    releases_exchanged: usize,
 }
 
 impl Others {
@@ -90,7 +124,7 @@ impl Others {
             self.idle += others;
         }
         if accepted.idle.contains(&Idle::BesideRelease) {
-            self.beside_release += others;
+            self.idle_beside_release += others;
         }
         if accepted.picked.contains(&Picked::Accepted) {
             self.picks += others;
@@ -99,6 +133,20 @@ impl Others {
             self.in_turns += others;
         }
         self.picks_exchanged += orders.iter().filter(|order| accepted.exchanges_picks(order)).count();
+        if others > 0 {
+            self.logs += 1;
+            self.logs_with_release += usize::from(accepted.retired.contains(&Retired::Unordered));
+            self.logs_with_work += usize::from(accepted.retired.contains(&Retired::BesideWork));
+            self.releases_exchanged +=
+                usize::from(orders.iter().any(|order| accepted.exchanges_release(order)));
+        }
+    }
+
+    /// At least a fifth of the logs have a release unordered with a move that changes something, and in most of those with a release unordered
+    /// with any other move the two changed places.
+    fn assert_releases(&self) {
+        assert!(5 * self.logs_with_work >= self.logs, "{self:?}");
+        assert!(10 * self.releases_exchanged >= 9 * self.logs_with_release, "{self:?}");
     }
 }
 
@@ -119,7 +167,8 @@ fn any_order_that_keeps_the_pairs_does_the_same() {
         others.count(&accepted, &orders);
     }
     println!("random logs: {others:?}");
-    assert!(others.all >= 10_000 && others.idle >= 4_000 && others.beside_release >= 300, "{others:?}");
+    others.assert_releases();
+    assert!(others.all >= 10_000 && others.idle >= 4_000 && others.idle_beside_release >= 300, "{others:?}");
     assert!(others.picks >= 4_000 && others.in_turns >= 500 && others.picks_exchanged >= 1_500, "{others:?}");
 }
 
@@ -148,7 +197,8 @@ fn all_orders_of_the_small_logs_do_the_same() {
         others.count(&accepted, &orders);
     }
     println!("small logs: {others:?}");
-    assert!(others.all >= 2_000 && others.idle >= 1_000 && others.beside_release >= 500, "{others:?}");
+    others.assert_releases();
+    assert!(others.all >= 2_000 && others.idle >= 1_000 && others.idle_beside_release >= 500, "{others:?}");
     assert!(others.picks >= 250 && others.in_turns >= 150 && others.picks_exchanged >= 250, "{others:?}");
 }
 

@@ -1,6 +1,9 @@
 // The small inputs are those that they are said to be, and get many different answers.
 
-use inputs::{cuts, picked_ways, small_input, small_inputs, small_move, small_moves, Cut, Picked, Small};
+use inputs::{
+    cuts, picked_ways, retired_ways, small_input, small_inputs, small_move, small_moves, Cut, Picked,
+    Retired, Small,
+};
 use paper::{check_book, report, run, step, Answer, INSTRUCTIONS};
 use std::collections::BTreeMap;
 
@@ -43,6 +46,21 @@ fn picks() {
     println!("picks in small inputs: {counts:?}");
     assert_eq!(counts.len(), Picked::ALL.len(), "{counts:?}");
     assert!(counts.values().all(|&count| count >= 16), "{counts:?}");
+}
+
+#[test]
+fn releases() {
+    let mut counts: BTreeMap<Retired, u64> = BTreeMap::new();
+    for number in 0..small_inputs() {
+        let small = small_input(number);
+        let answer = run_of(&small);
+        for way in retired_ways(&small.book, &small.log, answer) {
+            *counts.entry(way).or_insert(0) += 1;
+        }
+    }
+    println!("releases in small inputs: {counts:?}");
+    assert_eq!(counts.len(), Retired::ALL.len(), "{counts:?}");
+    assert!(counts.values().all(|&count| count >= 8), "{counts:?}");
 }
 
 #[test]

@@ -66,6 +66,13 @@ pub struct Book {
     pub locations: usize,
 }
 
+impl Book {
+    /// Whether an element of the book is a label.
+    pub fn is_label(&self, element: u16) -> bool {
+        element as usize >= self.permanent
+    }
+}
+
 /// The fields of the two header lines, within bounds.
 pub struct Header {
     elements: usize,

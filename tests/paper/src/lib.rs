@@ -1,4 +1,4 @@
-// Paper 01, as F-1 and F-2 of paper 02 change it, in plain Rust: the book check, a single move, the run of
+// Paper 01, as F-1 to F-3 of paper 02 change it, in plain Rust: the book check, a single move, the run of
 // a log and the log printer.
 #![forbid(unsafe_code)]
 

@@ -1,4 +1,7 @@
 // A move after its walk: clash, firing and marks; and the entry for a single move.
+//
+// A move that fires reads what its walk looked at, each location that a release of it gives a value (F-3 of
+// paper 02), and, for each location that it changes from a label to another value, Reserve at that label.
 
 use crate::answer::{Answer, Refusal};
 use crate::book::{check_book, Book, Function, TRUE};
@@ -105,13 +108,14 @@ fn default_by_release(book: &Book, contents: &[u16], location: usize, released: 
     cleared.then(|| function.default_value())
 }
 
-/// Carries out the instructions of a move without clash and marks what it writes.
+/// Carries out the instructions of a move without clash and marks what it writes, and what it reads beyond
+/// its walk.
 fn fire(book: &Book, contents: &mut [u16], list: &[Instruction], released: &Released, marks: &mut Marks) {
     if !released.labels.is_empty() {
         for function in book.functions.iter().filter(|function| function.dynamic) {
-            clear_holders(function, contents, released, marks);
+            clear_holders(book, function, contents, released, marks);
             for &label in &released.labels {
-                clear_arguments(function, contents, label as usize, book.elements, marks);
+                clear_arguments(book, function, contents, label as usize, marks);
             }
         }
         for &label in &released.labels {
@@ -120,46 +124,62 @@ fn fire(book: &Book, contents: &mut [u16], list: &[Instruction], released: &Rele
     }
     for instruction in list {
         if let Instruction::Update { location, value } = *instruction {
-            contents[location] = value;
             marks.written(location);
+            read_of_label_taken_out(book, contents[location], value, marks);
+            contents[location] = value;
         }
     }
 }
 
-/// Gives each location of a function that holds a released label its default.
-fn clear_holders(function: &Function, contents: &mut [u16], released: &Released, marks: &mut Marks) {
+/// A location that changes from a label to another value: the move reads Reserve at that label.
+fn read_of_label_taken_out(book: &Book, before: u16, after: u16, marks: &mut Marks) {
+    if book.is_label(before) && after != before {
+        // Reserve is function 0, so its location is the label.
+        marks.read(before as usize);
+    }
+}
+
+/// Gives a location that a release clears its default, here as `value`. A release reads each location that it
+/// gives a value.
+fn clear(book: &Book, function: &Function, offset: usize, value: &mut u16, marks: &mut Marks) {
+    let default = function.default_value();
+    let location = function.first + offset;
+    marks.written(location);
+    marks.read(location);
+    read_of_label_taken_out(book, *value, default, marks);
+    *value = default;
+}
+
+/// Clears each location of a function that holds a released label.
+fn clear_holders(
+    book: &Book,
+    function: &Function,
+    contents: &mut [u16],
+    released: &Released,
+    marks: &mut Marks,
+) {
     if function.relation {
         return;
     }
-    let default = function.default_value();
     let values = &mut contents[function.run()];
     for (offset, value) in values.iter_mut().enumerate() {
         if released.has(*value as usize) {
-            *value = default;
-            marks.written(function.first + offset);
+            clear(book, function, offset, value, marks);
         }
     }
 }
 
-/// Gives each location of a function with the label as argument its default.
-fn clear_arguments(
-    function: &Function,
-    contents: &mut [u16],
-    label: usize,
-    elements: usize,
-    marks: &mut Marks,
-) {
+/// Clears each location of a function with the label as argument.
+fn clear_arguments(book: &Book, function: &Function, contents: &mut [u16], label: usize, marks: &mut Marks) {
+    let elements = book.elements;
     let values = &mut contents[function.run()];
-    let mut clear = |offset: usize| {
-        values[offset] = function.default_value();
-        marks.written(function.first + offset);
-    };
+    let mut clear_at = |offset: usize| clear(book, function, offset, &mut values[offset], marks);
     match function.arity {
         0 => {}
-        1 => clear(label),
+        1 => clear_at(label),
         _ => {
-            (0..elements).for_each(|other| clear(label * elements + other));
-            (0..elements).for_each(|other| clear(other * elements + label));
+            (0..elements).for_each(|other| clear_at(label * elements + other));
+            (0..elements).for_each(|other| clear_at(other * elements + label));
         }
     }
 }

@@ -57,8 +57,8 @@ impl Marks<'_> {
 }
 
 /// Walks an agent's rule in these contents with these picks, which are elements: fills the instruction
-/// list and marks the reads. When refused, the list holds the instructions before the refusal and some
-/// reads are marked.
+/// list and marks what the walk reads; firing marks more reads. When refused, the list holds the
+/// instructions before the refusal and some reads are marked.
 pub fn walk_move(
     book: &Book,
     contents: &[u16],
@@ -82,10 +82,6 @@ pub fn walk_move(
     walk.rule(agent.root)?;
     if !walk.picks.is_empty() {
         return Err(Refusal { number: 19, place: agent.root });
-    }
-    if walk.list.iter().any(|instruction| matches!(instruction, Instruction::Release { .. })) {
-        let dynamic = book.functions.iter().filter(|function| function.dynamic);
-        dynamic.for_each(|function| walk.marks.read_all(function.run()));
     }
     Ok(())
 }
@@ -174,10 +170,14 @@ impl Walk<'_, '_> {
         Ok(label as u16)
     }
 
+    /// Releases the term's value, which has to be a label that is not in Reserve; 12 reads Reserve at the label.
     fn release(&mut self, node: usize, term: usize) -> Result<(), Refusal> {
         let label = self.term(term);
         let element = label as usize;
-        if element < self.book.permanent || self.contents[element] == TRUE {
+        if self.book.is_label(label) {
+            self.marks.read(element);
+        }
+        if !self.book.is_label(label) || self.contents[element] == TRUE {
             return Err(Refusal { number: 12, place: node });
         }
         self.add(node, Instruction::Release { label })

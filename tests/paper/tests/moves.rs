@@ -365,17 +365,6 @@ mod reads_writes_and_marks {
         assert_eq!(touched(&rule(two, "0 6 0 2 / 0 7 0 2")), (vec![6, 7], vec![6, 7, U + 6, U + 7]));
     }
 
-    /// Choice: a move with a release is one whose instruction list has a release.
-    #[test]
-    fn a_release_reads_every_dynamic_location() {
-        // If r then release g else h := 3.
-        let nodes = "4 8 0 0 / 4 4 0 0 / 27 1 0 0 / 4 5 0 0 / 1 3 0 0 / 21 3 4 0 / 23 0 2 5";
-        assert_eq!(touched(&rule(nodes, "4 0 0 6")), (vec![R], vec![H]));
-        let dynamic: Vec<usize> = (0..34).chain([R]).collect();
-        let written = vec![6, U + 6, V + 6, F + 2, F + 6, G];
-        assert_eq!(touched(&rule(nodes, "3 2 0 6 / 4 0 0 6 / 8 0 0 2")), (dynamic, written));
-    }
-
     #[test]
     fn unchanged_writes_are_writes() {
         // g := 3 beside h := 4, with g 3 already.
@@ -532,10 +521,13 @@ mod idle {
 
     #[test]
     fn a_write_of_what_stands_unordered_with_a_release() {
+        // g holds 3, which the release does not write, or its label, which it does.
         for write in [SET_G, KEEP_G] {
-            assert_eq!(unordered(write, RELEASE_H, "4 0 0 3 / 5 0 0 6"), refused(17, 0, 1));
-            assert_eq!(unordered(RELEASE_H, write, "4 0 0 3 / 5 0 0 6"), refused(17, 0, 1));
+            assert_eq!(unordered(write, RELEASE_H, "4 0 0 3 / 5 0 0 6"), accepted());
+            assert_eq!(unordered(RELEASE_H, write, "4 0 0 3 / 5 0 0 6"), accepted());
         }
+        assert_eq!(unordered(KEEP_G, RELEASE_H, "4 0 0 6 / 5 0 0 6"), refused(17, 0, 1));
+        assert_eq!(unordered(RELEASE_H, KEEP_G, "4 0 0 6 / 5 0 0 6"), refused(17, 0, 1));
     }
 
     #[test]
@@ -589,8 +581,11 @@ mod touching {
     }
 
     #[test]
-    fn a_release_and_any_write() {
-        assert_eq!(unordered("4 5 0 0 / 27 0 0 0", SET_G, "5 0 0 6"), refused(17, 0, 1));
+    fn a_release_and_a_write() {
+        // g := 3 and release h; f(h) := 3 and release g, which holds the label of h.
+        assert_eq!(unordered("4 5 0 0 / 27 0 0 0", SET_G, "5 0 0 6"), accepted());
+        let set_fh = "4 5 0 0 / 5 3 0 0 / 1 3 0 0 / 21 1 2 0";
+        assert_eq!(unordered(set_fh, "4 4 0 0 / 27 0 0 0", "4 0 0 6 / 5 0 0 6"), refused(17, 0, 1));
     }
 
     #[test]

@@ -561,10 +561,11 @@ mod reads_and_marks {
 
     #[test]
     fn a_choice_and_a_release() {
-        // Choose x in U do g := x, and release h; the label 6 is in U, or not.
+        // Choose x in U do g := x, and release h, with h 6; the pick is 3 or 6.
         let release = "4 5 0 0 / 27 0 0 0";
-        let book = rules(&[PICK, release], "1 3 0 2 / 5 0 0 6");
-        assert_eq!(run_of(&book, &log_with(&[0, 1], &[], &[(0, 3)])).answer, refused(17, 0, 1));
+        let book = rules(&[PICK, release], "1 3 0 2 / 1 6 0 2 / 5 0 0 6");
+        assert_eq!(run_of(&book, &log_with(&[0, 1], &[], &[(0, 3)])).answer, accepted());
+        assert_eq!(run_of(&book, &log_with(&[0, 1], &[], &[(0, 6)])).answer, refused(17, 0, 1));
         let look = "20 0 0 0 / 28 0 1 0";
         let book = rules(&[look, release], "1 3 0 2 / 1 6 0 2 / 5 0 0 6");
         // A look at 3 is not written by the release of 6, a look at 6 is.

@@ -1,32 +1,34 @@
+-- `clear_all` meets its contract.
 use mathlib.Core.Path.{_≡_, refl, sym, ap, ap₂, _∙_}
-use mathlib.Core.List.{List, []}
-use Prim.Native.Nat.{_+_, _-_}
+use mathlib.Core.List.{List}
+use Prim.Native.Nat.{ℕ, _+_, _-_}
 use borrow.Author.Needs.{needs}
 use lib.ListN.{length, getD, drop}
 use Rattle.book.specs.Image.{held}
 use Rattle.engine.specs.declared.Instruction.{Instruction}
+use Rattle.term.specs.Marks.{marked}
+use Rattle.term.proofs.Marking.{marked-append}
 use Rattle.records.specs.Code.{decode-of, items}
-use Rattle.clearing.specs.Steps.{clear-of, clear-marks-of, clears, clear-marks}
+use Rattle.clearing.specs.Steps.{clear-of, clear-marks-of, clear-reads-of, clears, clear-marks, clears-reads}
 use Rattle.traces.proofs.Laws.{items-cons, items-end}
 use Rattle.clearing.proofs.clear_all.Statement.{statement}
 use Rattle.clearing.proofs.clear_all.Tie as tie
-use Rattle.clearing.proofs.clear_all.Reads as reads
-use Rattle.clearing.proofs.clear_all.Lts as lts
 
 abbrev Inv-loop : tie.InvT-loop
-Inv-loop image contents₀ writers₀ list len bit n j₀ contents writers j =
+Inv-loop image contents₀ readers₀ writers₀ list len bit n j₀ contents readers writers j =
     (clears (held image) (drop j (items list len)) contents ≡ clears (held image) (items list len) contents₀)
     × (clear-marks bit (held image) (drop j (items list len)) contents writers ≡ clear-marks bit (held image) (items list len) contents₀ writers₀)
-    × (length contents ≡ length contents₀) × (length writers ≡ length writers₀)
+    × (marked bit (clears-reads (held image) (drop j (items list len)) contents) readers ≡ marked bit (clears-reads (held image) (items list len) contents₀) readers₀)
+    × (length contents ≡ length contents₀) × (length readers ≡ length readers₀) × (length writers ≡ length writers₀)
 
 abbrev μ-loop : tie.MeasureT-loop
-μ-loop image contents₀ writers₀ list len bit n j₀ contents writers j = n - j
+μ-loop image contents₀ readers₀ writers₀ list len bit n j₀ contents readers writers j = n - j
 
 smaller-requires : tie.Need-smaller-requires Inv-loop μ-loop
 smaller-requires c κs = search needs
 
 loop-holds : tie.Need-loop-holds Inv-loop μ-loop
-loop-holds c = (refl, refl, refl, refl)
+loop-holds c = (refl, refl, refl, refl, refl, refl)
 
 mul-decode : tie.Need-mul-decode Inv-loop μ-loop
 mul-decode c = search needs
@@ -47,18 +49,54 @@ loop-less : tie.Need-loop-less Inv-loop μ-loop
 loop-less c = search needs
 
 loop-again : tie.Need-loop-again Inv-loop μ-loop
-unfolding clears clear-marks
-loop-again c = let a = c .before .before .before .before .before .before .before .before .before .before .before .before .before .before .before .args in let B = held (a .image .now) in let n = c .before .before .before .before .before .before .before .before .before .before .before .smaller in let l = c .before .before .before .before .before .before .before .before .before .before .loop in let is = items (a .list .now) (a .len) in let w = decode-of (getD (a .list .now) (l .j) 0) in let d = items-cons (a .list .now) (a .len) (n .result) (n .ensures) (l .j) (c .before .before .before .before .before .before .before .before .before .loop-test .taken) in let q : c .before .before .before .before .clear-for .last .1 .0 ≡ clear-of B w (l .contents) = c .before .before .before .before .clear-for .ensures .0 ∙ rw (c .before .before .before .before .before .before .before .decode .ensures) in let p : c .before .before .before .before .clear-for .last .1 .1 .0 ≡ clear-marks-of (a .bit) B w (l .contents) (l .writers) = c .before .before .before .before .clear-for .ensures .1 ∙ rw (c .before .before .before .before .before .before .before .decode .ensures) in (ap (clears B (drop (l .j + 1) is)) q ∙ sym (ap (λ (xs : List Instruction). clears B xs (l .contents)) d) ∙ l .inv .0, ap₂ (clear-marks (a .bit) B (drop (l .j + 1) is)) q p ∙ sym (ap (λ (xs : List Instruction). clear-marks (a .bit) B xs (l .contents) (l .writers)) d) ∙ l .inv .1, c .before .before .before .before .clear-for .kept .1 .0 ∙ l .inv .2, c .before .before .before .before .clear-for .kept .1 .1 .0 ∙ l .inv .3)
+unfolding clears clear-marks clears-reads
+loop-again c =
+    let a = c .before .before .before .before .before .before .before .before .before .before .before .before .before .before .before .before .before .before .before .args in
+    let B = held (a .image .now) in
+    let n = c .before .before .before .before .before .before .before .before .before .before .before .before .before .before .smaller in
+    let l = c .before .before .before .before .before .before .before .before .before .before .before .before .before .loop in
+    let step = c .before .before .before .before .before .before .clear-for in
+    let what = c .before .before .before .before .before .before .before .before .before .before .decode .ensures in
+    let is = items (a .list .now) (a .len) in
+    let w = decode-of (getD (a .list .now) (l .j) 0) in
+    let rest = drop (l .j + 1) is in
+    let d = items-cons (a .list .now) (a .len) (n .result) (n .ensures) (l .j) (c .before .before .before .before .before .before .before .before .before .before .before .before .loop-test .taken) in
+    let q : step .last .1 .0 ≡ clear-of B w (l .contents) = step .ensures .0 ∙ rw what in
+    let p : step .last .1 .1 .1 .0 ≡ clear-marks-of (a .bit) B w (l .contents) (l .writers) = step .ensures .1 .0 ∙ rw what in
+    let r : step .last .1 .1 .0 ≡ marked (a .bit) (clear-reads-of B w (l .contents)) (l .readers) = step .ensures .1 .1 ∙ rw what in (
+      ap (clears B rest) q ∙ sym (ap (λ (xs : List Instruction). clears B xs (l .contents)) d) ∙ l .inv .0,
+      ap₂ (clear-marks (a .bit) B rest) q p ∙ sym (ap (λ (xs : List Instruction). clear-marks (a .bit) B xs (l .contents) (l .writers)) d) ∙ l .inv .1,
+      ap₂ (λ (c rs : List ℕ). marked (a .bit) (clears-reads B rest c) rs) q r
+          ∙ sym (marked-append (a .bit) (clear-reads-of B w (l .contents)) (clears-reads B rest (clear-of B w (l .contents))) (l .readers))
+          ∙ sym (ap (λ (xs : List Instruction). marked (a .bit) (clears-reads B xs (l .contents)) (l .readers)) d) ∙ l .inv .2,
+      step .kept .1 .0 ∙ l .inv .3,
+      step .kept .1 .1 .0 ∙ l .inv .4,
+      step .kept .1 .1 .1 .0 ∙ l .inv .5,
+    )
 
 same-length : tie.Need-same-length Inv-loop μ-loop
-same-length c = c .before .loop .inv .2
+same-length c = c .before .loop .inv .3
 
 same-length-2 : tie.Need-same-length-2 Inv-loop μ-loop
-same-length-2 c = c .before .loop .inv .3
+same-length-2 c = c .before .loop .inv .4
+
+same-length-3 : tie.Need-same-length-3 Inv-loop μ-loop
+same-length-3 c = c .before .loop .inv .5
 
 returns : tie.Need-returns Inv-loop μ-loop
-unfolding clears clear-marks
-returns c = let a = c .before .before .before .before .before .before .args in let B = held (a .image .now) in let n = c .before .before .smaller in let l = c .before .loop in let d = items-end (a .list .now) (a .len) (n .result) (n .ensures) (l .j) (c .loop-test .left) in (sym (ap (λ (xs : List Instruction). clears B xs (l .contents)) d) ∙ l .inv .0, sym (ap (λ (xs : List Instruction). clear-marks (a .bit) B xs (l .contents) (l .writers)) d) ∙ l .inv .1)
+unfolding clears clear-marks clears-reads marked
+returns c =
+    let a = c .before .before .before .before .before .before .before .args in
+    let B = held (a .image .now) in
+    let n = c .before .before .smaller in
+    let l = c .before .loop in
+    let d = items-end (a .list .now) (a .len) (n .result) (n .ensures) (l .j) (c .loop-test .left) in (
+      sym (ap (λ (xs : List Instruction). clears B xs (l .contents)) d) ∙ l .inv .0,
+      (
+        sym (ap (λ (xs : List Instruction). clear-marks (a .bit) B xs (l .contents) (l .writers)) d) ∙ l .inv .1,
+        sym (ap (λ (xs : List Instruction). marked (a .bit) (clears-reads B xs (l .contents)) (l .readers)) d) ∙ l .inv .2,
+      ),
+    )
 
 pub clear-all-spec : {M : Type 1} → statement M
 clear-all-spec =
@@ -77,4 +115,5 @@ clear-all-spec =
     loop-again
     same-length
     same-length-2
+    same-length-3
     returns)

@@ -1,8 +1,15 @@
 -- `clear_run` meets its contract.
-use Rattle.clearing.proofs.Runs.{run-contents, run-marks}
+use mathlib.Core.Path.{ap, _∙_}
+use mathlib.Core.List.{List}
+use Prim.Native.Nat.{ℕ}
 use borrow.Author.Needs.{needs}
+use Rattle.term.specs.Marks.{marked}
+use Rattle.clearing.proofs.Runs.{run-contents, run-marks, run-read}
 use Rattle.clearing.proofs.clear_run.Statement.{statement}
 use Rattle.clearing.proofs.clear_run.Tie as tie
+
+cast-first : tie.Need-cast-first
+cast-first c = search needs
 
 smaller-requires : tie.Need-smaller-requires
 smaller-requires c κs = search needs
@@ -49,23 +56,31 @@ same-length c = search needs
 same-length-2 : tie.Need-same-length-2
 same-length-2 c = search needs
 
+same-length-3 : tie.Need-same-length-3
+same-length-3 c = search needs
+
 returns : tie.Need-returns
 returns c =
-    let s = c .before .before .before .before .before .before .before .before .before .before .before .before .before in
+    let s = c .before .before .before .before .before .before .before .before .before .before .before .before .before .before .before .before .before .before in
     let a = s .args in
-    let first = c .before .before .before .before .before .before .before .before .before .before .smaller in
-    let end = c .before .before .before .before .before .before .before .before .before .smaller2 in
-    let start = c .before .before .before .before .before .before .before .before .smaller3 in
-    let stop = c .before .before .before .before .before .before .before .smaller4 in
-    let part = c .before .before .before .before .clear-part in (
-      run-contents (a .e) (a .own .function) (a .x) (a .bit) (a .own .first) (a .own .end) (a .contents .now) (a .writers .now) (s .pre) (first .result) (end .result) (first .ensures) (end .ensures) (part .last .0) (part .ensures .0),
-      run-marks (a .e) (a .own .function) (a .x) (a .bit) (a .own .first) (a .own .end) (a .contents .now) (a .writers .now) (s .pre) (first .result) (end .result) (first .ensures) (end .ensures) (start .result) (stop .result) (part .last .1 .0) (start .ensures) (stop .ensures) (part .ensures .1),
+    let r = a .r in
+    let first = c .before .before .before .before .before .before .before .before .before .before .before .before .before .smaller in
+    let end = c .before .before .before .before .before .before .before .before .before .before .before .before .smaller2 in
+    let start = c .before .before .before .before .before .before .before .before .before .before .before .smaller3 in
+    let stop = c .before .before .before .before .before .before .before .before .before .before .smaller4 in
+    let part = c .before .before .before .before .before .before .clear-part in (
+      run-contents (r .elements) (r .function) (r .label) (r .bit) (r .first) (a .end) (a .contents .now) (a .writers .now) (s .pre) (first .result) (end .result) (first .ensures) (end .ensures) (part .last .0) (part .ensures .0),
+      (
+        run-marks (r .elements) (r .function) (r .label) (r .bit) (r .first) (a .end) (a .contents .now) (a .writers .now) (s .pre) (first .result) (end .result) (first .ensures) (end .ensures) (start .result) (stop .result) (part .last .1 .1 .0) (start .ensures) (stop .ensures) (part .ensures .1 .0),
+        part .ensures .1 .1 ∙ ap (λ (s : List ℕ). marked (r .bit) s (a .readers .now)) (run-read (r .elements) (r .function) (r .label) (r .bit) (r .first) (a .end) (a .contents .now) (a .writers .now) (s .pre) (first .result) (end .result) (first .ensures) (end .ensures) (r .permanent)),
+      ),
     )
 
 pub clear-run-spec : {M : Type 1} → statement M
 clear-run-spec =
     tie.close
     (tie.spec
+    cast-first
     smaller-requires
     smaller-requires-2
     smaller-requires-3
@@ -81,4 +96,5 @@ clear-run-spec =
     clear-part-requires
     same-length
     same-length-2
+    same-length-3
     returns)

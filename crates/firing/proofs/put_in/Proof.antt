@@ -16,47 +16,36 @@ use Rattle.firing.proofs.mark_in.Reads as mark-in-reads
 use Rattle.firing.proofs.put.Reads as put-reads
 use Rattle.numbers.proofs.smaller.Reads as smaller-reads
 
--- src/lib.rt:97:9
 smaller-requires : tie.Need-smaller-requires
 smaller-requires c κs = search needs
 
--- src/lib.rt:99:13
 mul-put : tie.Need-mul-put
 mul-put c = search needs
 
--- src/lib.rt:99:13
 sub-put : tie.Need-sub-put
 sub-put c = search needs
 
--- src/lib.rt:99:13
 part-put-start : tie.Need-part-put-start
 part-put-start c = search needs
 
--- src/lib.rt:99:13
 part-put-end : tie.Need-part-put-end
 part-put-end c = search needs
 
--- src/lib.rt:99:38
 sub-put-2 : tie.Need-sub-put-2
 sub-put-2 c = search needs
 
--- src/lib.rt:99:9
 put-requires : tie.Need-put-requires
 put-requires c κs = search needs
 
--- src/lib.rt:100:9
 mark-in-requires : tie.Need-mark-in-requires
 mark-in-requires c κs = search needs
 
--- src/lib.rt:84:1
 same-length : tie.Need-same-length
 same-length c = search needs
 
--- src/lib.rt:84:1
 same-length-2 : tie.Need-same-length-2
 same-length-2 c = search needs
 
--- src/lib.rt:84:1
 returns : tie.Need-returns
 returns c =
     let s = c .before .before .before .before .before .before .before .before .before .before .before .before in
@@ -69,7 +58,6 @@ returns c =
       c .before .before .mark-in .ensures ∙ rw (lt-ltb (a .at) (length (a .contents .now)) k),
     )
 
--- src/lib.rt:84:1
 returns-2 : tie.Need-returns-2
 returns-2 c =
     let s = c .before .before .before .before in

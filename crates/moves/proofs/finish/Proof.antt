@@ -5,7 +5,7 @@ use Rattle.book.specs.Image.{held}
 use Rattle.engine.specs.Rule.{Walked}
 use Rattle.engine.specs.Move.{settle}
 use Rattle.walk.proofs.Steps.{outcome-going, outcome-met}
-use Rattle.moves.specs.Effect.{tables}
+use Rattle.firing.specs.Tables.{tables}
 use Rattle.moves.specs.Close.{told, Completed}
 use Rattle.moves.proofs.finish.Statement.{statement}
 use Rattle.moves.proofs.finish.Tie as tie

@@ -2,7 +2,7 @@
 // Usage: program PROGRAM, as `program target/bin/rental`. Its last line is 'N passed, M failed'.
 
 use inputs::documents::{numbers, shown_in};
-use inputs::marked::{idle, limits, marked, picks, refusals, Case};
+use inputs::marked::{idle, limits, marked, picks, refusals, releases, Case};
 use inputs::{report_input, Rng};
 use std::fs;
 use std::io::{self, Write};
@@ -171,7 +171,7 @@ fn main() -> ExitCode {
         return ExitCode::from(2);
     };
     let mut trial = Trial { program: program.into(), passed: 0, failed: 0 };
-    trial.cases([marked(), limits(), refusals(), idle(), picks()].concat());
+    trial.cases([marked(), limits(), refusals(), idle(), picks(), releases()].concat());
     trial.document("DECISIONS.md");
     trial.document("REFUSALS.md");
     trial.examples();
