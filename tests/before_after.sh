@@ -64,8 +64,8 @@ END
 # build NAME LIBRARY: the program `bench` over a library, as $work/NAME/bench
 build() {
     mkdir "$work/$1"
-    $place "$2" "$work/$1/libfor_c.a"
-    without_picks "$work/$1/libfor_c.a"
+    $place "$2" "$work/$1/libc_api.a"
+    without_picks "$work/$1/libc_api.a"
     RENTAL_LIBRARY="$work/$1" cargo build --offline --release --quiet --manifest-path "$tests/Cargo.toml" \
         --target-dir "$work/target" -p compare --bin bench
     cp "$work/target/release/bench" "$work/$1/bench"

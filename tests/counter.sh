@@ -5,7 +5,7 @@ set -u
 cd "$(dirname "$0")/.." || exit 1
 work=$(mktemp -d) || exit 1
 trap 'rm -rf "$work"' EXIT
-gcc -std=c11 -Wall -Wextra -Werror -O2 -o "$work/counter" tests/counter.c target/staticlib/libfor_c.a || exit 1
+gcc -std=c11 -Wall -Wextra -Werror -O2 -o "$work/counter" tests/counter.c target/staticlib/libc_api.a || exit 1
 passed=0
 failed=0
 

@@ -3,7 +3,7 @@ fn main() {
     let here = concat!(env!("CARGO_MANIFEST_DIR"), "/../../target/staticlib");
     let library = std::env::var("RENTAL_LIBRARY").unwrap_or_else(|_| here.to_string());
     println!("cargo:rustc-link-search=native={library}");
-    println!("cargo:rustc-link-lib=static=for_c");
+    println!("cargo:rustc-link-lib=static=c_api");
     println!("cargo:rerun-if-changed={library}");
     println!("cargo:rerun-if-env-changed=RENTAL_LIBRARY");
 }

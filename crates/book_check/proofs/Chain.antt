@@ -27,11 +27,11 @@ use Rattle.book.specs.Image.{image-length, word, row-in, capped, program-in, fi
 use Rattle.book.proofs.Accepted.{header-bounded, lines-book, lines-nodes, book-lengths}
 use Rattle.book.proofs.Image.{uncapped, within-bounds, functions-long}
 use Rattle.book.proofs.Kept.{kept-nodes, entry-kept, bad-node-kept, kept-whole}
-use Rattle.rows.specs.Rows.{headed, taken, passed, laid, Rows}
-use Rattle.rows.proofs.Rows.{length-headed, length-taken, taken-rows, laid-holds, laid-agent}
-use Rattle.contents.specs.declared.Faults.{Faults}
-use Rattle.contents.specs.Roll.{entries-from}
-use Rattle.contents.specs.Pass.{faults, bad-at, faults-from}
+use Rattle.book_load.specs.Rows.{headed, taken, passed, laid, Rows}
+use Rattle.book_load.proofs.Rows.{length-headed, length-taken, taken-rows, laid-holds, laid-agent}
+use Rattle.book_entries.specs.declared.Faults.{Faults}
+use Rattle.book_entries.specs.Roll.{entries-from}
+use Rattle.book_entries.specs.Pass.{faults, bad-at, faults-from}
 use Rattle.book_check.specs.Opened.{Opened, check-text}
 
 -- ---- one check, answered by a, and what follows

@@ -14,7 +14,7 @@ ghost use Rattle.book.specs.declared.Header.{Header};
 ghost use Rattle.book.specs.Lines.{header-of};
 ghost use Rattle.book.specs.Image.{image-length, Room};
 ghost use Rattle.book.specs.Check.{check-program, check-book};
-ghost use Rattle.rows.specs.Rows.{laid, Rows};
+ghost use Rattle.book_load.specs.Rows.{laid, Rows};
 ghost use Rattle.book_check.specs.Opened.{Opened, check-text};
 
 // The place of L among the fields of the header.
@@ -37,13 +37,13 @@ fn header_of(k: Line, l: Line) -> Header
 fn check_program(image: &mut Image) -> Answer
     ensures { λ r. ⌜ (now (image .exit) ≡ laid (now (image .entry))) × (image-length ≤ length (now (image .entry))) × ((h : Header) (text : List ℕ) → Room h → Rows (now (image .entry)) h text → r ≡ answer-of (check-program h text)) ⌝ }
 {
-    let bad_function = header::bad_functions(image);
-    rows::lay_out(image);
+    let bad_function = book_header::bad_functions(image);
+    book_load::lay_out(image);
     let functions = text::none_at(text::FUNCTION_LINE, 0, bad_function);
     if functions.number != 0 {
         return functions;
     }
-    let all = image::locations(image);
+    let all = book_image::locations(image);
     let locations = text::must(
         all <= book::MOST_LOCATIONS,
         text::HEADER_BOUNDS,
@@ -53,19 +53,19 @@ fn check_program(image: &mut Image) -> Answer
     if locations.number != 0 {
         return locations;
     }
-    let nodes = text::none_at(text::NODE_LINE, 0, nodes::bad_nodes(image));
+    let nodes = text::none_at(text::NODE_LINE, 0, book_nodes::bad_nodes(image));
     if nodes.number != 0 {
         return nodes;
     }
-    let uses = text::none_at(text::NODE_USE, 0, around::bad_use(image));
+    let uses = text::none_at(text::NODE_USE, 0, book_scopes::bad_use(image));
     if uses.number != 0 {
         return uses;
     }
-    let around = text::none_at(text::NODE_USE, 0, around::bad_around(image));
+    let around = text::none_at(text::NODE_USE, 0, book_scopes::bad_around(image));
     if around.number != 0 {
         return around;
     }
-    text::none_at(text::AGENT_LINE, 0, nodes::bad_agents(image))
+    text::none_at(text::AGENT_LINE, 0, book_nodes::bad_agents(image))
 }
 
 // 1 on all lines after the header, and 4 to 8.
@@ -73,12 +73,12 @@ fn check_text(text: &[u8], h: Header, image: &mut Image) -> Answer
     requires { ⌜ (Room h) × (least (bad-line (now text)) 2 ≡ Nowhere) ⌝ }
     ensures { λ r. ⌜ (r ≡ answer-of (check-text h (now (text .entry)))) × Opened (now (image .exit)) (check-text h (now (text .entry))) ⌝ }
 {
-    let rows = text::none_at(text::ILL_FORMED, 0, rows::take(text, h, image));
+    let rows = text::none_at(text::ILL_FORMED, 0, book_load::take(text, h, image));
     if rows.number != 0 {
         return rows;
     }
     let program = check_program(image);
-    let contents = contents::judge(text, image);
+    let contents = book_entries::judge(text, image);
     let ill_formed = contents.form;
     let at_fault = contents.rule;
     let form = text::none_at(text::ILL_FORMED, 0, ill_formed);
@@ -115,7 +115,11 @@ pub fn check_into(book: &[u8], image: &mut Image) -> Answer
     if second.number != 0 {
         return second;
     }
-    let bounds = text::none_at(text::HEADER_BOUNDS, 0, header::bad_header(k.line, l.line));
+    let bounds = text::none_at(
+        text::HEADER_BOUNDS,
+        0,
+        book_header::bad_header(k.line, l.line),
+    );
     if bounds.number != 0 {
         return bounds;
     }

@@ -1,5 +1,5 @@
 // One move of an agent: what its rule gives.
-use numbers::Value;
+use text::Value;
 
 // What a rule gives: a location gets a value, or a label goes back to the roll.
 pub enum Instruction {

@@ -1,10 +1,10 @@
-// The text of books and logs: their lines, judged and read.
+// The text of books and logs: their lines, judged and read; and small functions that many crates use.
 ghost use mathlib.Core.Path.{_≡_};
 ghost use mathlib.Core.Bool.{true, _&&_, not};
 ghost use mathlib.Core.List.{[], _∷_};
-ghost use Prim.Native.Nat.{_+_, _-_, _*_, _<_, _≤_};
+ghost use Prim.Native.Nat.{_+_, _-_, _*_, _<_, _≤_, _%_, min};
 ghost use lib.Dec.{eqb};
-ghost use lib.ListN.{length, take, drop};
+ghost use lib.ListN.{length, take, drop, getD, set};
 ghost use Rattle.text.specs.Words.{least, least-from, none-at, must, answer-of};
 ghost use Rattle.text.specs.Text.{unread, zero-digit, digit, field-ok, value-of, well-formed, line-bytes, line, bad-line, parsed};
 ghost use Rattle.text.specs.Scan.{step-of, ends-well, four-blanks, Read};
@@ -412,4 +412,72 @@ pub fn read_line(text: &[u8], first: u32, i: u32) -> Line
         c: number(text, at + 12),
         d: number(text, at + 18),
     }
+}
+
+// ---- the smaller of two numbers, the number at an index of a list, and its low half
+
+// The value of a location, an element: what contents, instructions and labels are held in.
+pub type Value = u16;
+
+pub fn smaller(a: usize, b: usize) -> usize
+    ensures { λ r. ⌜ r ≡ min a b ⌝ }
+{
+    if a < b { a } else { b }
+}
+
+// The number at an index, 0 past the end.
+pub fn fetch(s: &[Value], i: usize) -> Value
+    ensures { λ r. ⌜ r ≡ getD (now (s .entry)) i 0 ⌝ }
+{
+    if i < s.len() { s[i] } else { 0 }
+}
+
+// The same for tables of eight, sixteen and thirty-two bits, with a store, which past the end puts nothing.
+pub fn byte_at(s: &[u8], i: usize) -> u8
+    ensures { λ r. ⌜ r ≡ getD (now (s .entry)) i 0 ⌝ }
+{
+    if i < s.len() { s[i] } else { 0 }
+}
+
+pub fn put_byte(s: &mut [u8], i: usize, x: u8)
+    ensures { λ _. ⌜ now (s .exit) ≡ set (now (s .entry)) i x ⌝ }
+{
+    if i < s.len() {
+        s[i] = x;
+    }
+}
+
+pub fn half_at(s: &[u16], i: usize) -> u16
+    ensures { λ r. ⌜ r ≡ getD (now (s .entry)) i 0 ⌝ }
+{
+    if i < s.len() { s[i] } else { 0 }
+}
+
+pub fn put_half(s: &mut [u16], i: usize, x: u16)
+    ensures { λ _. ⌜ now (s .exit) ≡ set (now (s .entry)) i x ⌝ }
+{
+    if i < s.len() {
+        s[i] = x;
+    }
+}
+
+pub fn word_at(s: &[u32], i: usize) -> u32
+    ensures { λ r. ⌜ r ≡ getD (now (s .entry)) i 0 ⌝ }
+{
+    if i < s.len() { s[i] } else { 0 }
+}
+
+pub fn put_word(s: &mut [u32], i: usize, x: u32)
+    ensures { λ _. ⌜ now (s .exit) ≡ set (now (s .entry)) i x ⌝ }
+{
+    if i < s.len() {
+        s[i] = x;
+    }
+}
+
+// The low sixteen bits of a number.
+pub fn low(x: u32) -> u16
+    ensures { λ r. ⌜ r ≡ x % 65536 ⌝ }
+{
+    (x % 65536) as u16
 }

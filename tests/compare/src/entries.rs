@@ -10,21 +10,21 @@ pub struct Calls {
 
 pub const CALLS: [Calls; 4] = [
     Calls {
-        entries: &["for_c::rental_check_book", "book_check::check_book"],
+        entries: &["c_api::rental_check_book", "book_check::check_book"],
         rows: &["book check:"],
         test: "books.rs",
     },
     Calls {
-        entries: &["for_c::rental_move", "lending::step", "lent_step::step"],
+        entries: &["c_api::rental_move", "engine_step::step_own_list", "engine_step::step"],
         rows: &["single move:"],
         test: "moves.rs",
     },
     Calls {
-        entries: &["for_c::rental_run", "lending::run", "lent_run::run"],
+        entries: &["c_api::rental_run", "order_entry::run_own_list", "order_entry::run"],
         rows: &["log:", "order:"],
         test: "logs.rs",
     },
-    Calls { entries: &["for_c::rental_report", "reporting::report"], rows: &["rental:"], test: "reports.rs" },
+    Calls { entries: &["c_api::rental_report", "report_print::report"], rows: &["rental:"], test: "reports.rs" },
 ];
 
 // One line for each exported function.

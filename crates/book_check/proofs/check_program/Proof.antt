@@ -4,7 +4,7 @@ use lib.ListN.{length}
 use Rattle.book.specs.Image.{image-length}
 use native.Mathlib.Omega.{arith}
 use Rattle.book_check.proofs.Chain.{answered, stops, after, of-functions, of-locations, of-nodes, of-use, of-around, of-agents, program-held}
-use Rattle.rows.specs.Rows.{laid}
+use Rattle.book_load.specs.Rows.{laid}
 use Rattle.text.proofs.Checks.{none-numbered, must-numbered}
 use Rattle.text.specs.Words.{answer-of}
 use Prim.Native.Nat.{ℕ}

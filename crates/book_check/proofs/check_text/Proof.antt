@@ -2,8 +2,8 @@
 use native.Mathlib.Omega.{arith}
 use Rattle.book_check.proofs.Chain.{answered, stops, after, last, opened-refused, opened-text, present-numbered, surplus-numbered, program-numbered, rows-found, rows-taken, rows-refused, rows-passed, form-found, rule-found}
 use Rattle.book_check.specs.Opened.{Opened, check-text}
-use Rattle.rows.proofs.Rows.{laid-holds}
-use Rattle.rows.specs.Rows.{Rows}
+use Rattle.book_load.proofs.Rows.{laid-holds}
+use Rattle.book_load.specs.Rows.{Rows}
 use Rattle.book.specs.Check.{check-present, check-surplus, check-program, check-lines}
 use Rattle.book.specs.Image.{Holds}
 use Rattle.text.specs.Words.{none-at, answer-of}

@@ -1,0 +1,26 @@
+-- What a pass over the contents lines finds. A line out of form, wherever it stands, comes before one at fault by 8 (01, "Refused, and how").
+use mathlib.Core.Bool.{Bool}
+use mathlib.Core.List.{List}
+use Prim.Native.Nat.{ℕ, _-_}
+use Rattle.text.specs.declared.Found.{Found}
+use Rattle.text.specs.declared.Found.the-variants.{Nowhere, Here}
+use Rattle.text.specs.Words.{least-from}
+use Rattle.text.specs.Text.{bad-line}
+use Rattle.book.specs.Book.{Program}
+use Rattle.book.specs.Contents.{bad-entry}
+use Rattle.book_entries.specs.declared.Faults.{Faults}
+use Rattle.book_entries.specs.Roll.{entries-from}
+
+abbrev pub unless : Found → Found → Found
+unless (Here i) rule = Nowhere
+unless Nowhere rule = rule
+
+abbrev pub faults : Found → Found → Faults
+faults form rule = record { form = form; rule = unless form rule }
+
+-- the entry of line i is at fault; the n contents lines start at line `first`
+abbrev pub bad-at : Program → List ℕ → ℕ → ℕ → ℕ → Bool
+bad-at B text first n i = bad-entry B (entries-from text first n) (i - first)
+
+unfoldable pub faults-from : Program → List ℕ → ℕ → ℕ → Faults
+faults-from B text first n = faults (least-from (bad-line text) n first) (least-from (bad-at B text first n) n first)

@@ -1,0 +1,196 @@
+// 1 and 8 on the contents lines of a book, in one pass over its text and the image of its program.
+use book::Entry;
+use book::Function;
+use book::Image;
+use text::Found;
+use text::Line;
+ghost use mathlib.Core.Path.{_≡_};
+ghost use mathlib.Core.Bool.{_&&_, _||_, not};
+ghost use Prim.Native.Nat.{_+_, _-_, _<_, _≤_};
+ghost use lib.Dec.{eqb, ltb, leb};
+ghost use Rattle.text.specs.declared.Found.the-variants.{Here};
+ghost use Rattle.text.specs.Words.{least-from};
+ghost use Rattle.text.specs.Text.{bad-line};
+ghost use Rattle.book.specs.Book.{true-element, relation, dynamic, default, offset};
+ghost use Rattle.book.specs.Lines.{entry-of};
+ghost use Rattle.book.specs.Contents.{in-form};
+ghost use Rattle.book.specs.Image.{program-in, first-entry-in, entry-count-in};
+ghost use Rattle.book_entries.specs.Roll.{marked, untraced-by, Clear};
+ghost use Rattle.book_entries.specs.Pass.{faults, faults-from};
+
+// What the pass finds: the least line out of form, and if there is none the least at fault by 8.
+pub struct Faults {
+    pub form: Found,
+    pub rule: Found,
+}
+
+fn entry(l: Line) -> Entry
+    ensures { λ r. ⌜ r ≡ entry-of l ⌝ }
+{
+    Entry {
+        function: l.a,
+        arg1: l.b,
+        arg2: l.c,
+        value: l.d,
+    }
+}
+
+// One of f functions, and for its arguments and value some of e elements.
+fn in_bounds(f: u32, e: u32, x: Entry) -> bool
+    ensures { λ r. ⌜ r ≡ ltb (x .function) f && ltb (x .arg1) e && ltb (x .arg2) e && ltb (x .value) e ⌝ }
+{
+    (x.function < f) & (x.arg1 < e) & (x.arg2 < e) & (x.value < e)
+}
+
+// Unused arguments are 0.
+fn arguments_fit(x: Entry, f: Function) -> bool
+    ensures { λ r. ⌜ r ≡ (leb 1 (f .arity) || eqb (x .arg1) 0) && (eqb (f .arity) 2 || eqb (x .arg2) 0) ⌝ }
+{
+    if f.arity == 2 {
+        true
+    } else {
+        ((1 <= f.arity) | (x.arg1 == 0)) & (x.arg2 == 0)
+    }
+}
+
+// The value is true in a relation, and not undef elsewhere.
+fn value_fits(x: Entry, f: Function) -> bool
+    ensures { λ r. ⌜ r ≡ relation f && eqb (x .value) true-element || not (relation f) && not (eqb (x .value) (default f)) ⌝ }
+{
+    if (f.kind == 1) | (f.kind == 3) {
+        x.value == 2
+    } else {
+        !(x.value == 0)
+    }
+}
+
+// A static function has no label; p elements are permanent.
+fn static_fits(p: u32, x: Entry, f: Function) -> bool
+    ensures { λ r. ⌜ r ≡ dynamic f || ltb (x .arg1) p && ltb (x .arg2) p && ltb (x .value) p ⌝ }
+{
+    if 2 <= f.kind {
+        true
+    } else {
+        (x.arg1 < p) & (x.arg2 < p) & (x.value < p)
+    }
+}
+
+// Reserve holds for labels only.
+fn reserve_fits(p: u32, x: Entry) -> bool
+    ensures { λ r. ⌜ r ≡ not (eqb (x .function) 0) || leb p (x .arg1) ⌝ }
+{
+    if x.function == 0 { p <= x.arg1 } else { true }
+}
+
+// What an entry of function f may be, p being the number of permanent elements.
+fn in_form(p: u32, x: Entry, f: Function) -> bool
+    ensures { λ r. ⌜ r ≡ in-form p x f ⌝ }
+{
+    arguments_fit(x, f) & value_fits(x, f) & static_fits(p, x, f) & reserve_fits(p, x)
+}
+
+// The location of an entry of function f.
+fn location(e: u32, f: Function, x: Entry) -> u64
+    requires { ⌜ e ≤ 10000 ⌝ }
+    ensures { λ r. ⌜ (r ≡ f .first + offset e (f .arity) (x .arg1) (x .arg2)) × (r < 1000000000000000) ⌝ }
+{
+    let first = f.first as u64;
+    if f.arity == 0 {
+        first + 0
+    } else if f.arity == 1 {
+        first + x.arg1 as u64
+    } else {
+        first + (x.arg1 as u64 * e as u64 + x.arg2 as u64)
+    }
+}
+
+// An entry of function 0 puts its label on the roll.
+fn mark(roll: &mut [u8], x: Entry)
+    ensures { λ _. ⌜ now (roll .exit) ≡ marked x (now (roll .entry)) ⌝ }
+{
+    if x.function == 0 {
+        text::put_byte(roll, x.arg1 as usize, 1);
+    }
+}
+
+// It is no trace of a label on the roll.
+fn no_trace(roll: &[u8], x: Entry) -> bool
+    ensures { λ r. ⌜ r ≡ untraced-by (now (roll .entry)) x ⌝ }
+{
+    let a = text::byte_at(roll, x.arg1 as usize);
+    let b = text::byte_at(roll, x.arg2 as usize);
+    let v = text::byte_at(roll, x.value as usize);
+    (x.function == 0) | ((a == 0) & (b == 0) & (v == 0))
+}
+
+// Line i is at fault: the others up to `end` have only their form to be judged.
+fn fault_at(text: &[u8], i: u32, end: u32) -> Faults
+    ensures { λ r. ⌜ r ≡ faults (least-from (bad-line (now (text .entry))) (end - i) i) (Here i) ⌝ }
+{
+    let found = text::bad_line_from(text, i, end);
+    match found {
+        Found::Nowhere => Faults {
+            form: Found::Nowhere,
+            rule: Found::Here(i),
+        },
+        Found::Here(j) => Faults {
+            form: Found::Here(j),
+            rule: Found::Nowhere,
+        },
+    }
+}
+
+// Judges the lines from `first` up to `end`. The roll is clear to begin with.
+fn judge_lines<'a>(
+    text: &'a [u8],
+    image: &'a Image,
+    first: u32,
+    end: u32,
+    roll: &mut [u8],
+) -> Faults
+    requires { ⌜ Clear (program-in (now image) .E) (now roll) ⌝ }
+    ensures { λ r. ⌜ r ≡ faults-from (program-in (now (image .entry))) (now (text .entry)) first (end - first) ⌝ }
+{
+    let p = book_image::permanent(image);
+    let e = book_image::elements(image) as u32;
+    let n = book_image::functions(image) as u32;
+    let mut i = first;
+    let mut low: u64 = 0;
+    while i < end {
+        let l = text::parse(text, i);
+        if !l.ok {
+            return Faults {
+                form: Found::Here(i),
+                rule: Found::Nowhere,
+            };
+        }
+        let x = entry(l.line);
+        let f = book_image::function_at(image, x.function);
+        let place = location(e, f, x);
+        if !(in_bounds(n, e, x) & (in_form(p, x, f) & (low <= place) & no_trace(roll, x))) {
+            return fault_at(text, i, end);
+        }
+        mark(roll, x);
+        low = place + 1;
+        i += 1;
+    }
+    Faults {
+        form: Found::Nowhere,
+        rule: Found::Nowhere,
+    }
+}
+
+// 1 and 8: the least contents line out of form, or else the least at fault. Most books have few elements, and a small roll is soon cleared.
+pub fn judge<'a>(text: &'a [u8], image: &'a Image) -> Faults
+    ensures { λ r. ⌜ r ≡ faults-from (program-in (now (image .entry))) (now (text .entry)) (first-entry-in (now (image .entry))) (entry-count-in (now (image .entry))) ⌝ }
+{
+    let first = book_image::first_entry(image);
+    let end = first + book_image::entries(image);
+    if book_image::elements(image) <= 256 {
+        let mut roll = [0u8; 256];
+        judge_lines(text, image, first, end, &mut roll)
+    } else {
+        let mut roll = [0u8; 10000];
+        judge_lines(text, image, first, end, &mut roll)
+    }
+}

@@ -1,0 +1,141 @@
+// The rows and nodes of an image, taken from the text of a book: each line read once, its form and its numbers together.
+use book::Header;
+use book::Image;
+use book::Node;
+use text::Found;
+use text::Line;
+use text::Value;
+ghost use mathlib.Core.Path.{_≡_};
+ghost use Prim.Native.Nat.{_+_, _-_, _<_, _≤_};
+ghost use lib.ListN.{length};
+ghost use Rattle.text.specs.Words.{least-from};
+ghost use Rattle.text.specs.Text.{bad-line};
+ghost use Rattle.book.specs.Lines.{first-function, first-entry, node-of};
+ghost use Rattle.book.specs.Image.{image-length, row-in, Room, capped-header, filled, first-of, laid-row};
+ghost use Rattle.book_load.specs.Rows.{line-put, headed, taken, passed, laid};
+
+fn node_of(l: Line) -> Node
+    ensures { λ r. ⌜ r ≡ node-of l ⌝ }
+{
+    Node {
+        kind: l.a,
+        a: l.b,
+        b: l.c,
+        c: l.d,
+    }
+}
+
+// Line i is put where it belongs.
+fn put_line(h: Header, i: u32, l: Line, image: &mut Image)
+    requires { ⌜ (Room h) × (i < first-entry h) ⌝ }
+    ensures { λ _. ⌜ now (image .exit) ≡ line-put h i l (now (image .entry)) ⌝ }
+{
+    let nodes = 2 + h.functions;
+    let agents = nodes + h.nodes;
+    if i < nodes {
+        book_image::store(image, i, l);
+    } else if i < agents {
+        book_image::store_node(image, i - nodes, node_of(l));
+    } else {
+        book_image::store(image, book_image::AGENT_ROWS + (i - agents), l);
+    }
+}
+
+// The header's two rows.
+fn put_header(h: Header, image: &mut Image)
+    ensures { λ _. ⌜ now (image .exit) ≡ headed h (now (image .entry)) ⌝ }
+{
+    book_image::store(
+        image,
+        0,
+        Line {
+            a: h.elements,
+            b: h.permanent,
+            c: h.functions,
+            d: h.nodes,
+        },
+    );
+    book_image::store(
+        image,
+        1,
+        Line {
+            a: h.agents,
+            b: h.contents,
+            c: 0,
+            d: 0,
+        },
+    );
+}
+
+// Stores the lines of functions, nodes and agents. The first that is out of form ends it.
+fn take_lines(text: &[u8], h: Header, image: &mut Image) -> Found
+    requires { ⌜ Room h ⌝ }
+    ensures { λ r. ⌜ (r ≡ least-from (bad-line (now (text .entry))) (first-entry h - first-function) first-function) × (now (image .exit) ≡ taken h (now (text .entry)) (passed first-function (first-entry h) r) (now (image .entry))) ⌝ }
+{
+    let end = 2 + h.functions + h.nodes + h.agents;
+    let mut i: u32 = 2;
+    while i < end {
+        let l = text::parse(text, i);
+        if !l.ok {
+            return Found::Here(i);
+        }
+        put_line(h, i, l.line, image);
+        i += 1;
+    }
+    Found::Nowhere
+}
+
+// 1 on the lines before the contents, and their rows: of functions, nodes and agents as they stand.
+pub fn take(text: &[u8], h: Header, image: &mut Image) -> Found
+    ensures { λ r. ⌜ (r ≡ least-from (bad-line (now (text .entry))) (first-entry (capped-header h) - first-function) first-function) × (now (image .exit) ≡ taken (capped-header h) (now (text .entry)) (passed first-function (first-entry (capped-header h)) r) (headed (capped-header h) (now (image .entry)))) ⌝ }
+{
+    let g = book_image::capped(h);
+    put_header(g, image);
+    take_lines(text, g, image)
+}
+
+// Gives the rows of n functions their first locations, and says how many locations there are.
+fn lay_functions(e: Value, n: u32, image: &mut Image) -> u32
+    requires { ⌜ (e ≤ 10000) × (n ≤ 32) ⌝ }
+    ensures { λ r. ⌜ (r ≡ first-of (λ f. row-in (now (image .entry)) (2 + f)) e n) × (now (image .exit) ≡ filled (laid-row (λ f. row-in (now (image .entry)) (2 + f)) e) 2 n 0 (now (image .entry))) ⌝ }
+{
+    let mut sum: u32 = 0;
+    let mut i: u32 = 0;
+    while i < n {
+        let l = book_image::row(image, book_image::FUNCTION_ROWS + i);
+        book_image::store(
+            image,
+            book_image::FUNCTION_ROWS + i,
+            Line {
+                a: sum,
+                b: l.a,
+                c: l.b,
+                d: 0,
+            },
+        );
+        sum += book_image::size(e, l.a);
+        i += 1;
+    }
+    sum
+}
+
+// Gives the functions their first locations, and the header's rows L.
+pub fn lay_out(image: &mut Image)
+    ensures { λ _. ⌜ (now (image .exit) ≡ laid (now (image .entry))) × (length (now (image .entry)) ≡ image-length) ⌝ }
+{
+    let e = book_image::elements(image);
+    let n = book_image::functions(image) as u32;
+    let a = image[4];
+    let c = image[5];
+    let all = lay_functions(e, n, image);
+    book_image::store(
+        image,
+        1,
+        Line {
+            a,
+            b: c,
+            c: all,
+            d: 0,
+        },
+    );
+}

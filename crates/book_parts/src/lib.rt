@@ -1,0 +1,130 @@
+// A program as the engine holds it, in numbers of sixteen bits, and each function's part of the contents table.
+use book::Function;
+use book::Image;
+use text::Value;
+ghost use mathlib.Core.Path.{_≡_};
+ghost use Rattle.book.specs.Book.{relation, dynamic, default, function-at, node-at};
+ghost use Rattle.book.specs.Image.{held};
+ghost use Rattle.book_parts.specs.Part.{part-from, part-of, owner-of};
+ghost use Rattle.book_parts.specs.Rows.{node-row};
+
+// ---- what the engine takes from an image, in its own width
+
+// P.
+pub fn permanent(image: &Image) -> Value
+    ensures { λ r. ⌜ r ≡ held (now (image .entry)) .P ⌝ }
+{
+    text::low(book_image::permanent(image))
+}
+
+// Function f; past the last all 0.
+pub fn function_at(image: &Image, f: u16) -> Function
+    ensures { λ r. ⌜ r ≡ function-at (held (now (image .entry))) f ⌝ }
+{
+    let w = book_image::function_at(image, f as u32);
+    Function {
+        first: text::low(w.first) as u32,
+        arity: w.arity,
+        kind: w.kind,
+    }
+}
+
+// A node in sixteen bits.
+pub struct Row {
+    pub kind: u16,
+    pub a: u16,
+    pub b: u16,
+    pub c: u16,
+}
+
+// Node n; past the last all 0.
+pub fn node(image: &Image, n: u16) -> Row
+    ensures { λ r. ⌜ node-row r ≡ node-at (held (now (image .entry))) n ⌝ }
+{
+    let w = book_image::node_at(image, n as u32);
+    Row {
+        kind: text::low(w.kind),
+        a: text::low(w.a),
+        b: text::low(w.b),
+        c: text::low(w.c),
+    }
+}
+
+// ---- kinds and parts
+
+pub fn is_relation(f: Function) -> bool
+    ensures { λ r. ⌜ r ≡ relation f ⌝ }
+{
+    (f.kind == 1) | (f.kind == 3)
+}
+
+pub fn is_dynamic(f: Function) -> bool
+    ensures { λ r. ⌜ r ≡ dynamic f ⌝ }
+{
+    2 <= f.kind
+}
+
+pub fn default_of(f: Function) -> Value
+    ensures { λ r. ⌜ r ≡ default f ⌝ }
+{
+    if is_relation(f) { 1 } else { 0 }
+}
+
+// A run of the contents table, from location `first` up to `end`.
+pub struct Part {
+    pub first: usize,
+    pub end: usize,
+}
+
+// A function and its part.
+pub struct Owner {
+    pub function: Function,
+    pub first: usize,
+    pub end: usize,
+}
+
+// Function g and its part, which starts at `first`: where the part of the function before it ends.
+pub fn part_from(image: &Image, g: u16, first: u32) -> Owner
+    ensures { λ r. ⌜ r ≡ part-from (held (now (image .entry))) g first ⌝ }
+{
+    let f = function_at(image, g);
+    let size = book_image::size(book_image::elements(image), f.arity);
+    Owner {
+        function: f,
+        first: first as usize,
+        end: first as usize + size as usize,
+    }
+}
+
+// The function that location l belongs to, and its part of the contents table; past L there is none, and the part is empty.
+pub fn owner_of(image: &Image, l: usize) -> Owner
+    ensures { λ r. ⌜ r ≡ owner-of (held (now (image .entry))) l ⌝ }
+{
+    let n = book_image::functions(image);
+    let mut first: u32 = 0;
+    let mut g: u16 = 0;
+    while g < n {
+        let own = part_from(image, g, first);
+        if l < own.end {
+            return own;
+        }
+        first = own.end as u32;
+        g = g + 1;
+    }
+    Owner {
+        function: function_at(image, n),
+        first: first as usize,
+        end: first as usize,
+    }
+}
+
+// The part that location l is in.
+pub fn part_of(image: &Image, l: usize) -> Part
+    ensures { λ r. ⌜ r ≡ part-of (held (now (image .entry))) l ⌝ }
+{
+    let o = owner_of(image, l);
+    Part {
+        first: o.first,
+        end: o.end,
+    }
+}

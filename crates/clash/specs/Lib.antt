@@ -1,2 +1,0 @@
-pub mod Clash
-pub mod Steps

@@ -1,0 +1,96 @@
+-- `bad_part` meets its contract.
+use Prim.Native.Nat.{_+_, _-_, _≤_}
+use native.Mathlib.Omega.{arith}
+use borrow.Author.Needs.{needs}
+use Rattle.book.specs.Book.{Program}
+use Rattle.contents_check.specs.Part.{Part}
+use Rattle.contents_check.proofs.Scan.{Passed, scan-start, scan-skip, scan-pass, scan-stop, scan-end}
+use Rattle.contents_check.proofs.bad_part.Statement.{statement}
+use Rattle.contents_check.proofs.bad_part.Tie as tie
+
+abbrev Inv-loop : tie.InvT-loop
+Inv-loop contents e p f first end v l₀ l =
+    (first ≤ l) × (l ≤ end) × ((B : Program) (k : Part B e p f first end) → Passed B contents e p f first end k l)
+
+abbrev μ-loop : tie.MeasureT-loop
+μ-loop contents e p f first end v l₀ l = end - l
+
+blameless-requires : tie.Need-blameless-requires Inv-loop μ-loop
+blameless-requires c κs = search needs
+
+past-requires : tie.Need-past-requires Inv-loop μ-loop
+past-requires c κs = search needs
+
+loop-holds : tie.Need-loop-holds Inv-loop μ-loop
+loop-holds c =
+    let a = c .before .before .before .args in
+    let v = c .before .blameless in
+    let h = c .past .ensures in (
+      h .from,
+      h .to,
+      λ B k. scan-skip B (a .contents .now) (a .e) (a .p) (a .f) (a .first) (a .end) k (a .first) (omega arith) (scan-start B (a .contents .now) (a .e) (a .p) (a .f) (a .first) (a .end) k) (v .result) (c .past .result) (v .ensures) h,
+    )
+
+sub-is-bad : tie.Need-sub-is-bad Inv-loop μ-loop
+sub-is-bad c = search needs
+
+is-bad-requires : tie.Need-is-bad-requires Inv-loop μ-loop
+is-bad-requires c κs = search needs
+
+sub-t12 : tie.Need-sub-t12 Inv-loop μ-loop
+sub-t12 c = search needs
+
+returns : tie.Need-returns Inv-loop μ-loop
+returns c =
+    λ B k.
+    let a = c .before .before .before .before .before .before .before .args in
+    let l = c .before .before .before .loop in
+    let j = c .before .is-bad in
+    scan-stop B (a .contents .now) (a .e) (a .p) (a .f) (a .first) (a .end) k (l .l) (l .inv .0) (l .inv .2 B k) (j .result) (c .before .before .loop-test .taken) (j .ensures B (k .elements) (k .permanent)) (c .if1 .taken)
+
+add-past : tie.Need-add-past Inv-loop μ-loop
+add-past c = search needs
+
+past-requires-2 : tie.Need-past-requires-2 Inv-loop μ-loop
+past-requires-2 c κs = search needs
+
+loop-less : tie.Need-loop-less Inv-loop μ-loop
+loop-less c = omega (arith, c .past2 .ensures .from, c .before .before .before .loop-test .taken)
+
+loop-again : tie.Need-loop-again Inv-loop μ-loop
+loop-again c =
+    let a = c .before .before .before .before .before .before .before .before .args in
+    let l = c .before .before .before .before .loop in
+    let j = c .before .before .is-bad in
+    let v = c .before .before .before .before .before .before .blameless in
+    let h = c .past2 .ensures in (
+      omega (arith, l .inv .0, h .from),
+      h .to,
+      λ B k. scan-skip B (a .contents .now) (a .e) (a .p) (a .f) (a .first) (a .end) k (l .l + 1) (omega (arith, l .inv .0)) (scan-pass B (a .contents .now) (a .e) (a .p) (a .f) (a .first) (a .end) k (l .l) (l .inv .0) (l .inv .2 B k) (j .result) (c .before .before .before .loop-test .taken) (j .ensures B (k .elements) (k .permanent)) (c .before .if1 .left)) (v .result) (c .past2 .result) (v .ensures) h,
+    )
+
+returns-2 : tie.Need-returns-2 Inv-loop μ-loop
+returns-2 c =
+    λ B k.
+    let a = c .before .before .before .before .before .args in
+    let l = c .before .loop in
+    scan-end B (a .contents .now) (a .e) (a .p) (a .f) (a .first) (a .end) k (l .l) (l .inv .0) (l .inv .2 B k) (c .loop-test .left)
+
+pub bad-part-spec : {M : Type 1} → statement M
+bad-part-spec =
+    tie.close
+    (tie.spec
+    Inv-loop
+    μ-loop
+    blameless-requires
+    past-requires
+    loop-holds
+    sub-is-bad
+    is-bad-requires
+    sub-t12
+    returns
+    add-past
+    past-requires-2
+    loop-less
+    loop-again
+    returns-2)

@@ -1,0 +1,82 @@
+-- `is_bad` meets its contract.
+use Rattle.contents_check.proofs.Faults.{own-cell, far-cell}
+use Rattle.contents_check.proofs.Laws.{arguments-are}
+use Rattle.book.specs.Book.{arguments}
+use Rattle.contents_check.specs.Part.{arguments-by}
+use mathlib.Core.Path.{_≡_, _∙_}
+use borrow.Author.Needs.{needs}
+use Rattle.contents_check.proofs.is_bad.Statement.{statement}
+use Rattle.contents_check.proofs.is_bad.Tie as tie
+
+row-of-requires : tie.Need-row-of-requires
+row-of-requires c κs = search needs
+
+col-of-requires : tie.Need-col-of-requires
+col-of-requires c κs = search needs
+
+fetch-requires : tie.Need-fetch-requires
+fetch-requires c κs = search needs
+
+is-relation-requires : tie.Need-is-relation-requires
+is-relation-requires c κs = search needs
+
+is-boolean-requires : tie.Need-is-boolean-requires
+is-boolean-requires c κs = search needs
+
+is-static-fine-requires : tie.Need-is-static-fine-requires
+is-static-fine-requires c κs = search needs
+
+returns : tie.Need-returns
+returns c =
+    λ B e p q.
+    let a = c .before .before .before .before .before .before .before .before .args in
+    let row = c .before .before .before .before .before .before .row-of in
+    let col = c .before .before .before .before .before .col-of in
+    let v = c .before .before .before .before .fetch in
+    let rel = c .before .before .before .is-relation in
+    let bool = c .before .before .is-boolean in
+    let fine = c .before .is-static-fine in
+    let args : arguments-by (a .f .arity) (a .i) (row .result) (col .result) ≡ arguments (a .e) (a .f .arity) (a .i) = arguments-are (a .e) (a .f .arity) (a .i) (row .result) (col .result) (row .ensures) (col .ensures) in
+    rw (← e, ← p) (own-cell B (a .contents .now) (a .f) (a .l) (a .i) (v .result) (rel .result) (bool .result) (fine .result) q (v .ensures) (rel .ensures) (bool .ensures) (fine .ensures ∙ rw (p, e, args)) (rw e (c .if1 .taken)))
+
+cast-on-roll : tie.Need-cast-on-roll
+cast-on-roll c = search needs
+
+on-roll-requires : tie.Need-on-roll-requires
+on-roll-requires c κs = search needs
+
+default-of-requires : tie.Need-default-of-requires
+default-of-requires c κs = search needs
+
+some-on-roll-requires : tie.Need-some-on-roll-requires
+some-on-roll-requires c κs = search needs
+
+returns-2 : tie.Need-returns-2
+returns-2 c =
+    λ B e p q.
+    let a = c .before .before .before .before .before .before .before .before .before .before .before .args in
+    let row = c .before .before .before .before .before .before .before .before .before .row-of in
+    let col = c .before .before .before .before .before .before .before .before .col-of in
+    let v = c .before .before .before .before .before .before .before .fetch in
+    let rel = c .before .before .before .before .before .before .is-relation in
+    let bool = c .before .before .before .before .before .is-boolean in
+    let fine = c .before .before .before .before .is-static-fine in
+    let args : arguments-by (a .f .arity) (a .i) (row .result) (col .result) ≡ arguments (a .e) (a .f .arity) (a .i) = arguments-are (a .e) (a .f .arity) (a .i) (row .result) (col .result) (row .ensures) (col .ensures) in
+    rw (← e) (far-cell B (a .contents .now) (a .f) (a .l) (a .i) (v .result) (rel .result) (bool .result) (fine .result) q (v .ensures) (rel .ensures) (bool .ensures) (fine .ensures ∙ rw (p, e, args)) (c .before .default-of .result) (c .before .before .on-roll .result) (c .some-on-roll .result) (c .before .default-of .ensures) (c .before .before .on-roll .ensures ∙ rw e) (c .some-on-roll .ensures B e ∙ rw (e, args)) (rw e (c .before .before .before .if1 .left)))
+
+pub is-bad-spec : {M : Type 1} → statement M
+is-bad-spec =
+    tie.close
+    (tie.spec
+    row-of-requires
+    col-of-requires
+    fetch-requires
+    is-relation-requires
+    is-boolean-requires
+    is-static-fine-requires
+    returns
+    cast-on-roll
+    on-roll-requires
+    default-of-requires
+    some-on-roll-requires
+    returns-2)

@@ -1,0 +1,168 @@
+// Refusal 8 of a lent contents table.
+use book::Function;
+use book::Image;
+use text::Found;
+use text::Value;
+ghost use mathlib.Core.Path.{_≡_};
+ghost use mathlib.Core.Bool.{_&&_, _||_};
+ghost use Prim.Native.Nat.{_+_, _/_, _%_, _<_, _≤_};
+ghost use lib.Dec.{eqb, ltb};
+ghost use lib.ListN.{getD};
+ghost use Rattle.text.specs.Words.{least};
+ghost use Rattle.book.specs.Book.{Program, L, true-element, size, boolean, dynamic, default, place};
+ghost use Rattle.book.specs.Image.{held};
+ghost use Rattle.book.specs.Contents.{some-on-roll, all-permanent, bad-value};
+ghost use Rattle.contents_check.specs.Part.{arguments-by, Blameless, Past, Part};
+
+fn is_boolean(v: Value) -> bool
+    ensures { λ r. ⌜ r ≡ boolean v ⌝ }
+{
+    (v == 1) | (v == 2)
+}
+
+// ---- 8
+
+// x is on the roll.
+fn on_roll(contents: &[Value], e: Value, x: u32) -> bool
+    ensures { λ r. ⌜ r ≡ (ltb x e && eqb (getD (now (contents .entry)) x 0) true-element) ⌝ }
+{
+    (x < e as u32) & (text::fetch(contents, x as usize) == 2)
+}
+
+// The arguments are all permanent.
+fn all_permanent(p: Value, arity: u32, i: u32, row: u32, col: u32) -> bool
+    ensures { λ r. ⌜ r ≡ all-permanent p (arguments-by arity i row col) ⌝ }
+{
+    if arity == 0 {
+        return true;
+    }
+    if arity == 1 {
+        return i < p as u32;
+    }
+    (row < p as u32) & (col < p as u32)
+}
+
+// A value that f may hold if it is static: its default, or a permanent one at permanent arguments.
+fn is_static_fine(p: Value, f: Function, v: Value, i: u32, row: u32, col: u32) -> bool
+    ensures { λ r. ⌜ r ≡ (dynamic f || eqb v (default f) || all-permanent p (arguments-by (f .arity) i row col) && ltb v p) ⌝ }
+{
+    if book_parts::is_dynamic(f) {
+        return true;
+    }
+    (v == book_parts::default_of(f)) | all_permanent(p, f.arity, i, row, col) & (v < p)
+}
+
+// One of the arguments is on the roll.
+fn some_on_roll(contents: &[Value], e: Value, arity: u32, i: u32, row: u32, col: u32) -> bool
+    ensures { λ r. ⌜ ((B : Program) → B .E ≡ e → r ≡ some-on-roll B (now (contents .entry)) (arguments-by arity i row col)) ⌝ }
+{
+    if arity == 0 {
+        return false;
+    }
+    if arity == 1 {
+        return on_roll(contents, e, i);
+    }
+    on_roll(contents, e, row) | on_roll(contents, e, col)
+}
+
+// The row and the column of location i of a binary function.
+fn row_of(e: Value, arity: u32, i: u32) -> u32
+    ensures { λ r. ⌜ (1 < arity → r ≡ i / e) ⌝ }
+{
+    if (arity < 2) | (e == 0) {
+        return 0;
+    }
+    i / e as u32
+}
+
+fn col_of(e: Value, arity: u32, i: u32) -> u32
+    ensures { λ r. ⌜ (1 < arity → r ≡ i % e) ⌝ }
+{
+    if (arity < 2) | (e == 0) {
+        return i;
+    }
+    i % e as u32
+}
+
+// Location l, which is number i of f, is at fault.
+fn is_bad(contents: &[Value], e: Value, p: Value, f: Function, l: u32, i: u32) -> bool
+    ensures { λ r. ⌜ ((B : Program) → B .E ≡ e → B .P ≡ p → place B l ≡ record { function = f; index = i } → r ≡ bad-value B (now (contents .entry)) l) ⌝ }
+{
+    let row = row_of(e, f.arity, i);
+    let col = col_of(e, f.arity, i);
+    let v = text::fetch(contents, l as usize);
+    let lawful = (v < e)
+        & (!book_parts::is_relation(f) | is_boolean(v))
+        & is_static_fine(p, f, v, i, row, col);
+    if l < e as u32 {
+        return !(lawful & (!(v == 2) | (p as u32 <= l)));
+    }
+    let trace = on_roll(contents, e, v as u32)
+        | !(v == book_parts::default_of(f)) & some_on_roll(contents, e, f.arity, i, row, col);
+    !(lawful & !trace)
+}
+
+// What a location of f may hold without fault: its default, if that is an element and not on the roll; else a number that none holds.
+fn blameless(contents: &[Value], e: Value, f: Function) -> u32
+    ensures { λ r. ⌜ Blameless (now (contents .entry)) e f r ⌝ }
+{
+    let v = book_parts::default_of(f);
+    if (v < e) & (text::fetch(contents, v as usize) != 2) {
+        return v as u32;
+    }
+    65536
+}
+
+// A location from l to end, before which, from l on, all hold v.
+fn past(contents: &[Value], v: u32, l: u32, end: u32) -> u32
+    requires { ⌜ l ≤ end ⌝ }
+    ensures { λ r. ⌜ Past (now (contents .entry)) v l end r ⌝ }
+{
+    let n = text::smaller(end as usize, contents.len());
+    let mut k = l as usize;
+    while k < n {
+        if contents[k] as u32 != v {
+            return k as u32;
+        }
+        k = k + 1;
+    }
+    k as u32
+}
+
+// The least location at fault of f's part, counted from its first. Nearly all are blameless, and only the others are judged.
+fn bad_part(contents: &[Value], e: Value, p: Value, f: Function, first: u32, end: u32) -> Found
+    requires { ⌜ first ≤ end ⌝ }
+    ensures { λ r. ⌜ ((B : Program) → Part B e p f first end → r ≡ least (λ i. bad-value B (now (contents .entry)) (first + i)) (size e (f .arity))) ⌝ }
+{
+    let v = blameless(contents, e, f);
+    let mut l = past(contents, v, first, end);
+    while l < end {
+        if is_bad(contents, e, p, f, l, l - first) {
+            return Found::Here(l - first);
+        }
+        l = past(contents, v, l + 1, end);
+    }
+    Found::Nowhere
+}
+
+// 8 of a table: the least location at fault, function after function.
+pub fn bad_value(image: &Image, contents: &[Value]) -> Found
+    ensures { λ r. ⌜ r ≡ least (bad-value (held (now (image .entry))) (now (contents .entry))) (L (held (now (image .entry)))) ⌝ }
+{
+    let e = book_image::elements(image);
+    let p = book_parts::permanent(image);
+    let n = book_image::functions(image);
+    let mut first: u32 = 0;
+    let mut g: u16 = 0;
+    while g < n {
+        let own = book_parts::part_from(image, g, first);
+        let end = own.end as u32;
+        let found = bad_part(contents, e, p, own.function, first, end);
+        if let Found::Here(i) = found {
+            return Found::Here(first + i);
+        }
+        first = end;
+        g = g + 1;
+    }
+    Found::Nowhere
+}

@@ -1,0 +1,258 @@
+-- The clash: the best of the instructions' own locations is the least location that clashes. Assumes nothing.
+use mathlib.Core.Path.{_≡_, refl, sym, ap, _∙_}
+use mathlib.Core.Bool.{Bool, true, false, _&&_, _||_, not, or-true}
+use mathlib.Core.List.{List, [], _∷_}
+use Prim.Native.Nat.{ℕ, _<_, _≤_}
+use native.Mathlib.Omega.{arith}
+use borrow.Author.Tests.{eqb-true, eqb-false, ltb-true, ltb-false, eq-eqb, ne-eqb, not-false}
+use lib.Dec.{eqb, ltb}
+use lib.ListN.{length, getD}
+use Rattle.text.specs.Words.{if_then_else_, has, least}
+use Rattle.text.specs.declared.Found.{Found}
+use Rattle.text.specs.declared.Found.the-variants.{Nowhere, Here}
+use Rattle.text.proofs.Words.{refuted, or-no, least-none, least-all, least-here}
+use Rattle.book.specs.Book.{Program, L, dynamic-at, default-at, concerns}
+use Rattle.engine.specs.declared.Instruction.{Instruction}
+use Rattle.engine.specs.declared.Instruction.the-variants.{Update, Release}
+use Rattle.engine.specs.Move.{given, values, updates, released, other, two-values, sets-label, set-to-label, clashes}
+use Rattle.engine.proofs.EqualReads.{has-append}
+use Rattle.engine.proofs.Values.{length-updates, updates-at}
+use Rattle.engine_instruction.specs.Traces.{own, gets, any}
+use Rattle.engine_clash.specs.Against.{doomed, trouble, better, best}
+use Rattle.engine_instruction.proofs.Laws.{and-none, other-append, own-given}
+
+-- ---- tests
+
+-- the least place at fault, where m is at fault and none below it is
+pub least-is : (bad : ℕ → Bool) (n m : ℕ) → m < n → bad m ≡ true → ((l : ℕ) → l < m → bad l ≡ false) → Here m ≡ least bad n
+least-is bad n m h e none = go (least bad n) refl
+  where
+    go : (o : Found) → least bad n ≡ o → Here m ≡ o
+    go Nowhere q = let z : _≡_ {A = ℕ} 0 1 = cc (sym (least-none bad n q m h) ∙ e) in absurd (omega arith)
+    go (Here i) q = ap Here (same (ltb m i) (ltb i m) refl refl)
+      where
+        same : (a b : Bool) → ltb m i ≡ a → ltb i m ≡ b → m ≡ i
+        same true b p r = let z : _≡_ {A = ℕ} 0 1 = cc (sym (least-here bad n i q .2 m (ltb-true m i p)) ∙ e) in absurd (omega arith)
+        same false true p r = let z : _≡_ {A = ℕ} 0 1 = cc (sym (none i (ltb-true i m r)) ∙ least-here bad n i q .1) in absurd (omega arith)
+        same false false p r = omega (arith, ltb-false m i p, ltb-false i m r)
+
+-- ---- at one location
+
+-- any other gives it nothing, or its default
+else-given : (B : Program) (c : List ℕ) (l : ℕ) (i : Instruction) → (own i ≡ l → ⊥) → other (default-at B l) (given B c l i) ≡ false
+unfolding given other
+else-given B c l (Update k v) e = rw (ne-eqb k l e)
+else-given B c l (Release x) e = rw (ne-eqb x l e) (step (dynamic-at B l && concerns B l (getD c l 0) x))
+  where
+    step : (b : Bool) → other (default-at B l) (if b then default-at B l ∷ [] else []) ≡ false
+    step true = rw (eq-eqb (default-at B l) (default-at B l) refl)
+    step false = refl
+
+-- a list whose values are all v has no two
+all-one : (v : ℕ) (vs : List ℕ) → other v vs ≡ false → two-values vs ≡ false
+unfolding other two-values
+all-one v [] e = refl
+all-one v (w ∷ ws) e =
+    let f : w ≡ v = eqb-true w v (not-false (eqb w v) (or-no (not (eqb w v)) (other v ws) e .0)) in
+    rw f (or-no (not (eqb w v)) (other v ws) e .1)
+
+has-other : (v w : ℕ) (xs : List ℕ) → has xs v ≡ true → (w ≡ v → ⊥) → other w xs ≡ true
+unfolding other
+has-other v w [] h n = cc
+has-other v w (y ∷ ys) h n = at (eqb y v) refl h (λ g. has-other v w ys g n)
+  where
+    at : (b : Bool) → eqb y v ≡ b → b || has ys v ≡ true → (has ys v ≡ true → other w ys ≡ true) → not (eqb y w) || other w ys ≡ true
+    at true f g r = rw (ne-eqb y w (λ o. n (sym o ∙ eqb-true y v f)))
+    at false f g r = rw (r g) (or-true (not (eqb y w)))
+
+-- where v is one of the values, two values are one other than v
+two-other : (v : ℕ) (vs : List ℕ) → has vs v ≡ true → other v vs ≡ two-values vs
+unfolding other two-values
+two-other v [] e = cc
+two-other v (w ∷ ws) e = step (eqb w v) refl e
+  where
+    step : (b : Bool) → eqb w v ≡ b → b || has ws v ≡ true → not (eqb w v) || other v ws ≡ other w ws
+    step true f h = rw (f, eqb-true w v f)
+    step false f h = rw f (sym (has-other v w ws h (eqb-false w v f)))
+
+has-values : (v : ℕ) (B : Program) (c : List ℕ) (l : ℕ) (is : List Instruction) → has (values B c l is) v ≡ any (λ i. has (given B c l i) v) is
+unfolding any values
+has-values v B c l [] = refl
+has-values v B c l (i ∷ is) =
+    has-append (given B c l i) (values B c l is) v ∙ ap (λ (b : Bool). has (given B c l i) v || b) (has-values v B c l is)
+
+sets-any : (xs : List ℕ) (l : ℕ) (is : List Instruction) → set-to-label xs l is ≡ any (λ i. eqb (own i) l && doomed xs i) is
+unfolding any set-to-label
+sets-any xs l [] = refl
+sets-any xs l (i ∷ is) = rw (sets-any xs l is) (ap (λ (b : Bool). b || any (λ i. eqb (own i) l && doomed xs i) is) (step i))
+  where
+    step : (i : Instruction) → sets-label xs l i ≡ eqb (own i) l && doomed xs i
+    step (Update k v) = refl
+    step (Release x) = sym (and-none (eqb x l))
+
+-- no instruction is about the location: it is given its default, or nothing
+none-own : (B : Program) (c : List ℕ) (l : ℕ) (is : List Instruction) → any (λ i. eqb (own i) l) is ≡ false → other (default-at B l) (values B c l is) ≡ false
+unfolding any values other
+none-own B c l [] h = refl
+none-own B c l (i ∷ is) h =
+    let n = or-no (eqb (own i) l) (any (λ i. eqb (own i) l) is) h in
+    other-append (default-at B l) (given B c l i) (values B c l is)
+    ∙ rw (else-given B c l i (eqb-false (own i) l (n .0)), none-own B c l is (n .1))
+
+-- ---- all instructions
+
+module _ (all : List Instruction) where
+  -- i is one of them
+  abbrev pub Member : Instruction → Type 0
+  Member i = (t : Instruction → Bool) → t i ≡ true → any t all ≡ true
+
+  -- these are some of them
+  abbrev pub Within : List Instruction → Type 0
+  Within is = (t : Instruction → Bool) → any t is ≡ true → any t all ≡ true
+
+  pub first-in : (i : Instruction) (is : List Instruction) → Within (i ∷ is) → Member i
+  unfolding any
+  first-in i is h t e = h t (rw e)
+
+  pub rest-in : (i : Instruction) (is : List Instruction) → Within (i ∷ is) → Within is
+  unfolding any
+  rest-in i is h t e = h t (rw e (or-true (t i)))
+
+  pub find : (q r : Instruction → Bool) (is : List Instruction) → Within is → any q is ≡ true → ((i : Instruction) → Member i → q i ≡ true → r i ≡ true) → any r is ≡ true
+  unfolding any
+  find q r [] h e f = cc
+  find q r (i ∷ is) h e f = step (q i) refl e (λ g. find q r is (rest-in i is h) g f)
+    where
+      step : (b : Bool) → q i ≡ b → b || any q is ≡ true → (any q is ≡ true → any r is ≡ true) → r i || any r is ≡ true
+      step true g k n = rw (f i (first-in i is h) g)
+      step false g k n = rw (n k) (or-true (r i))
+
+module _ (B : Program) (c : List ℕ) (all : List Instruction) where
+  -- an instruction of the list gives its own location its own value
+  pub gives-own : (i : Instruction) → Member all i → has (values B c (own i) all) (gets i) ≡ true
+  gives-own i h =
+      has-values (gets i) B c (own i) all
+      ∙ h (λ j. has (given B c (own i) j) (gets i)) (rw (own-given B c (own i) i refl, eq-eqb (gets i) (gets i) refl))
+
+  -- location l clashes
+  abbrev Bad : ℕ → Bool
+  Bad l = two-values (values B c l all) || set-to-label (released all) l all
+
+  -- so trouble at an instruction is a clash at its location
+  trouble-clash : (i : Instruction) → Member all i → trouble B c all i ≡ true → Bad (own i) ≡ true
+  trouble-clash i h e =
+      rw (← (two-other (gets i) (values B c (own i) all) (gives-own i h)))
+      (step (other (gets i) (values B c (own i) all)) (doomed (released all) i) refl e)
+    where
+      step : (a b : Bool) → doomed (released all) i ≡ b → a || b ≡ true → a || set-to-label (released all) (own i) all ≡ true
+      step true b f g = refl
+      step false true f g =
+          sets-any (released all) (own i) all
+          ∙ h (λ j. eqb (own j) (own i) && doomed (released all) j) (rw (eq-eqb (own i) (own i) refl, f))
+      step false false f g = cc
+
+  -- trouble at an instruction about l
+  abbrev pub bad-one : ℕ → Instruction → Bool
+  bad-one l i = eqb (own i) l && trouble B c all i
+
+  -- and a clash is trouble at some instruction about the location
+  clash-trouble : (l : ℕ) → Bad l ≡ true → any (bad-one l) all ≡ true
+  clash-trouble l e = step (two-values (values B c l all)) refl e
+    where
+      about : (b : Bool) → any (λ i. eqb (own i) l) all ≡ b → two-values (values B c l all) ≡ true → b ≡ true
+      about true f g = refl
+      about false f g = sym (all-one (default-at B l) (values B c l all) (none-own B c l all f)) ∙ g
+
+      step : (b : Bool) → two-values (values B c l all) ≡ b → b || set-to-label (released all) l all ≡ true → any (bad-one l) all ≡ true
+      step true f g =
+          find all (λ i. eqb (own i) l) (bad-one l) all (λ t h. h)
+          (about (any (λ i. eqb (own i) l) all) refl f)
+          (λ i h k.
+          let o : own i ≡ l = eqb-true (own i) l k in
+          rw (eq-eqb (own i) l o, two-other (gets i) (values B c (own i) all) (gives-own i h), o, f))
+      step false f g =
+          find all (λ i. eqb (own i) l && doomed (released all) i) (bad-one l) all (λ t h. h)
+          (sym (sets-any (released all) l all) ∙ g)
+          (λ i h k. either (eqb (own i) l) (doomed (released all) i) (other (gets i) (values B c (own i) all)) k)
+        where
+          either : (a b d : Bool) → a && b ≡ true → a && (d || b) ≡ true
+          either true b d k = rw k (or-true d)
+          either false b d k = cc
+
+  -- ---- the best of them
+
+  better-le : (i : Instruction) (b : ℕ) → better B c all i b ≤ b
+  better-le i b = step (ltb (own i) b) (trouble B c all i) refl
+    where
+      step : (t u : Bool) → ltb (own i) b ≡ t → (if t && u then own i else b) ≤ b
+      step true true e = omega (arith, ltb-true)
+      step true false e = omega arith
+      step false u e = omega arith
+
+  pub best-le : (is : List Instruction) (b : ℕ) → best B c all is b ≤ b
+  unfolding best
+  best-le [] b = omega arith
+  best-le (i ∷ is) b = omega (arith, best-le is (better B c all i b), better-le i b)
+
+  better-here : (i : Instruction) (b l : ℕ) → bad-one l i ≡ true → better B c all i b ≤ l
+  better-here i b l e = step (eqb (own i) l) (ltb (own i) b) (trouble B c all i) refl refl e
+    where
+      step : (s t u : Bool) → eqb (own i) l ≡ s → ltb (own i) b ≡ t → s && u ≡ true → (if t && u then own i else b) ≤ l
+      step true true true f g h = omega (arith, eqb-true)
+      step true false true f g h = omega (arith, eqb-true, ltb-false)
+      step true t false f g h = let z : _≡_ {A = ℕ} 0 1 = cc in absurd (omega arith)
+      step false t u f g h = let z : _≡_ {A = ℕ} 0 1 = cc in absurd (omega arith)
+
+  pub best-here : (is : List Instruction) (b l : ℕ) → any (bad-one l) is ≡ true → best B c all is b ≤ l
+  unfolding best any
+  best-here [] b l e = let z : _≡_ {A = ℕ} 0 1 = cc in absurd (omega arith)
+  best-here (i ∷ is) b l e = step (bad-one l i) refl e (λ g. best-here is (better B c all i b) l g)
+    where
+      step : (t : Bool) → bad-one l i ≡ t → t || any (bad-one l) is ≡ true
+          → (any (bad-one l) is ≡ true → best B c all is (better B c all i b) ≤ l)
+          → best B c all is (better B c all i b) ≤ l
+      step true f g r = omega (arith, best-le is (better B c all i b), better-here i b l f)
+      step false f g r = r g
+
+  -- what is better than the start clashes
+  better-clashes : (i : Instruction) → Member all i → (b n : ℕ) → (b < n → Bad b ≡ true) → better B c all i b < n → Bad (better B c all i b) ≡ true
+  better-clashes i h b n old = step (ltb (own i) b) (trouble B c all i) refl
+    where
+      step : (t u : Bool) → trouble B c all i ≡ u → (if t && u then own i else b) < n → Bad (if t && u then own i else b) ≡ true
+      step true true e k = trouble-clash i h e
+      step true false e k = old k
+      step false u e k = old k
+
+  best-clashes : (is : List Instruction) → Within all is → (b n : ℕ) → (b < n → Bad b ≡ true) → best B c all is b < n → Bad (best B c all is b) ≡ true
+  unfolding best
+  best-clashes [] h b n old k = old k
+  best-clashes (i ∷ is) h b n old k =
+      best-clashes is (rest-in all i is h) (better B c all i b) n (better-clashes i (first-in all i is h) b n old) k
+
+  -- what is better than the start has trouble
+  pub best-trouble : (b : ℕ) → best B c all all b < b → any (bad-one (best B c all all b)) all ≡ true
+  best-trouble b h = clash-trouble (best B c all all b) (best-clashes all (λ t k. k) b b (λ k. absurd (omega arith)) h)
+
+  clashes-at : (l : ℕ) → l < L B → clashes all (updates B c all) l ≡ Bad l
+  unfolding clashes
+  clashes-at l h = rw (updates-at B c all l h)
+
+  -- begun from a number k that is no location
+  module _ (k : ℕ) (k-high : L B ≤ k) where
+    abbrev found : ℕ
+    found = best B c all all k
+
+    -- one below L is the least location that clashes
+    pub best-least : found < L B → Here found ≡ least (clashes all (updates B c all)) (length (updates B c all))
+    best-least h =
+        rw (length-updates B c all)
+        (least-is (clashes all (updates B c all)) (L B) found h
+        (clashes-at found h ∙ best-clashes all (λ t e. e) k k (λ e. absurd (omega arith)) (omega arith))
+        (λ l e. clashes-at l (omega arith) ∙ refuted (Bad l) (λ b. omega (arith, best-here all k l (clash-trouble l b)))))
+
+    -- else none does
+    pub best-none : L B ≤ found → Nowhere ≡ least (clashes all (updates B c all)) (length (updates B c all))
+    best-none h =
+        rw (length-updates B c all)
+        (sym (least-all (clashes all (updates B c all)) (L B)
+        (λ l e. clashes-at l e ∙ refuted (Bad l) (λ b. omega (arith, best-here all k l (clash-trouble l b))))))

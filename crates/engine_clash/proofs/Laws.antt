@@ -1,0 +1,44 @@
+-- Laws that several proofs cite: a location as it stands, what is given it, a label that is released. Assumes nothing.
+use mathlib.Core.Path.{_≡_, refl, sym, ap, _∙_}
+use mathlib.Core.Bool.{Bool, _||_, or-false}
+use mathlib.Core.List.{List, [], _∷_}
+use Prim.Native.Nat.{ℕ}
+use lib.Dec.{eqb}
+use lib.ListN.{getD}
+use Rattle.text.specs.Words.{has}
+use Rattle.book.specs.declared.Function.{Function}
+use Rattle.book.specs.Book.{Program, place}
+use Rattle.engine.specs.declared.Instruction.{Instruction}
+use Rattle.engine.specs.declared.Instruction.the-variants.{Update, Release}
+use Rattle.engine.specs.Move.{given, values, label-of, released, other}
+use Rattle.engine_instruction.specs.Traces.{any}
+use Rattle.engine_instruction.proofs.Laws.{other-append}
+use Rattle.engine_clash.specs.declared.Spot.{Spot}
+use Rattle.engine_clash.specs.Against.{gives, spot}
+
+-- a location whose function and number within it are known
+pub spot-is :
+    (B : Program) (c : List ℕ) (l : ℕ) (f : Function) (i v : ℕ) → place B l ≡ record { function = f; index = i } → v ≡ getD c l 0 →
+    _≡_ {A = Spot} (record { location = l; function = f; index = i; held = v }) (spot B c l)
+spot-is B c l f i v p h = rw (p, h)
+
+-- what an instruction gives a location, seen from there
+pub given-spot : (B : Program) (c : List ℕ) (l : ℕ) (i : Instruction) → given B c l i ≡ gives (B .E) (spot B c l) i
+unfolding given gives
+given-spot B c l (Update k v) = refl
+given-spot B c l (Release x) = refl
+
+pub other-any : (w : ℕ) (B : Program) (c : List ℕ) (l : ℕ) (is : List Instruction) → other w (values B c l is) ≡ any (λ i. other w (gives (B .E) (spot B c l) i)) is
+unfolding any other values
+other-any w B c l [] = refl
+other-any w B c l (i ∷ is) =
+    other-append w (given B c l i) (values B c l is) ∙ rw (given-spot B c l i, other-any w B c l is)
+
+has-label : (x : ℕ) (i : Instruction) (xs : List ℕ) → has (label-of i xs) x ≡ has (label-of i []) x || has xs x
+has-label x (Update l v) xs = refl
+has-label x (Release y) xs = ap (λ (b : Bool). b || has xs x) (sym (or-false (eqb y x)))
+
+pub has-any : (x : ℕ) (is : List Instruction) → has (released is) x ≡ any (λ i. has (label-of i []) x) is
+unfolding any released
+has-any x [] = refl
+has-any x (i ∷ is) = has-label x i (released is) ∙ ap (λ (b : Bool). has (label-of i []) x || b) (has-any x is)

@@ -1,0 +1,288 @@
+// Refusal 15, the least location that clashes: each instruction held against all, and a short way for updates alone.
+use book::Function;
+use book::Image;
+use engine::Instruction;
+use text::Value;
+ghost use mathlib.Core.Path.{_≡_};
+ghost use mathlib.Core.List.{[]};
+ghost use Rattle.text.specs.Words.{has};
+ghost use Rattle.book.specs.Image.{held};
+ghost use Rattle.engine.specs.Move.{label-of, released, other};
+ghost use Rattle.engine_instruction.specs.Code.{items};
+ghost use Rattle.engine_instruction.specs.Traces.{any, trace-in};
+ghost use Rattle.engine_clash.specs.Against.{spot, gives, doomed, better, best};
+ghost use Prim.Native.Nat.{_<_, _≤_};
+ghost use lib.ListN.{length};
+ghost use Rattle.engine_clash.specs.Steps.{location-of, slot-of, Last, Chain, nearer};
+
+// A location, its function and its number within it, and what it holds.
+struct Spot {
+    location: u32,
+    function: Function,
+    index: usize,
+    held: Value,
+}
+
+// ---- one location
+
+// It is a trace of x.
+fn is_trace(e: Value, s: Spot, x: Value) -> bool
+    ensures { λ r. ⌜ r ≡ trace-in e (s .function) (s .index) (s .held) x ⌝ }
+{
+    let i = s.index;
+    let n = e as usize;
+    let f = s.function;
+    if n == 0 {
+        return engine_instruction::is_trace_at(f, i, 0, i, s.held, x);
+    }
+    engine_instruction::is_trace_at(f, i, i / n, i % n, s.held, x)
+}
+
+// Location l as it stands; past the last function there is none.
+fn spot_of(image: &Image, contents: &[Value], l: u32) -> Spot
+    ensures { λ r. ⌜ r ≡ spot (held (now (image .entry))) (now (contents .entry)) l ⌝ }
+{
+    let at = l as usize;
+    let owner = book_parts::owner_of(image, at);
+    let index = if at < owner.end { at - owner.first } else { 0 };
+    let f = owner.function;
+    Spot {
+        location: l,
+        function: f,
+        index: index,
+        held: text::fetch(contents, at),
+    }
+}
+
+// An instruction gives the location a value other than w.
+fn against(e: Value, s: Spot, w: Value, what: Instruction) -> bool
+    ensures { λ r. ⌜ r ≡ other w (gives e s what) ⌝ }
+{
+    match what {
+        Instruction::Update { location, value } => {
+            if location == s.location {
+                return value != w;
+            }
+            false
+        }
+        Instruction::Release { label } => {
+            if label as u32 == s.location {
+                return 2 != w;
+            }
+            if is_trace(e, s, label) {
+                return book_parts::default_of(s.function) != w;
+            }
+            false
+        }
+    }
+}
+
+// An instruction of the list does.
+fn other_at(e: Value, list: &[u64], len: usize, s: Spot, w: Value) -> bool
+    ensures { λ r. ⌜ r ≡ any (λ i. other w (gives e s i)) (items (now (list .entry)) len) ⌝ }
+{
+    let n = text::smaller(len, list.len());
+    let mut j: usize = 0;
+    while j < n {
+        let what = engine_instruction::decode(list[j]);
+        if against(e, s, w, what) {
+            return true;
+        }
+        j = j + 1;
+    }
+    false
+}
+
+// An instruction releases the label.
+fn releases(what: Instruction, x: Value) -> bool
+    ensures { λ r. ⌜ r ≡ has (label-of what []) x ⌝ }
+{
+    match what {
+        Instruction::Update {
+            location: _,
+            value: _,
+        } => false,
+        Instruction::Release { label } => label == x,
+    }
+}
+
+// An instruction of the list does.
+fn is_released(list: &[u64], len: usize, x: Value) -> bool
+    ensures { λ r. ⌜ r ≡ has (released (items (now (list .entry)) len)) x ⌝ }
+{
+    let n = text::smaller(len, list.len());
+    let mut j: usize = 0;
+    while j < n {
+        let what = engine_instruction::decode(list[j]);
+        if releases(what, x) {
+            return true;
+        }
+        j = j + 1;
+    }
+    false
+}
+
+// ---- all
+
+// An instruction is an update whose value the list releases.
+fn is_doomed(list: &[u64], len: usize, what: Instruction) -> bool
+    ensures { λ r. ⌜ r ≡ doomed (released (items (now (list .entry)) len)) what ⌝ }
+{
+    match what {
+        Instruction::Update { location: _, value } => is_released(list, len, value),
+        Instruction::Release { label: _ } => false,
+    }
+}
+
+// The location of the instruction where it is less than best and clashes; else best.
+fn better_of(
+    image: &Image,
+    contents: &[Value],
+    list: &[u64],
+    len: usize,
+    what: Instruction,
+    best: u32,
+) -> u32
+    ensures { λ r. ⌜ r ≡ better (held (now (image .entry))) (now (contents .entry)) (items (now (list .entry)) len) what best ⌝ }
+{
+    let at = engine_instruction::own_location(what);
+    if best <= at {
+        return best;
+    }
+    let e = book_image::elements(image);
+    let s = spot_of(image, contents, at);
+    if other_at(e, list, len, s, engine_instruction::own_value(what)) {
+        return at;
+    }
+    if is_doomed(list, len, what) {
+        return at;
+    }
+    best
+}
+
+// The least location that clashes, or most: each instruction is held against all.
+pub fn first_of_all(image: &Image, contents: &[Value], list: &[u64], len: usize, most: u32) -> u32
+    ensures { λ r. ⌜ r ≡ best (held (now (image .entry))) (now (contents .entry)) (items (now (list .entry)) len) (items (now (list .entry)) len) most ⌝ }
+{
+    let n = text::smaller(len, list.len());
+    let mut least = most;
+    let mut j: usize = 0;
+    while j < n {
+        let what = engine_instruction::decode(list[j]);
+        least = better_of(image, contents, list, len, what, least);
+        j = j + 1;
+    }
+    least
+}
+
+// ---- updates alone, as the numbers that stand for them: a location with two values
+
+// From here on a number stands for a release.
+const RELEASES: u64 = 281474976710656;
+
+// Instructions that a move can have.
+const MOST: usize = 256;
+
+// Up to so many it is faster to hold them against each other than to clear the tables.
+const FEW: usize = 8;
+
+// Updates with one location have one slot, and few others have it.
+fn slot(code: u64) -> usize
+    ensures { λ r. ⌜ (r ≡ slot-of code) × (r < 512) ⌝ }
+{
+    (code / 65536 % 512) as usize
+}
+
+// The last of the first p updates with the location of this one, counted from 1; 0 if none has it. Only those at its slot are tried: p is one, and
+// prior has the one before each.
+fn last_at(list: &[u64], prior: &[u16; 256], p: u16, code: u64) -> usize
+    requires { ⌜ Chain (now list) (now prior) code p ⌝ }
+    ensures { λ r. ⌜ Last location-of (now (list .entry)) code p r ⌝ }
+{
+    let mut i = p as usize;
+    while 0 < i {
+        if list[i - 1] / 65536 == code / 65536 {
+            return i;
+        }
+        i = prior[i - 1] as usize;
+    }
+    0
+}
+
+// As last_at, with all of them tried.
+fn last_before(list: &[u64], p: usize, code: u64) -> usize
+    requires { ⌜ p ≤ length (now list) ⌝ }
+    ensures { λ r. ⌜ Last location-of (now (list .entry)) code p r ⌝ }
+{
+    let mut i = p;
+    while 0 < i {
+        if list[i - 1] / 65536 == code / 65536 {
+            return i;
+        }
+        i = i - 1;
+    }
+    0
+}
+
+// The location of an update where it is less than least and update i, counted from 1, gives it another value; else least.
+fn nearer(list: &[u64], i: usize, code: u64, least: u64) -> u64
+    requires { ⌜ i ≤ length (now list) ⌝ }
+    ensures { λ r. ⌜ r ≡ nearer (now (list .entry)) i code least ⌝ }
+{
+    if i == 0 {
+        return least;
+    }
+    if (list[i - 1] == code) | (least <= code / 65536) {
+        return least;
+    }
+    code / 65536
+}
+
+// The least location that clashes among the first n, or most, with no tables.
+fn first_of_few(image: &Image, contents: &[Value], list: &[u64], n: usize, most: u32) -> u32
+    requires { ⌜ n ≤ length (now list) ⌝ }
+    ensures { λ r. ⌜ r ≡ best (held (now (image .entry))) (now (contents .entry)) (items (now (list .entry)) n) (items (now (list .entry)) n) most ⌝ }
+{
+    let mut least = most as u64;
+    let mut j: usize = 0;
+    while j < n {
+        let code = list[j];
+        if RELEASES <= code {
+            return first_of_all(image, contents, list, n, most);
+        }
+        least = nearer(list, last_before(list, j, code), code, least);
+        j = j + 1;
+    }
+    least as u32
+}
+
+// The least location that clashes, or most. Without a release it is enough to hold each update against the last one before it at its location.
+// Counted from 1, `last` has the last update at each slot, and `prior` the one before each update at its slot.
+pub fn first_clash(image: &Image, contents: &[Value], list: &[u64], len: usize, most: u32) -> u32
+    ensures { λ r. ⌜ r ≡ best (held (now (image .entry))) (now (contents .entry)) (items (now (list .entry)) len) (items (now (list .entry)) len) most ⌝ }
+{
+    let n = text::smaller(len, list.len());
+    if n <= FEW {
+        return first_of_few(image, contents, list, n, most);
+    }
+    if MOST < n {
+        return first_of_all(image, contents, list, len, most);
+    }
+    let mut last = [0u16; 512];
+    let mut prior = [0u16; 256];
+    let mut least = most as u64;
+    let mut j: usize = 0;
+    while j < n {
+        let code = list[j];
+        if RELEASES <= code {
+            return first_of_all(image, contents, list, len, most);
+        }
+        let s = slot(code);
+        let p = last[s];
+        least = nearer(list, last_at(list, &prior, p, code), code, least);
+        prior[j] = p;
+        last[s] = j as u16 + 1;
+        j = j + 1;
+    }
+    least as u32
+}

@@ -1,0 +1,223 @@
+// The instructions that a walk gives: how far it is, one instruction more, a pick taken, or a refusal.
+use book::Image;
+use engine::Instruction;
+use engine::Pick;
+use text::Value;
+ghost use mathlib.Core.Path.{_≡_};
+ghost use mathlib.Core.List.{List, []};
+ghost use Prim.Native.Nat.{ℕ, suc, _<_};
+ghost use lib.ListN.{length, getD};
+ghost use Rattle.book.specs.Book.{node-at};
+ghost use Rattle.engine.specs.Term.{term-at, function-of};
+ghost use Rattle.engine.specs.Rule.{_then_, most-instructions, give, all-taken};
+ghost use Rattle.book.specs.Image.{held};
+ghost use Rattle.engine_emit.specs.Giving.{reached, left-of, refused-by, setting, freeing, taking, enrolling, next-pick, picking};
+
+// How far a walk is: how many instructions it has given, the label from which the next import looks,
+// its refusal (0 for none) and the refusal's node. Eight bytes go from node to node in a register; how many picks it has used stands in a
+// cell that is lent beside it.
+pub struct Pace {
+    pub len: u16,
+    pub label: Value,
+    pub refused: u16,
+    pub node: u16,
+}
+
+// A refusal at node n, unless there is one already.
+fn refuse(s: Pace, number: u32, n: u16) -> Pace
+    requires { ⌜ (0 < number) × (number < 65536) ⌝ }
+    ensures { λ r. ⌜ ((ys l : List ℕ) → reached ys r l ≡ (reached ys s l then refused-by number n)) ⌝ }
+{
+    if s.refused != 0 {
+        return s;
+    }
+    Pace {
+        len: s.len,
+        label: s.label,
+        refused: number as u16,
+        node: n,
+    }
+}
+
+// One more instruction, which node n gives; 14 if it does not fit.
+fn give(list: &mut [u64], s: Pace, i: Instruction, n: u16) -> Pace
+    requires { ⌜ length (now list) ≡ most-instructions ⌝ }
+    ensures { λ r. ⌜ ((ys : List ℕ) → reached ys r (now (list .exit)) ≡ (reached ys s (now (list .entry)) then give n i)) ⌝ }
+{
+    if s.refused != 0 {
+        return s;
+    }
+    let at = s.len as usize;
+    if at < 256 {
+        list[at] = engine_instruction::code(i);
+        Pace {
+            len: s.len + 1,
+            label: s.label,
+            refused: 0,
+            node: s.node,
+        }
+    } else {
+        refuse(s, text::LIST_FULL, n)
+    }
+}
+
+// The function of the location that the term at node n names.
+pub fn named(image: &Image, depth: usize, n: u16) -> u16
+    ensures { λ r. ⌜ r ≡ function-of (term-at (node-at (held (now (image .entry)))) depth n) ⌝ }
+{
+    if depth == 0 {
+        return 0;
+    }
+    let row = book_parts::node(image, n);
+    let k = row.kind;
+    match k {
+        4 => row.a,
+        5 => row.a,
+        6 => row.a,
+        _ => 0,
+    }
+}
+
+// Sets a location of function f to x; 11 if f is a relation and x not Boolean.
+pub fn update(
+    image: &Image,
+    list: &mut [u64; 256],
+    s: Pace,
+    n: u16,
+    f: u16,
+    at: u32,
+    x: Value,
+) -> Pace
+    ensures { λ r. ⌜ ((ys : List ℕ) → reached ys r (now (list .exit)) ≡ (reached ys s (now (list .entry)) then setting (held (now (image .entry))) f at x n)) ⌝ }
+{
+    if book_parts::is_relation(book_image::function_at(image, f as u32)) {
+        if engine_term::boolean(x) {
+            give(
+                list,
+                s,
+                Instruction::Update {
+                    location: at,
+                    value: x,
+                },
+                n,
+            )
+        } else {
+            refuse(s, text::NON_BOOLEAN, n)
+        }
+    } else {
+        give(
+            list,
+            s,
+            Instruction::Update {
+                location: at,
+                value: x,
+            },
+            n,
+        )
+    }
+}
+
+// The two updates by which an import at node n takes label x into universe u.
+fn take(image: &Image, list: &mut [u64; 256], s: Pace, n: u16, u: u16, x: Value) -> Pace
+    requires { ⌜ x < 65535 ⌝ }
+    ensures { λ r. ⌜ ((ys : List ℕ) → reached ys r (now (list .exit)) ≡ (reached ys s (now (list .entry)) then taking (held (now (image .entry))) u x n)) ⌝ }
+{
+    let r = Pace {
+        len: s.len,
+        label: x + 1,
+        refused: s.refused,
+        node: s.node,
+    };
+    let t = give(
+        list,
+        r,
+        Instruction::Update {
+            location: x as u32,
+            value: 1,
+        },
+        n,
+    );
+    let at = engine_term::location(image, u, x, 0);
+    give(
+        list,
+        t,
+        Instruction::Update {
+            location: at,
+            value: 2,
+        },
+        n,
+    )
+}
+
+// The same if x is an element; 13 if not, as no label is left.
+pub fn enroll(image: &Image, list: &mut [u64; 256], s: Pace, n: u16, u: u16, x: Value) -> Pace
+    ensures { λ r. ⌜ ((ys : List ℕ) → reached ys r (now (list .exit)) ≡ (reached ys s (now (list .entry)) then enrolling (held (now (image .entry))) u x n)) ⌝ }
+{
+    if x < book_image::elements(image) {
+        take(image, list, s, n, u, x)
+    } else {
+        refuse(s, text::NO_LABEL_LEFT, n)
+    }
+}
+
+// Releases x, Reserve there being v; 12 if x is no label or in Reserve.
+pub fn free(image: &Image, list: &mut [u64; 256], s: Pace, n: u16, x: Value, v: Value) -> Pace
+    ensures { λ r. ⌜ ((ys : List ℕ) → reached ys r (now (list .exit)) ≡ (reached ys s (now (list .entry)) then freeing (held (now (image .entry))) x v n)) ⌝ }
+{
+    if x < book_parts::permanent(image) {
+        return refuse(s, text::NOT_RELEASABLE, n);
+    }
+    if v == 2 {
+        refuse(s, text::NOT_RELEASABLE, n)
+    } else {
+        give(list, s, Instruction::Release { label: x }, n)
+    }
+}
+
+// The pick that is next; E if there is none, or it is no element.
+pub fn next_pick(image: &Image, picks: &[Pick], used: &[usize; 1]) -> Value
+    ensures { λ r. ⌜ r ≡ next-pick (held (now (image .entry)) .E) (left-of (now (picks .entry)) (now (used .entry))) ⌝ }
+{
+    let e = book_image::elements(image);
+    let i = used[0];
+    if i < picks.len() {
+        let y = picks[i];
+        if y < e as u64 {
+            return y as Value;
+        }
+    }
+    e
+}
+
+// One pick more is used.
+fn advance(used: &mut [usize])
+    requires { ⌜ (0 < length (now used)) × (getD (now used) 0 0 < 18446744073709551615) ⌝ }
+    ensures { λ _. ⌜ getD (now (used .exit)) 0 0 ≡ suc (getD (now (used .entry)) 0 0) ⌝ }
+{
+    used[0] = used[0] + 1;
+}
+
+// Takes the pick that is next, the universe having the value v there; 19 if there is none, 18 if it is no member.
+pub fn pick(picks: &[Pick], used: &mut [usize; 1], s: Pace, n: u16, v: Value) -> Pace
+    ensures { λ r. ⌜ ((l : List ℕ) → reached (left-of (now (picks .entry)) (now (used .exit))) r l ≡ (reached (left-of (now (picks .entry)) (now (used .entry))) s l then picking v n)) ⌝ }
+{
+    let i = used[0];
+    if picks.len() <= i {
+        return refuse(s, text::PICK_COUNT, n);
+    }
+    if v != 2 {
+        return refuse(s, text::NOT_IN_UNIVERSE, n);
+    }
+    advance(used);
+    s
+}
+
+// 19 at the root if picks are left at the walk's end.
+pub fn all_used(picks: &[Pick], used: &[usize; 1], s: Pace, root: u16) -> Pace
+    ensures { λ r. ⌜ ((l : List ℕ) → reached [] r l ≡ (reached (left-of (now (picks .entry)) (now (used .entry))) s l then λ w. all-taken root (w .left) w)) ⌝ }
+{
+    if used[0] < picks.len() {
+        return refuse(s, text::PICK_COUNT, root);
+    }
+    s
+}

@@ -1,0 +1,442 @@
+-- Firing: clearing the traces release by release and then putting each instruction's own value is what the definitions say of each location. Assumes nothing.
+use mathlib.Core.Path.{_≡_, refl, sym, ap, ap₂, _∙_}
+use mathlib.Core.Bool.{Bool, true, false, _&&_, _||_, not, or-true, or-false}
+use mathlib.Core.List.{List, [], _∷_, _++_}
+use Prim.Native.Nat.{ℕ, _+_, _*_, _/_, _%_, _<_, _≤_, min, max}
+use native.Mathlib.Omega.{arith}
+use borrow.Author.Tests.{eqb-true, eqb-false, ltb-true, ltb-false, eq-eqb, ne-eqb, lt-ltb, le-ltb, not-false}
+use lib.Dec.{eqb, ltb}
+use lib.Bits.{bitOr, or-step, or-self}
+use lib.Arith.{bin-ind}
+use lib.ListN.{length, getD, set, length-set}
+use lib.Seq.{getD-set-same, getD-set-other, ext-getD}
+use Rattle.text.specs.Words.{if_then_else_, least}
+use Rattle.text.specs.declared.Found.the-variants.{Nowhere}
+use Rattle.text.proofs.Words.{or-no, least-none}
+use Rattle.book.specs.Book.{Program, L, true-element, default-at}
+use Rattle.book_parts.proofs.Places.{place-past}
+use Rattle.engine.specs.declared.Instruction.{Instruction}
+use Rattle.engine.specs.declared.Instruction.the-variants.{Update, Release}
+use Rattle.engine.specs.Move.{given, values, updates, values-at, released, other, two-values, set-to-label, clashes, new-value, fire, is-some, writes}
+use Rattle.engine.proofs.Values.{length-updates, updates-at, updates-past, fire-inside}
+use Rattle.engine.proofs.Moves.{fire-length}
+use Rattle.engine_release.specs.Marks.{each, mark}
+use Rattle.engine_fire.specs.Outcome.{write-marked}
+use Rattle.engine_instruction.specs.Traces.{own, gets, any}
+use Rattle.engine_release.specs.Steps.{trace, wiped, clear-of, clear-marks-of, clears, clear-marks}
+use Rattle.engine_fire.specs.Steps.{puts, put-marks}
+use Rattle.engine_instruction.proofs.Laws.{and-none, other-append}
+use Rattle.engine_release.proofs.Sweep.{length-each, getD-each, each-is}
+use Rattle.engine_instruction.proofs.Laws.{own-given}
+
+-- ---- marks: a bit that is there stays
+
+or-again : (a b : ℕ) → bitOr (bitOr a b) b ≡ bitOr a b
+or-again =
+    bin-ind (λ (a : ℕ). (b : ℕ) → bitOr (bitOr a b) b ≡ bitOr a b) (λ b. or-self b)
+    (λ a ih b.
+    or-step (bitOr a b) b
+    ∙ ap₂ (λ (x y : ℕ). x * 2 + y) (ap (λ (x : ℕ). bitOr x (b / 2)) (half a b) ∙ ih (b / 2)) (odd a b)
+    ∙ sym (or-step a b))
+  where
+    half : (a b : ℕ) → bitOr a b / 2 ≡ bitOr (a / 2) (b / 2)
+    half a b = omega (arith, or-step a b)
+
+    odd : (a b : ℕ) → max (bitOr a b % 2) (b % 2) ≡ max (a % 2) (b % 2)
+    odd a b = omega (arith, or-step a b)
+
+pub mark-mark : (bit : ℕ) (s t : Bool) (m : ℕ) → mark bit s (mark bit t m) ≡ mark bit (s || t) m
+mark-mark bit true true m = or-again m bit
+mark-mark bit true false m = refl
+mark-mark bit false t m = refl
+
+-- ---- one location, l; v is what it holds
+
+module _ (B : Program) (l : ℕ) where
+  abbrev pub rest : ℕ
+  rest = default-at B l
+
+  abbrev wipe-of : Instruction → ℕ → ℕ
+  wipe-of (Update k w) v = v
+  wipe-of (Release x) v = wiped B x l v
+
+  -- what clearing leaves there
+  unfoldable pub wipe-by : List Instruction → ℕ → ℕ
+  wipe-by [] v = v
+  wipe-by (i ∷ is) v = wipe-by is (wipe-of i v)
+
+  -- what putting leaves there
+  unfoldable put-by : List Instruction → ℕ → ℕ
+  put-by [] v = v
+  put-by (i ∷ is) v = put-by is (if eqb (own i) l then gets i else v)
+
+  abbrev pub about : Instruction → Bool
+  about i = eqb (own i) l
+
+  -- a release has a trace there
+  abbrev pub trace-of : ℕ → Instruction → Bool
+  trace-of v (Update k w) = false
+  trace-of v (Release x) = trace B l v x
+
+  abbrev note-of : ℕ → Instruction → ℕ → ℕ → ℕ
+  note-of bit i v m = mark bit (trace-of v i) m
+
+  unfoldable note-by : ℕ → List Instruction → ℕ → ℕ → ℕ
+  note-by bit [] v m = m
+  note-by bit (i ∷ is) v m = note-by bit is (wipe-of i v) (note-of bit i v m)
+
+  -- past the last location there are no traces
+  past-trace : L B ≤ l → (v x : ℕ) → trace B l v x ≡ false
+  past-trace h v x = rw (place-past B l h)
+
+  past-traces : L B ≤ l → (v : ℕ) (is : List Instruction) → any (trace-of v) is ≡ false
+  unfolding any
+  past-traces h v [] = refl
+  past-traces h v (Update k w ∷ is) = past-traces h v is
+  past-traces h v (Release x ∷ is) = rw (past-trace h v x) (past-traces h v is)
+
+  past-wipe : L B ≤ l → (is : List Instruction) (v : ℕ) → wipe-by is v ≡ v
+  unfolding wipe-by
+  past-wipe h [] v = refl
+  past-wipe h (Update k w ∷ is) v = past-wipe h is v
+  past-wipe h (Release x ∷ is) v = rw (past-trace h v x) (past-wipe h is v)
+
+  pub wiped-true : (x v : ℕ) → trace B l v x ≡ true → wiped B x l v ≡ rest
+  wiped-true x v e = rw e
+
+  pub wiped-false : (x v : ℕ) → trace B l v x ≡ false → wiped B x l v ≡ v
+  wiped-false x v e = rw e
+
+  -- the default stays the default
+  wipe-rest : (i : Instruction) → wipe-of i rest ≡ rest
+  wipe-rest (Update k w) = refl
+  wipe-rest (Release x) = step (trace B l rest x) refl
+    where
+      step : (b : Bool) → trace B l rest x ≡ b → wiped B x l rest ≡ rest
+      step true e = wiped-true x rest e
+      step false e = wiped-false x rest e
+
+  pub wipe-by-rest : (is : List Instruction) → wipe-by is rest ≡ rest
+  unfolding wipe-by
+  wipe-by-rest [] = refl
+  wipe-by-rest (i ∷ is) = ap (wipe-by is) (wipe-rest i) ∙ wipe-by-rest is
+
+  put-none : (is : List Instruction) (v : ℕ) → any about is ≡ false → put-by is v ≡ v
+  unfolding put-by any
+  put-none [] v h = refl
+  put-none (i ∷ is) v h = let n = or-no (about i) (any about is) h in rw (n .0) (put-none is v (n .1))
+
+  -- ---- the mark there
+
+  note-again : (bit : ℕ) (is : List Instruction) (v m : ℕ) → note-by bit is v (mark bit true m) ≡ mark bit true m
+  unfolding note-by
+  note-again bit [] v m = refl
+  note-again bit (i ∷ is) v m =
+      ap (note-by bit is (wipe-of i v)) (mark-mark bit (trace-of v i) true m ∙ ap (λ (b : Bool). mark bit b m) (or-true (trace-of v i)))
+      ∙ note-again bit is (wipe-of i v) m
+
+  note-is : (bit : ℕ) (is : List Instruction) (v m : ℕ) → note-by bit is v m ≡ mark bit (any (trace-of v) is) m
+  unfolding note-by any
+  note-is bit [] v m = refl
+  note-is bit (i ∷ is) v m = step i (note-is bit is v m)
+    where
+      step : (j : Instruction) → note-by bit is v m ≡ mark bit (any (trace-of v) is) m
+          → note-by bit is (wipe-of j v) (note-of bit j v m) ≡ mark bit (trace-of v j || any (trace-of v) is) m
+      step (Update k w) r = r
+      step (Release x) r = look (trace B l v x) refl
+        where
+          look : (b : Bool) → trace B l v x ≡ b → note-by bit is (wiped B x l v) (mark bit (trace B l v x) m) ≡ mark bit (trace B l v x || any (trace-of v) is) m
+          look true e = rw e (note-again bit is rest m)
+          look false e =
+              ap₂ (note-by bit is) (wiped-false x v e) (ap (λ (b : Bool). mark bit b m) e) ∙ r ∙ ap (λ (b : Bool). mark bit (b || any (trace-of v) is) m) (sym e)
+
+  -- ---- what it is given in the contents c
+
+  module _ (c : List ℕ) where
+    abbrev held : ℕ
+    held = getD c l 0
+
+    given-update : (k w : ℕ) → eqb k l ≡ false → given B c l (Update k w) ≡ []
+    unfolding given
+    given-update k w h = rw h
+
+    given-release : (x : ℕ) (b : Bool) → eqb x l ≡ false → trace B l held x ≡ b → given B c l (Release x) ≡ (if b then rest ∷ [] else [])
+    unfolding given
+    given-release x b h e = rw (h, e)
+
+    -- no instruction is about it: clearing leaves the value that it is given
+    wipe-latest : (is : List Instruction) → any about is ≡ false → wipe-by is held ≡ new-value held (values B c l is)
+    unfolding wipe-by any values
+    wipe-latest [] h = refl
+    wipe-latest (i ∷ is) h = let n = or-no (about i) (any about is) h in step i (n .0) (wipe-latest is (n .1))
+      where
+        step : (j : Instruction) → about j ≡ false → wipe-by is held ≡ new-value held (values B c l is)
+            → wipe-by is (wipe-of j held) ≡ new-value held (given B c l j ++ values B c l is)
+        step (Update k w) f r = rw (given-update k w f) r
+        step (Release x) f r = look (trace B l held x) refl
+          where
+            look : (b : Bool) → trace B l held x ≡ b → wipe-by is (wiped B x l held) ≡ new-value held (given B c l (Release x) ++ values B c l is)
+            look true e = ap (wipe-by is) (wiped-true x held e) ∙ wipe-by-rest is ∙ rw (given-release x true f e)
+            look false e = ap (wipe-by is) (wiped-false x held e) ∙ r ∙ rw (given-release x false f e)
+
+    pub own-is : (i : Instruction) (w : ℕ) → about i ≡ true → other w (given B c l i) ≡ false → gets i ≡ w
+    unfolding other
+    own-is i w f k =
+        let g : not (eqb (gets i) w) || false ≡ false = rw (own-given B c l i (eqb-true (own i) l f)) at k in
+        eqb-true (gets i) w (not-false (eqb (gets i) w) (sym (or-false (not (eqb (gets i) w))) ∙ g))
+
+    pub both : (i : Instruction) (is : List Instruction) (w : ℕ) → other w (values B c l (i ∷ is)) ≡ false → (other w (given B c l i) ≡ false) × (other w (values B c l is) ≡ false)
+    unfolding values
+    both i is w h =
+        or-no (other w (given B c l i)) (other w (values B c l is)) (sym (other-append w (given B c l i) (values B c l is)) ∙ h)
+
+    -- every value is w: so is each that is put
+    put-same : (is : List Instruction) (w : ℕ) → other w (values B c l is) ≡ false → put-by is w ≡ w
+    unfolding put-by
+    put-same [] w h = refl
+    put-same (i ∷ is) w h =
+        let g = both i is w h in
+        ap (put-by is) (step (about i) refl (g .0)) ∙ put-same is w (g .1)
+      where
+        step : (b : Bool) → about i ≡ b → other w (given B c l i) ≡ false → (if b then gets i else w) ≡ w
+        step true f k = own-is i w f k
+        step false f k = refl
+
+    put-some : (is : List Instruction) (w u : ℕ) → other w (values B c l is) ≡ false → any about is ≡ true → put-by is u ≡ w
+    unfolding put-by any
+    put-some [] w u h e = let z : _≡_ {A = ℕ} 0 1 = cc in absurd (omega arith)
+    put-some (i ∷ is) w u h e =
+        let g = both i is w h in
+        step (about i) refl e (g .0) (g .1) (λ n. put-some is w u (g .1) n)
+      where
+        step : (b : Bool) → about i ≡ b → b || any about is ≡ true → other w (given B c l i) ≡ false → other w (values B c l is) ≡ false
+            → (any about is ≡ true → put-by is u ≡ w) → put-by is (if b then gets i else u) ≡ w
+        step true f k m n r = ap (put-by is) (own-is i w f m) ∙ put-same is w n
+        step false f k m n r = r k
+
+    -- ---- whether it is given a value at all
+
+    some-append : (xs ys : List ℕ) → is-some (xs ++ ys) ≡ is-some xs || is-some ys
+    some-append [] ys = refl
+    some-append (x ∷ xs) ys = refl
+
+    pub some-given : (i : Instruction) → is-some (given B c l i) ≡ about i || trace-of held i
+    unfolding given
+    some-given (Update k w) = step (eqb k l)
+      where
+        step : (b : Bool) → is-some (if b then w ∷ [] else []) ≡ b || false
+        step true = refl
+        step false = refl
+    some-given (Release x) = step (eqb x l) (trace B l held x)
+      where
+        step : (b t : Bool) → is-some (if b then true-element ∷ [] else if t then rest ∷ [] else []) ≡ b || t
+        step true t = refl
+        step false true = refl
+        step false false = refl
+
+    pub some-values : (is : List Instruction) → is-some (values B c l is) ≡ any about is || any (trace-of held) is
+    unfolding values any
+    some-values [] = refl
+    some-values (i ∷ is) =
+        some-append (given B c l i) (values B c l is)
+        ∙ ap₂ _||_ (some-given i) (some-values is)
+        ∙ swap (about i) (trace-of held i) (any about is) (any (trace-of held) is)
+      where
+        swap : (a b c d : Bool) → (a || b) || (c || d) ≡ (a || c) || (b || d)
+        swap true b c d = refl
+        swap false true c d = sym (or-true c)
+        swap false false c d = refl
+
+    -- ---- the contents there
+
+    after-is : (is : List Instruction) → two-values (values B c l is) ≡ false → put-by is (wipe-by is held) ≡ new-value held (values B c l is)
+    unfolding two-values other
+    after-is is m = step (any about is) refl
+      where
+        one : (vs : List ℕ) → values B c l is ≡ vs → two-values vs ≡ false → any about is ≡ true → put-by is (wipe-by is held) ≡ new-value held vs
+        one [] e n f =
+            let z : is-some (values B c l is) ≡ true = some-values is ∙ rw f in
+            let y : _≡_ {A = ℕ} 0 1 = cc (sym (ap is-some e) ∙ z) in
+            absurd (omega arith)
+        one (w ∷ us) e n f = put-some is w (wipe-by is held) (ap (other w) e ∙ rw (eq-eqb w w refl) n) f
+
+        step : (b : Bool) → any about is ≡ b → put-by is (wipe-by is held) ≡ new-value held (values B c l is)
+        step true f = one (values B c l is) refl m f
+        step false f = put-none is (wipe-by is held) f ∙ wipe-latest is f
+
+-- ---- the whole tables
+
+pub length-clear-of : (B : Program) (i : Instruction) (c : List ℕ) → length (clear-of B i c) ≡ length c
+length-clear-of B (Update k w) c = refl
+length-clear-of B (Release x) c = length-each (wiped B x) 0 c
+
+pub length-clears : (B : Program) (is : List Instruction) (c : List ℕ) → length (clears B is c) ≡ length c
+unfolding clears
+length-clears B [] c = refl
+length-clears B (i ∷ is) c = length-clears B is (clear-of B i c) ∙ length-clear-of B i c
+
+pub length-put : (b : Bool) (c : List ℕ) (k v : ℕ) → length (if b then set c k v else c) ≡ length c
+length-put true c k v = length-set c k v
+length-put false c k v = refl
+
+length-puts : (n : ℕ) (is : List Instruction) (c : List ℕ) → length (puts n is c) ≡ length c
+unfolding puts
+length-puts n [] c = refl
+length-puts n (i ∷ is) c =
+    length-puts n is (if ltb (own i) n then set c (own i) (gets i) else c) ∙ length-put (ltb (own i) n) c (own i) (gets i)
+
+length-clear-marks-of : (bit : ℕ) (B : Program) (i : Instruction) (c ms : List ℕ) → length (clear-marks-of bit B i c ms) ≡ length ms
+length-clear-marks-of bit B (Update k w) c ms = refl
+length-clear-marks-of bit B (Release x) c ms = length-each (λ (l m : ℕ). mark bit (ltb l (length c) && trace B l (getD c l 0) x) m) 0 ms
+
+length-clear-marks : (bit : ℕ) (B : Program) (is : List Instruction) (c ms : List ℕ) → length (clear-marks bit B is c ms) ≡ length ms
+unfolding clear-marks
+length-clear-marks bit B [] c ms = refl
+length-clear-marks bit B (i ∷ is) c ms =
+    length-clear-marks bit B is (clear-of B i c) (clear-marks-of bit B i c ms) ∙ length-clear-marks-of bit B i c ms
+
+length-put-marks : (bit n : ℕ) (is : List Instruction) (ms : List ℕ) → length (put-marks bit n is ms) ≡ length ms
+unfolding put-marks
+length-put-marks bit n [] ms = refl
+length-put-marks bit n (i ∷ is) ms = length-put-marks bit n is (set ms (own i) (mark bit (ltb (own i) n) (getD ms (own i) 0))) ∙ simp length-set
+
+pub clear-of-at : (B : Program) (i : Instruction) (c : List ℕ) (l : ℕ) → l < length c → getD (clear-of B i c) l 0 ≡ wipe-of B l i (getD c l 0)
+clear-of-at B (Update k w) c l h = refl
+clear-of-at B (Release x) c l h = getD-each (wiped B x) c l h
+
+pub clears-at : (B : Program) (is : List Instruction) (c : List ℕ) (l : ℕ) → l < length c → getD (clears B is c) l 0 ≡ wipe-by B l is (getD c l 0)
+unfolding clears wipe-by
+clears-at B [] c l h = refl
+clears-at B (i ∷ is) c l h =
+    clears-at B is (clear-of B i c) l (omega (arith, length-clear-of B i c)) ∙ ap (wipe-by B l is) (clear-of-at B i c l h)
+
+-- a store seen from one place
+pub set-at : (c : List ℕ) (k v l : ℕ) → l < length c → getD (set c k v) l 0 ≡ (if eqb k l then v else getD c l 0)
+set-at c k v l h = step (eqb k l) refl
+  where
+    step : (b : Bool) → eqb k l ≡ b → getD (set c k v) l 0 ≡ (if b then v else getD c l 0)
+    step true e = let f : l ≡ k = sym (eqb-true k l e) in rw f (getD-set-same c k v 0 (omega arith))
+    step false e = getD-set-other c k l v 0 (λ g. eqb-false k l e (sym g))
+
+puts-at : (B : Program) (n : ℕ) (is : List Instruction) (c : List ℕ) (l : ℕ) → l < length c → l < n → getD (puts n is c) l 0 ≡ put-by B l is (getD c l 0)
+unfolding puts put-by
+puts-at B n [] c l h k = refl
+puts-at B n (i ∷ is) c l h k =
+    puts-at B n is (if ltb (own i) n then set c (own i) (gets i) else c) l (omega (arith, length-put (ltb (own i) n) c (own i) (gets i))) k
+    ∙ ap (put-by B l is) (step (ltb (own i) n) refl)
+  where
+    step : (b : Bool) → ltb (own i) n ≡ b → getD (if b then set c (own i) (gets i) else c) l 0 ≡ (if eqb (own i) l then gets i else getD c l 0)
+    step true e = set-at c (own i) (gets i) l h
+    step false e = rw (ne-eqb (own i) l (λ o. omega (arith, ltb-false (own i) n e)))
+
+-- past the book's last location nothing is put
+puts-past : (n : ℕ) (is : List Instruction) (c : List ℕ) (l : ℕ) → n ≤ l → getD (puts n is c) l 0 ≡ getD c l 0
+unfolding puts
+puts-past n [] c l k = refl
+puts-past n (i ∷ is) c l k = puts-past n is (if ltb (own i) n then set c (own i) (gets i) else c) l k ∙ step (ltb (own i) n) refl
+  where
+    step : (b : Bool) → ltb (own i) n ≡ b → getD (if b then set c (own i) (gets i) else c) l 0 ≡ getD c l 0
+    step true e = getD-set-other c (own i) l (gets i) 0 (λ o. omega (arith, ltb-true (own i) n e))
+    step false e = refl
+
+clear-marks-of-at :
+    (bit : ℕ) (B : Program) (i : Instruction) (c ms : List ℕ) (l : ℕ) → l < length ms →
+    getD (clear-marks-of bit B i c ms) l 0 ≡ mark bit (ltb l (length c) && trace-of B l (getD c l 0) i) (getD ms l 0)
+clear-marks-of-at bit B (Update k w) c ms l h = rw (and-none (ltb l (length c)))
+clear-marks-of-at bit B (Release x) c ms l h = getD-each (λ (l m : ℕ). mark bit (ltb l (length c) && trace B l (getD c l 0) x) m) ms l h
+
+clear-marks-at :
+    (bit : ℕ) (B : Program) (is : List Instruction) (c ms : List ℕ) (l : ℕ) → l < length ms → l < length c →
+    getD (clear-marks bit B is c ms) l 0 ≡ note-by B l bit is (getD c l 0) (getD ms l 0)
+unfolding clear-marks note-by
+clear-marks-at bit B [] c ms l h k = refl
+clear-marks-at bit B (i ∷ is) c ms l h k =
+    clear-marks-at bit B is (clear-of B i c) (clear-marks-of bit B i c ms) l (omega (arith, length-clear-marks-of bit B i c ms))
+    (omega (arith, length-clear-of B i c))
+    ∙ ap₂ (note-by B l bit is) (clear-of-at B i c l k) (clear-marks-of-at bit B i c ms l h ∙ rw (lt-ltb l (length c) k))
+
+clear-marks-out :
+    (bit : ℕ) (B : Program) (is : List Instruction) (c ms : List ℕ) (l : ℕ) → l < length ms → length c ≤ l →
+    getD (clear-marks bit B is c ms) l 0 ≡ getD ms l 0
+unfolding clear-marks
+clear-marks-out bit B [] c ms l h k = refl
+clear-marks-out bit B (i ∷ is) c ms l h k =
+    clear-marks-out bit B is (clear-of B i c) (clear-marks-of bit B i c ms) l (omega (arith, length-clear-marks-of bit B i c ms))
+    (omega (arith, length-clear-of B i c))
+    ∙ clear-marks-of-at bit B i c ms l h
+    ∙ rw (le-ltb l (length c) k)
+
+put-marks-at :
+    (bit n : ℕ) (is : List Instruction) (ms : List ℕ) (l : ℕ) → l < length ms →
+    getD (put-marks bit n is ms) l 0 ≡ mark bit (ltb l n && any (λ i. eqb (own i) l) is) (getD ms l 0)
+unfolding put-marks any
+put-marks-at bit n [] ms l h = rw (and-none (ltb l n))
+put-marks-at bit n (i ∷ is) ms l h =
+    let k = own i in
+    let v = mark bit (ltb k n) (getD ms k 0) in
+    put-marks-at bit n is (set ms k v) l (omega (arith, length-set ms k v))
+    ∙ ap (mark bit (ltb l n && any (λ i. eqb (own i) l) is)) (set-at ms k v l h)
+    ∙ step (eqb k l) refl (ltb l n) refl (any (λ i. eqb (own i) l) is)
+  where
+    step : (b : Bool) → eqb (own i) l ≡ b → (t : Bool) → ltb l n ≡ t → (a : Bool)
+        → mark bit (t && a) (if b then mark bit (ltb (own i) n) (getD ms (own i) 0) else getD ms l 0) ≡ mark bit (t && (b || a)) (getD ms l 0)
+    step true e true f a = let g = eqb-true (own i) l e in rw (g, f) (mark-mark bit a true (getD ms l 0) ∙ ap (λ (s : Bool). mark bit s (getD ms l 0)) (or-true a))
+    step true e false f a = let g = eqb-true (own i) l e in rw (g, f)
+    step false e t f a = refl
+
+-- ---- both together
+
+module _ (B : Program) (is : List Instruction) (c : List ℕ) where
+  pub unclashed : least (clashes is (updates B c is)) (length (updates B c is)) ≡ Nowhere → (l : ℕ) → l < L B → two-values (values B c l is) ≡ false
+  unfolding clashes
+  unclashed h l k =
+      let e = least-none (clashes is (updates B c is)) (length (updates B c is)) h l (omega (arith, length-updates B c is)) in
+      rw (updates-at B c is l k) at (or-no (two-values (values-at (updates B c is) l)) (set-to-label (released is) l is) e .0)
+
+  -- a move that does not clash: the contents after
+  pub fired-is : least (clashes is (updates B c is)) (length (updates B c is)) ≡ Nowhere → puts (L B) is (clears B is c) ≡ fire (updates B c is) c
+  fired-is h =
+      let n : length (puts (L B) is (clears B is c)) ≡ length c = length-puts (L B) is (clears B is c) ∙ length-clears B is c in
+      ext-getD 0 (puts (L B) is (clears B is c)) (fire (updates B c is) c) (n ∙ sym (fire-length (updates B c is) c))
+      (λ l k. let m : l < length c = omega arith in step l m (ltb l (L B)) refl ∙ sym (fire-inside (updates B c is) c l m))
+    where
+      step : (l : ℕ) → l < length c → (b : Bool) → ltb l (L B) ≡ b
+          → getD (puts (L B) is (clears B is c)) l 0 ≡ new-value (getD c l 0) (values-at (updates B c is) l)
+      step l m true e =
+          let i : l < L B = ltb-true l (L B) e in
+          puts-at B (L B) is (clears B is c) l (omega (arith, length-clears B is c)) i
+          ∙ ap (put-by B l is) (clears-at B is c l m)
+          ∙ after-is B l c is (unclashed h l i)
+          ∙ rw (updates-at B c is l i)
+      step l m false e =
+          let o : L B ≤ l = ltb-false l (L B) e in
+          puts-past (L B) is (clears B is c) l o
+          ∙ clears-at B is c l m
+          ∙ past-wipe B l o is (getD c l 0)
+          ∙ rw (updates-past B c is l o)
+
+  -- and the marks
+  abbrev n : ℕ
+  n = min (L B) (length (clears B is c))
+
+  pub marked-is : (bit : ℕ) (ms : List ℕ)
+      → put-marks bit n is (clear-marks bit B is c ms) ≡ write-marked bit (length c) (updates B c is) ms
+  marked-is bit ms =
+      each-is (λ (l m : ℕ). mark bit (ltb l (length c) && writes (updates B c is) l) m) ms (put-marks bit n is (clear-marks bit B is c ms))
+      (length-put-marks bit n is (clear-marks bit B is c ms) ∙ length-clear-marks bit B is c ms)
+      (λ l k. put-marks-at bit n is (clear-marks bit B is c ms) l (omega (arith, length-clear-marks bit B is c ms))
+      ∙ step l k (ltb l n) refl (ltb l (length c)) refl)
+    where
+      step : (l : ℕ) → l < length ms → (t : Bool) → ltb l n ≡ t → (u : Bool) → ltb l (length c) ≡ u
+          → mark bit (t && any (about B l) is) (getD (clear-marks bit B is c ms) l 0) ≡ mark bit (u && writes (updates B c is) l) (getD ms l 0)
+      step l k true e true f =
+          let h : l < L B = omega (arith, ltb-true l n e) in
+          ap (mark bit (any (about B l) is)) (clear-marks-at bit B is c ms l k (ltb-true l (length c) f) ∙ note-is B l bit is (getD c l 0) (getD ms l 0))
+          ∙ mark-mark bit (any (about B l) is) (any (trace-of B l (getD c l 0)) is) (getD ms l 0)
+          ∙ ap (λ (b : Bool). mark bit b (getD ms l 0)) (sym (ap is-some (updates-at B c is l h) ∙ some-values B l c is))
+      step l k true e false f = absurd (omega (arith, ltb-true l n e, ltb-false l (length c) f, length-clears B is c))
+      step l k false e true f =
+          let h : L B ≤ l = omega (arith, ltb-false l n e, ltb-true l (length c) f, length-clears B is c) in
+          clear-marks-at bit B is c ms l k (ltb-true l (length c) f) ∙ note-is B l bit is (getD c l 0) (getD ms l 0)
+          ∙ rw (past-traces B l h (getD c l 0) is, updates-past B c is l h)
+      step l k false e false f = clear-marks-out bit B is c ms l k (ltb-false l (length c) f)

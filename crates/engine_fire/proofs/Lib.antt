@@ -1,0 +1,7 @@
+pub mod Fires
+pub mod Judged
+pub mod Own
+pub mod Taken
+pub mod Marks
+pub mod Effect
+pub mod Count

@@ -1,0 +1,10 @@
+-- How many instructions a walk gave.
+use Prim.Native.Nat.{ℕ, min}
+use lib.Dec.{eqb}
+use Rattle.text.specs.Words.{if_then_else_}
+use Rattle.engine.specs.Rule.{most-instructions}
+use Rattle.engine_walk.specs.declared.State.{State}
+
+-- none if it was refused
+abbrev pub given-of : State → ℕ
+given-of s = if eqb (s .refused) 0 then min (s .len) most-instructions else 0

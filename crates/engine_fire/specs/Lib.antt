@@ -1,0 +1,6 @@
+pub mod Tables
+pub mod Outcome
+pub mod Steps
+pub mod Effect
+pub mod Close
+pub mod Count

@@ -1,0 +1,63 @@
+-- What becomes of a move whose walk came to its end: 15, or the contents and the marks after (01, "What a move does"; 02, F-3).
+use mathlib.Core.Path.{_≡_}
+use mathlib.Core.Bool.{_&&_}
+use mathlib.Core.List.{List}
+use Prim.Native.Nat.{ℕ}
+use lib.Dec.{ltb}
+use lib.ListN.{length}
+use Rattle.text.specs.Refusals.{clash}
+use Rattle.book.specs.Book.{Program}
+use Rattle.book.specs.Image.{held}
+use Rattle.engine.specs.declared.Instruction.{Instruction}
+use Rattle.engine.specs.Move.{Moved, fires, stopped, fire, writes, fired-of, judged}
+use Rattle.engine.specs.Move as move
+use Rattle.engine_instruction.specs.Code.{items}
+use Rattle.engine_term.specs.Marks.{marked}
+use Rattle.engine_release.specs.Marks.{each, mark}
+use Rattle.engine_fire.specs.Steps.{fire-reads}
+use Rattle.engine_fire.specs.Tables.{Tables}
+use Rattle.engine_fire.specs.declared.Outcome.{Outcome}
+use Rattle.engine_fire.specs.declared.Outcome.the-variants.{Fired, Clash}
+
+-- ---- the move of a list, in the contents c of the book that an image holds
+
+-- its walk looked at ls
+abbrev pub move-by : List ℕ → List ℕ → List ℕ → ℕ → List ℕ → move.Fired
+move-by image c list n ls = fired-of (held image) c ls (items list n)
+
+-- ---- outcomes
+
+-- the paper's number and q for each
+abbrev pub moved-by : move.Fired → Outcome → Moved
+moved-by f Fired = fires f
+moved-by f (Clash l) = stopped clash l
+
+-- ---- the contents and the marks after: a refused move leaves them as they were
+
+abbrev pub contents-after : List ℕ → Moved → List ℕ
+contents-after c (fires f) = fire (f .updates) c
+contents-after c (stopped n q) = c
+
+-- the bit is joined wherever the updates write a location of the contents, which are n long: changed or not
+abbrev pub write-marked : ℕ → ℕ → List (List ℕ) → List ℕ → List ℕ
+write-marked bit n us ms = each (λ l m. mark bit (ltb l n && writes us l) m) 0 ms
+
+abbrev pub writers-after : ℕ → ℕ → List ℕ → Moved → List ℕ
+writers-after bit n ms (fires f) = write-marked bit n (f .updates) ms
+writers-after bit n ms (stopped k q) = ms
+
+-- The bit is joined wherever firing by these instructions reads. Of an accepted book, sound contents and a move that fires this is what the move reads beside
+-- what its walk looks at (`fire-reads-are`, proofs/Taken).
+abbrev pub read-marked : ℕ → Program → List Instruction → List ℕ → List ℕ → List ℕ
+read-marked bit B is c rs = marked bit (fire-reads B is c) rs
+
+abbrev pub readers-after : ℕ → Program → List ℕ → List ℕ → Moved → List ℕ
+readers-after bit B c rs (fires f) = read-marked bit B (f .instructions) c rs
+readers-after bit B c rs (stopped k q) = rs
+
+-- the move of the first n of a list, whatever its walk looked at, is settled: how, and what it leaves of the tables t
+pub record Settled (image list : List ℕ) (n bit : ℕ) (t : Tables) (r : Outcome) (u : Tables) : Type 0 where
+  pub outcome : (ls : List ℕ) → judged (move-by image (t .contents) list n ls) ≡ moved-by (move-by image (t .contents) list n ls) r
+  pub contents : (ls : List ℕ) → u .contents ≡ contents-after (t .contents) (judged (move-by image (t .contents) list n ls))
+  pub readers : (ls : List ℕ) → u .readers ≡ readers-after bit (held image) (t .contents) (t .readers) (judged (move-by image (t .contents) list n ls))
+  pub writers : (ls : List ℕ) → u .writers ≡ writers-after bit (length (t .contents)) (t .writers) (judged (move-by image (t .contents) list n ls))

@@ -1,0 +1,39 @@
+-- What the code does, step by step: each instruction's own value put, and what firing reads.
+use mathlib.Core.List.{List, [], _∷_, _++_}
+use Prim.Native.Nat.{ℕ, min}
+use lib.Dec.{ltb}
+use lib.ListN.{length, getD, set}
+use Rattle.text.specs.Words.{if_then_else_}
+use Rattle.book.specs.Book.{Program, L}
+use Rattle.book_parts.specs.declared.Part.{Part}
+use Rattle.book_parts.specs.Part.{between, part-of}
+use Rattle.engine.specs.declared.Instruction.{Instruction}
+use Rattle.engine.specs.Move.{taken-reads}
+use Rattle.engine_instruction.specs.Traces.{own, gets}
+use Rattle.engine_release.specs.Marks.{mark}
+use Rattle.engine_release.specs.Steps.{clears, clears-reads}
+
+-- the part that l is in, the one that is held being tried first
+abbrev pub part-after : Program → Part → ℕ → Part
+part-after B held l = if between (held .first) (held .end) l then held else part-of B l
+
+-- n: how many locations the book has
+unfoldable pub puts : ℕ → List Instruction → List ℕ → List ℕ
+puts n [] c = c
+puts n (i ∷ is) c = puts n is (if ltb (own i) n then set c (own i) (gets i) else c)
+
+-- n: how many of the book's locations the contents have
+unfoldable pub put-marks : ℕ → ℕ → List Instruction → List ℕ → List ℕ
+put-marks bit n [] ms = ms
+put-marks bit n (i ∷ is) ms = put-marks bit n is (set ms (own i) (mark bit (ltb (own i) n) (getD ms (own i) 0)))
+
+-- what is read where the values are put: each may take a label out of its location. n: how many locations the book has
+unfoldable pub put-reads : ℕ → ℕ → List Instruction → List ℕ → List ℕ
+put-reads P n [] c = []
+put-reads P n (i ∷ is) c =
+    (if ltb (own i) (min n (length c)) then taken-reads P (getD c (own i) 0) (gets i) else [])
+    ++ put-reads P n is (if ltb (own i) n then set c (own i) (gets i) else c)
+
+-- what firing reads: traces are cleared, then each own value is put
+abbrev pub fire-reads : Program → List Instruction → List ℕ → List ℕ
+fire-reads B is c = clears-reads B is c ++ put-reads (B .P) (L B) is (clears B is c)

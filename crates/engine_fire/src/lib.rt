@@ -1,0 +1,308 @@
+// One move: begun, which is its walk, and finished: fired and marked, or refused. Firing finds whether it clashes, and the contents and the marks
+// after it.
+use book::Image;
+use book_parts::Part;
+use engine::Pick;
+use engine_walk::State;
+use text::Answer;
+use text::Value;
+ghost use mathlib.Core.Path.{_≡_};
+ghost use mathlib.Core.List.{[]};
+ghost use Prim.Native.Nat.{_≤_, _<_, min, ℕ};
+ghost use lib.Bits.{bitOr};
+ghost use lib.Dec.{ltb};
+ghost use lib.ListN.{length, getD, set};
+ghost use Rattle.text.specs.Words.{if_then_else_};
+ghost use Rattle.text.specs.declared.Found.the-variants.{Nowhere};
+ghost use Rattle.book.specs.Book.{L};
+ghost use Rattle.book.specs.Image.{held};
+ghost use Rattle.book_parts.specs.Part.{put-in};
+ghost use Rattle.engine.specs.Move.{taken-reads, fire, Fired, input};
+ghost use Rattle.engine_instruction.specs.Code.{items};
+ghost use Rattle.engine_clash.specs.Clash.{updates-by, clash-by};
+ghost use Rattle.engine_term.specs.Marks.{marked};
+ghost use Rattle.engine_release.specs.Marks.{mark};
+ghost use Rattle.engine_fire.specs.Outcome.{write-marked, read-marked, Settled, moved-by};
+ghost use Rattle.engine_fire.specs.Steps.{part-after, puts, put-marks, put-reads};
+ghost use Rattle.engine_fire.specs.Tables.{tables};
+ghost use Rattle.engine.specs.Rule.{going};
+ghost use Rattle.engine_walk.specs.Gather.{cleared, Gathered};
+ghost use Rattle.engine_walk.specs.Walk.{outcome};
+ghost use Rattle.engine_fire.specs.Effect.{move-answer};
+ghost use Rattle.engine_fire.specs.Close.{told, kept, Completed};
+ghost use Rattle.engine_fire.specs.Count.{given-of};
+
+// What becomes of a move.
+pub enum Outcome {
+    Fired,
+    Clash { location: u32 },
+}
+
+// ---- 15
+
+// No book has a location of this number: the search for the least clash begins from it.
+const NO_LOCATION: u32 = 4294967295;
+
+// l is one of the book's locations.
+fn is_location(image: &Image, l: u32) -> bool
+    ensures { λ r. ⌜ r ≡ ltb l (L (held (now (image .entry)))) ⌝ }
+{
+    if l == NO_LOCATION {
+        return false;
+    }
+    let at = l as usize;
+    let part = book_parts::part_of(image, at);
+    at < part.end
+}
+
+// ---- firing
+
+// Place i of a part gets v.
+fn put(part: &mut [Value], i: usize, v: Value)
+    requires { ⌜ i < length (now part) ⌝ }
+    ensures { λ _. ⌜ now (part .exit) ≡ set (now (part .entry)) i v ⌝ }
+{
+    part[i] = v;
+}
+
+// A function's part of the marks is lent, from its first location, as far as they go; the mark of `at` gets the bit there.
+fn mark_in(writers: &mut [u64], first: usize, end: usize, at: usize, bit: u64)
+    requires { ⌜ first ≤ at ⌝ }
+    ensures { λ _. ⌜ now (writers .exit) ≡ put-in first end at (bitOr (getD (now (writers .entry)) at 0) bit) (now (writers .entry)) ⌝ }
+{
+    let e = text::smaller(end, writers.len());
+    if at < e {
+        engine_term::mark(&mut writers[first..e], bit, at - first);
+    }
+}
+
+// A function's own part is lent, from its first location, as far as the table goes; location `at` gets v there, and its mark the bit.
+fn put_in(
+    contents: &mut [Value],
+    writers: &mut [u64],
+    first: usize,
+    end: usize,
+    at: usize,
+    v: Value,
+    bit: u64,
+)
+    requires { ⌜ first ≤ at ⌝ }
+    ensures { λ _. ⌜ now (contents .exit) ≡ put-in first end at v (now (contents .entry)) ⌝ }
+    ensures { λ _. ⌜ now (writers .exit) ≡ put-in first end at (mark bit (ltb at (length (now (contents .entry)))) (getD (now (writers .entry)) at 0)) (now (writers .entry)) ⌝ }
+{
+    let e = text::smaller(end, contents.len());
+    if at < e {
+        put(&mut contents[first..e], at - first, v);
+        mark_in(writers, first, end, at, bit);
+    }
+}
+
+// Location `at`, of a part that goes to `end`, is to get v: if it holds a label other than v, Reserve at that label is marked as read.
+fn mark_put(
+    contents: &[Value],
+    readers: &mut [u64],
+    end: usize,
+    at: usize,
+    v: Value,
+    p: Value,
+    bit: u64,
+)
+    ensures { λ _. ⌜ now (readers .exit) ≡ marked bit (if ltb at (min end (length (now (contents .entry)))) then taken-reads p (getD (now (contents .entry)) at 0) v else []) (now (readers .entry)) ⌝ }
+{
+    let e = text::smaller(end, contents.len());
+    if at < e {
+        engine_release::mark_taken(readers, p, contents[at], v, bit);
+    }
+}
+
+// The part that location `at` is in; the last one, if that has it.
+fn part_at(image: &Image, last: Part, at: usize) -> Part
+    ensures { λ r. ⌜ r ≡ part-after (held (now (image .entry))) last at ⌝ }
+{
+    if (last.first <= at) & (at < last.end) {
+        last
+    } else {
+        book_parts::part_of(image, at)
+    }
+}
+
+// Each instruction's own location gets its own value, in its function's part; what that reads and writes is marked.
+fn put_all(
+    image: &Image,
+    contents: &mut [Value],
+    readers: &mut [u64],
+    writers: &mut [u64],
+    list: &[u64],
+    len: usize,
+    bit: u64,
+)
+    ensures { λ _. ⌜ now (contents .exit) ≡ puts (L (held (now (image .entry)))) (items (now (list .entry)) len) (now (contents .entry)) ⌝ }
+    ensures { λ _. ⌜ now (readers .exit) ≡ marked bit (put-reads (held (now (image .entry)) .P) (L (held (now (image .entry)))) (items (now (list .entry)) len) (now (contents .entry))) (now (readers .entry)) ⌝ }
+    ensures { λ _. ⌜ now (writers .exit) ≡ put-marks bit (min (L (held (now (image .entry)))) (length (now (contents .entry)))) (items (now (list .entry)) len) (now (writers .entry)) ⌝ }
+{
+    let n = text::smaller(len, list.len());
+    let p = book_parts::permanent(image);
+    let mut part = Part { first: 0, end: 0 };
+    let mut j: usize = 0;
+    while j < n {
+        let what = engine_instruction::decode(list[j]);
+        let at = engine_instruction::own_location(what) as usize;
+        let v = engine_instruction::own_value(what);
+        part = part_at(image, part, at);
+        mark_put(contents, readers, part.end, at, v, p, bit);
+        put_in(contents, writers, part.first, part.end, at, v, bit);
+        j = j + 1;
+    }
+}
+
+// The contents and the marks after a move that does not clash: traces of released labels go first, then each update is put.
+fn fire(
+    image: &Image,
+    contents: &mut [Value],
+    readers: &mut [u64],
+    writers: &mut [u64],
+    list: &[u64],
+    len: usize,
+    bit: u64,
+)
+    ensures { λ _. ⌜ (clash-by (now (image .entry)) (now (contents .entry)) (now (list .entry)) len ≡ Nowhere → now (contents .exit) ≡ fire (updates-by (now (image .entry)) (now (contents .entry)) (now (list .entry)) len) (now (contents .entry))) ⌝ }
+    ensures { λ _. ⌜ now (readers .exit) ≡ read-marked bit (held (now (image .entry))) (items (now (list .entry)) len) (now (contents .entry)) (now (readers .entry)) ⌝ }
+    ensures { λ _. ⌜ now (writers .exit) ≡ write-marked bit (length (now (contents .entry))) (updates-by (now (image .entry)) (now (contents .entry)) (now (list .entry)) len) (now (writers .entry)) ⌝ }
+{
+    engine_release::clear_all(image, contents, readers, writers, list, len, bit);
+    put_all(image, contents, readers, writers, list, len, bit);
+}
+
+// ---- the move
+
+// 15, else it fires. A refused move leaves contents and marks as they were.
+pub fn settle(
+    image: &Image,
+    contents: &mut [Value],
+    readers: &mut [u64],
+    writers: &mut [u64],
+    list: &[u64],
+    len: usize,
+    bit: u64,
+) -> Outcome
+    ensures { λ r. ⌜ Settled (now (image .entry)) (now (list .entry)) len bit (tables (now (contents .entry)) (now (readers .entry)) (now (writers .entry))) r (tables (now (contents .exit)) (now (readers .exit)) (now (writers .exit))) ⌝ }
+{
+    let at = engine_clash::first_clash(image, contents, list, len, NO_LOCATION);
+    if is_location(image, at) {
+        return Outcome::Clash { location: at };
+    }
+    fire(image, contents, readers, writers, list, len, bit);
+    Outcome::Fired
+}
+
+// ---- a move begun and finished
+
+// Instructions of a move, at most.
+const MOST_INSTRUCTIONS: usize = 256;
+
+// A move that is begun: how its walk ended, and how many instructions it gave.
+pub struct Begun {
+    pub walk: State,
+    pub count: usize,
+}
+
+// How many instructions a walk gave: none if it was refused.
+fn given(s: State) -> usize
+    ensures { λ r. ⌜ r ≡ given-of s ⌝ }
+{
+    if s.refused != 0 {
+        return 0;
+    }
+    if s.len < MOST_INSTRUCTIONS {
+        return s.len;
+    }
+    MOST_INSTRUCTIONS
+}
+
+// An agent's move is begun: its rule is walked with these picks, and what the walk looks at is marked.
+pub fn begin(
+    image: &Image,
+    contents: &[Value],
+    readers: &mut [u64],
+    bit: u64,
+    list: &mut [u64; 256],
+    agent: u32,
+    picks: &[Pick],
+) -> Begun
+    ensures { λ r. ⌜ Gathered (held (now (image .entry))) (now (contents .entry)) bit (input agent (now (picks .entry))) (outcome (r .walk) (now (list .exit))) (now (readers .entry)) (now (readers .exit)) × (r .count ≡ given-of (r .walk)) × (length (now (list .exit)) ≡ 256) ⌝ }
+{
+    let walk = engine_walk::gather(image, contents, readers, bit, list, agent, picks);
+    let count = given(walk);
+    Begun {
+        walk: walk,
+        count: count,
+    }
+}
+
+// The answer to move `at` where it is refused; its reader marks are taken back.
+fn refuse(readers: &mut [u64], bit: u64, number: u32, at: u32, q: u32) -> Answer
+    ensures { λ r. ⌜ r ≡ told number at q ⌝ }
+    ensures { λ _. ⌜ now (readers .exit) ≡ cleared bit (now (readers .entry)) ⌝ }
+{
+    engine_walk::clear(readers, bit);
+    Answer {
+        number: number,
+        p: at,
+        q: q,
+    }
+}
+
+// The answer to move `at`, which is settled; if it is refused, its reader marks are taken back.
+fn close(readers: &mut [u64], bit: u64, at: u32, what: Outcome) -> Answer
+    ensures { λ r. ⌜ ((f : Fired) → r ≡ move-answer at (moved-by f what)) ⌝ }
+    ensures { λ _. ⌜ ((f : Fired) → now (readers .exit) ≡ kept bit (moved-by f what) (now (readers .entry))) ⌝ }
+{
+    match what {
+        Outcome::Fired => Answer {
+            number: 0,
+            p: 0,
+            q: 0,
+        },
+        Outcome::Clash { location } => refuse(readers, bit, text::CLASH, at, location),
+    }
+}
+
+// What is left of move `at`, whose walk gave the first len of the list.
+fn settle_listed(
+    image: &Image,
+    contents: &mut [Value],
+    readers: &mut [u64],
+    writers: &mut [u64],
+    bit: u64,
+    list: &[u64; 256],
+    len: usize,
+    at: u32,
+) -> Answer
+    ensures { λ r. ⌜ ((next : ℕ) → Completed (held (now (image .entry))) bit at (going (record { made = items (now (list .entry)) len; next = next; left = [] })) (tables (now (contents .entry)) (now (readers .entry)) (now (writers .entry))) r (tables (now (contents .exit)) (now (readers .exit)) (now (writers .exit)))) ⌝ }
+{
+    let what = settle(image, contents, readers, writers, list, len, bit);
+    close(readers, bit, at, what)
+}
+
+// The rest of move `at`, whose walk came to the state s: refused as the walk was, or settled by the first s.len of the list.
+pub fn finish(
+    image: &Image,
+    contents: &mut [Value],
+    readers: &mut [u64],
+    writers: &mut [u64],
+    bit: u64,
+    list: &[u64; 256],
+    s: State,
+    at: u32,
+) -> Answer
+    ensures { λ r. ⌜ Completed (held (now (image .entry))) bit at (outcome s (now (list .entry))) (tables (now (contents .entry)) (now (readers .entry)) (now (writers .entry))) r (tables (now (contents .exit)) (now (readers .exit)) (now (writers .exit))) ⌝ }
+{
+    if s.refused != 0 {
+        return Answer {
+            number: s.refused,
+            p: at,
+            q: s.node as u32,
+        };
+    }
+    settle_listed(image, contents, readers, writers, bit, list, s.len, at)
+}

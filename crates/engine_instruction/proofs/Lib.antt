@@ -1,0 +1,3 @@
+pub mod Coding
+pub mod Lists
+pub mod Laws

@@ -1,0 +1,32 @@
+-- An instruction's own location and value, and the traces of a label.
+use mathlib.Core.Bool.{Bool, false, _&&_, _||_}
+use mathlib.Core.List.{List, [], _∷_}
+use Prim.Native.Nat.{ℕ}
+use lib.Dec.{eqb}
+use Rattle.text.specs.Words.{has}
+use Rattle.book.specs.declared.Function.{Function}
+use Rattle.book.specs.Book.{true-element, dynamic, arguments}
+use Rattle.engine.specs.declared.Instruction.{Instruction}
+use Rattle.engine.specs.declared.Instruction.the-variants.{Update, Release}
+use Rattle.contents_check.specs.Part.{arguments-by}
+
+-- the location that an instruction is about, and the value that it gives it
+abbrev pub own : Instruction → ℕ
+own (Update l v) = l
+own (Release x) = x
+
+abbrev pub gets : Instruction → ℕ
+gets (Update l v) = v
+gets (Release x) = true-element
+
+-- some instruction passes
+unfoldable pub any : (Instruction → Bool) → List Instruction → Bool
+any p [] = false
+any p (i ∷ is) = p i || any p is
+
+-- location i of f, holding v, is a trace of x: dynamic, with x as argument or holding it
+abbrev pub trace-by : Function → ℕ → ℕ → ℕ → ℕ → ℕ → Bool
+trace-by f i row col v x = dynamic f && (has (arguments-by (f .arity) i row col) x || eqb v x)
+
+abbrev pub trace-in : ℕ → Function → ℕ → ℕ → ℕ → Bool
+trace-in E f i v x = dynamic f && (has (arguments E (f .arity) i) x || eqb v x)

@@ -1,0 +1,30 @@
+-- The instruction list that a caller lends, once a move's instructions are written into it.
+use mathlib.Core.Path.{_≡_}
+use mathlib.Core.List.{List, [], _∷_}
+use Prim.Native.Nat.{ℕ, min}
+use lib.ListN.{length}
+use Rattle.engine.specs.declared.Instruction.{Instruction}
+use Rattle.engine.specs.declared.Record.{Record}
+use Rattle.engine_instruction.specs.Code.{items}
+
+abbrev pub what-of : Record → Instruction
+what-of r = r .what
+
+-- the instructions in front, as far as there are records; every other record as it was
+unfoldable pub written : List Instruction → List Record → List Record
+written [] ys = ys
+written (i ∷ is) [] = []
+written (i ∷ is) (y ∷ ys) = record { what = i } ∷ written is ys
+
+-- one list of instructions after the other
+unfoldable pub all-written : List (List Instruction) → List Record → List Record
+all-written [] ys = ys
+all-written (is ∷ iss) ys = all-written iss (written is ys)
+
+-- how many of n numbers go through the list: those that have a number and a record
+abbrev pub through : ℕ → List Record → List ℕ → ℕ
+through n ys xs = min n (min (length ys) (length xs))
+
+-- The first n of the numbers xs went through the list ys: it is now zs, as written, and the numbers us stand for the same instructions.
+abbrev pub Passed : ℕ → List Record → List ℕ → List Record → List ℕ → Type 0
+Passed n ys xs zs us = (zs ≡ written (items xs n) ys) × (items us (through n ys xs) ≡ items xs (through n ys xs))

@@ -1,0 +1,75 @@
+// The instruction list that a caller lends: filled from the numbers that a walk gives, and scanned into numbers again.
+use engine::Instruction;
+use engine::Record;
+ghost use mathlib.Core.Path.{_≡_};
+ghost use mathlib.Core.List.{map};
+ghost use Prim.Native.Nat.{min};
+ghost use lib.ListN.{take};
+ghost use Rattle.engine.specs.declared.Instruction.the-variants.{Release};
+ghost use Rattle.engine_instruction.specs.Code.{decode-of, items};
+ghost use Rattle.engine_list.specs.Written.{what-of, written, through, Passed};
+
+// The record that a number stands for, and a number that stands for a record.
+fn record_of(c: u64) -> Record
+    ensures { λ r. ⌜ r ≡ record { what = decode-of c } ⌝ }
+{
+    Record {
+        what: engine_instruction::decode(c),
+    }
+}
+
+fn number_of(r: Record) -> u64
+    ensures { λ c. ⌜ decode-of c ≡ r .what ⌝ }
+{
+    let what = r.what;
+    engine_instruction::code(what)
+}
+
+// The least of three.
+fn least(a: usize, b: usize, c: usize) -> usize
+    ensures { λ r. ⌜ r ≡ min a (min b c) ⌝ }
+{
+    text::smaller(a, text::smaller(b, c))
+}
+
+// The first n records of the list are those that the first n numbers stand for; every other is as
+// it was.
+fn fill(list: &mut [Record], from: &[u64], n: usize)
+    ensures { λ _. ⌜ now (list .exit) ≡ written (items (now (from .entry)) n) (now (list .entry)) ⌝ }
+{
+    let m = least(n, list.len(), from.len());
+    let mut i: usize = 0;
+    while i < m {
+        list[i] = record_of(from[i]);
+        i = i + 1;
+    }
+}
+
+// The first n numbers stand for the first n records of the list, as far as both go.
+fn load(list: &[Record], to: &mut [u64], n: usize)
+    ensures { λ _. ⌜ items (now (to .exit)) (through n (now (list .entry)) (now (to .entry))) ≡ map what-of (take (through n (now (list .entry)) (now (to .entry))) (now (list .entry))) ⌝ }
+{
+    let m = least(n, list.len(), to.len());
+    let mut i: usize = 0;
+    while i < m {
+        to[i] = number_of(list[i]);
+        i = i + 1;
+    }
+}
+
+// The first n numbers go through the list: they are filled in, and scanned again.
+pub fn pass(list: &mut [Record], work: &mut [u64], n: usize)
+    ensures { λ _. ⌜ Passed n (now (list .entry)) (now (work .entry)) (now (list .exit)) (now (work .exit)) ⌝ }
+{
+    fill(list, work, n);
+    load(list, work, n);
+}
+
+// A record that nothing was written to.
+pub fn blank() -> Record
+    ensures { λ r. ⌜ r ≡ record { what = Release 0 } ⌝ }
+{
+    Record {
+        what: Instruction::Release { label: 0 },
+    }
+}

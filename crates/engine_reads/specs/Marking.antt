@@ -1,0 +1,41 @@
+-- What a search among the elements comes to.
+use mathlib.Core.Bool.{Bool}
+use mathlib.Core.List.{List, [], _∷_}
+use Prim.Native.Nat.{ℕ, zero, suc, _+_, _-_}
+use lib.Dec.{eqb, ltb}
+use lib.ListN.{getD}
+use Rattle.text.specs.Words.{if_then_else_, table}
+use Rattle.text.specs.declared.Found.{Found}
+use Rattle.text.specs.declared.Found.the-variants.{Nowhere, Here}
+use Rattle.book.specs.declared.Function.{Function}
+use Rattle.book.specs.Book.{Program, true-element, offset, location}
+use Rattle.engine.specs.Look.{gives}
+use Rattle.engine.specs.Rule.{members}
+use Rattle.engine_term.specs.Marks.{marked, dynamic-of}
+
+-- a search below e came to x
+abbrev pub found-below : ℕ → ℕ → Found
+found-below e x = if ltb x e then Here x else Nowhere
+
+-- ---- universes
+
+-- the marks m with this bit put in at all elements of the universe u, if it is dynamic
+abbrev pub universe-marked : Program → ℕ → ℕ → List ℕ → List ℕ
+universe-marked B bit u m = if dynamic-of B u 0 0 then marked bit (table (λ y. location B u y 0) (B .E)) m else m
+
+-- whether y is in the universe f: f holds there
+abbrev pub member : List ℕ → Function → ℕ → ℕ → Bool
+member c f E y = eqb (getD c (f .first + offset E (f .arity) y 0) 0) true-element
+
+-- the least of the k numbers from x on that passes the test, or the one past them
+unfoldable pub next : (ℕ → Bool) → ℕ → ℕ → ℕ
+next t x zero = x
+next t x (suc k) = let r = next t (suc x) k in if t x then x else r
+
+-- the members of the universe u from y on
+abbrev pub members-from : Program → List ℕ → ℕ → ℕ → List ℕ
+members-from B c u y = gives c (members B u y (B .E - y))
+
+-- x and the members after it, or none if x is no element
+abbrev pub first-and-rest : Program → List ℕ → ℕ → ℕ → List ℕ
+first-and-rest B c u x = if ltb x (B .E) then x ∷ members-from B c u (x + 1) else []

@@ -1,0 +1,177 @@
+// What rules look at beside their terms: labels, Reserve, universes; and the marks of it.
+use book::Function;
+use book::Image;
+use text::Value;
+ghost use mathlib.Core.Path.{_≡_};
+ghost use mathlib.Core.List.{map};
+ghost use Prim.Native.Nat.{_+_, _-_, _≤_};
+ghost use lib.Bits.{bitOr, bitAnd};
+ghost use Rattle.text.specs.Words.{if_then_else_, table, table-from};
+ghost use Rattle.book.specs.Book.{offset, reserve, dynamic-at};
+ghost use Rattle.engine.specs.Look.{read};
+ghost use Rattle.engine.specs.Rule.{lowest, universe-at};
+ghost use Rattle.book.specs.Image.{low, low-function, held};
+ghost use Rattle.engine_term.specs.Marks.{noted, marked, Placed, Runs};
+ghost use Rattle.engine_reads.specs.Marking.{found-below, universe-marked, member, next};
+
+// ---- parts
+
+// Keeps only the bits of the mask in all marks.
+pub fn keep(readers: &mut [u64], mask: u64)
+    ensures { λ _. ⌜ now (readers .exit) ≡ map (λ v. bitAnd v mask) (now (readers .entry)) ⌝ }
+{
+    let mut i: usize = 0;
+    while i < readers.len() {
+        readers[i] = readers[i] & mask;
+        i += 1;
+    }
+}
+
+// Puts a bit into all marks of a part.
+fn mark_part(part: &mut [u64], bit: u64)
+    ensures { λ _. ⌜ now (part .exit) ≡ map (λ v. bitOr v bit) (now (part .entry)) ⌝ }
+{
+    let mut i: usize = 0;
+    while i < part.len() {
+        part[i] = part[i] | bit;
+        i += 1;
+    }
+}
+
+// Puts a bit into the marks from first to end, as far as they go.
+fn mark_between(readers: &mut [u64], bit: u64, first: usize, end: usize)
+    ensures { λ _. ⌜ now (readers .exit) ≡ marked bit (table-from (λ l. l) first (end - first)) (now (readers .entry)) ⌝ }
+{
+    let stop = text::smaller(end, readers.len());
+    let start = text::smaller(first, stop);
+    mark_part(&mut readers[start..stop], bit);
+}
+
+// ---- labels and Reserve
+
+// The lowest label of Reserve from `from` on, or E; the labels tried are marked.
+pub fn lowest(
+    image: &Image,
+    contents: &[Value],
+    readers: &mut [u64],
+    bit: u64,
+    from: Value,
+) -> Value
+    ensures { λ r. ⌜ Runs (held (now (image .entry))) (now (contents .entry)) bit (lowest from (held (now (image .entry)) .E - from)) (found-below (held (now (image .entry)) .E) r) (now (readers .entry)) (now (readers .exit)) ⌝ }
+{
+    let e = book_image::elements(image);
+    let mut x = from;
+    while x < e {
+        engine_term::mark(readers, bit, x as usize);
+        if text::fetch(contents, x as usize) == 2 {
+            return x;
+        }
+        x += 1;
+    }
+    x
+}
+
+// Whether location x, Reserve's while x is an element, is dynamic.
+fn roll(image: &Image, x: Value) -> bool
+    ensures { λ r. ⌜ (Placed (held (now (image .entry))) → r ≡ dynamic-at (held (now (image .entry))) x) ⌝ }
+{
+    if x < book_image::elements(image) {
+        return true;
+    }
+    engine_term::dynamic_at(image, x as u32)
+}
+
+// Marks Reserve at x.
+fn note_roll(image: &Image, readers: &mut [u64], bit: u64, x: Value)
+    ensures { λ _. ⌜ (Placed (held (now (image .entry))) → now (readers .exit) ≡ noted (held (now (image .entry))) bit x (now (readers .entry))) ⌝ }
+{
+    if roll(image, x) {
+        engine_term::mark(readers, bit, x as usize);
+    }
+}
+
+// The value of Reserve at x.
+pub fn read_roll(
+    image: &Image,
+    contents: &[Value],
+    readers: &mut [u64],
+    bit: u64,
+    x: Value,
+) -> Value
+    ensures { λ r. ⌜ Runs (held (now (image .entry))) (now (contents .entry)) bit (read (reserve x)) r (now (readers .entry)) (now (readers .exit)) ⌝ }
+{
+    note_roll(image, readers, bit, x);
+    text::fetch(contents, x as usize)
+}
+
+// ---- universes
+
+// Marks a function at the elements below e, location by location.
+fn mark_each(readers: &mut [u64], bit: u64, f: Function, e: Value)
+    ensures { λ _. ⌜ now (readers .exit) ≡ marked bit (table (λ y. low (f .first) + offset e (f .arity) y 0) e) (now (readers .entry)) ⌝ }
+{
+    let mut y: Value = 0;
+    while y < e {
+        let at = engine_term::locate(f, e, y, 0);
+        engine_term::mark(readers, bit, at as usize);
+        y += 1;
+    }
+}
+
+// The same; the locations of a unary function, as every universe is, are one part.
+fn mark_run(readers: &mut [u64], bit: u64, f: Function, e: Value)
+    ensures { λ _. ⌜ now (readers .exit) ≡ marked bit (table (λ y. low (f .first) + offset e (f .arity) y 0) e) (now (readers .entry)) ⌝ }
+{
+    if f.arity == 1 {
+        let first = text::low(f.first) as usize;
+        mark_between(readers, bit, first, first + e as usize);
+    } else {
+        mark_each(readers, bit, f, e);
+    }
+}
+
+// Marks the universe u at all elements if it is dynamic.
+pub fn universe(image: &Image, readers: &mut [u64], bit: u64, u: u16)
+    ensures { λ _. ⌜ now (readers .exit) ≡ universe-marked (held (now (image .entry))) bit u (now (readers .entry)) ⌝ }
+{
+    if engine_term::dynamic(image, u, 0, 0) {
+        mark_run(
+            readers,
+            bit,
+            book_image::function_at(image, u as u32),
+            book_image::elements(image),
+        );
+    }
+}
+
+// The value of the universe u at x; of what is no element it is false, and nothing is read.
+pub fn read_universe(
+    image: &Image,
+    contents: &[Value],
+    readers: &mut [u64],
+    bit: u64,
+    u: u16,
+    x: Value,
+) -> Value
+    ensures { λ r. ⌜ Runs (held (now (image .entry))) (now (contents .entry)) bit (universe-at (held (now (image .entry))) u x) r (now (readers .entry)) (now (readers .exit)) ⌝ }
+{
+    if x < book_image::elements(image) {
+        return engine_term::read(image, contents, readers, bit, u, x, 0);
+    }
+    1
+}
+
+// The least member of a universe from `from` on, or e; f is the universe.
+pub fn next_member(contents: &[Value], f: Function, e: Value, from: Value) -> Value
+    ensures { λ r. ⌜ (from ≤ r) × (r ≡ next (member (now (contents .entry)) (low-function f) e) from (e - from)) ⌝ }
+{
+    let mut y = from;
+    while y < e {
+        let at = engine_term::locate(f, e, y, 0);
+        if text::fetch(contents, at as usize) == 2 {
+            return y;
+        }
+        y += 1;
+    }
+    y
+}

@@ -1,0 +1,84 @@
+-- `clear_one` meets its contract.
+use mathlib.Core.Path.{_≡_, sym, _∙_}
+use mathlib.Core.Bool.{true, false}
+use lib.ListN.{getD}
+use lib.Seq.{set-getD}
+use Rattle.engine_term.specs.Marks.{marked}
+use Rattle.engine_instruction.specs.Traces.{trace-in}
+use borrow.Author.Needs.{needs}
+use Rattle.engine_release.proofs.clear_one.Statement.{statement}
+use Rattle.engine_release.proofs.clear_one.Tie as tie
+
+mul-held : tie.Need-mul-held
+mul-held c = search needs
+
+slice-read-held : tie.Need-slice-read-held
+slice-read-held c = search needs
+
+row-of-requires : tie.Need-row-of-requires
+row-of-requires c κs = search needs
+
+column-of-requires : tie.Need-column-of-requires
+column-of-requires c κs = search needs
+
+is-trace-at-requires : tie.Need-is-trace-at-requires
+is-trace-at-requires c κs = search needs
+
+default-of-requires : tie.Need-default-of-requires
+default-of-requires c κs = search needs
+
+mul-part : tie.Need-mul-part
+mul-part c = search needs
+
+slice-write-part : tie.Need-slice-write-part
+slice-write-part c = search needs
+
+mark-cleared-requires : tie.Need-mark-cleared-requires
+mark-cleared-requires c κs = search needs
+
+mark-requires : tie.Need-mark-requires
+mark-requires c κs = search needs
+
+same-length : tie.Need-same-length
+same-length c = search needs
+
+same-length-2 : tie.Need-same-length-2
+same-length-2 c = search needs
+
+same-length-3 : tie.Need-same-length-3
+same-length-3 c = search needs
+
+returns : tie.Need-returns
+returns c =
+    let a = c .before .before .before .before .before .before .before .before .before .before .before .before .before .before .before .before .before .args in
+    let q : trace-in (a .r .elements) (a .r .function) (a .i) (getD (a .part .now) (a .i) 0) (a .r .label) ≡ true =
+    sym (c .before .before .before .before .before .before .before .before .before .before .is-trace-at .ensures ∙ rw (c .before .before .before .before .before .before .before .before .before .before .before .before .row-of .ensures, c .before .before .before .before .before .before .before .before .before .before .before .column-of .ensures)) ∙ c .before .before .before .before .before .before .before .before .before .if1 .taken in
+    (rw (q, c .before .before .before .before .before .before .before .before .default-of .ensures), (c .before .before .mark .ensures ∙ rw q, c .before .before .before .before .before .before .mark-cleared .ensures ∙ rw q))
+
+returns-2 : tie.Need-returns-2
+unfolding marked
+returns-2 c =
+    let a = c .before .before .before .before .before .before .before .before .args in
+    let q : trace-in (a .r .elements) (a .r .function) (a .i) (getD (a .part .now) (a .i) 0) (a .r .label) ≡ false =
+    sym (c .before .is-trace-at .ensures ∙ rw (c .before .before .before .row-of .ensures, c .before .before .column-of .ensures)) ∙ c .if1 .left in
+    (rw q (sym (set-getD (a .part .now) (a .i) 0)), (rw q (sym (set-getD (a .writers .now) (a .i) 0)), rw q))
+
+pub clear-one-spec : {M : Type 1} → statement M
+clear-one-spec =
+    tie.close
+    (tie.spec
+    mul-held
+    slice-read-held
+    row-of-requires
+    column-of-requires
+    is-trace-at-requires
+    default-of-requires
+    mul-part
+    slice-write-part
+    mark-cleared-requires
+    mark-requires
+    same-length
+    same-length-2
+    same-length-3
+    returns
+    returns-2)

@@ -1,0 +1,37 @@
+-- The traces of a label x cleared in a function's part, and what that reads.
+use mathlib.Core.Bool.{_&&_}
+use mathlib.Core.List.{List, [], _∷_}
+use Prim.Native.Nat.{ℕ, _+_}
+use lib.Dec.{ltb}
+use lib.ListN.{length, getD}
+use Rattle.text.specs.Words.{if_then_else_}
+use Rattle.book.specs.declared.Function.{Function}
+use Rattle.book.specs.Book.{default}
+use Rattle.engine.specs.Move.{append-from, taken-reads}
+use Rattle.engine_instruction.specs.Traces.{trace-in}
+use Rattle.engine_release.specs.Marks.{each, mark}
+
+-- what that leaves of v at location i of f
+abbrev pub wiped-in : ℕ → Function → ℕ → ℕ → ℕ → ℕ
+wiped-in E f x i v = if trace-in E f i v x then default f else v
+
+-- the whole part
+abbrev pub part-cleared : ℕ → Function → ℕ → List ℕ → List ℕ
+part-cleared E f x part = each (wiped-in E f x) 0 part
+
+abbrev pub part-marked : ℕ → ℕ → Function → ℕ → List ℕ → List ℕ → List ℕ
+part-marked bit E f x part ms = each (λ i m. mark bit (ltb i (length part) && trace-in E f i (getD part i 0) x) m) 0 ms
+
+-- ---- what it reads
+
+-- clearing location l, which holds v and gets d: l itself, and Reserve at v if v is a label other than d
+abbrev pub cleared-reads : ℕ → ℕ → ℕ → ℕ → List ℕ
+cleared-reads P d l v = l ∷ taken-reads P v d
+
+-- location i of f, holding v, where f's part starts at location `first`
+abbrev pub reads-in : ℕ → ℕ → Function → ℕ → ℕ → ℕ → ℕ → List ℕ
+reads-in E P f x first i v = if trace-in E f i v x then cleared-reads P (default f) (first + i) v else []
+
+-- the whole part
+abbrev pub part-reads : ℕ → ℕ → Function → ℕ → ℕ → List ℕ → List ℕ
+part-reads E P f x first part = append-from (λ i. reads-in E P f x first i (getD part i 0)) 0 (length part)

@@ -1,0 +1,6 @@
+pub mod Numbered
+pub mod Checks
+pub mod Fired
+pub mod Whole
+pub mod Halves
+pub mod Longer

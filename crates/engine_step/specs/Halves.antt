@@ -1,0 +1,48 @@
+-- The single-move entry in two halves, between which the move's instructions go through the lent list.
+use mathlib.Core.Path.{_≡_}
+use mathlib.Core.Logic.{_≢_}
+use mathlib.Core.List.{List, [], _++_}
+use Prim.Native.Nat.{ℕ, _≤_}
+use lib.ListN.{length, take, drop}
+use Rattle.text.specs.declared.Answer.{Answer}
+use Rattle.book.specs.Book.{Program, L}
+use Rattle.book.specs.Image.{word, held}
+use Rattle.engine.specs.Rule.{most-instructions}
+use Rattle.engine.specs.Move.{Input, settle}
+use Rattle.engine.specs.Single.{step-move, step-call}
+use Rattle.engine_walk.specs.Walk.{outcome}
+use Rattle.engine_walk.specs.Gather.{Gathered}
+use Rattle.engine_fire.specs.declared.Begun.{Begun}
+use Rattle.engine_fire.specs.Outcome.{contents-after}
+use Rattle.engine_fire.specs.Count.{given-of}
+use Rattle.engine_fire.specs.Effect.{move-answer}
+use Rattle.engine_step.specs.declared.Paused.{Paused}
+use Rattle.engine_step.specs.Stages.{Tells}
+
+-- the move with input k is begun in the contents c, with no marks: its walk came to s, with its instructions in the list l
+pub record Walked (B : Program) (c : List ℕ) (k : Input) (l : List ℕ) (s : Begun) : Type 0 where
+  pub walk : Gathered B c 1 k (outcome (s .walk) l) [] []
+  pub count : s .count ≡ given-of (s .walk)
+  pub room : length l ≡ most-instructions
+
+-- the call that was not refused before its move, whose image is m
+pub record Moves (text c : List ℕ) (k : Input) (n : ℕ) (m l : List ℕ) (s : Begun) : Type 0 where
+  pub lent : most-instructions ≤ n
+  pub locations : word m 6 ≡ L (held m)
+  pub long : L (held m) ≤ length c
+  pub walked : Walked (held m) (take (L (held m)) c) k l s
+  pub whole : step-move (held m) c k ≡ step-call text c k n
+
+-- a call up to the list
+pub record Halfway (text c : List ℕ) (k : Input) (n : ℕ) (m l : List ℕ) (p : Paused) : Type 0 where
+  pub stops : p .answer .number ≢ 0 → (p .begun .count ≡ 0) × Tells (p .answer) 0 l c (step-call text c k n)
+  pub moves : p .answer .number ≡ 0 → Moves text c k n m l (p .begun)
+
+-- The second half, whatever came before: an answer that refuses stays, and the contents with it; else the move is settled by its walk's end and the list l,
+-- on the first records of the table c, as many as the image m notes as L.
+pub record Concluded (m c l : List ℕ) (p : Paused) (r : Answer) (d : List ℕ) : Type 0 where
+  pub stops : p .answer .number ≢ 0 → (r ≡ p .answer) × (d ≡ c)
+  pub moves : p .answer .number ≡ 0 → (ls : List ℕ) → (
+      let o = settle (held m) (take (word m 6) c) ls (outcome (p .begun .walk) l) in
+      (r ≡ move-answer 0 o) × (d ≡ contents-after (take (word m 6) c) o ++ drop (word m 6) c)
+      )

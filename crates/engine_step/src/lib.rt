@@ -1,0 +1,265 @@
+// A single move: its call's checks after the book's (9 of the agent and of the picks, then 2, then 8); the call in stages; and the entry, through
+// an instruction list that the caller lends or with one of its own.
+use book::Image;
+use engine::Pick;
+use engine::Record;
+use engine_fire::Begun;
+use engine_walk::State;
+use text::Answer;
+use text::Found;
+use text::Value;
+ghost use mathlib.Core.Path.{_≡_};
+ghost use lib.ListN.{take, length};
+ghost use Rattle.text.specs.Words.{answer-of};
+ghost use Rattle.book.specs.Image.{word, held};
+ghost use Rattle.engine.specs.Move.{input};
+ghost use Rattle.engine.specs.Single.{pick-place, check-agent, check-picks, check-step-lengths, check-contents, step-call};
+ghost use Rattle.engine_step.specs.Call.{check-call};
+ghost use Rattle.engine_step.specs.Halves.{Walked, Halfway, Concluded};
+ghost use Rattle.engine_list.specs.Written.{written};
+
+// Records in a list of instructions.
+const MOST_INSTRUCTIONS: usize = 256;
+
+// The lent tables, as the q of 2.
+const CONTENTS: u32 = 0;
+
+const INSTRUCTIONS: u32 = 3;
+
+fn answer(number: u32, p: u32, q: u32) -> Answer
+    ensures { λ r. ⌜ r ≡ record { number = number; p = p; q = q } ⌝ }
+{
+    Answer {
+        number: number,
+        p: p,
+        q: q,
+    }
+}
+
+// The place of pick j, no more than what C's one number holds.
+fn place_of(j: usize) -> u32
+    ensures { λ r. ⌜ r ≡ pick-place j ⌝ }
+{
+    if j < 16777215 { j as u32 + 1 } else { 16777215 }
+}
+
+// 9.
+fn check_agent(image: &Image, agent: usize) -> Answer
+    ensures { λ r. ⌜ r ≡ answer-of (check-agent (held (now (image .entry))) agent) ⌝ }
+{
+    if agent < book_image::agents(image) as usize {
+        answer(0, 0, 0)
+    } else {
+        answer(text::LOG_LINE, 0, 0)
+    }
+}
+
+// 9 of the picks: the least that is no element.
+fn check_picks(image: &Image, picks: &[Pick]) -> Answer
+    ensures { λ r. ⌜ r ≡ answer-of (check-picks (held (now (image .entry))) (now (picks .entry))) ⌝ }
+{
+    let e = book_image::elements(image) as u64;
+    let n = picks.len();
+    let mut j: usize = 0;
+    while j < n {
+        if e <= picks[j] {
+            return answer(text::LOG_LINE, place_of(j), 0);
+        }
+        j += 1;
+    }
+    answer(0, 0, 0)
+}
+
+// 2, of contents and then of instructions.
+fn check_lent(image: &Image, contents: &[Value], lent: usize) -> Answer
+    ensures { λ r. ⌜ r ≡ answer-of (check-step-lengths (word (now (image .entry)) 6) (now (contents .entry)) lent) ⌝ }
+{
+    let locations = book_image::locations(image);
+    if contents.len() < locations as usize {
+        return answer(text::LENT_SHORT, locations, CONTENTS);
+    }
+    if lent < MOST_INSTRUCTIONS {
+        return answer(text::LENT_SHORT, 256, INSTRUCTIONS);
+    }
+    answer(0, 0, 0)
+}
+
+// 8, of as many records as there are locations.
+fn check_contents(image: &Image, contents: &[Value]) -> Answer
+    ensures { λ r. ⌜ r ≡ answer-of (check-contents (held (now (image .entry))) (take (word (now (image .entry)) 6) (now (contents .entry)))) ⌝ }
+{
+    let n = text::smaller(book_image::locations(image) as usize, contents.len());
+    let found = contents_check::bad_value(image, &contents[..n]);
+    match found {
+        Found::Here(l) => answer(text::CONTENTS_RULE, l, 0),
+        Found::Nowhere => answer(0, 0, 0),
+    }
+}
+
+// 9 of the agent and of the picks, then 2, then 8, which reads the whole table.
+pub fn check_call(
+    image: &Image,
+    contents: &[Value],
+    agent: usize,
+    picks: &[Pick],
+    lent: usize,
+) -> Answer
+    ensures { λ r. ⌜ r ≡ answer-of (check-call (held (now (image .entry))) (word (now (image .entry)) 6) (now (contents .entry)) (input agent (now (picks .entry))) lent) ⌝ }
+{
+    let nine = check_agent(image, agent);
+    if nine.number != 0 {
+        return nine;
+    }
+    let other = check_picks(image, picks);
+    if other.number != 0 {
+        return other;
+    }
+    let two = check_lent(image, contents, lent);
+    if two.number != 0 {
+        return two;
+    }
+    check_contents(image, contents)
+}
+
+// ---- the call in stages: the checks and the move begun, then the move finished; in between its instructions may go through a lent list
+
+// A call up to the list: the answer of its checks, and its move begun if they pass.
+pub struct Paused {
+    pub answer: Answer,
+    pub begun: Begun,
+}
+
+// No move is begun.
+fn refused(answer: Answer) -> Paused
+    ensures { λ r. ⌜ (r .answer ≡ answer) × (r .begun .count ≡ 0) ⌝ }
+{
+    let walk = State {
+        len: 0,
+        label: 0,
+        refused: 0,
+        node: 0,
+    };
+    let begun = Begun {
+        walk: walk,
+        count: 0,
+    };
+    Paused {
+        answer: answer,
+        begun: begun,
+    }
+}
+
+// The move is begun, on the records of a lent table that the book has locations for.
+fn begin_move(
+    image: &Image,
+    contents: &[Value],
+    agent: u32,
+    picks: &[Pick],
+    work: &mut [u64; 256],
+) -> Begun
+    ensures { λ r. ⌜ Walked (held (now (image .entry))) (take (word (now (image .entry)) 6) (now (contents .entry))) (input agent (now (picks .entry))) (now (work .exit)) r ⌝ }
+{
+    let all = book_image::locations(image) as usize;
+    let n = text::smaller(all, contents.len());
+    let mut readers = [0u64; 1];
+    engine_fire::begin(
+        image,
+        &contents[..n],
+        &mut readers[..0],
+        1,
+        work,
+        agent,
+        picks,
+    )
+}
+
+// The checks, and the move begun.
+pub fn begin_call(
+    book: &[u8],
+    contents: &[Value],
+    agent: usize,
+    picks: &[Pick],
+    lent: usize,
+    image: &mut Image,
+    work: &mut [u64; 256],
+) -> Paused
+    ensures { λ r. ⌜ Halfway (now (book .entry)) (now (contents .entry)) (input agent (now (picks .entry))) lent (now (image .exit)) (now (work .exit)) r ⌝ }
+{
+    let opened = book_check::check_into(book, image);
+    if opened.number != 0 {
+        return refused(opened);
+    }
+    let checked = check_call(image, contents, agent, picks, lent);
+    if checked.number != 0 {
+        return refused(checked);
+    }
+    let begun = begin_move(image, contents, agent as u32, picks, work);
+    Paused {
+        answer: checked,
+        begun: begun,
+    }
+}
+
+// The move is finished, by the instructions that came back from the list.
+pub fn finish_call(contents: &mut [Value], image: &Image, work: &[u64; 256], p: Paused) -> Answer
+    ensures { λ r. ⌜ Concluded (now (image .entry)) (now (contents .entry)) (now (work .entry)) p r (now (contents .exit)) ⌝ }
+{
+    let answer = p.answer;
+    if answer.number != 0 {
+        return answer;
+    }
+    let begun = p.begun;
+    let walk = begun.walk;
+    let all = book_image::locations(image) as usize;
+    let n = text::smaller(all, contents.len());
+    let mut readers = [0u64; 1];
+    let mut writers = [0u64; 1];
+    engine_fire::finish(
+        image,
+        &mut contents[..n],
+        &mut readers[..0],
+        &mut writers[..0],
+        1,
+        work,
+        walk,
+        0,
+    )
+}
+
+// ---- the entry
+
+// The single-move entry: a book, a contents table, an agent, its picks, and a list of instruction records. The
+// move's instructions are written into the list, and the move is fired by what is read from there.
+pub fn step(
+    book: &[u8],
+    contents: &mut [Value],
+    agent: usize,
+    picks: &[Pick],
+    instructions: &mut [Record],
+) -> Answer
+    ensures { λ r. ⌜ (r ≡ step-call (now (book .entry)) (now (contents .entry)) (input agent (now (picks .entry))) (length (now (instructions .entry))) .answer) × (now (contents .exit) ≡ step-call (now (book .entry)) (now (contents .entry)) (input agent (now (picks .entry))) (length (now (instructions .entry))) .contents) × (now (instructions .exit) ≡ written (step-call (now (book .entry)) (now (contents .entry)) (input agent (now (picks .entry))) (length (now (instructions .entry))) .instructions) (now (instructions .entry))) ⌝ }
+{
+    let lent = instructions.len();
+    let mut image = [0u32; 2248];
+    let mut work = [0u64; 256];
+    let p = begin_call(book, contents, agent, picks, lent, &mut image, &mut work);
+    let count = p.begun.count;
+    engine_list::pass(instructions, &mut work, count);
+    finish_call(contents, &image, &work, p)
+}
+
+// The single-move entry with a list of `lent` records. It lends 256 at most; a longer list makes no difference.
+pub fn step_own_list(
+    book: &[u8],
+    contents: &mut [Value],
+    agent: usize,
+    picks: &[Pick],
+    lent: usize,
+) -> Answer
+    ensures { λ r. ⌜ (r ≡ step-call (now (book .entry)) (now (contents .entry)) (input agent (now (picks .entry))) lent .answer) × (now (contents .exit) ≡ step-call (now (book .entry)) (now (contents .entry)) (input agent (now (picks .entry))) lent .contents) ⌝ }
+{
+    let none = engine_list::blank();
+    let mut list = [none; 256];
+    let n = text::smaller(lent, 256);
+    step(book, contents, agent, picks, &mut list[..n])
+}

@@ -1,0 +1,238 @@
+-- `eval` meets its contract.
+use mathlib.Core.Path.{_≡_, refl, _∙_}
+use mathlib.Core.Logic.{inl, inr}
+use Prim.Native.Nat.{ℕ, _-_, _<_}
+use native.Mathlib.Omega.{arith}
+use Rattle.book.specs.Book.{node-at, location}
+use Rattle.engine.specs.Look.{read, done, _>>=_}
+use Rattle.engine.specs.Term.{eval as value, negate, apply}
+use Rattle.engine.proofs.Steps.{term-zero, term-element, term-variable, term-agent, term-none, term-one, term-two, term-not, term-join, no-term-at}
+use Rattle.engine_term.specs.Held.{agent-of, value-at}
+use Rattle.book_parts.specs.Rows.{node-row}
+use Rattle.book.specs.Image.{held}
+use Rattle.engine_term.proofs.Values.{join-kind}
+use Rattle.engine_term.proofs.Marking.{runs-done, runs-gives, runs-bind}
+use borrow.Author.Needs.{needs}
+use borrow.Fn.Kinds.{In}
+use borrow.Fn.PlainCycle.{Measures, is, falls, and}
+use Rattle.engine_term.proofs.eval.Reads as eval
+use Rattle.engine_term.proofs.eval.Kinds as eval-kinds
+use Rattle.engine_term.proofs.+eval.Lts-eval as eval-lts
+use Rattle.book_parts.proofs.node.Reads as node-reads
+use Rattle.engine_term.proofs.not.Reads as not-reads
+use Rattle.engine_term.proofs.operate.Reads as operate-reads
+use Rattle.book_parts.proofs.permanent.Reads as permanent-reads
+use Rattle.engine_term.proofs.read.Reads as read-reads
+use Rattle.engine_term.proofs.variable.Reads as variable-reads
+use Rattle.engine_term.proofs.+eval.{statement}
+use Rattle.engine_term.proofs.+eval.Tie.{close}
+
+abbrev μ-eval : Measures 4 eval-kinds.ps ℕ
+μ-eval κs a = a .1 .1 .1 .1 .1 .0
+
+abbrev eval-at : ℕ → In 4 eval-kinds.ps
+eval-at t = and 4 eval-kinds.ps (is 4 eval-kinds.ps μ-eval t) eval.Pre
+
+abbrev eval-below : ℕ → In 4 eval-kinds.ps
+eval-below t = and 4 eval-kinds.ps (falls 4 eval-kinds.ps _<_ μ-eval t) eval.Pre
+
+abbrev claims-eval : ℕ → eval-lts.Claims
+claims-eval t = (node-reads.Asked, node-reads.Learnt, variable-reads.Asked, variable-reads.Learnt, read-reads.Asked, read-reads.Learnt, eval-below t, eval.Post, not-reads.Asked, not-reads.Learnt, permanent-reads.Asked, permanent-reads.Learnt, operate-reads.Asked, operate-reads.Learnt)
+
+eval-returns : (t : ℕ) → eval-lts.Need-returns (claims-eval t) (eval-at t) eval.Post
+unfolding value
+eval-returns t c =
+    let a = c .before .before .before .args in
+    rw (term-zero (node-at (held (a .image .now))) (a .depth) (a .n) (c .if1 .taken)) (runs-done (held (a .image .now)) (a .contents .now) (a .bit) 0 (a .readers .now))
+
+eval-sub-less : (t : ℕ) → eval-lts.Need-sub-less (claims-eval t) (eval-at t) eval.Post
+eval-sub-less t c = search needs
+
+eval-node-requires : (t : ℕ) → eval-lts.Need-node-requires (claims-eval t) (eval-at t) eval.Post
+eval-node-requires t c κs = search needs
+
+eval-variable-requires : (t : ℕ) → eval-lts.Need-variable-requires (claims-eval t) (eval-at t) eval.Post
+eval-variable-requires t c κs = search needs
+
+eval-element-copy-out-result : (t : ℕ) → eval-lts.Need-element-copy-out-result (claims-eval t) (eval-at t) eval.Post
+eval-element-copy-out-result t c = search needs
+
+eval-read-requires : (t : ℕ) → eval-lts.Need-read-requires (claims-eval t) (eval-at t) eval.Post
+eval-read-requires t c κs = search needs
+
+eval-eval-requires : (t : ℕ) → eval-lts.Need-eval-requires (claims-eval t) (eval-at t) eval.Post
+eval-eval-requires t c κs = search needs
+
+eval-read-requires-2 : (t : ℕ) → eval-lts.Need-read-requires-2 (claims-eval t) (eval-at t) eval.Post
+eval-read-requires-2 t c κs = search needs
+
+eval-eval-requires-2 : (t : ℕ) → eval-lts.Need-eval-requires-2 (claims-eval t) (eval-at t) eval.Post
+eval-eval-requires-2 t c κs = search needs
+
+eval-eval-requires-3 : (t : ℕ) → eval-lts.Need-eval-requires-3 (claims-eval t) (eval-at t) eval.Post
+eval-eval-requires-3 t c κs = search needs
+
+eval-read-requires-3 : (t : ℕ) → eval-lts.Need-read-requires-3 (claims-eval t) (eval-at t) eval.Post
+eval-read-requires-3 t c κs = search needs
+
+eval-eval-requires-4 : (t : ℕ) → eval-lts.Need-eval-requires-4 (claims-eval t) (eval-at t) eval.Post
+eval-eval-requires-4 t c κs = search needs
+
+eval-not-requires : (t : ℕ) → eval-lts.Need-not-requires (claims-eval t) (eval-at t) eval.Post
+eval-not-requires t c κs = search needs
+
+eval-eval-requires-5 : (t : ℕ) → eval-lts.Need-eval-requires-5 (claims-eval t) (eval-at t) eval.Post
+eval-eval-requires-5 t c κs = search needs
+
+eval-eval-requires-6 : (t : ℕ) → eval-lts.Need-eval-requires-6 (claims-eval t) (eval-at t) eval.Post
+eval-eval-requires-6 t c κs = search needs
+
+eval-permanent-requires : (t : ℕ) → eval-lts.Need-permanent-requires (claims-eval t) (eval-at t) eval.Post
+eval-permanent-requires t c κs = search needs
+
+eval-operate-requires : (t : ℕ) → eval-lts.Need-operate-requires (claims-eval t) (eval-at t) eval.Post
+eval-operate-requires t c κs = search needs
+
+eval-returns-2 : (t : ℕ) → eval-lts.Need-returns-2 (claims-eval t) (eval-at t) eval.Post
+unfolding value
+eval-returns-2 t c =
+    let a = c .before .before .before .before .before .before .before .args in
+    let x = node-row (c .before .before .before .node .result) in
+    rw (term-element (node-at (held (a .image .now))) (a .depth) (a .n) x (c .before .before .before .before .if1 .left) (c .before .before .before .node .ensures) (c .match .keys1))
+    (runs-done (held (a .image .now)) (a .contents .now) (a .bit) (x .a) (a .readers .now))
+
+eval-returns-3 : (t : ℕ) → eval-lts.Need-returns-3 (claims-eval t) (eval-at t) eval.Post
+unfolding value
+eval-returns-3 t c =
+    let a = c .before .before .before .before .before .before .before .before .args in
+    let x = node-row (c .before .before .before .before .node .result) in
+    rw (term-variable (node-at (held (a .image .now))) (a .depth) (a .n) x (c .before .before .before .before .before .if1 .left) (c .before .before .before .before .node .ensures) (c .before .match .keys2))
+    (runs-gives (held (a .image .now)) (a .contents .now) (a .bit) _ _ (a .readers .now) (c .variable .ensures))
+
+eval-returns-4 : (t : ℕ) → eval-lts.Need-returns-4 (claims-eval t) (eval-at t) eval.Post
+unfolding value
+eval-returns-4 t c =
+    let a = c .before .before .before .before .before .before .before .before .args in
+    let x = node-row (c .before .before .before .before .node .result) in
+    rw (term-agent (node-at (held (a .image .now))) (a .depth) (a .n) x (c .before .before .before .before .before .if1 .left) (c .before .before .before .before .node .ensures) (c .before .match .keys3))
+    (runs-done (held (a .image .now)) (a .contents .now) (a .bit) (agent-of (a .scope .now)) (a .readers .now))
+
+eval-same-length : (t : ℕ) → eval-lts.Need-same-length (claims-eval t) (eval-at t) eval.Post
+eval-same-length t c = search needs
+
+eval-returns-5 : (t : ℕ) → eval-lts.Need-returns-5 (claims-eval t) (eval-at t) eval.Post
+unfolding value
+eval-returns-5 t c =
+    let a = c .before .before .before .before .before .before .before .before .before .before .before .args in
+    let x = node-row (c .before .before .before .before .before .before .before .node .result) in
+    rw (term-none (node-at (held (a .image .now))) (a .depth) (a .n) x (c .before .before .before .before .before .before .before .before .if1 .left) (c .before .before .before .before .before .before .before .node .ensures) (c .before .before .before .before .match .keys4)) (c .before .before .read .ensures)
+
+eval-same-length-2 : (t : ℕ) → eval-lts.Need-same-length-2 (claims-eval t) (eval-at t) eval.Post
+eval-same-length-2 t c = search needs
+
+eval-returns-6 : (t : ℕ) → eval-lts.Need-returns-6 (claims-eval t) (eval-at t) eval.Post
+unfolding value
+eval-returns-6 t c =
+    let a = c .before .before .before .before .before .before .before .before .before .before .before .before .before .before .before .args in
+    let m = a .image .now in
+    let x = node-row (c .before .before .before .before .before .before .before .before .before .before .before .node .result) in
+    rw (term-one (node-at (held m)) (a .depth) (a .n) x (c .before .before .before .before .before .before .before .before .before .before .before .before .if1 .left) (c .before .before .before .before .before .before .before .before .before .before .before .node .ensures) (c .before .before .before .before .before .before .before .before .match .keys5))
+    (runs-bind (held m) (a .contents .now) (a .bit) (value-at m (a .scope .now) (a .depth - 1) (x .b)) (λ y. read (location (held m) (x .a) y 0)) _ _ _ _ _ (c .before .before .before .before .before .before .eval .ensures) (c .before .before .read2 .ensures))
+
+eval-same-length-3 : (t : ℕ) → eval-lts.Need-same-length-3 (claims-eval t) (eval-at t) eval.Post
+eval-same-length-3 t c = search needs
+
+eval-returns-7 : (t : ℕ) → eval-lts.Need-returns-7 (claims-eval t) (eval-at t) eval.Post
+unfolding value
+eval-returns-7 t c =
+    let a = c .before .before .before .before .before .before .before .before .before .before .before .before .before .before .before .before .before .before .before .args in
+    let m = a .image .now in
+    let x = node-row (c .before .before .before .before .before .before .before .before .before .before .before .before .before .before .before .node .result) in
+    let s = a .scope .now in
+    let d = a .depth - 1 in
+    rw (term-two (node-at (held m)) (a .depth) (a .n) x (c .before .before .before .before .before .before .before .before .before .before .before .before .before .before .before .before .if1 .left) (c .before .before .before .before .before .before .before .before .before .before .before .before .before .before .before .node .ensures) (c .before .before .before .before .before .before .before .before .before .before .before .before .match .keys6))
+    (runs-bind (held m) (a .contents .now) (a .bit) (value-at m s d (x .b)) (λ y. value-at m s d (x .c) >>= λ z. read (location (held m) (x .a) y z)) _ _ _ _ _ (c .before .before .before .before .before .before .before .before .before .before .eval2 .ensures)
+    (runs-bind (held m) (a .contents .now) (a .bit) (value-at m s d (x .c)) (λ z. read (location (held m) (x .a) (c .before .before .before .before .before .before .before .before .before .before .eval2 .result) z)) _ _ _ _ _ (c .before .before .before .before .before .before .eval3 .ensures) (c .before .before .read3 .ensures)))
+
+eval-same-length-4 : (t : ℕ) → eval-lts.Need-same-length-4 (claims-eval t) (eval-at t) eval.Post
+eval-same-length-4 t c = search needs
+
+eval-returns-8 : (t : ℕ) → eval-lts.Need-returns-8 (claims-eval t) (eval-at t) eval.Post
+unfolding value
+eval-returns-8 t c =
+    let a = c .before .before .before .before .before .before .before .before .before .before .before .before .args in
+    let m = a .image .now in
+    let x = node-row (c .before .before .before .before .before .before .before .before .node .result) in
+    rw (term-not (node-at (held m)) (a .depth) (a .n) x (c .before .before .before .before .before .before .before .before .before .if1 .left) (c .before .before .before .before .before .before .before .before .node .ensures) (c .before .before .before .before .before .match .keys7))
+    (runs-bind (held m) (a .contents .now) (a .bit) (value-at m (a .scope .now) (a .depth - 1) (x .a)) (λ y. done (negate y)) _ _ _ _ _ (c .before .before .before .eval4 .ensures)
+    (runs-gives (held m) (a .contents .now) (a .bit) _ _ _ (c .not .ensures)))
+
+eval-same-length-5 : (t : ℕ) → eval-lts.Need-same-length-5 (claims-eval t) (eval-at t) eval.Post
+eval-same-length-5 t c = search needs
+
+eval-returns-9 : (t : ℕ) → eval-lts.Need-returns-9 (claims-eval t) (eval-at t) eval.Post
+unfolding value
+eval-returns-9 t c =
+    let a = c .before .before .before .before .before .before .before .before .before .before .before .before .before .before .before .before .before .args in
+    let m = a .image .now in
+    let x = node-row (c .before .before .before .before .before .before .before .before .before .before .before .before .before .node .result) in
+    let s = a .scope .now in
+    let d = a .depth - 1 in
+    let r = c .before .before .before .before .before .before .before .before .before .before .match .rest in
+    let j = join-kind (x .kind) (omega (arith, c .before .before .before .before .before .before .before .before .before .before .before .before .if2 .left, r .0 .0 .0 .0 .0 .0 .1, r .0 .0 .0 .0 .0 .1, r .0 .0 .0 .0 .1, r .0 .0 .0 .1, r .0 .0 .1, r .0 .1)) (c .before .before .before .before .before .before .before .before .before .before .before .if3 .taken) (r .1) in
+    let e : c .operate .result ≡ apply (held m .P) (j .0) (c .before .before .before .before .before .before .before .before .eval5 .result) (c .before .before .before .before .eval6 .result) = c .operate .ensures ∙ rw (j .1, c .before .permanent .ensures) in
+    rw (term-join (node-at (held m)) (a .depth) (a .n) x (c .before .before .before .before .before .before .before .before .before .before .before .before .before .before .if1 .left) (c .before .before .before .before .before .before .before .before .before .before .before .before .before .node .ensures) (x .kind) (j .0) refl (j .1))
+    (runs-bind (held m) (a .contents .now) (a .bit) (value-at m s d (x .a)) (λ y. value-at m s d (x .b) >>= λ z. done (apply (held m .P) (j .0) y z)) _ _ _ _ _ (c .before .before .before .before .before .before .before .before .eval5 .ensures)
+    (runs-bind (held m) (a .contents .now) (a .bit) (value-at m s d (x .b)) (λ z. done (apply (held m .P) (j .0) (c .before .before .before .before .before .before .before .before .eval5 .result) z)) _ _ _ _ _ (c .before .before .before .before .eval6 .ensures)
+    (runs-gives (held m) (a .contents .now) (a .bit) _ _ _ e)))
+
+eval-returns-10 : (t : ℕ) → eval-lts.Need-returns-10 (claims-eval t) (eval-at t) eval.Post
+unfolding value
+eval-returns-10 t c =
+    let a = c .before .before .before .before .before .args in
+    rw (no-term-at (node-at (held (a .image .now))) (a .depth) (a .n) (node-row (c .before .node .result)) (c .before .before .if1 .left) (c .before .node .ensures) (inl (c .if2 .taken)))
+    (runs-done (held (a .image .now)) (a .contents .now) (a .bit) 0 (a .readers .now))
+
+eval-returns-11 : (t : ℕ) → eval-lts.Need-returns-11 (claims-eval t) (eval-at t) eval.Post
+unfolding value
+eval-returns-11 t c =
+    let a = c .before .before .before .before .before .before .args in
+    rw (no-term-at (node-at (held (a .image .now))) (a .depth) (a .n) (node-row (c .before .before .node .result)) (c .before .before .before .if1 .left) (c .before .before .node .ensures) (inr (c .if3 .left)))
+    (runs-done (held (a .image .now)) (a .contents .now) (a .bit) 0 (a .readers .now))
+
+pub +eval-spec : {M : Type 1} → statement M
++eval-spec = close μ-eval λ t. eval-lts.spec (claims-eval t)
+    (eval-at t)
+    eval.Post
+    (eval-returns t)
+    (eval-sub-less t)
+    (eval-node-requires t)
+    (eval-variable-requires t)
+    (eval-element-copy-out-result t)
+    (eval-read-requires t)
+    (eval-eval-requires t)
+    (eval-read-requires-2 t)
+    (eval-eval-requires-2 t)
+    (eval-eval-requires-3 t)
+    (eval-read-requires-3 t)
+    (eval-eval-requires-4 t)
+    (eval-not-requires t)
+    (eval-eval-requires-5 t)
+    (eval-eval-requires-6 t)
+    (eval-permanent-requires t)
+    (eval-operate-requires t)
+    (eval-returns-2 t)
+    (eval-returns-3 t)
+    (eval-returns-4 t)
+    (eval-same-length t)
+    (eval-returns-5 t)
+    (eval-same-length-2 t)
+    (eval-returns-6 t)
+    (eval-same-length-3 t)
+    (eval-returns-7 t)
+    (eval-same-length-4 t)
+    (eval-returns-8 t)
+    (eval-same-length-5 t)
+    (eval-returns-9 t)
+    (eval-returns-10 t)
+    (eval-returns-11 t)

@@ -1,0 +1,36 @@
+-- `read` meets its contract.
+use mathlib.Core.Path.{_∙_}
+use Rattle.book.specs.Book.{location}
+use Rattle.book.specs.Image.{held}
+use Rattle.engine_term.proofs.Leaves.{dynamic-placed}
+use Rattle.engine_term.proofs.Marking.{runs-read}
+use borrow.Author.Needs.{needs}
+use Rattle.engine_term.proofs.read.Statement.{statement}
+use Rattle.engine_term.proofs.read.Tie as tie
+
+location-requires : tie.Need-location-requires
+location-requires c κs = search needs
+
+note-requires : tie.Need-note-requires
+note-requires c κs = search needs
+
+cast-fetch : tie.Need-cast-fetch
+cast-fetch c = search needs
+
+fetch-requires : tie.Need-fetch-requires
+fetch-requires c κs = search needs
+
+same-length : tie.Need-same-length
+same-length c = search needs
+
+returns : tie.Need-returns
+returns c =
+    let a = c .before .before .before .before .before .before .before .before .args in
+    let m = a .image .now in
+    runs-read (held m) (a .contents .now) (a .bit) (location (held m) (a .f) (a .x) (a .y)) (c .fetch .result) _ _
+    (c .fetch .ensures ∙ rw (c .before .before .before .before .before .location .ensures)) (λ p. c .before .before .before .note .ensures ∙ rw (dynamic-placed (held m) (a .f) (a .x) (a .y) p, c .before .before .before .before .before .location .ensures))
+
+pub read-spec : {M : Type 1} → statement M
+read-spec =
+    tie.close
+    (tie.spec location-requires note-requires cast-fetch fetch-requires same-length returns)

@@ -1,0 +1,299 @@
+// Terms: their values in the book that an image holds, and the marks of what they read.
+use book::Function;
+use book::Image;
+use text::Value;
+ghost use mathlib.Core.Path.{_≡_};
+ghost use Prim.Native.Nat.{_+_};
+ghost use lib.ListN.{getD};
+ghost use Rattle.book.specs.Book.{undef, boolean, truth, offset, location, dynamic-at};
+ghost use Rattle.text.specs.Words.{if_then_else_};
+ghost use Rattle.engine.specs.Look.{read};
+ghost use Rattle.engine.specs.Term.{both, either, plus, minus, less, number, negate, apply, shapes, no-term};
+ghost use Rattle.engine_term.specs.Held.{variables-of, value-at, aim-at, operated};
+ghost use Rattle.book.specs.Image.{low, held};
+ghost use Rattle.engine_term.specs.Marks.{mark-one, dynamic-of, Runs};
+
+// The location of a function at x and y: counted from its first, the argument, or first × E + second.
+pub fn locate(f: Function, e: Value, x: Value, y: Value) -> u32
+    ensures { λ r. ⌜ r ≡ low (f .first) + offset e (f .arity) x y ⌝ }
+{
+    let arity = f.arity;
+    let first = text::low(f.first) as u32;
+    match arity {
+        0 => first,
+        1 => first + x as u32,
+        _ => first + (x as u32 * e as u32 + y as u32),
+    }
+}
+
+// The location of function f at x and y.
+pub fn location(image: &Image, f: u16, x: Value, y: Value) -> u32
+    ensures { λ r. ⌜ r ≡ location (held (now (image .entry))) f x y ⌝ }
+{
+    locate(
+        book_image::function_at(image, f as u32),
+        book_image::elements(image),
+        x,
+        y,
+    )
+}
+
+// Whether a location is dynamic.
+pub fn dynamic_at(image: &Image, l: u32) -> bool
+    ensures { λ r. ⌜ r ≡ dynamic-at (held (now (image .entry))) l ⌝ }
+{
+    let owner = book_parts::owner_of(image, l as usize);
+    book_parts::is_dynamic(owner.function)
+}
+
+// The same of function f's location at x and y, which its kind tells if they are elements.
+pub fn dynamic(image: &Image, f: u16, x: Value, y: Value) -> bool
+    ensures { λ r. ⌜ r ≡ dynamic-of (held (now (image .entry))) f x y ⌝ }
+{
+    if book_image::functions(image) <= f {
+        return dynamic_at(image, location(image, f, x, y));
+    }
+    let e = book_image::elements(image);
+    if e <= x {
+        return dynamic_at(image, location(image, f, x, y));
+    }
+    if e <= y {
+        return dynamic_at(image, location(image, f, x, y));
+    }
+    book_parts::is_dynamic(book_image::function_at(image, f as u32))
+}
+
+// Puts a bit into the mark of a location, if there is one.
+pub fn mark(readers: &mut [u64], bit: u64, at: usize)
+    ensures { λ _. ⌜ now (readers .exit) ≡ mark-one bit at (now (readers .entry)) ⌝ }
+{
+    if at < readers.len() {
+        readers[at] = readers[at] | bit;
+    }
+}
+
+// Marks function f's location at x and y, which is `at`, if it is dynamic.
+fn note(image: &Image, readers: &mut [u64], bit: u64, f: u16, x: Value, y: Value, at: u32)
+    ensures { λ _. ⌜ now (readers .exit) ≡ (if dynamic-of (held (now (image .entry))) f x y then mark-one bit at (now (readers .entry)) else now (readers .entry)) ⌝ }
+{
+    if dynamic(image, f, x, y) {
+        mark(readers, bit, at as usize);
+    }
+}
+
+// The value of function f at x and y.
+pub fn read(
+    image: &Image,
+    contents: &[Value],
+    readers: &mut [u64],
+    bit: u64,
+    f: u16,
+    x: Value,
+    y: Value,
+) -> Value
+    ensures { λ r. ⌜ Runs (held (now (image .entry))) (now (contents .entry)) bit (read (location (held (now (image .entry))) f x y)) r (now (readers .entry)) (now (readers .exit)) ⌝ }
+{
+    let at = location(image, f, x, y);
+    note(image, readers, bit, f, x, y, at);
+    text::fetch(contents, at as usize)
+}
+
+fn truth(t: bool) -> Value
+    ensures { λ r. ⌜ r ≡ truth t ⌝ }
+{
+    if t { 2 } else { 1 }
+}
+
+// Whether x is false or true.
+pub fn boolean(x: Value) -> bool
+    ensures { λ r. ⌜ r ≡ boolean x ⌝ }
+{
+    match x {
+        1 => true,
+        2 => true,
+        _ => false,
+    }
+}
+
+// Whether x is a number of the book.
+fn number(p: Value, x: Value) -> bool
+    ensures { λ r. ⌜ r ≡ number p x ⌝ }
+{
+    if 3 <= x { x < p } else { false }
+}
+
+fn not(x: Value) -> Value
+    ensures { λ r. ⌜ r ≡ negate x ⌝ }
+{
+    match x {
+        1 => 2,
+        2 => 1,
+        _ => 0,
+    }
+}
+
+fn and(x: Value, y: Value) -> Value
+    ensures { λ r. ⌜ r ≡ apply 0 both x y ⌝ }
+{
+    if boolean(x) {
+        if boolean(y) {
+            if x == 2 { y } else { 1 }
+        } else {
+            0
+        }
+    } else {
+        0
+    }
+}
+
+fn or(x: Value, y: Value) -> Value
+    ensures { λ r. ⌜ r ≡ apply 0 either x y ⌝ }
+{
+    if boolean(x) {
+        if boolean(y) {
+            if x == 2 { 2 } else { y }
+        } else {
+            0
+        }
+    } else {
+        0
+    }
+}
+
+fn plus(p: Value, x: Value, y: Value) -> Value
+    ensures { λ r. ⌜ r ≡ apply p plus x y ⌝ }
+{
+    if number(p, x) {
+        if number(p, y) {
+            let sum = x as u32 + y as u32 - 3;
+            if sum < p as u32 { sum as Value } else { 0 }
+        } else {
+            0
+        }
+    } else {
+        0
+    }
+}
+
+fn minus(p: Value, x: Value, y: Value) -> Value
+    ensures { λ r. ⌜ r ≡ apply p minus x y ⌝ }
+{
+    if number(p, x) {
+        if number(p, y) {
+            if y <= x { 3 + (x - y) } else { 0 }
+        } else {
+            0
+        }
+    } else {
+        0
+    }
+}
+
+fn less(p: Value, x: Value, y: Value) -> Value
+    ensures { λ r. ⌜ r ≡ apply p less x y ⌝ }
+{
+    if number(p, x) {
+        if number(p, y) { truth(x < y) } else { 0 }
+    } else {
+        0
+    }
+}
+
+// The value of a term of two operands from theirs.
+fn operate(p: Value, k: u16, x: Value, y: Value) -> Value
+    ensures { λ r. ⌜ r ≡ operated p (getD shapes k no-term) x y ⌝ }
+{
+    match k {
+        7 => truth(x == y),
+        9 => and(x, y),
+        10 => or(x, y),
+        11 => plus(p, x, y),
+        12 => minus(p, x, y),
+        13 => less(p, x, y),
+        _ => 0,
+    }
+}
+
+// The value of variable a; a scope has the eight variables and then the agent's element.
+fn variable(scope: &[Value; 9], a: u16) -> Value
+    ensures { λ r. ⌜ r ≡ getD (variables-of (now (scope .entry))) a undef ⌝ }
+{
+    if a < 8 { scope[a as usize] } else { 0 }
+}
+
+// The value of the term at node n, looking at most `depth` nodes down; what it reads is marked.
+pub fn eval(
+    image: &Image,
+    contents: &[Value],
+    readers: &mut [u64],
+    bit: u64,
+    scope: &[Value; 9],
+    depth: usize,
+    n: u16,
+) -> Value
+    ensures { λ r. ⌜ Runs (held (now (image .entry))) (now (contents .entry)) bit (value-at (now (image .entry)) (now (scope .entry)) depth n) r (now (readers .entry)) (now (readers .exit)) ⌝ }
+{
+    if depth == 0 {
+        return 0;
+    }
+    let less = depth - 1;
+    let row = book_parts::node(image, n);
+    let k = row.kind;
+    match k {
+        1..=13 => match k {
+            1 => row.a,
+            2 => variable(scope, row.a),
+            3 => scope[8],
+            4 => read(image, contents, readers, bit, row.a, 0, 0),
+            5 => {
+                let x = eval(image, contents, readers, bit, scope, less, row.b);
+                read(image, contents, readers, bit, row.a, x, 0)
+            }
+            6 => {
+                let x = eval(image, contents, readers, bit, scope, less, row.b);
+                let y = eval(image, contents, readers, bit, scope, less, row.c);
+                read(image, contents, readers, bit, row.a, x, y)
+            }
+            8 => not(eval(image, contents, readers, bit, scope, less, row.a)),
+            _ => {
+                let x = eval(image, contents, readers, bit, scope, less, row.a);
+                let y = eval(image, contents, readers, bit, scope, less, row.b);
+                operate(book_parts::permanent(image), k, x, y)
+            }
+        },
+        _ => 0,
+    }
+}
+
+// The location that the term at node n names; its arguments are read.
+pub fn aim(
+    image: &Image,
+    contents: &[Value],
+    readers: &mut [u64],
+    bit: u64,
+    scope: &[Value; 9],
+    depth: usize,
+    n: u16,
+) -> u32
+    ensures { λ r. ⌜ Runs (held (now (image .entry))) (now (contents .entry)) bit (aim-at (now (image .entry)) (now (scope .entry)) depth n) r (now (readers .entry)) (now (readers .exit)) ⌝ }
+{
+    if depth == 0 {
+        return 0;
+    }
+    let less = depth - 1;
+    let row = book_parts::node(image, n);
+    let k = row.kind;
+    match k {
+        4 => location(image, row.a, 0, 0),
+        5 => {
+            let x = eval(image, contents, readers, bit, scope, less, row.b);
+            location(image, row.a, x, 0)
+        }
+        6 => {
+            let x = eval(image, contents, readers, bit, scope, less, row.b);
+            let y = eval(image, contents, readers, bit, scope, less, row.c);
+            location(image, row.a, x, y)
+        }
+        _ => 0,
+    }
+}

@@ -1,4 +1,0 @@
-pub mod Fires
-pub mod Judged
-pub mod Own
-pub mod Taken

@@ -1,3 +1,0 @@
-pub mod Tables
-pub mod Outcome
-pub mod Steps

@@ -1,3 +1,0 @@
-pub mod Fired
-pub mod Whole
-pub mod Halves

@@ -1,5 +1,0 @@
-pub mod Turns
-pub mod Laps
-pub mod Calls
-pub mod Checks
-pub mod Opens

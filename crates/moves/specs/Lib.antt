@@ -1,3 +1,0 @@
-pub mod Effect
-pub mod Close
-pub mod Count

@@ -1,0 +1,53 @@
+-- What reading the lines of one kind tells, and the choices as they are put into the table of a log (01, "Book and log text", "Refused, and how": 1 and 9; 02, F-2).
+use mathlib.Core.Path.{_≡_}
+use mathlib.Core.Bool.{Bool}
+use mathlib.Core.List.{List, [], _∷_}
+use Prim.Native.Nat.{ℕ, suc, _+_}
+use lib.Dec.{eqb}
+use lib.ListN.{set}
+use Rattle.text.specs.declared.Found.{Found}
+use Rattle.text.specs.declared.Found.the-variants.{Nowhere, Here}
+use Rattle.text.specs.Words.{if_then_else_, table, least-from, least}
+use Rattle.text.specs.Text.{bad-line}
+use Rattle.order.specs.Log.{Choice, choice-at, bad-choice-at}
+use Rattle.order.specs.Table.{end-in}
+use Rattle.order_lines.specs.declared.Judged.{Judged}
+
+-- ---- places
+
+-- the first, if there is one, or else the second
+abbrev pub first-of : Found → Found → Found
+first-of Nowhere b = b
+first-of (Here p) b = Here p
+
+-- counted from k on
+abbrev pub shifted : ℕ → Found → Found
+shifted k Nowhere = Nowhere
+shifted k (Here p) = Here (k + p)
+
+-- ---- lines of one kind
+
+-- the n lines after line k are read, `bad` saying which of them are at fault: if none is, the table is u
+pub record KindRead (text : List ℕ) (k n : ℕ) (bad : ℕ → Bool) (u t : List ℕ) (r : Judged) : Type 0 where
+  pub ill : r .ill ≡ least-from (bad-line text) n (1 + k)
+  pub fault : r .ill ≡ Nowhere → r .fault ≡ shifted (1 + k) (least bad n)
+  pub order : r .ill ≡ Nowhere → r .fault ≡ Nowhere → t ≡ u
+
+-- ---- the choices
+
+-- pick i is of move a: it is the first, if the move has none yet
+abbrev pub begun : List ℕ → ℕ → ℕ → List ℕ
+begun t i a = if eqb (end-in t a) 0 then set t (128 + a) i else t
+
+-- pick i, the element y, of move a put in: it is the move's last so far
+abbrev pub filed : List ℕ → ℕ → ℕ → ℕ → List ℕ
+filed t i a y = set (set (begun t i a) (192 + a) (i + 1)) (256 + i) y
+
+-- one after the other, from pick i on
+unfoldable pub filed-all : List Choice → ℕ → List ℕ → List ℕ
+filed-all [] i t = t
+filed-all (x ∷ xs) i t = filed-all xs (suc i) (filed t i (x .move) (x .element))
+
+-- the n choice lines of m moves, which begin after line k, are read, with E elements: if none is at fault they are put into the table s
+abbrev pub ChoiceLinesRead : ℕ → List ℕ → ℕ → ℕ → ℕ → List ℕ → List ℕ → Judged → Type 0
+ChoiceLinesRead E text m k n s t r = KindRead text k n (bad-choice-at E m k text) (filed-all (table (choice-at k text) n) 0 s) t r

@@ -1,0 +1,280 @@
+// The log: its text read once into the table of its order, with 1 and 9, and 10 by sets of moves.
+use order::Order;
+use order_lines::Judged;
+use text::Answer;
+use text::Found;
+use text::Line;
+use text::Parsed;
+ghost use mathlib.Core.Path.{_≡_};
+ghost use mathlib.Core.Bool.{true, false};
+ghost use Prim.Native.Nat.{_-_, _%_, _^_, _<_, _≤_};
+ghost use lib.ListN.{length, getD, take, drop};
+ghost use Rattle.text.specs.Words.{if_then_else_, answer-of};
+ghost use Rattle.order.specs.Log.{log-header-ok, bad-move, bad-pair};
+ghost use Rattle.order.specs.Table.{agent-in, picks-in};
+ghost use Rattle.order_log.specs.Read.{header-judged, judged, join, MovesRead, PairsRead, both, LinesRead, LogReads};
+ghost use Rattle.order_log.specs.Agents.{Nearest, check-agents-in};
+
+// Bounds of the header's m, k and c, and how many agents there may be.
+pub const MOST_MOVES: u32 = 64;
+
+pub const MOST_PAIRS: u32 = 2016;
+
+const MOST_PICKS: u32 = 256;
+
+const MOST_AGENTS: u64 = 16;
+
+// The log, in the place of a 1.
+const LOG_TEXT: u32 = 1;
+
+// The answer; when accepted, how many moves there are.
+pub struct LogRead {
+    pub answer: Answer,
+    pub moves: u32,
+}
+
+// The header is within its bounds.
+fn header_fits(h: Line) -> bool
+    ensures { λ r. ⌜ r ≡ log-header-ok h ⌝ }
+{
+    (h.a <= MOST_MOVES) & (h.b <= MOST_PAIRS) & (h.c <= MOST_PICKS) & (h.d == 0)
+}
+
+// A move line is at fault.
+fn move_fault(l: Line, agents: u32) -> bool
+    ensures { λ r. ⌜ r ≡ bad-move agents l ⌝ }
+{
+    !((l.a < agents) & (l.b == 0) & (l.c == 0) & (l.d == 0))
+}
+
+// Pair line i, of m moves, is at fault; k is the line before it.
+fn pair_fault(m: u32, k: Line, l: Line, i: u32) -> bool
+    ensures { λ r. ⌜ r ≡ bad-pair m k l i ⌝ }
+{
+    let ascends = (k.a < l.a) | ((k.a == l.a) & (k.b < l.b));
+    !((l.a < l.b) & (l.b < m) & ((i == 0) | ascends) & (l.c == 0) & (l.d == 0))
+}
+
+// The m move lines. Each move's row is cleared and its agent stored, and it has no picks yet.
+fn read_moves(log: &[u8], agents: u32, m: u32, order: &mut [u64]) -> Judged
+    requires { ⌜ (m ≤ 64) × (length (now order) ≡ 512) ⌝ }
+    ensures { λ r. ⌜ MovesRead agents (now (log .entry)) m (now (order .exit)) r ⌝ }
+{
+    let mut fault = Found::Nowhere;
+    let mut i: u32 = 0;
+    while i < m {
+        let read = text::parse(log, 1 + i);
+        let l = read.line;
+        if !read.ok {
+            return Judged {
+                ill: Found::Here(1 + i),
+                fault: fault,
+            };
+        }
+        fault = order_lines::or_here(fault, move_fault(l, agents), 1 + i);
+        order[i as usize] = 0;
+        order[64 + i as usize] = l.a as u64;
+        order[128 + i as usize] = 0;
+        order[192 + i as usize] = 0;
+        i += 1;
+    }
+    Judged {
+        ill: Found::Nowhere,
+        fault: fault,
+    }
+}
+
+// A pair that is not at fault put in: to the moves before its later one come those before its earlier one, and that one.
+fn chain(order: &mut Order, l: Line, bad: bool)
+    requires { ⌜ (bad ≡ false → (l .a < 64) × (l .b < 64)) ⌝ }
+    ensures { λ _. ⌜ now (order .exit) ≡ (if bad then now (order .entry) else join (now (order .entry)) (l .a) (l .b)) ⌝ }
+{
+    if !bad {
+        let a = l.a as usize;
+        let b = l.b as usize;
+        let behind = order[a] | (1u64 << a);
+        order[b] = order[b] | behind;
+    }
+}
+
+// The n pair lines of m moves. They ascend by their earlier move, so that its row is complete when it is used: one pass is
+// enough.
+fn read_pairs(log: &[u8], m: u32, n: u32, order: &mut Order) -> Judged
+    requires { ⌜ (m ≤ 64) × (n ≤ 2016) ⌝ }
+    ensures { λ r. ⌜ PairsRead (now (log .entry)) m n (now (order .entry)) (now (order .exit)) r ⌝ }
+{
+    let mut before = Line {
+        a: 0,
+        b: 0,
+        c: 0,
+        d: 0,
+    };
+    let mut fault = Found::Nowhere;
+    let mut i: u32 = 0;
+    while i < n {
+        let read = text::parse(log, 1 + m + i);
+        let l = read.line;
+        if !read.ok {
+            return Judged {
+                ill: Found::Here(1 + m + i),
+                fault: fault,
+            };
+        }
+        let bad = pair_fault(m, before, l, i);
+        fault = order_lines::or_here(fault, bad, 1 + m + i);
+        chain(order, l, bad);
+        before = l;
+        i += 1;
+    }
+    Judged {
+        ill: Found::Nowhere,
+        fault: fault,
+    }
+}
+
+// Of two kinds of lines, one after the other.
+fn both(a: Judged, b: Judged) -> Judged
+    ensures { λ r. ⌜ r ≡ both a b ⌝ }
+{
+    let ill = a.ill;
+    let later_ill = b.ill;
+    let fault = a.fault;
+    let later_fault = b.fault;
+    let first_ill = order_lines::first_of(ill, later_ill);
+    let first_fault = order_lines::first_of(fault, later_fault);
+    Judged {
+        ill: first_ill,
+        fault: first_fault,
+    }
+}
+
+// The lines after the header h, which is within its bounds.
+fn read_lines(log: &[u8], agents: u32, elements: u32, h: Line, order: &mut Order) -> Judged
+    requires { ⌜ log-header-ok h ≡ true ⌝ }
+    ensures { λ r. ⌜ LinesRead agents elements (now (log .entry)) h (now (order .exit)) r ⌝ }
+{
+    let moves = read_moves(log, agents, h.a, order);
+    let pairs = read_pairs(log, h.a, h.b, order);
+    let picks = order_lines::read_choices(log, elements, h.a, h.a + h.b, h.c, order);
+    both(both(moves, pairs), picks)
+}
+
+// 1 then 9 on the header.
+fn check_header(head: Parsed) -> Answer
+    ensures { λ r. ⌜ r ≡ answer-of (header-judged head) ⌝ }
+{
+    let form = text::must(head.ok, text::ILL_FORMED, 0, LOG_TEXT);
+    if form.number != 0 {
+        return form;
+    }
+    let h = head.line;
+    text::must(header_fits(h), text::LOG_LINE, 0, 0)
+}
+
+// 1 and 9 on a log of so many bytes and lines.
+fn judge(size: usize, lines: u32, ill: Found, fault: Found) -> Answer
+    ensures { λ r. ⌜ r ≡ answer-of (judged size lines ill fault) ⌝ }
+{
+    let form = text::none_at(text::ILL_FORMED, LOG_TEXT, ill);
+    if form.number != 0 {
+        return form;
+    }
+    let whole = size <= text::LINE * lines as usize;
+    let surplus = text::must(whole, text::ILL_FORMED, lines, LOG_TEXT);
+    if surplus.number != 0 {
+        return surplus;
+    }
+    text::none_at(text::LOG_LINE, 0, fault)
+}
+
+// 1 and 9, for a book of so many agents and elements: the log's order and picks are left in the table. Each line is read once.
+pub fn read_log(log: &[u8], agents: u32, elements: u32, order: &mut Order) -> LogRead
+    ensures { λ r. ⌜ LogReads agents elements (now (log .entry)) (now (order .exit)) r ⌝ }
+{
+    let head = text::parse(log, 0);
+    let first = check_header(head);
+    if first.number != 0 {
+        return LogRead {
+            answer: first,
+            moves: 0,
+        };
+    }
+    let h = head.line;
+    let found = read_lines(log, agents, elements, h, order);
+    let ill = found.ill;
+    let fault = found.fault;
+    let answer = judge(log.len(), 1 + h.a + h.b + h.c, ill, fault);
+    LogRead {
+        answer: answer,
+        moves: h.a,
+    }
+}
+
+// The least move of the set `own` that is not in `row`; 64 for none.
+fn nearest(own: u64, row: u64) -> u32
+    ensures { λ r. ⌜ Nearest own row r ⌝ }
+{
+    u64::trailing_zeros(own & !row)
+}
+
+// 10: the least pair of the first `moves` moves that are of one agent and unordered. own has each agent's moves so far.
+pub fn check_agents(order: &Order, moves: u32) -> Answer
+    ensures { λ r. ⌜ r ≡ answer-of (check-agents-in (now (order .entry)) moves) ⌝ }
+{
+    let m = text::smaller(moves as usize, 64);
+    let mut own: [u64; 16] = [0; 16];
+    let mut first: u32 = 64;
+    let mut second: usize = 0;
+    let mut j: usize = 0;
+    while j < m {
+        let a = (order[64 + j] % MOST_AGENTS) as usize;
+        let i = nearest(own[a], order[j]);
+        if i < first {
+            first = i;
+            second = j;
+        }
+        own[a] = own[a] | (1u64 << j);
+        j += 1;
+    }
+    text::must(first >= 64, text::AGENT_UNORDERED, first, second as u32)
+}
+
+// The number at an index, 0 past the end.
+fn fetch(s: &[u64], i: usize) -> u64
+    ensures { λ r. ⌜ r ≡ getD (now (s .entry)) i 0 ⌝ }
+{
+    if i < s.len() { s[i] } else { 0 }
+}
+
+// The agent of move i, 0 past the table.
+pub fn agent_at(order: &Order, i: u32) -> u32
+    ensures { λ r. ⌜ r ≡ agent-in (now (order .entry)) i % 2 ^ 32 ⌝ }
+{
+    (fetch(order, 64 + i as usize) % 4294967296) as u32
+}
+
+// A part of the table.
+pub struct Part {
+    pub first: usize,
+    pub end: usize,
+}
+
+// The part of the table that has the picks of move i.
+pub fn picks_at(order: &Order, i: u32) -> Part
+    ensures { λ r. ⌜ (r .first ≤ r .end) × (r .end ≤ 512) × (take (r .end - r .first) (drop (r .first) (now (order .entry))) ≡ picks-in (now (order .entry)) i) ⌝ }
+{
+    let a = fetch(order, 128 + i as usize);
+    let b = fetch(order, 192 + i as usize);
+    let first = text::smaller(a as usize, 256);
+    let end = text::smaller(b as usize, 256);
+    if first < end {
+        return Part {
+            first: 256 + first,
+            end: 256 + end,
+        };
+    }
+    Part {
+        first: 256,
+        end: 256,
+    }
+}

@@ -1,0 +1,17 @@
+-- `bit_of` meets its contract.
+use Rattle.order.proofs.Masks.{shl-one}
+use borrow.Author.Needs.{needs}
+use Rattle.order_run.proofs.bit_of.Statement.{statement}
+use Rattle.order_run.proofs.bit_of.Tie as tie
+
+shl-result : tie.Need-shl-result
+shl-result c = search needs
+
+returns : tie.Need-returns
+returns c = λ h. shl-one (c .before .args .i) h
+
+returns-2 : tie.Need-returns-2
+returns-2 c = search needs
+
+pub bit-of-spec : {M : Type 1} → statement M
+bit-of-spec = tie.close (tie.spec shl-result returns returns-2)

@@ -1,0 +1,4 @@
+pub mod Ends
+pub mod Turns
+pub mod Laps
+pub mod Checked

@@ -1,0 +1,49 @@
+-- 17 from marks: of the pairs of moves that the order leaves unordered, the least that touches at a location, by the bits of its two marks
+-- (01, "What a move does", "Refused, and how").
+use mathlib.Core.Path.{_≡_}
+use mathlib.Core.Bool.{Bool, true, false, _&&_, _||_, not}
+use mathlib.Core.List.{List}
+use Prim.Native.Nat.{ℕ, _<_, _≤_, min}
+use lib.ListN.{length, getD}
+use Rattle.text.specs.Words.{some-below}
+use Rattle.order.specs.Sets.{bit}
+use Rattle.order.specs.Pairs.{ordered-by, TwoFound, no-two, two}
+use Rattle.order_touch.specs.declared.Two.{Two}
+
+-- at a location with the marks r and w one of moves i and j writes what the other reads or writes
+abbrev pub touch-by : ℕ → ℕ → ℕ → ℕ → Bool
+touch-by r w i j = bit w i && (bit r j || bit w j) || bit w j && (bit r i || bit w i)
+
+-- at one of the first n locations
+abbrev pub marked-touch : List ℕ → List ℕ → ℕ → ℕ → ℕ → Bool
+marked-touch rs ws n i j = some-below (λ l. touch-by (getD rs l 0) (getD ws l 0) i j) n
+
+-- moves i < j are unordered, by the rows `order`, and touch
+abbrev pub unordered-marked : List ℕ → List ℕ → List ℕ → ℕ → ℕ → ℕ → Bool
+unordered-marked order rs ws n i j = not (ordered-by order i j) && marked-touch rs ws n i j
+
+-- the first n locations, so far as both tables have them
+abbrev pub clipped : List ℕ → List ℕ → ℕ → ℕ
+clipped rs ws n = min n (min (length rs) (length ws))
+
+-- the pair found, as the code gives it
+abbrev pub two-of : TwoFound → Two
+two-of no-two = record { found = false; first = 0; second = 0 }
+two-of (two i j) = record { found = true; first = i; second = j }
+
+-- ---- what the code holds on the way
+
+-- the table t with the marks r and w of one location put in, u: row j has the moves that touch j
+pub record Met (r w : ℕ) (t u : List ℕ) : Type 0 where
+  pub long : length u ≡ length t
+  pub bits : (j i : ℕ) → bit (getD u j 0) i ≡ (bit (getD t j 0) i || touch-by r w i j)
+
+-- the table of the first n locations
+pub record AllMet (rs ws : List ℕ) (n : ℕ) (u : List ℕ) : Type 0 where
+  pub long : length u ≡ 64
+  pub bits : (j i : ℕ) → bit (getD u j 0) i ≡ marked-touch rs ws n i j
+
+-- r is the least move below j that is in the set `met` and not in `row`; 64 for none
+pub record Nearest (met row j r : ℕ) : Type 0 where
+  pub hit : r < 64 → (r < j) × ((not (bit row r) && bit met r) ≡ true)
+  pub low : (i : ℕ) → i < j → (not (bit row i) && bit met i) ≡ true → r ≤ i

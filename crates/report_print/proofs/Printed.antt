@@ -1,0 +1,197 @@
+-- What is printed is the text of the definition: the contents that a run leaves, the book in the image, and the checks of an input. Assumes nothing.
+use mathlib.Core.Path.{_≡_, refl, sym, ap, subst, _∙_}
+use mathlib.Core.Logic.{_≢_}
+use mathlib.Core.List.{List, _++_, append-nil}
+use Prim.Native.Nat.{ℕ, zero, suc, _-_, _≤_, _<_, min}
+use native.Mathlib.Nat.{min-le-right}
+use native.Mathlib.Omega.{arith}
+use lib.ListN.{length, take, drop, replicate, length-replicate, length-drop, length-append}
+use lib.Seq.{take-all, take-append-seam}
+use borrow.Author.Tests.{ne-eqb}
+use Rattle.text.specs.declared.Answer.{Answer}
+use Rattle.text.specs.Words.{Checked, good, refused, answer-of}
+use Rattle.text.specs.Text.{written}
+use Rattle.book.specs.declared.Header.{Header}
+use Rattle.book.specs.Book.{Program, Book, L, start}
+use Rattle.book.specs.Check.{check-header, check-book}
+use Rattle.book.specs.Image.{word, program-in}
+use Rattle.book.proofs.Claims.{accepted-book}
+use Rattle.engine.specs.Move.{Moved, fires, stopped, move}
+use Rattle.engine.specs.Single.{over}
+use Rattle.engine.proofs.Moves.{fire-length}
+use Rattle.order.specs.Log.{Log, move-at}
+use Rattle.order.specs.Pairs.{TwoFound, no-two, two}
+use Rattle.order.specs.Run.{Run, Ran, ran, halted, moved, next, run, touching, LogAnswer, order-checked, finish, run-from, run-log}
+use Rattle.order.specs.Call.{Tables, check-all, left-in}
+use Rattle.report.specs.Report.{most-input, own-tables, all-written, first-line, print-answer, print-checked, rental}
+use Rattle.report.proofs.Split.{input-long}
+use Rattle.text_write.specs.Bytes.{put-bytes}
+use Rattle.text_write.proofs.Bytes.{put-front}
+use Rattle.report_print.specs.Print.{printed, most-output, Prints}
+use Rattle.report_print.specs.Split.{called-for, book-length}
+use Rattle.report_print.proofs.Split.{split-checked}
+use Rattle.report_print.proofs.Lines.{print-same}
+use Rattle.order_run.specs.declared.Opening.{Opening}
+use Rattle.order_run.specs.Turns.{answered}
+use Rattle.order_run.specs.Checked.{Opened}
+use Rattle.order_run.proofs.Checks.{all-parts, all-good, enough}
+use Rattle.report_print.specs.Shown.{Shown}
+use Rattle.report_print.specs.Reported.{Reported, blank-tables}
+
+-- ---- a run leaves as many contents as there are locations
+
+ran-of : Ran → Run
+ran-of (ran s) = s
+ran-of (halted n p q s) = s
+
+run-length : (B : Program) (g : Log) (c : List ℕ) (n : ℕ) → length (ran-of (run B g c n) .contents) ≡ length c
+unfolding run ran-of
+run-length B g c zero = refl
+run-length B g c (suc n) = go (run B g c n) (run-length B g c n)
+  where
+    moves : (s : Run) (o : Moved) (i : ℕ) → length (s .contents) ≡ length c → length (ran-of (moved i s o) .contents) ≡ length c
+    moves s (fires f) i e = fire-length (f .updates) (s .contents) ∙ e
+    moves s (stopped a q) i e = e
+
+    go : (o : Ran) → length (ran-of o .contents) ≡ length c → length (ran-of (next B n (move-at g n) o) .contents) ≡ length c
+    go (ran s) e = moves s (move B (s .contents) (move-at g n)) n e
+    go (halted a p q s) e = e
+
+log-length : (B : Program) (g : Log) (c : List ℕ) → length (run-from B g c .contents) ≡ length c
+unfolding run-from finish ran-of
+log-length B g c = go (run B g c (length (g .moves))) (run-length B g c (length (g .moves)))
+  where
+    two-way : (s : Run) (o : TwoFound) → order-checked B s o .contents ≡ s .contents
+    two-way s no-two = refl
+    two-way s (two i j) = refl
+
+    go : (o : Ran) → length (ran-of o .contents) ≡ length c → length (finish B g o .contents) ≡ length c
+    go (ran s) e = ap length (two-way s (touching B g (s .fired))) ∙ e
+    go (halted a p q s) e = e
+
+contents-left : (book : List ℕ) (b : Book) (g : Log) → check-book book ≡ good b → (c : List ℕ) → take (L (b .program)) (over (run-log b g .contents) c) ≡ run-log b g .contents
+contents-left book b g e c =
+    let d = run-log b g .contents in
+    let l : length d ≡ L (b .program) = log-length (b .program) g (start b) ∙ accepted-book book b e .1 .long in
+    rw (← l) (take-append-seam d (drop (length d) c))
+
+-- ---- a refusal's line
+
+module _ (a : Answer) (m after : List ℕ) where
+  pub refusal-shown : after ≡ put-bytes 0 (written (first-line a 0)) m → most-output ≤ length m → Shown (written (first-line a 0)) m 25 after
+  refusal-shown e h = (refl, e ∙ put-front (written (first-line a 0)) m (omega arith))
+
+refused-text : (B : Program) (a : Answer) (c : List ℕ) → a .number ≢ 0 → printed B a c ≡ written (first-line a 0)
+unfolding print-answer all-written
+refused-text B a c e = rw (ne-eqb (a .number) 0 e) (append-nil (written (first-line a 0)))
+
+-- ---- a call that passed its checks
+
+module _ (book : List ℕ) (b : Book) (g : Log) (r : Opening) (m o : List ℕ) (t : Tables) (p : Reported book b g r m o t) (a : Answer) (c rs ws : List ℕ)
+    (e : answered a c rs ws ≡ left-in t (run-log b g)) (out : List ℕ) (room : most-output ≤ length out) (k : ℕ) (after : List ℕ)
+  where
+    abbrev B : Program
+    B = b .program
+
+    same : a ≡ run-log b g .answer
+    same = ap (λ (y : LogAnswer). y .answer) e
+
+    accepted : check-book book ≡ good b
+    accepted = all-parts book (p .passed .log) (p .passed .lent) b g (p .passed .checks) .0
+
+    -- accepted
+    pub run-shown : Prints (program-in m) a (take (min (word m 6) (length c)) c) out k after → Shown (print-answer B (run-log b g)) out k after
+    run-shown s =
+        let left : c ≡ over (run-log b g .contents) (t .contents) = ap (λ (y : LogAnswer). y .contents) e in
+        let d = run-log b g .contents in
+        let l : length d ≡ L B = log-length B g (start b) ∙ accepted-book book b accepted .1 .long in
+        let long : L B ≤ length c = rw left (rw (length-append d (drop (length d) (t .contents))) (omega (arith, l))) in
+        let n : min (word m 6) (length c) ≡ L B = omega (arith, p .passed .holds .locations .1, long) in
+        let x : printed (program-in m) a (take (min (word m 6) (length c)) c) ≡ print-answer B (run-log b g) =
+        rw (p .program, n, left, contents-left book b g accepted (t .contents), same) (sym (print-same B (run-log b g))) in
+        let y : L (program-in m) ≤ 2048 = rw (p .program) (p .few) in
+        (s .long ∙ ap length x, subst (λ (z : List ℕ). after ≡ z ++ drop (length z) out) x (s .whole y room))
+
+    -- refused
+    pub halt-shown : a .number ≢ 0 → Shown (written (first-line a 0)) out k after → Shown (print-answer B (run-log b g)) out k after
+    halt-shown z s =
+        let x : written (first-line a 0) ≡ print-answer B (run-log b g) = sym (print-same B (run-log b g) ∙ rw (← same) (refused-text B a (run-log b g .contents) z)) in
+        subst (λ (y : List ℕ). Shown y out k after) x s
+
+-- ---- a book and a log
+
+module _ (book log : List ℕ) (m o : List ℕ) (r : Opening) (opened : Opened book log own-tables r m o) where
+  -- passed: no more locations than the call's own tables have records
+  pub parts-few : r .answer .number ≡ 0 → r .locations ≤ 2048
+  parts-few z =
+      let both = all-good book log own-tables (ap (λ (a : Answer). a .number) (sym (opened .answer)) ∙ z) in
+      let h = opened .held (both .0 .0) (both .0 .1) (both .1) in
+      omega (arith, h .locations .0, h .locations .1, enough book log own-tables (both .0 .0) (both .0 .1) (both .1) .contents)
+
+module _ (book log : List ℕ) (m o : List ℕ) (r : Opening) (opened : Opened book log own-tables r m o) (out : List ℕ) (k : ℕ) (after : List ℕ) where
+  abbrev checks : Checked (Book × Log)
+  checks = check-all book log own-tables
+
+  -- refused
+  pub parts-refused : r .answer .number ≢ 0 → Shown (written (first-line (r .answer) 0)) out k after → Shown (print-checked checks) out k after
+  parts-refused z s = subst (λ (y : List ℕ). Shown y out k after) (go checks (opened .answer)) s
+    where
+      go : (c : Checked (Book × Log)) → r .answer ≡ answer-of c → written (first-line (r .answer) 0) ≡ print-checked c
+      go (refused n p q) e = ap (λ (a : Answer). written (first-line a 0)) e
+      go (good x) e = absurd (z (ap (λ (a : Answer). a .number) e))
+
+  -- passed, on tables of n records
+  pub parts-passed : r .answer .number ≡ 0 → (n : ℕ) → (r .locations ≤ n)
+      → ((b : Book) (g : Log) → Reported book b g r m o (blank-tables n) → Shown (print-answer (b .program) (run-log b g)) out k after) → Shown (print-checked checks) out k after
+  parts-passed z n few does =
+      let both = all-good book log own-tables (ap (λ (a : Answer). a .number) (sym (opened .answer)) ∙ z) in
+      let b = both .0 .0 in
+      let g = both .0 .1 in
+      let is : checks ≡ good (b, g) = both .1 in
+      let h = opened .held b g is in
+      let l : L (b .program) ≤ n = omega (arith, h .locations .0, h .locations .1, few) in
+      let long = length-replicate {A = ℕ} n 0 in
+      let parts = all-parts book log own-tables b g is in
+      let q : Reported book b g r m o (blank-tables n) = record {
+        passed = record {
+          log = log;
+          lent = own-tables;
+          checks = is;
+          holds = h;
+          contents = omega (arith, l, long);
+          readers = omega (arith, l, long);
+          writers = omega (arith, l, long);
+          records = omega arith;
+        };
+        program = opened .image b (parts .0) .0;
+        few = enough book log own-tables b g is .contents;
+      } in
+      subst (λ (y : Checked (Book × Log)). Shown (print-checked y) out k after) (sym is) (does b g q)
+
+-- ---- an input
+
+module _ (text : List ℕ) where
+  pub book-within : book-length text ≤ length text
+  unfolding book-length
+  book-within = go (check-header text)
+    where
+      go : (o : Checked Header) → called-for (length text) o ≤ length text
+      go (good h) = min-le-right _ (length text)
+      go (refused n p q) = omega arith
+
+  pub rental-long : most-input < length text → rental text ≡ written (first-line (record { number = 2; p = 60000; q = 4 }) 0)
+  unfolding rental
+  rental-long h = rw (input-long text h)
+
+  rental-split : length text ≤ most-input → print-checked (check-all (take (book-length text) text) (drop (book-length text) text) own-tables) ≡ rental text
+  unfolding rental
+  rental-split h = rw (split-checked text h)
+
+  -- the log is all that stands after the book
+  pub split-shown :
+      (n : ℕ) → n ≡ book-length text → length text ≤ most-input → (m : List ℕ) (r : ℕ) (after : List ℕ) →
+      Shown (print-checked (check-all (take n text) (take (length text - n) (drop n text)) own-tables)) m r after → Shown (rental text) m r after
+  split-shown n e h m r after p =
+      let all : take (length text - n) (drop n text) ≡ drop n text = take-all (length text - n) (drop n text) (rw (length-drop n text) (omega arith)) in
+      let same : print-checked (check-all (take n text) (take (length text - n) (drop n text)) own-tables) ≡ rental text = rw (all, e) (rental-split h) in
+      subst (λ (x : List ℕ). Shown x m r after) same p

@@ -1,0 +1,4 @@
+pub mod Print
+pub mod Split
+pub mod Shown
+pub mod Reported

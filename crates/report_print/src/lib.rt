@@ -1,0 +1,317 @@
+// What the program `rental` prints for any input: where the book of an input ends, the printed answer of a log, and the whole.
+use book::Function;
+use book::Image;
+use order::Lengths;
+use order::Order;
+use order_run::Opening;
+use text::Answer;
+use text::Line;
+use text::Value;
+ghost use mathlib.Core.Path.{_≡_};
+ghost use Prim.Native.Nat.{_+_, _<_, _≤_, min};
+ghost use lib.ListN.{length, take};
+ghost use Rattle.book.specs.Book.{size, Book};
+ghost use Rattle.book.specs.Image.{program-in, word};
+ghost use Rattle.report.specs.Report.{contents-lines, own-tables, first-line, print-answer, print-checked, rental};
+ghost use Rattle.report_print.specs.Print.{line-for, shown, function-lines, lines-put, Prints, most-output};
+ghost use Rattle.report_print.specs.Split.{book-length};
+ghost use Rattle.text.specs.Text.{written};
+ghost use Rattle.order.specs.Log.{Log};
+ghost use Rattle.order.specs.Run.{run-log};
+ghost use Rattle.order.specs.Call.{check-all};
+ghost use Rattle.order_run.specs.Turns.{tables};
+ghost use Rattle.report_print.specs.Shown.{Shown, fitting};
+ghost use Rattle.report_print.specs.Reported.{Reported, blank-tables};
+
+// The line of location i of function k, which is f and holds v there. Only what is printed is divided.
+fn line_of(e: Value, f: Function, k: u32, i: u32, v: Value) -> Line
+    requires { ⌜ i < size e (f .arity) ⌝ }
+    ensures { λ r. ⌜ r ≡ line-for e f k i v ⌝ }
+{
+    let d = v as u32;
+    if f.arity == 0 {
+        Line {
+            a: k,
+            b: 0,
+            c: 0,
+            d,
+        }
+    } else if f.arity == 1 {
+        Line {
+            a: k,
+            b: i,
+            c: 0,
+            d,
+        }
+    } else {
+        let side = e as u32;
+        let x = i / side;
+        let y = i % side;
+        Line {
+            a: k,
+            b: x,
+            c: y,
+            d,
+        }
+    }
+}
+
+// Prints that line after n others, unless v is the default. Says how many lines there are then.
+fn print_location(e: Value, f: Function, k: u32, i: u32, v: Value, n: u32, out: &mut [u8]) -> u32
+    requires { ⌜ (i < size e (f .arity)) × (n < 4294967295) ⌝ }
+    ensures { λ r. ⌜ (r ≡ n + length (shown e f k i v)) × (now (out .exit) ≡ lines-put n (shown e f k i v) (now (out .entry))) ⌝ }
+{
+    if v == book_parts::default_of(f) {
+        return n;
+    }
+    let l = line_of(e, f, k, i, v);
+    text_write::write_line(out, text::LINE + text::LINE * n as usize, l);
+    n + 1
+}
+
+// Prints the contents of function k after n lines.
+fn print_function(image: &Image, contents: &[Value], k: u32, n: u32, out: &mut [u8]) -> u32
+    requires { ⌜ n ≤ 3100000000 ⌝ }
+    ensures { λ r. ⌜ (r ≡ n + length (function-lines (program-in (now (image .entry))) (now (contents .entry)) k)) × (now (out .exit) ≡ lines-put n (function-lines (program-in (now (image .entry))) (now (contents .entry)) k) (now (out .entry))) × (r ≤ n + 100000000) ⌝ }
+{
+    let f = book_image::function_at(image, k);
+    let e = book_image::elements(image);
+    let all = book_image::size(e, f.arity);
+    let first = f.first as usize;
+    let mut lines = n;
+    let mut i: u32 = 0;
+    while i < all {
+        let v = text::fetch(contents, first + i as usize);
+        lines = print_location(e, f, k, i, v, lines, out);
+        i += 1;
+    }
+    lines
+}
+
+// Prints the non-default contents as lines of a book, from byte 25 on, as far as they fit. Says how many lines there are.
+fn print_contents(image: &Image, contents: &[Value], out: &mut [u8]) -> u32
+    ensures { λ r. ⌜ (r ≡ length (contents-lines (program-in (now (image .entry))) (now (contents .entry)))) × (now (out .exit) ≡ lines-put 0 (contents-lines (program-in (now (image .entry))) (now (contents .entry))) (now (out .entry))) ⌝ }
+{
+    let all = book_image::functions(image) as u32;
+    let mut lines: u32 = 0;
+    let mut k: u32 = 0;
+    while k < all {
+        lines = print_function(image, contents, k, lines, out);
+        k += 1;
+    }
+    lines
+}
+
+// The whole text of an answer: its first line, and when accepted the contents. Says how many bytes it has; those past it stay.
+pub fn print_answer(image: &Image, contents: &[Value], answer: Answer, out: &mut [u8]) -> usize
+    ensures { λ r. ⌜ Prints (program-in (now (image .entry))) answer (now (contents .entry)) (now (out .entry)) r (now (out .exit)) ⌝ }
+{
+    if answer.number == 0 {
+        let n = print_contents(image, contents, out);
+        let l = Line {
+            a: answer.number,
+            b: answer.p,
+            c: answer.q,
+            d: n,
+        };
+        text_write::write_line(out, 0, l);
+        text::LINE + text::LINE * n as usize
+    } else {
+        let l = Line {
+            a: answer.number,
+            b: answer.p,
+            c: answer.q,
+            d: 0,
+        };
+        text_write::write_line(out, 0, l);
+        text::LINE
+    }
+}
+
+// How many bytes of an input are its book, by its header; all, where the header is refused.
+pub fn book_bytes(input: &[u8]) -> usize
+    ensures { λ r. ⌜ r ≡ book-length (now (input .entry)) ⌝ }
+{
+    let n = input.len();
+    let first = text::parse(input, 0);
+    let second = text::parse(input, 1);
+    if !(first.ok & second.ok) {
+        return n;
+    }
+    let k = first.line;
+    let l = second.line;
+    let bounds = text::none_at(text::HEADER_BOUNDS, 0, book_header::bad_header(k, l));
+    if bounds.number != 0 {
+        return n;
+    }
+    let lines = 2 + k.c as usize + k.d as usize + l.a as usize + l.b as usize;
+    text::smaller(text::LINE * lines, n)
+}
+
+// ---- the whole
+
+// How many bytes are read.
+const MOST_INPUT: usize = 60000;
+
+// The input, as the q of a 2.
+const INPUT: u32 = 4;
+
+// How many records each of its tables has.
+const RECORDS: usize = 2048;
+
+// The line of a refusal.
+fn print_refusal(answer: Answer, output: &mut [u8]) -> usize
+    requires { ⌜ most-output ≤ length (now output) ⌝ }
+    ensures { λ r. ⌜ Shown (written (first-line answer 0)) (now (output .entry)) r (now (output .exit)) ⌝ }
+{
+    let l = Line {
+        a: answer.number,
+        b: answer.p,
+        c: answer.q,
+        d: 0,
+    };
+    text_write::write_line(output, 0, l);
+    text::LINE
+}
+
+// An answer with the contents of the image's program, which stand in front of the table.
+fn print_image(image: &Image, contents: &[Value], answer: Answer, output: &mut [u8]) -> usize
+    ensures { λ r. ⌜ Prints (program-in (now (image .entry))) answer (take (min (word (now (image .entry)) 6) (length (now (contents .entry)))) (now (contents .entry))) (now (output .entry)) r (now (output .exit)) ⌝ }
+{
+    let n = text::smaller(book_image::locations(image) as usize, contents.len());
+    print_answer(image, &contents[..n], answer, output)
+}
+
+// The moves of a call that passed its checks, on these tables, and the answer printed.
+fn report_on(
+    book: &[u8],
+    contents: &mut [Value],
+    readers: &mut [u64],
+    writers: &mut [u64],
+    image: &Image,
+    order: &Order,
+    checked: Opening,
+    output: &mut [u8],
+) -> usize
+    requires { ⌜ most-output ≤ length (now output) ⌝ }
+    ensures { λ r. ⌜ ((b : Book) (g : Log) → Reported (now (book .entry)) b g checked (now (image .entry)) (now (order .entry)) (tables (now (contents .entry)) (now (readers .entry)) (now (writers .entry))) → Shown (print-answer (b .program) (run-log b g)) (now (output .entry)) r (now (output .exit))) ⌝ }
+{
+    let t = order_run::start(book, contents, readers, writers, image, order, checked);
+    let answer = order_entry::run_from_own_list(
+        contents,
+        readers,
+        writers,
+        RECORDS,
+        image,
+        order,
+        t,
+    );
+    if answer.number == 0 {
+        return print_image(image, contents, answer, output);
+    }
+    print_refusal(answer, output)
+}
+
+// On tables of 256 records. Most books have few locations, and small tables are soon cleared.
+fn report_small(
+    book: &[u8],
+    image: &Image,
+    order: &Order,
+    checked: Opening,
+    output: &mut [u8],
+) -> usize
+    requires { ⌜ most-output ≤ length (now output) ⌝ }
+    ensures { λ r. ⌜ ((b : Book) (g : Log) → Reported (now (book .entry)) b g checked (now (image .entry)) (now (order .entry)) (blank-tables 256) → Shown (print-answer (b .program) (run-log b g)) (now (output .entry)) r (now (output .exit))) ⌝ }
+{
+    let mut contents = [0u16; 256];
+    let mut readers = [0u64; 256];
+    let mut writers = [0u64; 256];
+    report_on(
+        book,
+        &mut contents,
+        &mut readers,
+        &mut writers,
+        image,
+        order,
+        checked,
+        output,
+    )
+}
+
+// On tables of 2,048 records.
+fn report_large(
+    book: &[u8],
+    image: &Image,
+    order: &Order,
+    checked: Opening,
+    output: &mut [u8],
+) -> usize
+    requires { ⌜ most-output ≤ length (now output) ⌝ }
+    ensures { λ r. ⌜ ((b : Book) (g : Log) → Reported (now (book .entry)) b g checked (now (image .entry)) (now (order .entry)) (blank-tables 2048) → Shown (print-answer (b .program) (run-log b g)) (now (output .entry)) r (now (output .exit))) ⌝ }
+{
+    let mut contents = [0u16; 2048];
+    let mut readers = [0u64; 2048];
+    let mut writers = [0u64; 2048];
+    report_on(
+        book,
+        &mut contents,
+        &mut readers,
+        &mut writers,
+        image,
+        order,
+        checked,
+        output,
+    )
+}
+
+// The answer to a book and a log, as if on tables of 2,048 records.
+fn report_parts(book: &[u8], log: &[u8], output: &mut [u8]) -> usize
+    requires { ⌜ most-output ≤ length (now output) ⌝ }
+    ensures { λ r. ⌜ Shown (print-checked (check-all (now (book .entry)) (now (log .entry)) own-tables)) (now (output .entry)) r (now (output .exit)) ⌝ }
+{
+    let mut image = [0u32; 2248];
+    let mut order = [0u64; 512];
+    let lent = Lengths {
+        contents: RECORDS,
+        readers: RECORDS,
+        writers: RECORDS,
+        instructions: RECORDS,
+    };
+    let checked = order_run::check_all(book, log, lent, &mut image, &mut order);
+    let answer = checked.answer;
+    if answer.number != 0 {
+        return print_refusal(answer, output);
+    }
+    if checked.locations <= 256 {
+        return report_small(book, &image, &order, checked, output);
+    }
+    report_large(book, &image, &order, checked, output)
+}
+
+// The answer to an input, split into its book and its log.
+fn report_input(input: &[u8], output: &mut [u8]) -> usize
+    requires { ⌜ most-output ≤ length (now output) ⌝ }
+    ensures { λ r. ⌜ Shown (rental (now (input .entry))) (now (output .entry)) r (now (output .exit)) ⌝ }
+{
+    if input.len() > MOST_INPUT {
+        let long = Answer {
+            number: text::LENT_SHORT,
+            p: 60000,
+            q: INPUT,
+        };
+        return print_refusal(long, output);
+    }
+    let n = book_bytes(input);
+    report_parts(&input[..n], &input[n..], output)
+}
+
+// What `rental` prints for any input. Gives how many bytes it writes; those past them stay. An output of fewer bytes than an answer may need is left as it is,
+// and 0 given.
+pub fn report(input: &[u8], output: &mut [u8]) -> usize
+    ensures { λ r. ⌜ Shown (fitting (rental (now (input .entry))) (now (output .entry))) (now (output .entry)) r (now (output .exit)) ⌝ }
+{
+    if output.len() < 51225 {
+        return 0;
+    }
+    report_input(input, output)
+}

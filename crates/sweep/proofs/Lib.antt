@@ -1,4 +1,0 @@
-pub mod Next
-pub mod Sweep
-pub mod Row
-pub mod Upto
