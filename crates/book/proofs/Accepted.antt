@@ -17,9 +17,9 @@ use Rattle.text.proofs.Words.{so-true, length-table-from, getD-table, getD-tabl
 use Rattle.book.specs.declared.Header.{Header}
 use Rattle.book.specs.Book.{Program, Book, L, size, no-function, no-agent, node-at, agent-at}
 use Rattle.book.specs.Kinds.{is-rule}
-use Rattle.book.specs.Lines.{header-of, bad-field, most-locations, first-function, first-agent, lay-out, agent-of, program-of, entries-of, book-of, bad-function, bad-node, bad-agent}
+use Rattle.book.specs.Lines.{header-of, bad-field, most-locations, first-function, first-agent, lay-out, line-agent, program-of, entries-of, book-of, bad-function, bad-node, bad-agent}
 use Rattle.book.specs.Use.{bad-use}
-use Rattle.book.specs.Around.{bad-around}
+use Rattle.book.specs.Scopes.{bad-scope}
 use Rattle.book.specs.Contents.{bad-entry}
 use Rattle.book.specs.Check.{check-header, check-present, check-surplus, check-program, check-lines, check-book}
 use Rattle.book.specs.Sound.{Laid, Lawful}
@@ -115,7 +115,7 @@ record Passed (h : Header) (text : List ℕ) : Type 0 where
   pub locations : L (program-of h text) ≤ 65536
   pub nodes : (n : ℕ) → n < h .nodes → bad-node (program-of h text) n ≡ false
   pub uses : (n : ℕ) → n < h .nodes → bad-use (program-of h text) n ≡ false
-  pub around : (n : ℕ) → n < h .nodes → bad-around (program-of h text) n ≡ false
+  pub around : (n : ℕ) → n < h .nodes → bad-scope (program-of h text) n ≡ false
   pub agents : (i : ℕ) → i < h .agents → bad-agent (program-of h text) (line text (first-agent h + i)) i ≡ false
   pub entries : (i : ℕ) → i < h .contents → bad-entry (program-of h text) (entries-of h text) i ≡ false
 
@@ -138,7 +138,7 @@ passed h text b e =
         locations = leb-true (L A) most-locations (e3 .0);
         nodes = least-none (bad-node A) (h .nodes) (e5 .0);
         uses = least-none (bad-use A) (h .nodes) (e6 .0);
-        around = least-none (bad-around A) (h .nodes) (e6′ .0);
+        around = least-none (bad-scope A) (h .nodes) (e6′ .0);
         agents = least-none bad7 (h .agents) e7;
         entries = least-none (bad-entry A (entries-of h text)) (h .contents) (e8 .0);
       },
@@ -163,8 +163,8 @@ book-lawful h text b p =
     let at : ℕ → Line = λ i. line text (first-function + i) in
     let ls = table at (h .functions) in
     let long = book-lengths h text in
-    let agent : (k : ℕ) → k < h .agents → agent-at A k ≡ agent-of (line text (first-agent h + k)) =
-    λ k. getD-table (λ i. agent-of (line text (first-agent h + i))) (h .agents) k no-agent in
+    let agent : (k : ℕ) → k < h .agents → agent-at A k ≡ line-agent (line text (first-agent h + k)) =
+    λ k. getD-table (λ i. line-agent (line text (first-agent h + i))) (h .agents) k no-agent in
     record {
       low = b .permanent .0;
       high = b .permanent .1;
@@ -186,7 +186,7 @@ book-lawful h text b p =
           rw (agent k r) (g .0, g .1);
       agents = λ k. dite (decLt k (h .agents))
           (λ r. rw (agent k r) (agent-good A (line text (first-agent h + k)) k (p .agents k r) .2))
-          (λ (r : ¬ (k < h .agents)). rw (getD-table-past (λ i. agent-of (line text (first-agent h + i))) (h .agents) k no-agent (omega arith)) (omega (arith, b .permanent .0)));
+          (λ (r : ¬ (k < h .agents)). rw (getD-table-past (λ i. line-agent (line text (first-agent h + i))) (h .agents) k no-agent (omega arith)) (omega (arith, b .permanent .0)));
     }
 
 -- the book is the one that the lines say

@@ -17,7 +17,7 @@ use Rattle.book.specs.Book.{Program, node-at, agent-at}
 use Rattle.book.specs.Kinds.{is-node, sort}
 use Rattle.book.specs.Lines.{fits, bad-node}
 use Rattle.book.specs.Use.{is-root, places, uses, bad-use}
-use Rattle.book.specs.Around.{most-depth, put-if, hand, handed, deeper, depths, misplaced, bad-around}
+use Rattle.book.specs.Scopes.{most-depth, put-if, operands-given, all-given, deeper, depths, misplaced, bad-scope}
 use Rattle.book.specs.Sound.{Lawful}
 
 -- the depth of node n
@@ -81,8 +81,8 @@ length-put-if : (on : Bool) (z v : ℕ) (s : List ℕ) → length (put-if on z v
 length-put-if true z v s = length-set s z v
 length-put-if false z v s = refl
 
-length-hand : (y : Node) (v w : ℕ) (s : List ℕ) → length (hand y v w s) ≡ length s
-unfolding hand
+length-hand : (y : Node) (v w : ℕ) (s : List ℕ) → length (operands-given y v w s) ≡ length s
+unfolding operands-given
 length-hand y v w s = simp length-put-if
 
 put-at : (on : Bool) (z v x : ℕ) (s : List ℕ) → x < length s → getD (put-if on z v s) x 0 ≡ (if on && eqb z x then v else getD s x 0)
@@ -93,9 +93,9 @@ put-at true z v x s h = go (eqb z x) refl
     go true e = let p : z ≡ x = eqb-true z x e in rw p (getD-set-same s x v 0 h)
     go false e = getD-set-other s z x v 0 (λ p. eqb-false z x e (sym p))
 
-hand-at : (y : Node) (v w x : ℕ) (s : List ℕ) → x < length s → getD (hand y v w s) x 0
+hand-at : (y : Node) (v w x : ℕ) (s : List ℕ) → x < length s → getD (operands-given y v w s) x 0
     ≡ (if is-node (y .kind) 2 && eqb (y .c) x then w else if is-node (y .kind) 1 && eqb (y .b) x then v else if is-node (y .kind) 0 && eqb (y .a) x then v else getD s x 0)
-unfolding hand
+unfolding operands-given
 hand-at y v w x s h =
     let s1 = put-if (is-node (y .kind) 0) (y .a) v s in
     let s2 = put-if (is-node (y .kind) 1) (y .b) v s1 in
@@ -108,7 +108,7 @@ hand-at y v w x s h =
     )
 
 -- a node that does not have x as operand leaves what x has
-hand-past : (y : Node) (v w x : ℕ) (s : List ℕ) → x < length s → places y x ≡ 0 → getD (hand y v w s) x 0 ≡ getD s x 0
+hand-past : (y : Node) (v w x : ℕ) (s : List ℕ) → x < length s → places y x ≡ 0 → getD (operands-given y v w s) x 0 ≡ getD s x 0
 hand-past y v w x s h e =
     rw (
       hand-at y v w x s h,
@@ -130,7 +130,7 @@ places-some y (suc (suc zero)) h e = rw (e, eq-eqb (y .c) (y .c) refl) (omega ar
 places-some y (suc (suc (suc j))) h e = absurd (omega arith)
 
 hand-here : (y : Node) (v w j : ℕ) (s : List ℕ) → j < 3 → is-node (y .kind) j ≡ true → operand y j < length s → places y (operand y j) ≤ 1
-    → getD (hand y v w s) (operand y j) 0 ≡ handed-by v w j
+    → getD (operands-given y v w s) (operand y j) 0 ≡ handed-by v w j
 hand-here y v w zero s k e h o =
     let t : (is-node (y .kind) 0 && eqb (y .a) (y .a)) ≡ true = rw (e, eq-eqb (y .a) (y .a) refl) in
     let o′ : one-if (is-node (y .kind) 0 && eqb (y .a) (y .a)) ≡ 1 = rw t in
@@ -199,17 +199,17 @@ module _ (B : Program) (ok : Lawful B) where
   module _ (ab c : Node → ℕ → ℕ) (r : ℕ) where
     -- the highest k nodes have handed down, each node beginning with r
     abbrev after : ℕ → List ℕ
-    after k = handed B ab c k (replicate (length (B .nodes)) r)
+    after k = all-given B ab c k (replicate (length (B .nodes)) r)
 
     length-after : (k : ℕ) → length (after k) ≡ length (B .nodes)
-    unfolding handed
+    unfolding all-given
     length-after zero = length-replicate {A = ℕ} (length (B .nodes)) r
     length-after (suc k) = length-hand _ _ _ _ ∙ length-after k
 
     -- what x has stays if no node below has it as operand
     kept : (x k j : ℕ) → x < length (B .nodes) → k + j ≤ length (B .nodes) → ((m : ℕ) → m < length (B .nodes) - k → places (node-at B m) x ≡ 0)
         → getD (after (k + j)) x 0 ≡ getD (after k) x 0
-    unfolding handed
+    unfolding all-given
     kept x k zero h g p = let e : k + 0 ≡ k = omega arith in rw e
     kept x k (suc j) h g p =
         let e : k + suc j ≡ suc (k + j) = omega arith in
@@ -220,7 +220,7 @@ module _ (B : Program) (ok : Lawful B) where
 
     -- a root has what it began with
     pub root-has : (k : ℕ) → k < length (B .agents) → getD (after (length (B .nodes))) (agent-at B k .root) 0 ≡ r
-    unfolding handed
+    unfolding all-given
     root-has k h =
         let x = agent-at B k .root in
         let l : x < length (B .nodes) = ok .roots k h .0 in
@@ -232,7 +232,7 @@ module _ (B : Program) (ok : Lawful B) where
     pub operand-has : (n j : ℕ) → n < length (B .nodes) → j < 3 → is-node (node-at B n .kind) j ≡ true
         → getD (after (length (B .nodes))) (operand (node-at B n) j) 0
         ≡ handed-by (ab (node-at B n) (getD (after (length (B .nodes))) n 0)) (c (node-at B n) (getD (after (length (B .nodes))) n 0)) j
-    unfolding handed
+    unfolding all-given
     operand-has n j h k e =
         let y = node-at B n in
         let x = operand y j in
@@ -250,7 +250,7 @@ module _ (B : Program) (ok : Lawful B) where
         let later : getD (after (length (B .nodes))) x 0 ≡ getD (after (suc i)) x 0 =
         rw e1 at (kept x (suc i) n (omega arith) (omega arith)
         (λ m g. omega (arith, some, once, uses-two B x m n (length (B .nodes)) (omega arith) h (omega arith)))) in
-        let here : getD (hand y (ab y (getD t n 0)) (c y (getD t n 0)) t) x 0 ≡ handed-by (ab y (getD t n 0)) (c y (getD t n 0)) j =
+        let here : getD (operands-given y (ab y (getD t n 0)) (c y (getD t n 0)) t) x 0 ≡ handed-by (ab y (getD t n 0)) (c y (getD t n 0)) j =
         hand-here y (ab y (getD t n 0)) (c y (getD t n 0)) j t k e (omega (arith, length-after i)) only in
         rw (later, own) (rw e3 here)
 
@@ -272,4 +272,4 @@ module _ (B : Program) (ok : Lawful B) where
   unfolding misplaced
   depth-most n h =
       ltb-false most-depth (depth-at B n)
-      (so-false (ltb most-depth (depth-at B n)) (bad-around B n) (ok .around n h) (λ q. simp (q, or-true)))
+      (so-false (ltb most-depth (depth-at B n)) (bad-scope B n) (ok .around n h) (λ q. simp (q, or-true)))

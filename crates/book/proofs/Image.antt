@@ -19,8 +19,8 @@ use Rattle.book.specs.declared.Header.{Header}
 use Rattle.book.specs.declared.Function.{Function}
 use Rattle.book.specs.declared.Node.{Node}
 use Rattle.book.specs.Book.{total, size, function-at, node-at, agent-at, no-function, no-node, no-agent}
-use Rattle.book.specs.Lines.{lay-out, agent-of}
-use Rattle.book.specs.Image.{word, row-in, node-place, node-in, capped, function-of, program-in, kept-node, Room, capped-header, stored, node-stored, filled, first-of, laid-row}
+use Rattle.book.specs.Lines.{lay-out, line-agent}
+use Rattle.book.specs.Image.{word, image-row, node-place, node-in, capped, image-function, program-in, kept-node, FitsImage, capped-header, stored, node-stored, filled, first-location, laid-row}
 
 -- a count within its bound
 pub uncapped : (n most : ℕ) → n ≤ most → capped n most ≡ n
@@ -38,7 +38,7 @@ capped-most n most = go (decLt n most)
     go (no l) = rw (le-ltb n most (omega arith)) (omega arith)
 
 -- a header within its bounds
-pub within-bounds : (h : Header) → Room h → capped-header h ≡ h
+pub within-bounds : (h : Header) → FitsImage h → capped-header h ≡ h
 within-bounds h room =
     rw (
       uncapped (h .elements) 10000 (room .elements),
@@ -77,13 +77,13 @@ module _ (m : List ℕ) where
   pub agents-most : length (program-in m .agents) ≤ 16
   agents-most = rw agents-long (capped-most (word m 4) 16)
 
-  pub function-inside : (f : ℕ) → f < capped (word m 2) 32 → function-at (program-in m) f ≡ function-of (row-in m (2 + f))
+  pub function-inside : (f : ℕ) → f < capped (word m 2) 32 → function-at (program-in m) f ≡ image-function (image-row m (2 + f))
   unfolding program-in
-  function-inside f h = getD-table (λ f. function-of (row-in m (2 + f))) (capped (word m 2) 32) f no-function h
+  function-inside f h = getD-table (λ f. image-function (image-row m (2 + f))) (capped (word m 2) 32) f no-function h
 
   pub function-past : (f : ℕ) → capped (word m 2) 32 ≤ f → function-at (program-in m) f ≡ no-function
   unfolding program-in
-  function-past f h = getD-table-past (λ f. function-of (row-in m (2 + f))) (capped (word m 2) 32) f no-function h
+  function-past f h = getD-table-past (λ f. image-function (image-row m (2 + f))) (capped (word m 2) 32) f no-function h
 
   pub node-inside : (n : ℕ) → n < capped (word m 3) 1024 → node-at (program-in m) n ≡ node-in m n
   unfolding program-in
@@ -93,13 +93,13 @@ module _ (m : List ℕ) where
   unfolding program-in
   node-past n h = getD-table-past (node-in m) (capped (word m 3) 1024) n no-node h
 
-  pub agent-inside : (i : ℕ) → i < capped (word m 4) 16 → agent-at (program-in m) i ≡ agent-of (row-in m (34 + i))
+  pub agent-inside : (i : ℕ) → i < capped (word m 4) 16 → agent-at (program-in m) i ≡ line-agent (image-row m (34 + i))
   unfolding program-in
-  agent-inside i h = getD-table (λ i. agent-of (row-in m (34 + i))) (capped (word m 4) 16) i no-agent h
+  agent-inside i h = getD-table (λ i. line-agent (image-row m (34 + i))) (capped (word m 4) 16) i no-agent h
 
   pub agent-past : (i : ℕ) → capped (word m 4) 16 ≤ i → agent-at (program-in m) i ≡ no-agent
   unfolding program-in
-  agent-past i h = getD-table-past (λ i. agent-of (row-in m (34 + i))) (capped (word m 4) 16) i no-agent h
+  agent-past i h = getD-table-past (λ i. line-agent (image-row m (34 + i))) (capped (word m 4) 16) i no-agent h
 
 -- ---- rows stored
 
@@ -114,7 +114,7 @@ stored-at :
 unfolding stored
 stored-at r l m i a b c d = simp getD-set-other
 
-pub stored-other : (r : ℕ) (l : Line) (m : List ℕ) (q : ℕ) → (q ≡ r → ⊥) → row-in (stored r l m) q ≡ row-in m q
+pub stored-other : (r : ℕ) (l : Line) (m : List ℕ) (q : ℕ) → (q ≡ r → ⊥) → image-row (stored r l m) q ≡ image-row m q
 stored-other r l m q n =
     rw (
       stored-at r l m (q * 4) (λ e. n (omega arith)) (λ e. omega arith) (λ e. omega arith) (λ e. omega arith),
@@ -123,7 +123,7 @@ stored-other r l m q n =
       stored-at r l m (q * 4 + 3) (λ e. omega arith) (λ e. omega arith) (λ e. omega arith) (λ e. n (omega arith)),
     )
 
-pub stored-same : (r : ℕ) (l : Line) (m : List ℕ) → r * 4 + 3 < length m → row-in (stored r l m) r ≡ l
+pub stored-same : (r : ℕ) (l : Line) (m : List ℕ) → r * 4 + 3 < length m → image-row (stored r l m) r ≡ l
 unfolding stored
 stored-same n l ns h =
     let l0 : n * 4 < length ns = omega arith in
@@ -180,7 +180,7 @@ node-stored-other n y m q e =
     )
 
 -- rows and nodes stand apart
-pub node-stored-row : (n : ℕ) (y : Node) (m : List ℕ) (r : ℕ) → r < 50 → row-in (node-stored n y m) r ≡ row-in m r
+pub node-stored-row : (n : ℕ) (y : Node) (m : List ℕ) (r : ℕ) → r < 50 → image-row (node-stored n y m) r ≡ image-row m r
 node-stored-row n y m r h =
     rw (
       node-stored-at n y m (r * 4) (λ p. omega arith) (λ p. omega arith),
@@ -204,13 +204,13 @@ module _ (f : ℕ → Line) (base : ℕ) where
   length-filled zero i m = refl
   length-filled (suc left) i m = length-filled left (suc i) (stored (base + i) (f i) m) ∙ length-stored (base + i) (f i) m
 
-  pub filled-below : (left i : ℕ) (m : List ℕ) (q : ℕ) → q < base + i → row-in (filled f base left i m) q ≡ row-in m q
+  pub filled-below : (left i : ℕ) (m : List ℕ) (q : ℕ) → q < base + i → image-row (filled f base left i m) q ≡ image-row m q
   unfolding filled
   filled-below zero i m q h = refl
   filled-below (suc left) i m q h =
       filled-below left (suc i) (stored (base + i) (f i) m) q (omega arith) ∙ stored-other (base + i) (f i) m q (λ e. omega arith)
 
-  pub filled-above : (left i : ℕ) (m : List ℕ) (q : ℕ) → base + i + left ≤ q → row-in (filled f base left i m) q ≡ row-in m q
+  pub filled-above : (left i : ℕ) (m : List ℕ) (q : ℕ) → base + i + left ≤ q → image-row (filled f base left i m) q ≡ image-row m q
   unfolding filled
   filled-above zero i m q h = refl
   filled-above (suc left) i m q h =
@@ -223,15 +223,15 @@ module _ (f : ℕ → Line) (base : ℕ) where
       filled-node left (suc i) (stored (base + i) (f i) m) n (omega arith) ∙ stored-node (base + i) (f i) m n (omega arith)
 
   pub filled-in :
-      (left i : ℕ) (m : List ℕ) → (base + i + left) * 4 ≤ length m → (j : ℕ) → i ≤ j → j < i + left → row-in (filled f base left i m) (base + j) ≡ f j
+      (left i : ℕ) (m : List ℕ) → (base + i + left) * 4 ≤ length m → (j : ℕ) → i ≤ j → j < i + left → image-row (filled f base left i m) (base + j) ≡ f j
   unfolding filled
   filled-in zero i m h j l g = absurd (omega arith)
   filled-in (suc left) i m h j l g =
       go (decLt i j) (λ k. filled-in left (suc i) (stored (base + i) (f i) m) (rw (length-stored (base + i) (f i) m) (omega arith)) j k (omega arith))
     where
       go :
-          Dec (i < j) → (i < j → row-in (filled f base left (suc i) (stored (base + i) (f i) m)) (base + j) ≡ f j) →
-          row-in (filled f base left (suc i) (stored (base + i) (f i) m)) (base + j) ≡ f j
+          Dec (i < j) → (i < j → image-row (filled f base left (suc i) (stored (base + i) (f i) m)) (base + j) ≡ f j) →
+          image-row (filled f base left (suc i) (stored (base + i) (f i) m)) (base + j) ≡ f j
       go (yes k) p = p k
       go (no k) p =
           let e : j ≡ i = omega arith in
@@ -252,33 +252,33 @@ module _ (f : ℕ → Line) (base : ℕ) where
 -- ---- functions laid out one after the other
 
 module _ (at : ℕ → Line) (E : ℕ) where
-  pub first-none : 0 ≡ first-of at E 0
-  unfolding first-of
+  pub first-none : 0 ≡ first-location at E 0
+  unfolding first-location
   first-none = refl
 
-  pub first-step : (f : ℕ) → first-of at E (f + 1) ≡ first-of at E f + size E (at f .a)
-  unfolding first-of
+  pub first-step : (f : ℕ) → first-location at E (f + 1) ≡ first-location at E f + size E (at f .a)
+  unfolding first-location
   first-step f = rw (add-one f)
 
-  laid-from : (i n : ℕ) → lay-out E (first-of at E i) (table-from at i n) ≡ table-from (λ f. function-of (laid-row at E f)) i n
-  unfolding table-from lay-out first-of
+  laid-from : (i n : ℕ) → lay-out E (first-location at E i) (table-from at i n) ≡ table-from (λ f. image-function (laid-row at E f)) i n
+  unfolding table-from lay-out first-location
   laid-from i zero = refl
-  laid-from i (suc n) = ap (λ (fs : List Function). function-of (laid-row at E i) ∷ fs) (laid-from (suc i) n)
+  laid-from i (suc n) = ap (λ (fs : List Function). image-function (laid-row at E i) ∷ fs) (laid-from (suc i) n)
 
-  pub laid : (n : ℕ) → lay-out E 0 (table at n) ≡ table (λ f. function-of (laid-row at E f)) n
-  unfolding first-of
+  pub laid : (n : ℕ) → lay-out E 0 (table at n) ≡ table (λ f. image-function (laid-row at E f)) n
+  unfolding first-location
   laid n = laid-from 0 n
 
-  total-from : (i n : ℕ) → first-of at E i + total E (lay-out E (first-of at E i) (table-from at i n)) ≡ first-of at E (i + n)
-  unfolding table-from lay-out first-of total
+  total-from : (i n : ℕ) → first-location at E i + total E (lay-out E (first-location at E i) (table-from at i n)) ≡ first-location at E (i + n)
+  unfolding table-from lay-out first-location total
   total-from i zero = let e : i + 0 ≡ i = omega arith in rw e (omega arith)
   total-from i (suc n) =
       let e : i + suc n ≡ suc i + n = omega arith in
       let p = total-from (suc i) n in
       rw e (omega (arith, p))
 
-  pub total-laid : (n : ℕ) → first-of at E n ≡ total E (lay-out E 0 (table at n))
-  unfolding first-of
+  pub total-laid : (n : ℕ) → first-location at E n ≡ total E (lay-out E 0 (table at n))
+  unfolding first-location
   total-laid n = let p = total-from 0 n in let e : 0 + n ≡ n = omega arith in sym (rw e at p) ∙ omega arith
 
 -- a function of at most 10,000 elements has at most 100,000,000 locations

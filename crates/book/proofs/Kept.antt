@@ -17,7 +17,7 @@ use Rattle.book.specs.Book.{Program, function-at, node-at, no-function, 
 use Rattle.book.specs.Kinds.{sort, sort-table}
 use Rattle.book.specs.Lines.{fits, bad-node}
 use Rattle.book.specs.Contents.{in-bounds, least-location, bad-entry}
-use Rattle.book.specs.Image.{capped, kept-node, kept}
+use Rattle.book.specs.Image.{capped, kept-node, kept-program}
 use Rattle.book.proofs.Image.{uncapped}
 use Rattle.book.proofs.Held.{map-same}
 
@@ -101,16 +101,16 @@ small-node B n p f k e =
 -- ---- the program kept
 
 module _ (B : Program) where
-  pub kept-nodes : length (kept B .nodes) ≡ length (B .nodes)
-  unfolding kept
+  pub kept-nodes : length (kept-program B .nodes) ≡ length (B .nodes)
+  unfolding kept-program
   kept-nodes = length-map (B .nodes) kept-node
 
-  node-kept : (n : ℕ) → node-at (kept B) n ≡ kept-node (node-at B n)
-  unfolding kept
+  node-kept : (n : ℕ) → node-at (kept-program B) n ≡ kept-node (node-at B n)
+  unfolding kept-program
   node-kept n = List·getD-map kept-node (B .nodes) n no-node
 
-  pub entry-kept : (es : List Entry) (i : ℕ) → bad-entry (kept B) es i ≡ bad-entry B es i
-  unfolding kept bad-entry in-bounds least-location
+  pub entry-kept : (es : List Entry) (i : ℕ) → bad-entry (kept-program B) es i ≡ bad-entry B es i
+  unfolding kept-program bad-entry in-bounds least-location
   entry-kept es zero = refl
   entry-kept es (suc i) = refl
 
@@ -118,8 +118,8 @@ module _ (B : Program) where
     function-kept : (x : ℕ) → function-at B (capped x 1048575) ≡ function-at B x
     function-kept = same-capped (function-at B) no-function 1048575 (λ x h. List·getD-eq-default (B .functions) no-function (omega arith))
 
-    fits-kept : (n s x : ℕ) → fits (kept B) n s x ≡ fits B n s x
-    unfolding fits kept
+    fits-kept : (n s x : ℕ) → fits (kept-program B) n s x ≡ fits B n s x
+    unfolding fits kept-program
     fits-kept n s x =
         rw (
           List·getD-map kept-node (B .nodes) x no-node,
@@ -130,11 +130,11 @@ module _ (B : Program) where
         )
 
     module _ (n : ℕ) (k : n ≤ 1024) where
-      fits-capped : (s x most : ℕ) → 65535 ≤ most → fits (kept B) n s (capped x most) ≡ fits B n s x
+      fits-capped : (s x most : ℕ) → 65535 ≤ most → fits (kept-program B) n s (capped x most) ≡ fits B n s x
       fits-capped s x most h =
           fits-kept n s (capped x most) ∙ same-capped (fits B n s) false most (λ x g. large B n p f k s x (omega arith)) x
 
-      pub bad-node-kept : bad-node (kept B) n ≡ bad-node B n
+      pub bad-node-kept : bad-node (kept-program B) n ≡ bad-node B n
       unfolding bad-node
       bad-node-kept =
           let y = node-at B n in
@@ -149,8 +149,8 @@ module _ (B : Program) where
           )
 
     -- a program whose nodes pass 5
-    pub kept-whole : length (B .nodes) ≤ 1024 → ((n : ℕ) → n < length (B .nodes) → bad-node B n ≡ false) → kept B ≡ B
-    unfolding kept
+    pub kept-whole : length (B .nodes) ≤ 1024 → ((n : ℕ) → n < length (B .nodes) → bad-node B n ≡ false) → kept-program B ≡ B
+    unfolding kept-program
     kept-whole few ok = rw (map-same kept-node no-node (B .nodes) same)
       where
         same : (n : ℕ) → n < length (B .nodes) → kept-node (node-at B n) ≡ node-at B n

@@ -11,7 +11,7 @@ use Rattle.book.specs.declared.Header.{Header}
 use Rattle.book.specs.Book.{Book, L}
 use Rattle.book.specs.Lines.{header-of, bad-field, most-locations, first-function, first-agent, first-entry, line-count, program-of, entries-of, book-of, bad-function, bad-node, bad-agent}
 use Rattle.book.specs.Use.{bad-use}
-use Rattle.book.specs.Around.{bad-around}
+use Rattle.book.specs.Scopes.{bad-scope}
 use Rattle.book.specs.Contents.{bad-entry}
 
 -- 1 then 3 on the two header lines
@@ -37,7 +37,7 @@ check-program h text = do
   must (leb (L B) most-locations) header-bounds 8 0
   none-at node-line 0 0 (least (bad-node B) (h .nodes))
   none-at node-use 0 0 (least (bad-use B) (h .nodes))
-  none-at node-use 0 0 (least (bad-around B) (h .nodes))
+  none-at node-use 0 0 (least (bad-scope B) (h .nodes))
   none-at agent-line 0 0 (least (λ i. bad-agent B (line text (first-agent h + i)) i) (h .agents))
 
 -- and 8

@@ -14,7 +14,7 @@ use Rattle.book.specs.declared.Function.{Function}
 use Rattle.book.specs.declared.Node.{Node}
 use Rattle.book.specs.declared.Agent.{Agent}
 use Rattle.book.specs.Book.{Program, L, size}
-use Rattle.book.specs.Lines.{first-function, agent-of, program-of}
+use Rattle.book.specs.Lines.{first-function, line-agent, program-of}
 
 abbrev pub image-length : ℕ
 image-length = 2248
@@ -22,8 +22,8 @@ image-length = 2248
 abbrev pub word : List ℕ → ℕ → ℕ
 word m i = getD m i 0
 
-abbrev pub row-in : List ℕ → ℕ → Line
-row-in m r = record { a = word m (r * 4); b = word m (r * 4 + 1); c = word m (r * 4 + 2); d = word m (r * 4 + 3) }
+abbrev pub image-row : List ℕ → ℕ → Line
+image-row m r = record { a = word m (r * 4); b = word m (r * 4 + 1); c = word m (r * 4 + 2); d = word m (r * 4 + 3) }
 
 abbrev pub capped : ℕ → ℕ → ℕ
 capped n most = if ltb n most then n else most
@@ -39,8 +39,8 @@ node-in m n =
     let w = word m (node-place n + 1) in
     record { kind = v / 1048576; a = v % 1048576; b = w / 65536; c = w % 65536 }
 
-abbrev pub function-of : Line → Function
-function-of l = record { first = l .a; arity = l .b; kind = l .c }
+abbrev pub image-function : Line → Function
+image-function l = record { first = l .a; arity = l .b; kind = l .c }
 
 -- the program that an image holds
 unfoldable pub program-in : List ℕ → Program
@@ -48,9 +48,9 @@ program-in m =
     record {
       E = capped (word m 0) 10000;
       P = word m 1;
-      functions = table (λ f. function-of (row-in m (2 + f))) (capped (word m 2) 32);
+      functions = table (λ f. image-function (image-row m (2 + f))) (capped (word m 2) 32);
       nodes = table (node-in m) (capped (word m 3) 1024);
-      agents = table (λ i. agent-of (row-in m (34 + i))) (capped (word m 4) 16);
+      agents = table (λ i. line-agent (image-row m (34 + i))) (capped (word m 4) 16);
     }
 
 -- where an image says that the contents lines start, and how many there are
@@ -90,17 +90,17 @@ held m =
 abbrev pub kept-node : Node → Node
 kept-node y = record { kind = capped (y .kind) 4095; a = capped (y .a) 1048575; b = capped (y .b) 65535; c = capped (y .c) 65535 }
 
-unfoldable pub kept : Program → Program
-kept B = record { E = B .E; P = B .P; functions = B .functions; nodes = map kept-node (B .nodes); agents = B .agents }
+unfoldable pub kept-program : Program → Program
+kept-program B = record { E = B .E; P = B .P; functions = B .functions; nodes = map kept-node (B .nodes); agents = B .agents }
 
 -- the image is that of the program that a text says
-pub record Holds (m : List ℕ) (h : Header) (text : List ℕ) : Type 0 where
-  pub program : program-in m ≡ kept (program-of h text)
+pub record HoldsText (m : List ℕ) (h : Header) (text : List ℕ) : Type 0 where
+  pub program : program-in m ≡ kept-program (program-of h text)
   pub contents : word m 5 ≡ h .contents
   pub locations : word m 6 ≡ L (program-of h text)
 
 -- a header whose program has room in an image
-pub record Room (h : Header) : Type 0 where
+pub record FitsImage (h : Header) : Type 0 where
   pub elements : h .elements ≤ 10000
   pub permanent : h .permanent ≤ 10000
   pub functions : h .functions ≤ 32
@@ -136,9 +136,9 @@ filled f base zero i m = m
 filled f base (suc left) i m = filled f base left (suc i) (stored (base + i) (f i) m)
 
 -- the first location of function f, line f being `at f`; of the function past the last, L
-unfoldable pub first-of : (ℕ → Line) → ℕ → ℕ → ℕ
-first-of at E zero = 0
-first-of at E (suc f) = first-of at E f + size E (at f .a)
+unfoldable pub first-location : (ℕ → Line) → ℕ → ℕ → ℕ
+first-location at E zero = 0
+first-location at E (suc f) = first-location at E f + size E (at f .a)
 
 abbrev pub laid-row : (ℕ → Line) → ℕ → ℕ → Line
-laid-row at E f = record { a = first-of at E f; b = at f .a; c = at f .b; d = 0 }
+laid-row at E f = record { a = first-location at E f; b = at f .a; c = at f .b; d = 0 }

@@ -67,8 +67,8 @@ abbrev pub rule : ℕ
 rule = 10
 
 -- a term that names a dynamic location
-abbrev pub target : ℕ
-target = 11
+abbrev pub target-sort : ℕ
+target-sort = 11
 
 -- the three operand sorts of each node kind, from 0 to 28
 abbrev pub sort-table : List ℕ
@@ -89,7 +89,7 @@ sort-table =
     ∷ term ∷ term ∷ unused
     ∷ 0 ∷ 0 ∷ 0 ∷ 0 ∷ 0 ∷ 0 ∷ 0 ∷ 0 ∷ 0 ∷ 0 ∷ 0 ∷ 0 ∷ 0 ∷ 0 ∷ 0 ∷ 0 ∷ 0 ∷ 0
     ∷ unused ∷ unused ∷ unused
-    ∷ target ∷ term ∷ unused
+    ∷ target-sort ∷ term ∷ unused
     ∷ rule ∷ rule ∷ unused
     ∷ term ∷ rule ∷ rule
     ∷ variable ∷ term ∷ rule

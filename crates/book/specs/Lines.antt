@@ -14,7 +14,7 @@ use Rattle.book.specs.declared.Node.{Node}
 use Rattle.book.specs.declared.Agent.{Agent}
 use Rattle.book.specs.declared.Entry.{Entry}
 use Rattle.book.specs.Book.{Program, Book, size, relation, dynamic, dynamic-relation, function-at, node-at, agent-at}
-use Rattle.book.specs.Kinds.{is-term, is-rule, names-location, variables, sort, unused, permanent, variable, function0, function1, function2, universe, dynamic-universe, term, rule, target}
+use Rattle.book.specs.Kinds.{is-term, is-rule, names-location, variables, sort, unused, permanent, variable, function0, function1, function2, universe, dynamic-universe, term, rule, target-sort}
 
 -- ---- 3: the header
 
@@ -66,8 +66,8 @@ lay-out E first (l ∷ ls) = record { first = first; arity = l .a; kind = l .b }
 abbrev pub node-of : Line → Node
 node-of l = record { kind = l .a; a = l .b; b = l .c; c = l .d }
 
-abbrev pub agent-of : Line → Agent
-agent-of l = record { root = l .a; element = l .b }
+abbrev pub line-agent : Line → Agent
+line-agent l = record { root = l .a; element = l .b }
 
 abbrev pub entry-of : Line → Entry
 entry-of l = record { function = l .a; arg1 = l .b; arg2 = l .c; value = l .d }
@@ -79,7 +79,7 @@ program-of h text =
       P = h .permanent;
       functions = lay-out (h .elements) 0 (table (λ i. line text (first-function + i)) (h .functions));
       nodes = table (λ i. node-of (line text (first-node h + i))) (h .nodes);
-      agents = table (λ i. agent-of (line text (first-agent h + i))) (h .agents);
+      agents = table (λ i. line-agent (line text (first-agent h + i))) (h .agents);
     }
 
 unfoldable pub entries-of : Header → List ℕ → List Entry
@@ -117,7 +117,7 @@ fits B n s x =
     || eqb s dynamic-universe && named B x && eqb (f .arity) 1 && eqb (f .kind) dynamic-relation
     || eqb s term && ltb x n && is-term (y .kind)
     || eqb s rule && ltb x n && is-rule (y .kind)
-    || eqb s target && ltb x n && names-location (y .kind) && dynamic (function-at B (y .a))
+    || eqb s target-sort && ltb x n && names-location (y .kind) && dynamic (function-at B (y .a))
 
 unfoldable pub bad-node : Program → ℕ → Bool
 bad-node B n =

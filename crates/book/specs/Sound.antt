@@ -11,7 +11,7 @@ use Rattle.book.specs.Book.{Program, L, size, true-element, boolean, fun
 use Rattle.book.specs.Kinds.{is-rule}
 use Rattle.book.specs.Lines.{bad-node}
 use Rattle.book.specs.Use.{bad-use}
-use Rattle.book.specs.Around.{bad-around}
+use Rattle.book.specs.Scopes.{bad-scope}
 
 -- functions have their locations one after the other, from that number on
 abbrev pub Laid : ℕ → ℕ → List Function → Type 0
@@ -31,7 +31,7 @@ pub record Lawful (B : Program) : Type 0 where
   pub reserve : function-at B 0 ≡ record { first = 0; arity = 1; kind = 3 }
   pub nodes : (n : ℕ) → n < length (B .nodes) → bad-node B n ≡ false
   pub uses : (n : ℕ) → n < length (B .nodes) → bad-use B n ≡ false
-  pub around : (n : ℕ) → n < length (B .nodes) → bad-around B n ≡ false
+  pub around : (n : ℕ) → n < length (B .nodes) → bad-scope B n ≡ false
   pub roots : (k : ℕ) → k < length (B .agents) → (agent-at B k .root < length (B .nodes)) × (is-rule (node-at B (agent-at B k .root) .kind) ≡ true)
   pub agents : (k : ℕ) → agent-at B k .element < B .P
 

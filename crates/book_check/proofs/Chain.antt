@@ -20,19 +20,19 @@ use Rattle.book.specs.declared.Header.{Header}
 use Rattle.book.specs.Book.{Program, Book, L}
 use Rattle.book.specs.Lines.{header-of, bad-field, most-locations, first-agent, first-entry, line-count, program-of, entries-of, bad-function, bad-node, bad-agent}
 use Rattle.book.specs.Use.{bad-use}
-use Rattle.book.specs.Around.{bad-around}
+use Rattle.book.specs.Scopes.{bad-scope}
 use Rattle.book.specs.Contents.{bad-entry}
 use Rattle.book.specs.Check.{check-header, check-present, check-surplus, check-program, check-lines, check-book}
-use Rattle.book.specs.Image.{image-length, word, row-in, capped, program-in, first-entry-in, entry-count-in, kept, Holds, Room, capped-header}
+use Rattle.book.specs.Image.{image-length, word, image-row, capped, program-in, first-entry-in, entry-count-in, kept-program, HoldsText, FitsImage, capped-header}
 use Rattle.book.proofs.Accepted.{header-bounded, lines-book, lines-nodes, book-lengths}
 use Rattle.book.proofs.Image.{uncapped, within-bounds, functions-long}
 use Rattle.book.proofs.Kept.{kept-nodes, entry-kept, bad-node-kept, kept-whole}
-use Rattle.book_load.specs.Rows.{headed, taken, passed, laid, Rows}
-use Rattle.book_load.proofs.Rows.{length-headed, length-taken, taken-rows, laid-holds, laid-agent}
+use Rattle.book_load.specs.Loaded.{header-loaded, lines-loaded, lines-before, functions-laid, HoldsLines}
+use Rattle.book_load.proofs.Loaded.{length-headed, length-taken, taken-rows, laid-holds, laid-agent}
 use Rattle.book_entries.specs.declared.Faults.{Faults}
 use Rattle.book_entries.specs.Roll.{entries-from}
 use Rattle.book_entries.specs.Pass.{faults, bad-at, faults-from}
-use Rattle.book_check.specs.Opened.{Opened, check-text}
+use Rattle.book_check.specs.ImageOf.{ImageOf, check-text}
 
 -- ---- one check, answered by a, and what follows
 
@@ -60,13 +60,13 @@ pub answered : (n : ℕ) (a : Answer) (f g : Found) → a ≡ answer-of (none-at
 answered n a f g e p = e ∙ ap (λ (x : Found). answer-of (none-at n 0 0 x)) p
 
 -- a refused book leaves nothing to show
-pub opened-refused : (m : List ℕ) (c : Checked Book) (a : Answer) → a ≡ answer-of c → a .number ≢ 0 → Opened m c
+pub opened-refused : (m : List ℕ) (c : Checked Book) (a : Answer) → a ≡ answer-of c → a .number ≢ 0 → ImageOf m c
 opened-refused m c a e n b q = absurd (n (ap (λ (x : Answer). x .number) (e ∙ ap answer-of q)))
 
 -- ---- 4 to 7, on an image
 
 abbrev pub of-functions : List ℕ → Checked (Unit {0})
-of-functions m = none-at function-line 0 0 (least (λ f. bad-function (row-in m (2 + f)) f) (length (program-in m .functions)))
+of-functions m = none-at function-line 0 0 (least (λ f. bad-function (image-row m (2 + f)) f) (length (program-in m .functions)))
 
 module _ (o : List ℕ) where
   abbrev pub of-locations : Checked (Unit {0})
@@ -79,10 +79,10 @@ module _ (o : List ℕ) where
   of-use = none-at node-use 0 0 (least (bad-use (program-in o)) (length (program-in o .nodes)))
 
   abbrev pub of-around : Checked (Unit {0})
-  of-around = none-at node-use 0 0 (least (bad-around (program-in o)) (length (program-in o .nodes)))
+  of-around = none-at node-use 0 0 (least (bad-scope (program-in o)) (length (program-in o .nodes)))
 
   abbrev pub of-agents : Checked (Unit {0})
-  of-agents = none-at agent-line 0 0 (least (λ i. bad-agent (program-in o) (row-in o (34 + i)) i) (length (program-in o .agents)))
+  of-agents = none-at agent-line 0 0 (least (λ i. bad-agent (program-in o) (image-row o (34 + i)) i) (length (program-in o .agents)))
 
   abbrev pub from-locations : Checked (Unit {0})
   from-locations = of-locations >> (of-nodes >> (of-use >> (of-around >> of-agents)))
@@ -92,11 +92,11 @@ stopped : {A : Type 0} (n p : ℕ) (c d : Checked A) → (none-at n 0 0 (Here p)
 unfolding none-at _>>_
 stopped n p c d = refl
 
-module _ (m : List ℕ) (h : Header) (text : List ℕ) (room : Room h) (long : image-length ≤ length m) (rows : Rows m h text) where
+module _ (m : List ℕ) (h : Header) (text : List ℕ) (room : FitsImage h) (long : image-length ≤ length m) (rows : HoldsLines m h text) where
   abbrev o : List ℕ
-  o = laid m
+  o = functions-laid m
 
-  holds : Holds o h text
+  holds : HoldsText o h text
   holds = laid-holds m h text room long rows
 
   functions-count : length (program-in m .functions) ≡ h .functions
@@ -104,10 +104,10 @@ module _ (m : List ℕ) (h : Header) (text : List ℕ) (room : Room h) (long : i
       functions-long m ∙ ap (λ (n : ℕ). capped n 32) (ap (λ (l : Line). l .c) (rows .head)) ∙ uncapped (h .functions) 32 (room .functions)
 
   functions-held :
-      least (λ f. bad-function (row-in m (2 + f)) f) (length (program-in m .functions)) ≡ least (λ f. bad-function (line text (2 + f)) f) (h .functions)
+      least (λ f. bad-function (image-row m (2 + f)) f) (length (program-in m .functions)) ≡ least (λ f. bad-function (line text (2 + f)) f) (h .functions)
   functions-held =
-      ap (least (λ f. bad-function (row-in m (2 + f)) f)) functions-count
-      ∙ least-same (λ f. bad-function (row-in m (2 + f)) f) (λ f. bad-function (line text (2 + f)) f) (h .functions)
+      ap (least (λ f. bad-function (image-row m (2 + f)) f)) functions-count
+      ∙ least-same (λ f. bad-function (image-row m (2 + f)) f) (λ f. bad-function (line text (2 + f)) f) (h .functions)
       (λ f l. ap (λ (r : Line). bad-function r f) (rows .function f l))
 
   abbrev B : Program
@@ -126,8 +126,8 @@ module _ (m : List ℕ) (h : Header) (text : List ℕ) (room : Room h) (long : i
   nodes-held : least (bad-node (program-in o)) (length (program-in o .nodes)) ≡ least (bad-node B) (h .nodes)
   nodes-held =
       ap (λ (X : Program). least (bad-node X) (length (X .nodes))) (holds .program)
-      ∙ ap (least (bad-node (kept B))) (kept-nodes B ∙ book-lengths h text .1)
-      ∙ least-same (bad-node (kept B)) (bad-node B) (h .nodes) (λ n l. bad-node-kept B few-permanent few-functions n (omega (arith, room .nodes)))
+      ∙ ap (least (bad-node (kept-program B))) (kept-nodes B ∙ book-lengths h text .1)
+      ∙ least-same (bad-node (kept-program B)) (bad-node B) (h .nodes) (λ n l. bad-node-kept B few-permanent few-functions n (omega (arith, room .nodes)))
 
   -- once no node is at fault, the image holds the program as it stands
   pub whole : ((n : ℕ) → n < h .nodes → bad-node B n ≡ false) → program-in o ≡ B
@@ -138,18 +138,18 @@ module _ (m : List ℕ) (h : Header) (text : List ℕ) (room : Room h) (long : i
     held bad = ap (λ (X : Program). least (bad X) (length (X .nodes))) is ∙ ap (least (bad B)) (book-lengths h text .1)
 
     agents-held :
-        least (λ i. bad-agent (program-in o) (row-in o (34 + i)) i) (length (program-in o .agents))
+        least (λ i. bad-agent (program-in o) (image-row o (34 + i)) i) (length (program-in o .agents))
         ≡ least (λ i. bad-agent B (line text (first-agent h + i)) i) (h .agents)
     agents-held =
-        ap (λ (X : Program). least (λ i. bad-agent X (row-in o (34 + i)) i) (length (X .agents))) is
-        ∙ ap (least (λ i. bad-agent B (row-in o (34 + i)) i)) (book-lengths h text .2)
-        ∙ least-same (λ i. bad-agent B (row-in o (34 + i)) i) (λ i. bad-agent B (line text (first-agent h + i)) i) (h .agents)
+        ap (λ (X : Program). least (λ i. bad-agent X (image-row o (34 + i)) i) (length (X .agents))) is
+        ∙ ap (least (λ i. bad-agent B (image-row o (34 + i)) i)) (book-lengths h text .2)
+        ∙ least-same (λ i. bad-agent B (image-row o (34 + i)) i) (λ i. bad-agent B (line text (first-agent h + i)) i) (h .agents)
         (λ i l. ap (λ (r : Line). bad-agent B r i) (laid-agent m h text room long rows i l))
 
   abbrev after-nodes : Checked (Unit {0})
   after-nodes = do
     none-at node-use 0 0 (least (bad-use B) (h .nodes))
-    none-at node-use 0 0 (least (bad-around B) (h .nodes))
+    none-at node-use 0 0 (least (bad-scope B) (h .nodes))
     none-at agent-line 0 0 (least (λ i. bad-agent B (line text (first-agent h + i)) i) (h .agents))
 
   nodes-on : (of-nodes o >> (of-use o >> (of-around o >> of-agents o))) ≡ (none-at node-line 0 0 (least (bad-node B) (h .nodes)) >> after-nodes)
@@ -161,7 +161,7 @@ module _ (m : List ℕ) (h : Header) (text : List ℕ) (room : Room h) (long : i
           (none-at node-line 0 0 f >> (of-use o >> (of-around o >> of-agents o))) ≡ (none-at node-line 0 0 f >> after-nodes)
       go Nowhere e =
           let is = whole (least-none (bad-node B) (h .nodes) e) in
-          rw (held is bad-use, held is bad-around, agents-held is)
+          rw (held is bad-use, held is bad-scope, agents-held is)
       go (Here p) e = stopped node-line p (of-use o >> (of-around o >> of-agents o)) after-nodes
 
   pub program-held : (of-functions m >> from-locations o) ≡ check-program h text
@@ -188,20 +188,20 @@ program-numbered h text =
 -- ---- 1 on the lines after the header
 
 -- the rows taken, where all were in form
-module _ (h : Header) (text m : List ℕ) (room : Room h) (f : Found) where
+module _ (h : Header) (text m : List ℕ) (room : FitsImage h) (f : Found) where
   pub rows-found : f ≡ least-from (bad-line text) (first-entry (capped-header h) - 2) 2 → f ≡ least-from (bad-line text) (first-entry h - 2) 2
   rows-found e = e ∙ ap (λ (g : Header). least-from (bad-line text) (first-entry g - 2) 2) (within-bounds h room)
 
   pub rows-taken :
-      (n : List ℕ) → image-length ≤ length n → n ≡ taken (capped-header h) text (passed 2 (first-entry (capped-header h)) f) (headed (capped-header h) m) →
-      answer-of (none-at ill-formed 0 book-text f) .number ≡ 0 → Rows n h text
+      (n : List ℕ) → image-length ≤ length n → n ≡ lines-loaded (capped-header h) text (lines-before 2 (first-entry (capped-header h)) f) (header-loaded (capped-header h) m) →
+      answer-of (none-at ill-formed 0 book-text f) .number ≡ 0 → HoldsLines n h text
   unfolding none-at
   rows-taken n long e z =
-      go f z (e ∙ ap (λ (g : Header). taken g text (passed 2 (first-entry g) f) (headed g m)) (within-bounds h room))
+      go f z (e ∙ ap (λ (g : Header). lines-loaded g text (lines-before 2 (first-entry g) f) (header-loaded g m)) (within-bounds h room))
     where
-      go : (f : Found) → answer-of (none-at ill-formed 0 book-text f) .number ≡ 0 → n ≡ taken h text (passed 2 (first-entry h) f) (headed h m) → Rows n h text
+      go : (f : Found) → answer-of (none-at ill-formed 0 book-text f) .number ≡ 0 → n ≡ lines-loaded h text (lines-before 2 (first-entry h) f) (header-loaded h m) → HoldsLines n h text
       go Nowhere z e =
-          let l : length n ≡ length m = ap length e ∙ length-taken h room text (headed h m) (first-entry h - 2) ∙ length-headed h m in
+          let l : length n ≡ length m = ap length e ∙ length-taken h room text (header-loaded h m) (first-entry h - 2) ∙ length-headed h m in
           rw e (taken-rows h room text m (omega arith))
       go (Here p) z e = absurd (omega arith)
 
@@ -253,9 +253,9 @@ shifted n q first bad (suc k) j =
     go true p = let z : 0 + (first + j) ≡ first + j = omega arith in rw z
     go false p = p
 
-module _ (o : List ℕ) (h : Header) (text : List ℕ) (room : Room h) (holds : Holds o h text) where
+module _ (o : List ℕ) (h : Header) (text : List ℕ) (room : FitsImage h) (holds : HoldsText o h text) where
   first-is : first-entry-in o ≡ first-entry h
-  unfolding kept
+  unfolding kept-program
   first-is =
       let l = book-lengths h text in
       ap (λ (B : Program). 2 + length (B .functions) + length (B .nodes) + length (B .agents)) (holds .program)
@@ -267,9 +267,9 @@ module _ (o : List ℕ) (h : Header) (text : List ℕ) (room : Room h) (holds : 
   abbrev rule : Found
   rule = least-from (bad-at (program-of h text) text (first-entry h) (h .contents)) (h .contents) (first-entry h)
 
-  rule-kept : least-from (bad-at (kept (program-of h text)) text (first-entry h) (h .contents)) (h .contents) (first-entry h) ≡ rule
+  rule-kept : least-from (bad-at (kept-program (program-of h text)) text (first-entry h) (h .contents)) (h .contents) (first-entry h) ≡ rule
   rule-kept =
-      least-from-same (bad-at (kept (program-of h text)) text (first-entry h) (h .contents)) (bad-at (program-of h text) text (first-entry h) (h .contents))
+      least-from-same (bad-at (kept-program (program-of h text)) text (first-entry h) (h .contents)) (bad-at (program-of h text) text (first-entry h) (h .contents))
       (h .contents) (first-entry h) (λ i a b. entry-kept (program-of h text) (entries-from text (first-entry h) (h .contents)) (i - first-entry h))
 
   found : faults-from (program-in o) text (first-entry-in o) (entry-count-in o) ≡ faults (contents-form h text) rule
@@ -297,12 +297,12 @@ module _ (o : List ℕ) (h : Header) (text : List ℕ) (room : Room h) (holds : 
 
 -- the image of an accepted text's rows holds its program
 pub opened-text :
-    (m : List ℕ) (h : Header) (text : List ℕ) → Room h → image-length ≤ length m → Rows m h text → Opened (laid m) (check-text h text)
+    (m : List ℕ) (h : Header) (text : List ℕ) → FitsImage h → image-length ≤ length m → HoldsLines m h text → ImageOf (functions-laid m) (check-text h text)
 opened-text m h text room long rows b e =
     let holds = laid-holds m h text room long rows in
     let r = then-good (check-present h text) (check-surplus h text >> check-lines h text) b e in
     let s = then-good (check-surplus h text) (check-lines h text) b (r .2) in
-    subst (λ (x : Book). (program-in (laid m) ≡ x .program) × (word (laid m) 6 ≡ L (x .program)) × (word (laid m) 5 ≡ length (x .entries)))
+    subst (λ (x : Book). (program-in (functions-laid m) ≡ x .program) × (word (functions-laid m) 6 ≡ L (x .program)) × (word (functions-laid m) 5 ≡ length (x .entries)))
     (sym (lines-book text h b (s .2)))
     (whole m h text room long rows (lines-nodes text h b (s .2)), holds .locations, holds .contents ∙ sym (book-lengths h text .3))
 
@@ -350,7 +350,7 @@ module _ (text : List ℕ) where
   unfolding check-header none-at _>>_
   header-good p q = rw (p, q)
 
-  pub header-room : least (bad-line text) 2 ≡ Nowhere → least (bad-field (line text 0) (line text 1)) 8 ≡ Nowhere → Room header
+  pub header-room : least (bad-line text) 2 ≡ Nowhere → least (bad-field (line text 0) (line text 1)) 8 ≡ Nowhere → FitsImage header
   header-room p q =
       let b = header-bounded text header (header-good p q) in
       record {
@@ -373,5 +373,5 @@ unfolding none-at
 bounds-passed Nowhere a e z = refl
 bounds-passed (Here p) a e z = absurd (omega (arith, ap (λ (x : Answer). x .number) e))
 
-pub opened-same : (m : List ℕ) (c d : Checked Book) → c ≡ d → Opened m d → Opened m c
+pub opened-same : (m : List ℕ) (c d : Checked Book) → c ≡ d → ImageOf m d → ImageOf m c
 opened-same m c d e o b q = o b (sym e ∙ q)

@@ -15,7 +15,7 @@ use Rattle.book.proofs.Image.{functions-most, nodes-most}
 use Rattle.book.proofs.Held.{held-same}
 use Rattle.book.proofs.Kept.{small-node}
 use Rattle.book.proofs.Places.{spot}
-use Rattle.book_check.specs.Opened.{Opened}
+use Rattle.book_check.specs.ImageOf.{ImageOf}
 
 -- ---- the image of a lawful book
 
@@ -54,5 +54,5 @@ module _ (m : List ℕ) (B : Program) (ok : Lawful B) (is : program-in m ≡ B) 
   lawful-held = held-same m B is (omega (arith, few-permanent)) function-same node-same agent-same
 
 -- what the check of an accepted book leaves is, as the engine reads it, the book's program
-pub held-is : (text m : List ℕ) → Opened m (check-book text) → (b : Book) → check-book text ≡ good b → held m ≡ b .program
+pub held-is : (text m : List ℕ) → ImageOf m (check-book text) → (b : Book) → check-book text ≡ good b → held m ≡ b .program
 held-is text m opened b e = lawful-held m (b .program) (accepted text b e) (opened b e .0)

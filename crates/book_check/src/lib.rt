@@ -12,10 +12,10 @@ ghost use Rattle.text.specs.Words.{least, answer-of};
 ghost use Rattle.text.specs.Text.{bad-line};
 ghost use Rattle.book.specs.declared.Header.{Header};
 ghost use Rattle.book.specs.Lines.{header-of};
-ghost use Rattle.book.specs.Image.{image-length, Room};
+ghost use Rattle.book.specs.Image.{image-length, FitsImage};
 ghost use Rattle.book.specs.Check.{check-program, check-book};
-ghost use Rattle.book_load.specs.Rows.{laid, Rows};
-ghost use Rattle.book_check.specs.Opened.{Opened, check-text};
+ghost use Rattle.book_load.specs.Loaded.{functions-laid, HoldsLines};
+ghost use Rattle.book_check.specs.ImageOf.{ImageOf, check-text};
 
 // The place of L among the fields of the header.
 const FIELD_OF_L: u32 = 8;
@@ -35,7 +35,7 @@ fn header_of(k: Line, l: Line) -> Header
 
 // 4, 3 for L, 5 to 7 on the rows of lines that are in form. The functions are laid out once their lines are judged.
 fn check_program(image: &mut Image) -> Answer
-    ensures { λ r. ⌜ (now (image .exit) ≡ laid (now (image .entry))) × (image-length ≤ length (now (image .entry))) × ((h : Header) (text : List ℕ) → Room h → Rows (now (image .entry)) h text → r ≡ answer-of (check-program h text)) ⌝ }
+    ensures { λ r. ⌜ (now (image .exit) ≡ functions-laid (now (image .entry))) × (image-length ≤ length (now (image .entry))) × ((h : Header) (text : List ℕ) → FitsImage h → HoldsLines (now (image .entry)) h text → r ≡ answer-of (check-program h text)) ⌝ }
 {
     let bad_function = book_header::bad_functions(image);
     book_load::lay_out(image);
@@ -61,7 +61,7 @@ fn check_program(image: &mut Image) -> Answer
     if uses.number != 0 {
         return uses;
     }
-    let around = text::none_at(text::NODE_USE, 0, book_scopes::bad_around(image));
+    let around = text::none_at(text::NODE_USE, 0, book_scopes::bad_scope(image));
     if around.number != 0 {
         return around;
     }
@@ -70,15 +70,15 @@ fn check_program(image: &mut Image) -> Answer
 
 // 1 on all lines after the header, and 4 to 8.
 fn check_text(text: &[u8], h: Header, image: &mut Image) -> Answer
-    requires { ⌜ (Room h) × (least (bad-line (now text)) 2 ≡ Nowhere) ⌝ }
-    ensures { λ r. ⌜ (r ≡ answer-of (check-text h (now (text .entry)))) × Opened (now (image .exit)) (check-text h (now (text .entry))) ⌝ }
+    requires { ⌜ (FitsImage h) × (least (bad-line (now text)) 2 ≡ Nowhere) ⌝ }
+    ensures { λ r. ⌜ (r ≡ answer-of (check-text h (now (text .entry)))) × ImageOf (now (image .exit)) (check-text h (now (text .entry))) ⌝ }
 {
-    let rows = text::none_at(text::ILL_FORMED, 0, book_load::take(text, h, image));
+    let rows = text::none_at(text::ILL_FORMED, 0, book_load::load(text, h, image));
     if rows.number != 0 {
         return rows;
     }
     let program = check_program(image);
-    let contents = book_entries::judge(text, image);
+    let contents = book_entries::check_entries(text, image);
     let ill_formed = contents.form;
     let at_fault = contents.rule;
     let form = text::none_at(text::ILL_FORMED, 0, ill_formed);
@@ -103,7 +103,7 @@ fn check_text(text: &[u8], h: Header, image: &mut Image) -> Answer
 
 // The whole check of a book, which leaves the image of an accepted one.
 pub fn check_into(book: &[u8], image: &mut Image) -> Answer
-    ensures { λ r. ⌜ (r ≡ answer-of (check-book (now (book .entry)))) × Opened (now (image .exit)) (check-book (now (book .entry))) ⌝ }
+    ensures { λ r. ⌜ (r ≡ answer-of (check-book (now (book .entry)))) × ImageOf (now (image .exit)) (check-book (now (book .entry))) ⌝ }
 {
     let k = text::parse(book, 0);
     let first = text::must(k.ok, text::ILL_FORMED, 0, 0);

@@ -16,11 +16,11 @@ use Rattle.book.specs.declared.Entry.{Entry}
 use Rattle.book.specs.Book.{Program, no-entry, function-at, entry-at, entry-location}
 use Rattle.book.specs.Lines.{entry-of}
 use Rattle.book.specs.Contents.{in-bounds, in-form, least-location, rolled, untraced, bad-entry}
-use Rattle.book_entries.specs.Roll.{entries-from, marked, roll-of, untraced-by, Clear}
+use Rattle.book_entries.specs.Roll.{entries-from, label-marked, roll-of, untraced-by, NoneMarked}
 
 -- ---- the table has exactly the labels that the entries put on the roll
 
-length-marked : (e : Entry) (s : List ℕ) → length (marked e s) ≡ length s
+length-marked : (e : Entry) (s : List ℕ) → length (label-marked e s) ≡ length s
 length-marked e s = go (eqb (e .function) 0)
   where
     go : (b : Bool) → length (if b then set s (e .arg1) 1 else s) ≡ length s
@@ -34,7 +34,7 @@ length-roll es (suc i) s = length-marked (entry-at es i) (roll-of es i s) ∙ le
 
 marked-at :
     (e : Entry) (s : List ℕ) (x : ℕ) (r : Bool) → x < length s → eqb (getD s x 0) 0 ≡ not r →
-    eqb (getD (marked e s) x 0) 0 ≡ not (r || eqb (e .function) 0 && eqb (e .arg1) x)
+    eqb (getD (label-marked e s) x 0) 0 ≡ not (r || eqb (e .function) 0 && eqb (e .arg1) x)
 marked-at l s x r h p = go (eqb (l .function) 0) (eqb (l .arg1) x) refl
   where
     last : (r : Bool) → false ≡ not (r || true)
@@ -55,11 +55,11 @@ unfolding roll-of rolled
 roll-at es x zero s h p = rw p
 roll-at es x (suc i) s h p = marked-at (entry-at es i) (roll-of es i s) x (rolled es x i) (rw (length-roll es i s) h) (roll-at es x i s h p)
 
-roll-clear : (es : List Entry) (E x i : ℕ) (s : List ℕ) → Clear E s → x < E → eqb (getD (roll-of es i s) x 0) 0 ≡ not (rolled es x i)
+roll-clear : (es : List Entry) (E x i : ℕ) (s : List ℕ) → NoneMarked E s → x < E → eqb (getD (roll-of es i s) x 0) 0 ≡ not (rolled es x i)
 roll-clear es E x i s k h = roll-at es x i s (omega (arith, k .long)) (k .empty x h)
 
 -- as many zeros as there may be elements are clear
-pub clear : (E k : ℕ) → E ≤ k → Clear E (replicate k 0)
+pub clear : (E k : ℕ) → E ≤ k → NoneMarked E (replicate k 0)
 clear E k h =
     record {
       long = rw (length-replicate {A = ℕ} k 0) h;
@@ -72,7 +72,7 @@ pub roll-none : (es : List Entry) (s : List ℕ) → s ≡ roll-of es 0 s
 unfolding roll-of
 roll-none es s = refl
 
-pub roll-step : (es : List Entry) (i : ℕ) (s : List ℕ) (e : Entry) → entry-at es i ≡ e → roll-of es (i + 1) s ≡ marked e (roll-of es i s)
+pub roll-step : (es : List Entry) (i : ℕ) (s : List ℕ) (e : Entry) → entry-at es i ≡ e → roll-of es (i + 1) s ≡ label-marked e (roll-of es i s)
 unfolding roll-of
 roll-step es i s e p = rw (add-one i, ← p)
 
@@ -98,7 +98,7 @@ inside B e p =
     }
 
 rest-of :
-    (B : Program) (es : List Entry) (i : ℕ) (e : Entry) (s : List ℕ) → entry-at es i ≡ e → in-bounds B e ≡ true → Clear (B .E) s →
+    (B : Program) (es : List Entry) (i : ℕ) (e : Entry) (s : List ℕ) → entry-at es i ≡ e → in-bounds B e ≡ true → NoneMarked (B .E) s →
     bad-entry B es i
     ≡ not
     (in-form (B .P) e (function-at B (e .function)) && leb (least-location B es i) (entry-location B e)
@@ -117,7 +117,7 @@ rest-of B es i e s at p k =
 module _ (B : Program) (es : List Entry) (i : ℕ) (e : Entry) (at : entry-at es i ≡ e) where
   -- the tests that the code makes of an entry
   pub bad-tests :
-      (s : List ℕ) → Clear (B .E) s →
+      (s : List ℕ) → NoneMarked (B .E) s →
       bad-entry B es i
       ≡ not
       ((ltb (e .function) (length (B .functions)) && ltb (e .arg1) (B .E) && ltb (e .arg2) (B .E) && ltb (e .value) (B .E))

@@ -16,17 +16,17 @@ abbrev pub entries-from : List ℕ → ℕ → ℕ → List Entry
 entries-from text first n = table (λ i. entry-of (line text (first + i))) n
 
 -- the label that an entry of function 0 puts on the roll has 1 in the table
-abbrev pub marked : Entry → List ℕ → List ℕ
-marked e s = if eqb (e .function) 0 then set s (e .arg1) 1 else s
+abbrev pub label-marked : Entry → List ℕ → List ℕ
+label-marked e s = if eqb (e .function) 0 then set s (e .arg1) 1 else s
 
 unfoldable pub roll-of : List Entry → ℕ → List ℕ → List ℕ
 roll-of es zero s = s
-roll-of es (suc i) s = marked (entry-at es i) (roll-of es i s)
+roll-of es (suc i) s = label-marked (entry-at es i) (roll-of es i s)
 
 abbrev pub untraced-by : List ℕ → Entry → Bool
 untraced-by s e = eqb (e .function) 0 || eqb (getD s (e .arg1) 0) 0 && eqb (getD s (e .arg2) 0) 0 && eqb (getD s (e .value) 0) 0
 
 -- a table for E elements, none of which it has marked
-pub record Clear (E : ℕ) (s : List ℕ) : Type 0 where
+pub record NoneMarked (E : ℕ) (s : List ℕ) : Type 0 where
   pub long : E ≤ length s
   pub empty : (x : ℕ) → x < E → getD s x 0 ≡ 0

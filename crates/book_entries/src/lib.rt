@@ -15,7 +15,7 @@ ghost use Rattle.book.specs.Book.{true-element, relation, dynamic, default, off
 ghost use Rattle.book.specs.Lines.{entry-of};
 ghost use Rattle.book.specs.Contents.{in-form};
 ghost use Rattle.book.specs.Image.{program-in, first-entry-in, entry-count-in};
-ghost use Rattle.book_entries.specs.Roll.{marked, untraced-by, Clear};
+ghost use Rattle.book_entries.specs.Roll.{label-marked, untraced-by, NoneMarked};
 ghost use Rattle.book_entries.specs.Pass.{faults, faults-from};
 
 // What the pass finds: the least line out of form, and if there is none the least at fault by 8.
@@ -90,7 +90,7 @@ fn in_form(p: u32, x: Entry, f: Function) -> bool
 }
 
 // The location of an entry of function f.
-fn location(e: u32, f: Function, x: Entry) -> u64
+fn entry_location(e: u32, f: Function, x: Entry) -> u64
     requires { ⌜ e ≤ 10000 ⌝ }
     ensures { λ r. ⌜ (r ≡ f .first + offset e (f .arity) (x .arg1) (x .arg2)) × (r < 1000000000000000) ⌝ }
 {
@@ -105,8 +105,8 @@ fn location(e: u32, f: Function, x: Entry) -> u64
 }
 
 // An entry of function 0 puts its label on the roll.
-fn mark(roll: &mut [u8], x: Entry)
-    ensures { λ _. ⌜ now (roll .exit) ≡ marked x (now (roll .entry)) ⌝ }
+fn mark_label(roll: &mut [u8], x: Entry)
+    ensures { λ _. ⌜ now (roll .exit) ≡ label-marked x (now (roll .entry)) ⌝ }
 {
     if x.function == 0 {
         text::put_byte(roll, x.arg1 as usize, 1);
@@ -141,14 +141,14 @@ fn fault_at(text: &[u8], i: u32, end: u32) -> Faults
 }
 
 // Judges the lines from `first` up to `end`. The roll is clear to begin with.
-fn judge_lines<'a>(
+fn check_lines<'a>(
     text: &'a [u8],
     image: &'a Image,
     first: u32,
     end: u32,
     roll: &mut [u8],
 ) -> Faults
-    requires { ⌜ Clear (program-in (now image) .E) (now roll) ⌝ }
+    requires { ⌜ NoneMarked (program-in (now image) .E) (now roll) ⌝ }
     ensures { λ r. ⌜ r ≡ faults-from (program-in (now (image .entry))) (now (text .entry)) first (end - first) ⌝ }
 {
     let p = book_image::permanent(image);
@@ -166,11 +166,11 @@ fn judge_lines<'a>(
         }
         let x = entry(l.line);
         let f = book_image::function_at(image, x.function);
-        let place = location(e, f, x);
+        let place = entry_location(e, f, x);
         if !(in_bounds(n, e, x) & (in_form(p, x, f) & (low <= place) & no_trace(roll, x))) {
             return fault_at(text, i, end);
         }
-        mark(roll, x);
+        mark_label(roll, x);
         low = place + 1;
         i += 1;
     }
@@ -181,16 +181,16 @@ fn judge_lines<'a>(
 }
 
 // 1 and 8: the least contents line out of form, or else the least at fault. Most books have few elements, and a small roll is soon cleared.
-pub fn judge<'a>(text: &'a [u8], image: &'a Image) -> Faults
+pub fn check_entries<'a>(text: &'a [u8], image: &'a Image) -> Faults
     ensures { λ r. ⌜ r ≡ faults-from (program-in (now (image .entry))) (now (text .entry)) (first-entry-in (now (image .entry))) (entry-count-in (now (image .entry))) ⌝ }
 {
     let first = book_image::first_entry(image);
     let end = first + book_image::entries(image);
     if book_image::elements(image) <= 256 {
         let mut roll = [0u8; 256];
-        judge_lines(text, image, first, end, &mut roll)
+        check_lines(text, image, first, end, &mut roll)
     } else {
         let mut roll = [0u8; 10000];
-        judge_lines(text, image, first, end, &mut roll)
+        check_lines(text, image, first, end, &mut roll)
     }
 }

@@ -7,7 +7,7 @@ ghost use Prim.Native.Nat.{_+_};
 ghost use lib.ListN.{length};
 ghost use Rattle.text.specs.Words.{least};
 ghost use Rattle.book.specs.Lines.{first-function, bad-field, bad-function};
-ghost use Rattle.book.specs.Image.{row-in, program-in};
+ghost use Rattle.book.specs.Image.{image-row, program-in};
 
 // Field i of the header, whose lines are k and l, is outside its bounds.
 fn bad_field(k: Line, l: Line, i: u32) -> bool
@@ -46,7 +46,7 @@ fn bad_function(l: Line, f: u32) -> bool
 
 // 4: the least function at fault, on the rows of the functions' lines as they stand.
 pub fn bad_functions(image: &Image) -> Found
-    ensures { λ r. ⌜ r ≡ least (λ f. bad-function (row-in (now (image .entry)) (first-function + f)) f) (length (program-in (now (image .entry)) .functions)) ⌝ }
+    ensures { λ r. ⌜ r ≡ least (λ f. bad-function (image-row (now (image .entry)) (first-function + f)) f) (length (program-in (now (image .entry)) .functions)) ⌝ }
 {
     let n = book_image::functions(image) as u32;
     let mut i: u32 = 0;

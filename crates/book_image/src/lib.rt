@@ -10,7 +10,7 @@ ghost use mathlib.Core.Path.{_≡_};
 ghost use Prim.Native.Nat.{_+_, _≤_};
 ghost use lib.ListN.{length};
 ghost use Rattle.book.specs.Book.{size, no-node, function-at, node-at, agent-at};
-ghost use Rattle.book.specs.Image.{image-length, word, row-in, capped, program-in, first-entry-in, entry-count-in, Room, capped-header, stored, node-stored};
+ghost use Rattle.book.specs.Image.{image-length, word, image-row, capped, program-in, first-entry-in, entry-count-in, FitsImage, capped-header, stored, node-stored};
 
 // The first row of each kind.
 pub const FUNCTION_ROWS: u32 = 2;
@@ -29,7 +29,7 @@ const ABOVE_C: u32 = 65536;
 
 // A row, as far as there is one.
 pub fn row(image: &Image, r: u32) -> Line
-    ensures { λ l. ⌜ l ≡ row-in (now (image .entry)) r ⌝ }
+    ensures { λ l. ⌜ l ≡ image-row (now (image .entry)) r ⌝ }
 {
     let at = r as usize * 4;
     Line {
@@ -68,7 +68,7 @@ pub fn store_node(image: &mut Image, n: u32, y: Node)
 
 // The header with each number that is past its bound at the bound.
 pub fn capped(h: Header) -> Header
-    ensures { λ r. ⌜ (r ≡ capped-header h) × Room r ⌝ }
+    ensures { λ r. ⌜ (r ≡ capped-header h) × FitsImage r ⌝ }
 {
     Header {
         elements: cap(h.elements, book::MOST_ELEMENTS),

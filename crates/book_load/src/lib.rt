@@ -11,8 +11,8 @@ ghost use lib.ListN.{length};
 ghost use Rattle.text.specs.Words.{least-from};
 ghost use Rattle.text.specs.Text.{bad-line};
 ghost use Rattle.book.specs.Lines.{first-function, first-entry, node-of};
-ghost use Rattle.book.specs.Image.{image-length, row-in, Room, capped-header, filled, first-of, laid-row};
-ghost use Rattle.book_load.specs.Rows.{line-put, headed, taken, passed, laid};
+ghost use Rattle.book.specs.Image.{image-length, image-row, FitsImage, capped-header, filled, first-location, laid-row};
+ghost use Rattle.book_load.specs.Loaded.{line-loaded, header-loaded, lines-loaded, lines-before, functions-laid};
 
 fn node_of(l: Line) -> Node
     ensures { λ r. ⌜ r ≡ node-of l ⌝ }
@@ -27,8 +27,8 @@ fn node_of(l: Line) -> Node
 
 // Line i is put where it belongs.
 fn put_line(h: Header, i: u32, l: Line, image: &mut Image)
-    requires { ⌜ (Room h) × (i < first-entry h) ⌝ }
-    ensures { λ _. ⌜ now (image .exit) ≡ line-put h i l (now (image .entry)) ⌝ }
+    requires { ⌜ (FitsImage h) × (i < first-entry h) ⌝ }
+    ensures { λ _. ⌜ now (image .exit) ≡ line-loaded h i l (now (image .entry)) ⌝ }
 {
     let nodes = 2 + h.functions;
     let agents = nodes + h.nodes;
@@ -43,7 +43,7 @@ fn put_line(h: Header, i: u32, l: Line, image: &mut Image)
 
 // The header's two rows.
 fn put_header(h: Header, image: &mut Image)
-    ensures { λ _. ⌜ now (image .exit) ≡ headed h (now (image .entry)) ⌝ }
+    ensures { λ _. ⌜ now (image .exit) ≡ header-loaded h (now (image .entry)) ⌝ }
 {
     book_image::store(
         image,
@@ -68,9 +68,9 @@ fn put_header(h: Header, image: &mut Image)
 }
 
 // Stores the lines of functions, nodes and agents. The first that is out of form ends it.
-fn take_lines(text: &[u8], h: Header, image: &mut Image) -> Found
-    requires { ⌜ Room h ⌝ }
-    ensures { λ r. ⌜ (r ≡ least-from (bad-line (now (text .entry))) (first-entry h - first-function) first-function) × (now (image .exit) ≡ taken h (now (text .entry)) (passed first-function (first-entry h) r) (now (image .entry))) ⌝ }
+fn load_lines(text: &[u8], h: Header, image: &mut Image) -> Found
+    requires { ⌜ FitsImage h ⌝ }
+    ensures { λ r. ⌜ (r ≡ least-from (bad-line (now (text .entry))) (first-entry h - first-function) first-function) × (now (image .exit) ≡ lines-loaded h (now (text .entry)) (lines-before first-function (first-entry h) r) (now (image .entry))) ⌝ }
 {
     let end = 2 + h.functions + h.nodes + h.agents;
     let mut i: u32 = 2;
@@ -86,18 +86,18 @@ fn take_lines(text: &[u8], h: Header, image: &mut Image) -> Found
 }
 
 // 1 on the lines before the contents, and their rows: of functions, nodes and agents as they stand.
-pub fn take(text: &[u8], h: Header, image: &mut Image) -> Found
-    ensures { λ r. ⌜ (r ≡ least-from (bad-line (now (text .entry))) (first-entry (capped-header h) - first-function) first-function) × (now (image .exit) ≡ taken (capped-header h) (now (text .entry)) (passed first-function (first-entry (capped-header h)) r) (headed (capped-header h) (now (image .entry)))) ⌝ }
+pub fn load(text: &[u8], h: Header, image: &mut Image) -> Found
+    ensures { λ r. ⌜ (r ≡ least-from (bad-line (now (text .entry))) (first-entry (capped-header h) - first-function) first-function) × (now (image .exit) ≡ lines-loaded (capped-header h) (now (text .entry)) (lines-before first-function (first-entry (capped-header h)) r) (header-loaded (capped-header h) (now (image .entry)))) ⌝ }
 {
     let g = book_image::capped(h);
     put_header(g, image);
-    take_lines(text, g, image)
+    load_lines(text, g, image)
 }
 
 // Gives the rows of n functions their first locations, and says how many locations there are.
 fn lay_functions(e: Value, n: u32, image: &mut Image) -> u32
     requires { ⌜ (e ≤ 10000) × (n ≤ 32) ⌝ }
-    ensures { λ r. ⌜ (r ≡ first-of (λ f. row-in (now (image .entry)) (2 + f)) e n) × (now (image .exit) ≡ filled (laid-row (λ f. row-in (now (image .entry)) (2 + f)) e) 2 n 0 (now (image .entry))) ⌝ }
+    ensures { λ r. ⌜ (r ≡ first-location (λ f. image-row (now (image .entry)) (2 + f)) e n) × (now (image .exit) ≡ filled (laid-row (λ f. image-row (now (image .entry)) (2 + f)) e) 2 n 0 (now (image .entry))) ⌝ }
 {
     let mut sum: u32 = 0;
     let mut i: u32 = 0;
@@ -121,7 +121,7 @@ fn lay_functions(e: Value, n: u32, image: &mut Image) -> u32
 
 // Gives the functions their first locations, and the header's rows L.
 pub fn lay_out(image: &mut Image)
-    ensures { λ _. ⌜ (now (image .exit) ≡ laid (now (image .entry))) × (length (now (image .entry)) ≡ image-length) ⌝ }
+    ensures { λ _. ⌜ (now (image .exit) ≡ functions-laid (now (image .entry))) × (length (now (image .entry)) ≡ image-length) ⌝ }
 {
     let e = book_image::elements(image);
     let n = book_image::functions(image) as u32;

@@ -7,7 +7,7 @@ use lib.ListN.{getD}
 use Rattle.text.specs.Words.{if_then_else_}
 use Rattle.book.specs.declared.Function.{Function}
 use Rattle.book.specs.Book.{relation, dynamic, dynamic-relation}
-use Rattle.book.specs.Kinds.{is-term, is-rule, names-location, variables, sort, permanent, variable, function0, function1, function2, universe, dynamic-universe, term, rule, target}
+use Rattle.book.specs.Kinds.{is-term, is-rule, names-location, variables, sort, permanent, variable, function0, function1, function2, universe, dynamic-universe, term, rule, target-sort}
 use Rattle.book_nodes.specs.declared.OperandSorts.{OperandSorts}
 
 -- the sorts that a table gives the three operands of a node kind, 0 to 28; of another kind there are none
@@ -39,4 +39,4 @@ fits-node s x n kind = eqb s term && ltb x n && is-term kind || eqb s rule && lt
 
 -- sorts from 11 on: x is a node of that kind, and its field a names g
 abbrev pub fits-target : ℕ → ℕ → ℕ → ℕ → Function → Bool
-fits-target s x n kind g = eqb s target && ltb x n && names-location kind && dynamic g
+fits-target s x n kind g = eqb s target-sort && ltb x n && names-location kind && dynamic g

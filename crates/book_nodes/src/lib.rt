@@ -10,7 +10,7 @@ ghost use lib.ListN.{length};
 ghost use Rattle.text.specs.Words.{least};
 ghost use Rattle.book.specs.Kinds.{sort-table, is-term, is-rule};
 ghost use Rattle.book.specs.Lines.{fits, bad-node, bad-agent};
-ghost use Rattle.book.specs.Image.{row-in, program-in};
+ghost use Rattle.book.specs.Image.{image-row, program-in};
 ghost use Rattle.book_nodes.specs.Fits.{sorts-in, fits-plain, fits-function, fits-node, fits-target};
 
 // The three operand sorts of each node kind from 0 to 28: 0 no such kind, 1 unused, 2 permanent element, 3 variable,
@@ -269,7 +269,7 @@ fn bad_agent(image: &Image, l: Line, i: u32) -> bool
 
 // 7: the least agent at fault, on the rows of the agents' lines.
 pub fn bad_agents(image: &Image) -> Found
-    ensures { λ r. ⌜ r ≡ least (λ i. bad-agent (program-in (now (image .entry))) (row-in (now (image .entry)) (34 + i)) i) (length (program-in (now (image .entry)) .agents)) ⌝ }
+    ensures { λ r. ⌜ r ≡ least (λ i. bad-agent (program-in (now (image .entry))) (image-row (now (image .entry)) (34 + i)) i) (length (program-in (now (image .entry)) .agents)) ⌝ }
 {
     let n = book_image::agents(image) as u32;
     let mut i: u32 = 0;

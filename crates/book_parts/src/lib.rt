@@ -6,7 +6,7 @@ ghost use mathlib.Core.Path.{_≡_};
 ghost use Rattle.book.specs.Book.{relation, dynamic, default, function-at, node-at};
 ghost use Rattle.book.specs.Image.{held};
 ghost use Rattle.book_parts.specs.Part.{part-from, part-of, owner-of};
-ghost use Rattle.book_parts.specs.Rows.{node-row};
+ghost use Rattle.book_parts.specs.StoredNodes.{stored-node};
 
 // ---- what the engine takes from an image, in its own width
 
@@ -30,7 +30,7 @@ pub fn function_at(image: &Image, f: u16) -> Function
 }
 
 // A node in sixteen bits.
-pub struct Row {
+pub struct StoredNode {
     pub kind: u16,
     pub a: u16,
     pub b: u16,
@@ -38,11 +38,11 @@ pub struct Row {
 }
 
 // Node n; past the last all 0.
-pub fn node(image: &Image, n: u16) -> Row
-    ensures { λ r. ⌜ node-row r ≡ node-at (held (now (image .entry))) n ⌝ }
+pub fn node(image: &Image, n: u16) -> StoredNode
+    ensures { λ r. ⌜ stored-node r ≡ node-at (held (now (image .entry))) n ⌝ }
 {
     let w = book_image::node_at(image, n as u32);
-    Row {
+    StoredNode {
         kind: text::low(w.kind),
         a: text::low(w.a),
         b: text::low(w.b),

@@ -16,37 +16,37 @@ use Rattle.book.specs.declared.Node.{Node}
 use Rattle.book.specs.Book.{Program, node-at, agent-at}
 use Rattle.book.specs.Kinds.{is-node, is-binder, forall-kind}
 use Rattle.book.specs.Use.{is-root, places, uses, bad-use}
-use Rattle.book.specs.Around.{bit-of, put-if, hand, handed, deeper, as-it-is, forall-more, bound-more, depths, foralls, misplaced, bad-around}
-use Rattle.book_scopes.specs.Tables.{one-more, bumped, counted, rooted, tallied, depth-of, foralls-of, bound-of, below, in-forall, in-binder, to-ab, to-c, misplaced-at}
+use Rattle.book.specs.Scopes.{bit-of, put-if, operands-given, all-given, deeper, as-it-is, forall-more, bound-more, depths, foralls, misplaced, bad-scope}
+use Rattle.book_scopes.specs.Tables.{one-more, use-added, operands-counted, roots-marked, uses-counted, depth-of, foralls-of, bound-of, scope-below, in-forall, in-binder, to-ab, to-c, misplaced-at}
 
 -- ---- one step of each loop
 
-pub roots-step : (B : Program) (a : ℕ) (s : List ℕ) → rooted B (a + 1) s ≡ set (rooted B a s) (agent-at B a .root) 1
-unfolding rooted
+pub roots-step : (B : Program) (a : ℕ) (s : List ℕ) → roots-marked B (a + 1) s ≡ set (roots-marked B a s) (agent-at B a .root) 1
+unfolding roots-marked
 roots-step B a s = rw (add-one a)
 
-pub roots-none : (B : Program) (s : List ℕ) → s ≡ rooted B 0 s
-unfolding rooted
+pub roots-none : (B : Program) (s : List ℕ) → s ≡ roots-marked B 0 s
+unfolding roots-marked
 roots-none B s = refl
 
-pub tally-step : (B : Program) (m : ℕ) (s : List ℕ) → tallied B (m + 1) s ≡ counted (node-at B m) (tallied B m s)
-unfolding tallied
+pub tally-step : (B : Program) (m : ℕ) (s : List ℕ) → uses-counted B (m + 1) s ≡ operands-counted (node-at B m) (uses-counted B m s)
+unfolding uses-counted
 tally-step B m s = rw (add-one m)
 
-pub tally-none : (B : Program) (s : List ℕ) → s ≡ tallied B 0 s
-unfolding tallied
+pub tally-none : (B : Program) (s : List ℕ) → s ≡ uses-counted B 0 s
+unfolding uses-counted
 tally-none B s = refl
 
 module _ (B : Program) (ab c : Node → ℕ → ℕ) (s : List ℕ) where
   pub handed-step :
-      (k : ℕ) → handed B ab c (k + 1) s
-      ≡ hand (node-at B (length (B .nodes) - (k + 1))) (ab (node-at B (length (B .nodes) - (k + 1))) (getD (handed B ab c k s) (length (B .nodes) - (k + 1)) 0))
-      (c (node-at B (length (B .nodes) - (k + 1))) (getD (handed B ab c k s) (length (B .nodes) - (k + 1)) 0)) (handed B ab c k s)
-  unfolding handed
+      (k : ℕ) → all-given B ab c (k + 1) s
+      ≡ operands-given (node-at B (length (B .nodes) - (k + 1))) (ab (node-at B (length (B .nodes) - (k + 1))) (getD (all-given B ab c k s) (length (B .nodes) - (k + 1)) 0))
+      (c (node-at B (length (B .nodes) - (k + 1))) (getD (all-given B ab c k s) (length (B .nodes) - (k + 1)) 0)) (all-given B ab c k s)
+  unfolding all-given
   handed-step k = rw (add-one k)
 
-  pub handed-none : s ≡ handed B ab c 0 s
-  unfolding handed
+  pub handed-none : s ≡ all-given B ab c 0 s
+  unfolding all-given
   handed-none = refl
 
 -- ---- counts that stop at 2
@@ -83,12 +83,12 @@ set-at s x n v h = go (eqb x n) refl
     go true e = let p : x ≡ n = eqb-true x n e in rw p (getD-set-same s n v 0 h)
     go false e = getD-set-other s x n v 0 (λ p. eqb-false x n e (sym p))
 
-pub length-bump : (on : Bool) (x : ℕ) (s : List ℕ) → length (bumped on x s) ≡ length s
+pub length-bump : (on : Bool) (x : ℕ) (s : List ℕ) → length (use-added on x s) ≡ length s
 length-bump true x s = length-set s x (one-more (getD s x 0))
 length-bump false x s = refl
 
 bump-at :
-    (on : Bool) (x n k : ℕ) (s : List ℕ) → n < length s → getD s n 0 ≡ cap k → getD (bumped on x s) n 0 ≡ cap (k + one-if (on && eqb x n))
+    (on : Bool) (x n k : ℕ) (s : List ℕ) → n < length s → getD s n 0 ≡ cap k → getD (use-added on x s) n 0 ≡ cap (k + one-if (on && eqb x n))
 bump-at false x n k s h p = let e : k + 0 ≡ k = omega arith in rw e p
 bump-at true x n k s h p = set-at s x n (one-more (getD s x 0)) h ∙ go (eqb x n) refl
   where
@@ -96,10 +96,10 @@ bump-at true x n k s h p = set-at s x n (one-more (getD s x 0)) h ∙ go (eqb x 
     go true e = let q : x ≡ n = eqb-true x n e in rw (q, p) (more-cap k)
     go false e = let q : k + 0 ≡ k = omega arith in rw q p
 
-count-at : (y : Node) (n k : ℕ) (s : List ℕ) → n < length s → getD s n 0 ≡ cap k → getD (counted y s) n 0 ≡ cap (k + places y n)
+count-at : (y : Node) (n k : ℕ) (s : List ℕ) → n < length s → getD s n 0 ≡ cap k → getD (operands-counted y s) n 0 ≡ cap (k + places y n)
 count-at y n k s h p =
-    let s1 : List ℕ = bumped (is-node (y .kind) 0) (y .a) s in
-    let s2 : List ℕ = bumped (is-node (y .kind) 1) (y .b) s1 in
+    let s1 : List ℕ = use-added (is-node (y .kind) 0) (y .a) s in
+    let s2 : List ℕ = use-added (is-node (y .kind) 1) (y .b) s1 in
     let p0 : ℕ = one-if (is-node (y .kind) 0 && eqb (y .a) n) in
     let p1 : ℕ = one-if (is-node (y .kind) 1 && eqb (y .b) n) in
     let p2 : ℕ = one-if (is-node (y .kind) 2 && eqb (y .c) n) in
@@ -110,39 +110,39 @@ count-at y n k s h p =
     let z : (k + p0 + p1) + p2 ≡ k + (p0 + p1 + p2) = omega arith in
     bump-at (is-node (y .kind) 2) (y .c) n (k + p0 + p1) s2 (omega arith) r2 ∙ ap cap z
 
-length-count : (y : Node) (s : List ℕ) → length (counted y s) ≡ length s
+length-count : (y : Node) (s : List ℕ) → length (operands-counted y s) ≡ length s
 length-count y s = simp length-bump
 
-length-tally : (B : Program) (m : ℕ) (s : List ℕ) → length (tallied B m s) ≡ length s
-unfolding tallied
+length-tally : (B : Program) (m : ℕ) (s : List ℕ) → length (uses-counted B m s) ≡ length s
+unfolding uses-counted
 length-tally B zero s = refl
-length-tally B (suc m) s = length-count (node-at B m) (tallied B m s) ∙ length-tally B m s
+length-tally B (suc m) s = length-count (node-at B m) (uses-counted B m s) ∙ length-tally B m s
 
 tally-at :
-    (B : Program) (m n k : ℕ) (s : List ℕ) → n < length s → getD s n 0 ≡ cap k → getD (tallied B m s) n 0 ≡ cap (k + uses B n m)
-unfolding tallied uses
+    (B : Program) (m n k : ℕ) (s : List ℕ) → n < length s → getD s n 0 ≡ cap k → getD (uses-counted B m s) n 0 ≡ cap (k + uses B n m)
+unfolding uses-counted uses
 tally-at B zero n k s h p = let e : k + 0 ≡ k = omega arith in rw e p
 tally-at B (suc m) n k s h p =
     let z : (k + uses B n m) + places (node-at B m) n ≡ k + (uses B n m + places (node-at B m) n) = omega arith in
-    count-at (node-at B m) n (k + uses B n m) (tallied B m s) (rw (length-tally B m s) h) (tally-at B m n k s h p)
+    count-at (node-at B m) n (k + uses B n m) (uses-counted B m s) (rw (length-tally B m s) h) (tally-at B m n k s h p)
     ∙ ap cap z
 
 -- ---- roots
 
-length-roots : (B : Program) (a : ℕ) (s : List ℕ) → length (rooted B a s) ≡ length s
-unfolding rooted
+length-roots : (B : Program) (a : ℕ) (s : List ℕ) → length (roots-marked B a s) ≡ length s
+unfolding roots-marked
 length-roots B zero s = refl
-length-roots B (suc a) s = length-set (rooted B a s) (agent-at B a .root) 1 ∙ length-roots B a s
+length-roots B (suc a) s = length-set (roots-marked B a s) (agent-at B a .root) 1 ∙ length-roots B a s
 
 roots-at :
-    (B : Program) (a n : ℕ) (s : List ℕ) → n < length s → getD s n 0 ≡ 0 → getD (rooted B a s) n 0 ≡ one-if (some-below (λ i. eqb (agent-at B i .root) n) a)
-unfolding rooted some-below
+    (B : Program) (a n : ℕ) (s : List ℕ) → n < length s → getD s n 0 ≡ 0 → getD (roots-marked B a s) n 0 ≡ one-if (some-below (λ i. eqb (agent-at B i .root) n) a)
+unfolding roots-marked some-below
 roots-at B zero n s h p = p
 roots-at B (suc a) n s h p =
-    set-at (rooted B a s) (agent-at B a .root) n 1 (rw (length-roots B a s) h)
+    set-at (roots-marked B a s) (agent-at B a .root) n 1 (rw (length-roots B a s) h)
     ∙ go (some-below (λ i. eqb (agent-at B i .root) n) a) (eqb (agent-at B a .root) n) (roots-at B a n s h p)
   where
-    go : (r b : Bool) → getD (rooted B a s) n 0 ≡ one-if r → (if b then 1 else getD (rooted B a s) n 0) ≡ one-if (r || b)
+    go : (r b : Bool) → getD (roots-marked B a s) n 0 ≡ one-if r → (if b then 1 else getD (roots-marked B a s) n 0) ≡ one-if (r || b)
     go true true q = refl
     go false true q = refl
     go true false q = q
@@ -155,11 +155,11 @@ cap-bool false = refl
 -- the table of counts tells exactly whether a node is used once
 pub used-once :
     (B : Program) (n : ℕ) (s : List ℕ) → n < length s → getD s n 0 ≡ 0 →
-    not (eqb (getD (tallied B (length (B .nodes)) (rooted B (length (B .agents)) s)) n 0) 1) ≡ bad-use B n
+    not (eqb (getD (uses-counted B (length (B .nodes)) (roots-marked B (length (B .agents)) s)) n 0) 1) ≡ bad-use B n
 unfolding bad-use
 used-once B n s h p =
     let r : Bool = is-root B n in
-    let t : List ℕ = rooted B (length (B .agents)) s in
+    let t : List ℕ = roots-marked B (length (B .agents)) s in
     let q : getD t n 0 ≡ cap (one-if r) = roots-at B (length (B .agents)) n s h p ∙ cap-bool r in
     rw (
       tally-at B (length (B .nodes)) n (one-if r) t (rw (length-roots B (length (B .agents)) s) h) q,
@@ -172,12 +172,12 @@ length-put-if : (on : Bool) (x v : ℕ) (s : List ℕ) → length (put-if on x v
 length-put-if true x v s = length-set s x v
 length-put-if false x v s = refl
 
-length-hand : (y : Node) (v w : ℕ) (s : List ℕ) → length (hand y v w s) ≡ length s
-unfolding hand
+length-hand : (y : Node) (v w : ℕ) (s : List ℕ) → length (operands-given y v w s) ≡ length s
+unfolding operands-given
 length-hand y v w s = simp length-put-if
 
-length-handed : (B : Program) (ab c : Node → ℕ → ℕ) (k : ℕ) (s : List ℕ) → length (handed B ab c k s) ≡ length s
-unfolding handed
+length-handed : (B : Program) (ab c : Node → ℕ → ℕ) (k : ℕ) (s : List ℕ) → length (all-given B ab c k s) ≡ length s
+unfolding all-given
 length-handed B ab c zero s = refl
 length-handed B ab c (suc k) s = length-hand _ _ _ _ ∙ length-handed B ab c k s
 
@@ -195,8 +195,8 @@ module _ (R : ℕ → ℕ → Type 0) (N : ℕ) where
       go false = b n h
 
   hand-beside :
-      (y : Node) (v w v′ w′ : ℕ) (s t : List ℕ) → N ≤ length s → N ≤ length t → R v v′ → R w w′ → Beside s t → Beside (hand y v w s) (hand y v′ w′ t)
-  unfolding hand
+      (y : Node) (v w v′ w′ : ℕ) (s t : List ℕ) → N ≤ length s → N ≤ length t → R v v′ → R w w′ → Beside s t → Beside (operands-given y v w s) (operands-given y v′ w′ t)
+  unfolding operands-given
   hand-beside y v w v′ w′ s t hs ht e f b =
       let s1 : List ℕ = put-if (is-node (y .kind) 0) (y .a) v s in
       let t1 : List ℕ = put-if (is-node (y .kind) 0) (y .a) v′ t in
@@ -213,12 +213,12 @@ module _ (R : ℕ → ℕ → Type 0) (N : ℕ) where
   module _ (B : Program) (is : N ≡ length (B .nodes)) (ab c ab′ c′ : Node → ℕ → ℕ)
       (eab : (y : Node) (x v : ℕ) → R x v → R (ab y x) (ab′ y v)) (ec : (y : Node) (x v : ℕ) → R x v → R (c y x) (c′ y v)) where
     handed-beside :
-        (k : ℕ) (s t : List ℕ) → k ≤ N → N ≤ length s → N ≤ length t → Beside s t → Beside (handed B ab c k s) (handed B ab′ c′ k t)
-    unfolding handed
+        (k : ℕ) (s t : List ℕ) → k ≤ N → N ≤ length s → N ≤ length t → Beside s t → Beside (all-given B ab c k s) (all-given B ab′ c′ k t)
+    unfolding all-given
     handed-beside zero s t hk hs ht b = b
     handed-beside (suc k) s t hk hs ht b =
-        let s1 : List ℕ = handed B ab c k s in
-        let t1 : List ℕ = handed B ab′ c′ k t in
+        let s1 : List ℕ = all-given B ab c k s in
+        let t1 : List ℕ = all-given B ab′ c′ k t in
         let m : ℕ = length (B .nodes) - suc k in
         let y : Node = node-at B m in
         let r : Beside s1 t1 = handed-beside k s t (omega arith) hs ht b in
@@ -266,30 +266,30 @@ bit-shift (suc (suc (suc (suc (suc (suc (suc (suc v)))))))) h = absurd (omega ar
 
 -- below: one deeper, and the rest as it was
 module _ (v : ℕ) where
-  below-low : v / 1024 < 32 → below v ≡ v + 1024
+  below-low : v / 1024 < 32 → scope-below v ≡ v + 1024
   below-low h = simp (lt-ltb (v / 1024) 32 h)
 
-  below-high : 32 ≤ v / 1024 → below v ≡ v
+  below-high : 32 ≤ v / 1024 → scope-below v ≡ v
   below-high h = simp (le-ltb (v / 1024) 32 h)
 
-  foralls-below : foralls-of (below v) ≡ foralls-of v
+  foralls-below : foralls-of (scope-below v) ≡ foralls-of v
   foralls-below = go (decLt (v / 1024) 32)
     where
-      go : Dec (v / 1024 < 32) → foralls-of (below v) ≡ foralls-of v
+      go : Dec (v / 1024 < 32) → foralls-of (scope-below v) ≡ foralls-of v
       go (yes h) = rw (below-low h) (omega arith)
       go (no h) = rw (below-high (omega arith))
 
-  bound-below : bound-of (below v) ≡ bound-of v
+  bound-below : bound-of (scope-below v) ≡ bound-of v
   bound-below = go (decLt (v / 1024) 32)
     where
-      go : Dec (v / 1024 < 32) → bound-of (below v) ≡ bound-of v
+      go : Dec (v / 1024 < 32) → bound-of (scope-below v) ≡ bound-of v
       go (yes h) = rw (below-low h) (omega arith)
       go (no h) = rw (below-high (omega arith))
 
-depth-step : (d v : ℕ) → depth-of v ≡ low-33 d → depth-of (below v) ≡ low-33 (d + 1)
+depth-step : (d v : ℕ) → depth-of v ≡ low-33 d → depth-of (scope-below v) ≡ low-33 (d + 1)
 depth-step d v e = go (decLt d 33) (decLt d 32)
   where
-    go : Dec (d < 33) → Dec (d < 32) → depth-of (below v) ≡ low-33 (d + 1)
+    go : Dec (d < 33) → Dec (d < 32) → depth-of (scope-below v) ≡ low-33 (d + 1)
     go (no h) x = let p : depth-of v ≡ 33 = e ∙ high33 d (omega arith) in rw (below-high v (omega arith), high33 (d + 1) (omega arith)) p
     go (yes h) (yes k) = let p : depth-of v ≡ d = e ∙ low33 d h in rw (below-low v (omega arith), low33 (d + 1) (omega arith)) (omega arith)
     go (yes h) (no k) = let p : depth-of v ≡ d = e ∙ low33 d h in rw (below-low v (omega arith), high33 (d + 1) (omega arith)) (omega arith)
@@ -369,11 +369,11 @@ abbrev Bound : ℕ → ℕ → Type 0
 Bound b v = bound-of v ≡ b
 
 depth-c : (y : Node) (d v : ℕ) → Depth d v → Depth (d + 1) (to-c y v)
-depth-c y d v e = depth-binder y (in-forall y (below v)) ∙ depth-forall y (below v) ∙ depth-step d v e
+depth-c y d v e = depth-binder y (in-forall y (scope-below v)) ∙ depth-forall y (scope-below v) ∙ depth-step d v e
 
 foralls-c : (y : Node) (f v : ℕ) → Foralls f v → Foralls (forall-more y f) (to-c y v)
 foralls-c y f v e =
-    foralls-binder y (in-forall y (below v)) ∙ foralls-forall y (below v)
+    foralls-binder y (in-forall y (scope-below v)) ∙ foralls-forall y (scope-below v)
     ∙ rw (foralls-below v, e) (go (eqb (y .kind) forall-kind))
   where
     go : (b : Bool) → (if b then one-more (cap f) else cap f) ≡ cap (if b then f + 1 else f)
@@ -382,7 +382,7 @@ foralls-c y f v e =
 
 bound-c : (y : Node) (b v : ℕ) → Bound b v → Bound (bound-more y b) (to-c y v)
 bound-c y b v e =
-    bound-binder y (in-forall y (below v)) ∙ ap (bound-more y) (bound-forall y (below v) ∙ bound-below v ∙ e)
+    bound-binder y (in-forall y (scope-below v)) ∙ ap (bound-more y) (bound-forall y (scope-below v) ∙ bound-below v ∙ e)
 
 deep33 : (d : ℕ) → ltb 32 (low-33 d) ≡ ltb 32 d
 deep33 d = go (decLt d 33)
@@ -410,7 +410,7 @@ module _ (B : Program) (hN : length (B .nodes) ≤ 1024) where
 
   -- the code's table says of each node what the definition's three say
   pub misplaced-same :
-      (n : ℕ) → n < length (B .nodes) → misplaced-at B (handed B to-ab to-c (length (B .nodes)) (replicate 1024 0)) n ≡ bad-around B n
+      (n : ℕ) → n < length (B .nodes) → misplaced-at B (all-given B to-ab to-c (length (B .nodes)) (replicate 1024 0)) n ≡ bad-scope B n
   unfolding misplaced
   misplaced-same n h =
       let N : ℕ = length (B .nodes) in

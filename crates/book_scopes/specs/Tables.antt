@@ -9,30 +9,30 @@ use Rattle.text.specs.Words.{if_then_else_}
 use Rattle.book.specs.declared.Node.{Node}
 use Rattle.book.specs.Book.{Program, node-at, agent-at}
 use Rattle.book.specs.Kinds.{is-node, is-binder, forall-kind}
-use Rattle.book.specs.Around.{bit-of, misplaced}
+use Rattle.book.specs.Scopes.{bit-of, misplaced}
 
 -- ---- use
 
 abbrev pub one-more : ℕ → ℕ
 one-more k = if ltb k 2 then k + 1 else k
 
-abbrev pub bumped : Bool → ℕ → List ℕ → List ℕ
-bumped true x s = set s x (one-more (getD s x 0))
-bumped false x s = s
+abbrev pub use-added : Bool → ℕ → List ℕ → List ℕ
+use-added true x s = set s x (one-more (getD s x 0))
+use-added false x s = s
 
 -- the operand places of node y counted
-abbrev pub counted : Node → List ℕ → List ℕ
-counted y s = bumped (is-node (y .kind) 2) (y .c) (bumped (is-node (y .kind) 1) (y .b) (bumped (is-node (y .kind) 0) (y .a) s))
+abbrev pub operands-counted : Node → List ℕ → List ℕ
+operands-counted y s = use-added (is-node (y .kind) 2) (y .c) (use-added (is-node (y .kind) 1) (y .b) (use-added (is-node (y .kind) 0) (y .a) s))
 
 -- the roots of the first i agents marked
-unfoldable pub rooted : Program → ℕ → List ℕ → List ℕ
-rooted B zero s = s
-rooted B (suc i) s = set (rooted B i s) (agent-at B i .root) 1
+unfoldable pub roots-marked : Program → ℕ → List ℕ → List ℕ
+roots-marked B zero s = s
+roots-marked B (suc i) s = set (roots-marked B i s) (agent-at B i .root) 1
 
 -- the operand places of the first m nodes counted
-unfoldable pub tallied : Program → ℕ → List ℕ → List ℕ
-tallied B zero s = s
-tallied B (suc m) s = counted (node-at B m) (tallied B m s)
+unfoldable pub uses-counted : Program → ℕ → List ℕ → List ℕ
+uses-counted B zero s = s
+uses-counted B (suc m) s = operands-counted (node-at B m) (uses-counted B m s)
 
 -- ---- what stands around a node, as one number: a bit for each variable bound there, 256 for each forall, which are counted to 2, and 1024 for each
 -- node above it, which are counted to 32. A root has 0
@@ -47,8 +47,8 @@ abbrev pub bound-of : ℕ → ℕ
 bound-of v = v % 256
 
 -- around the operands of a node that has v around it
-abbrev pub below : ℕ → ℕ
-below v = if ltb (v / 1024) 32 then v + 1024 else v
+abbrev pub scope-below : ℕ → ℕ
+scope-below v = if ltb (v / 1024) 32 then v + 1024 else v
 
 -- one forall more in the c of a forall
 abbrev pub in-forall : Node → ℕ → ℕ
@@ -60,10 +60,10 @@ in-binder y v = if is-binder (y .kind) then bitOr v (bit-of (y .a)) else v
 
 -- what a node hands to its operands a and b, and to its c
 abbrev pub to-ab : Node → ℕ → ℕ
-to-ab y v = below v
+to-ab y v = scope-below v
 
 abbrev pub to-c : Node → ℕ → ℕ
-to-c y v = in-binder y (in-forall y (below v))
+to-c y v = in-binder y (in-forall y (scope-below v))
 
 -- node n is misplaced by the table s
 abbrev pub misplaced-at : Program → List ℕ → ℕ → Bool

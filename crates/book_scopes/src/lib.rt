@@ -9,9 +9,9 @@ ghost use lib.ListN.{length, getD};
 ghost use Rattle.text.specs.Words.{least};
 ghost use Rattle.book.specs.Kinds.{sort-table, is-binder};
 ghost use Rattle.book.specs.Use.{bad-use};
-ghost use Rattle.book.specs.Around.{bit-of, binds, put-if, hand, handed, misplaced, bad-around};
+ghost use Rattle.book.specs.Scopes.{bit-of, binds, put-if, operands-given, all-given, misplaced, bad-scope};
 ghost use Rattle.book.specs.Image.{program-in};
-ghost use Rattle.book_scopes.specs.Tables.{one-more, bumped, counted, rooted, tallied, below, in-forall, in-binder, to-ab, to-c, misplaced-at};
+ghost use Rattle.book_scopes.specs.Tables.{one-more, use-added, operands-counted, roots-marked, uses-counted, scope-below, in-forall, in-binder, to-ab, to-c, misplaced-at};
 
 // A count stops at 2, which is already too many.
 fn one_more(k: u8) -> u8
@@ -21,8 +21,8 @@ fn one_more(k: u8) -> u8
 }
 
 // One use more of x.
-fn bump(s: &mut [u8], on: bool, x: u32)
-    ensures { λ _. ⌜ now (s .exit) ≡ bumped on x (now (s .entry)) ⌝ }
+fn add_use(s: &mut [u8], on: bool, x: u32)
+    ensures { λ _. ⌜ now (s .exit) ≡ use-added on x (now (s .entry)) ⌝ }
 {
     if on {
         let k = text::byte_at(s, x as usize);
@@ -31,19 +31,19 @@ fn bump(s: &mut [u8], on: bool, x: u32)
 }
 
 // The operand places of node y. From sort 9 on an operand is a node.
-fn count(table: &[u8; 87], s: &mut [u8], y: Node)
+fn count_operands(table: &[u8; 87], s: &mut [u8], y: Node)
     requires { ⌜ now table ≡ sort-table ⌝ }
-    ensures { λ _. ⌜ now (s .exit) ≡ counted y (now (s .entry)) ⌝ }
+    ensures { λ _. ⌜ now (s .exit) ≡ operands-counted y (now (s .entry)) ⌝ }
 {
     let o = book_nodes::sorts_of(table, y.kind);
-    bump(s, 9 <= o.a, y.a);
-    bump(s, 9 <= o.b, y.b);
-    bump(s, 9 <= o.c, y.c);
+    add_use(s, 9 <= o.a, y.a);
+    add_use(s, 9 <= o.b, y.b);
+    add_use(s, 9 <= o.c, y.c);
 }
 
 // Marks the roots of the first n agents. Agents may share one.
 fn mark_roots(image: &Image, n: u32, s: &mut [u8])
-    ensures { λ _. ⌜ now (s .exit) ≡ rooted (program-in (now (image .entry))) n (now (s .entry)) ⌝ }
+    ensures { λ _. ⌜ now (s .exit) ≡ roots-marked (program-in (now (image .entry))) n (now (s .entry)) ⌝ }
 {
     let mut i: u32 = 0;
     while i < n {
@@ -54,14 +54,14 @@ fn mark_roots(image: &Image, n: u32, s: &mut [u8])
 }
 
 // Counts the operand places of the first n nodes.
-fn tally(image: &Image, n: u32, s: &mut [u8])
-    ensures { λ _. ⌜ now (s .exit) ≡ tallied (program-in (now (image .entry))) n (now (s .entry)) ⌝ }
+fn count_uses(image: &Image, n: u32, s: &mut [u8])
+    ensures { λ _. ⌜ now (s .exit) ≡ uses-counted (program-in (now (image .entry))) n (now (s .entry)) ⌝ }
 {
     let table = book_nodes::SORTS;
     let mut i: u32 = 0;
     while i < n {
         let y = book_image::node_at(image, i);
-        count(&table, s, y);
+        count_operands(&table, s, y);
         i += 1;
     }
 }
@@ -87,11 +87,11 @@ pub fn bad_use(image: &Image) -> Found
     let a = book_image::agents(image) as u32;
     let n = book_image::nodes(image) as u32;
     mark_roots(image, a, &mut counts);
-    tally(image, n, &mut counts);
+    count_uses(image, n, &mut counts);
     not_once(&counts, n)
 }
 
-fn bit(v: u32) -> u16
+fn bit_of(v: u32) -> u16
     ensures { λ r. ⌜ r ≡ bit-of v ⌝ }
 {
     if v < 8 { 1u16 << v } else { 0 }
@@ -101,8 +101,8 @@ fn bit(v: u32) -> u16
 // to 2, and 1024 for each node above it, which are counted to 32. A root has 0. Sixteen bits hold it.
 
 // Around the operands of a node that has v around it.
-fn below(v: u16) -> u16
-    ensures { λ r. ⌜ r ≡ below v ⌝ }
+fn scope_below(v: u16) -> u16
+    ensures { λ r. ⌜ r ≡ scope-below v ⌝ }
 {
     if v / 1024 < 32 { v + 1024 } else { v }
 }
@@ -133,7 +133,11 @@ fn is_binder(kind: u32) -> bool
 fn in_binder(y: Node, v: u16) -> u16
     ensures { λ r. ⌜ r ≡ in-binder y v ⌝ }
 {
-    if is_binder(y.kind) { v | bit(y.a) } else { v }
+    if is_binder(y.kind) {
+        v | bit_of(y.a)
+    } else {
+        v
+    }
 }
 
 fn put_if(s: &mut [u16], on: bool, x: u32, v: u16)
@@ -145,9 +149,9 @@ fn put_if(s: &mut [u16], on: bool, x: u32, v: u16)
 }
 
 // Node y hands v to its operands a and b, and w to its operand c.
-fn hand(table: &[u8; 87], s: &mut [u16], y: Node, v: u16, w: u16)
+fn give_operands(table: &[u8; 87], s: &mut [u16], y: Node, v: u16, w: u16)
     requires { ⌜ now table ≡ sort-table ⌝ }
-    ensures { λ _. ⌜ now (s .exit) ≡ hand y v w (now (s .entry)) ⌝ }
+    ensures { λ _. ⌜ now (s .exit) ≡ operands-given y v w (now (s .entry)) ⌝ }
 {
     let o = book_nodes::sorts_of(table, y.kind);
     put_if(s, 9 <= o.a, y.a, v);
@@ -156,8 +160,8 @@ fn hand(table: &[u8; 87], s: &mut [u16], y: Node, v: u16, w: u16)
 }
 
 // Each node, from the highest on, hands down what stands around it.
-fn hand_down(image: &Image, s: &mut [u16])
-    ensures { λ _. ⌜ now (s .exit) ≡ handed (program-in (now (image .entry))) to-ab to-c (length (program-in (now (image .entry)) .nodes)) (now (s .entry)) ⌝ }
+fn give_all(image: &Image, s: &mut [u16])
+    ensures { λ _. ⌜ now (s .exit) ≡ all-given (program-in (now (image .entry))) to-ab to-c (length (program-in (now (image .entry)) .nodes)) (now (s .entry)) ⌝ }
 {
     let table = book_nodes::SORTS;
     let n = book_image::nodes(image) as u32;
@@ -165,18 +169,18 @@ fn hand_down(image: &Image, s: &mut [u16])
     while k < n {
         let m = n - (k + 1);
         let y = book_image::node_at(image, m);
-        let v = below(text::half_at(s, m as usize));
+        let v = scope_below(text::half_at(s, m as usize));
         let w = in_binder(y, in_forall(y, v));
-        hand(&table, s, y, v, w);
+        give_operands(&table, s, y, v, w);
         k += 1;
     }
 }
 
 // The variable that node y names or binds is bound.
-fn has(y: Node, bound: u16) -> bool
+fn is_bound(y: Node, bound: u16) -> bool
     ensures { λ r. ⌜ r ≡ binds bound (y .a) ⌝ }
 {
-    !(bound & bit(y.a) == 0)
+    !(bound & bit_of(y.a) == 0)
 }
 
 // Node y stands where it may not. Only a variable and a binder ask what is bound.
@@ -185,10 +189,10 @@ fn is_misplaced(y: Node, depth: u16, foralls: u16, bound: u16) -> bool
 {
     let deep = 32 < depth;
     if y.kind == 2 {
-        return !has(y, bound) | deep;
+        return !is_bound(y, bound) | deep;
     }
     if is_binder(y.kind) {
-        return has(y, bound) | deep | ((y.kind == 25) & (2 <= foralls));
+        return is_bound(y, bound) | deep | ((y.kind == 25) & (2 <= foralls));
     }
     deep
 }
@@ -215,11 +219,11 @@ fn misplaced_in<'a>(image: &'a Image, s: &'a [u16], n: u32) -> Found
 }
 
 // 6, binding, depth and nesting: the least node at fault.
-pub fn bad_around(image: &Image) -> Found
-    ensures { λ r. ⌜ r ≡ least (bad-around (program-in (now (image .entry)))) (length (program-in (now (image .entry)) .nodes)) ⌝ }
+pub fn bad_scope(image: &Image) -> Found
+    ensures { λ r. ⌜ r ≡ least (bad-scope (program-in (now (image .entry)))) (length (program-in (now (image .entry)) .nodes)) ⌝ }
 {
     let mut around = [0u16; 1024];
     let n = book_image::nodes(image) as u32;
-    hand_down(image, &mut around);
+    give_all(image, &mut around);
     misplaced_in(image, &around, n)
 }

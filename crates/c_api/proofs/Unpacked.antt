@@ -9,16 +9,16 @@ use Rattle.text.proofs.Checks.{Small}
 use Rattle.book.specs.Check.{check-book}
 use Rattle.book.specs.Check.{packed as short}
 use Rattle.book.proofs.Refusals.{book-answer}
-use Rattle.c_api.specs.Packed.{packed, unpacked, unpacked-check}
+use Rattle.c_api.specs.Packed.{packed-answer, unpacked, unpacked-check}
 
 same : {n p q m u v : ℕ} → n ≡ m → p ≡ u → q ≡ v → _≡_ {A = Answer} (record { number = n; p = p; q = q }) (record { number = m; p = u; q = v })
 same e f g = rw (e, f, g)
 
 -- r is the packed answer a, which is the answer b of a call
-pub back : (r : ℕ) (a b : Answer) → Small b → r ≡ packed a → a ≡ b → (r ≡ packed b) × (unpacked r ≡ b)
+pub back : (r : ℕ) (a b : Answer) → Small b → r ≡ packed-answer a → a ≡ b → (r ≡ packed-answer b) × (unpacked r ≡ b)
 back r a b h e f =
-    let whole : unpacked (packed b) ≡ b = same (omega arith) (omega arith) (omega arith) in
-    let g = e ∙ ap packed f in
+    let whole : unpacked (packed-answer b) ≡ b = same (omega arith) (omega arith) (omega arith) in
+    let g = e ∙ ap packed-answer f in
     (g, ap unpacked g ∙ whole)
 
 -- the same of a book's check

@@ -3,10 +3,10 @@ use Prim.Native.Nat.{ℕ, _+_, _*_, _/_, _%_, _^_}
 use Rattle.text.specs.declared.Answer.{Answer}
 use Rattle.order.specs.Run.{LogAnswer}
 use Rattle.order.specs.Call.{Tables}
-use Rattle.order_run.specs.Turns.{tables}
+use Rattle.order_run.specs.Runs.{tables}
 
-abbrev pub packed : Answer → ℕ
-packed a = a .number * 2 ^ 48 + a .p * 2 ^ 24 + a .q
+abbrev pub packed-answer : Answer → ℕ
+packed-answer a = a .number * 2 ^ 48 + a .p * 2 ^ 24 + a .q
 
 -- the number above 48 bits, p in the 24 below it, q in the lowest 24
 abbrev pub unpacked : ℕ → Answer

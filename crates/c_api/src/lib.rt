@@ -12,8 +12,8 @@ ghost use Rattle.engine.specs.Single.{step-call};
 ghost use Rattle.order.specs.Call.{log-call};
 ghost use Rattle.report.specs.Report.{rental};
 ghost use Rattle.report_print.specs.Shown.{Shown, fitting};
-ghost use Rattle.order_run.specs.Turns.{tables};
-ghost use Rattle.c_api.specs.Packed.{packed, unpacked, unpacked-check, tables-of};
+ghost use Rattle.order_run.specs.Runs.{tables};
+ghost use Rattle.c_api.specs.Packed.{packed-answer, unpacked, unpacked-check, tables-of};
 
 // The check of a book: number × 2^32 + p. Each refusal of a book has q 0. C has number and p back by
 // shift and mask.
@@ -27,9 +27,9 @@ pub extern "C" fn rental_check_book(book: &[u8]) -> u64
 }
 
 // An answer in one number. The numbers end at 19, so nothing wraps.
-fn in_one(a: Answer) -> u64
+fn packed(a: Answer) -> u64
     requires { ⌜ a .number ≤ 19 ⌝ }
-    ensures { λ r. ⌜ r ≡ packed a ⌝ }
+    ensures { λ r. ⌜ r ≡ packed-answer a ⌝ }
 {
     a.number as u64 * 281474976710656 + a.p as u64 * 16777216 + a.q as u64
 }
@@ -43,11 +43,11 @@ pub extern "C" fn rental_move(
     picks: &[Pick],
     lent: usize,
 ) -> u64
-    ensures { λ r. ⌜ r ≡ packed (step-call (now (book .entry)) (now (contents .entry)) (input agent (now (picks .entry))) lent .answer) ⌝ }
+    ensures { λ r. ⌜ r ≡ packed-answer (step-call (now (book .entry)) (now (contents .entry)) (input agent (now (picks .entry))) lent .answer) ⌝ }
     ensures { λ r. ⌜ unpacked r ≡ step-call (now (book .entry)) (now (contents .entry)) (input agent (now (picks .entry))) lent .answer ⌝ }
     ensures { λ _. ⌜ now (contents .exit) ≡ step-call (now (book .entry)) (now (contents .entry)) (input agent (now (picks .entry))) lent .contents ⌝ }
 {
-    in_one(engine_step::step_own_list(book, contents, agent, picks, lent))
+    packed(engine_step::step_own_list(book, contents, agent, picks, lent))
 }
 
 // A log's run: number × 2^48 + p × 2^24 + q.
@@ -60,10 +60,10 @@ pub extern "C" fn rental_run(
     writers: &mut [u64],
     lent: usize,
 ) -> u64
-    ensures { λ r. ⌜ (r ≡ packed (log-call (now (book .entry)) (now (log .entry)) (tables (now (contents .entry)) (now (readers .entry)) (now (writers .entry))) lent .answer)) × (tables (now (contents .exit)) (now (readers .exit)) (now (writers .exit)) ≡ tables-of (log-call (now (book .entry)) (now (log .entry)) (tables (now (contents .entry)) (now (readers .entry)) (now (writers .entry))) lent)) ⌝ }
+    ensures { λ r. ⌜ (r ≡ packed-answer (log-call (now (book .entry)) (now (log .entry)) (tables (now (contents .entry)) (now (readers .entry)) (now (writers .entry))) lent .answer)) × (tables (now (contents .exit)) (now (readers .exit)) (now (writers .exit)) ≡ tables-of (log-call (now (book .entry)) (now (log .entry)) (tables (now (contents .entry)) (now (readers .entry)) (now (writers .entry))) lent)) ⌝ }
     ensures { λ r. ⌜ unpacked r ≡ log-call (now (book .entry)) (now (log .entry)) (tables (now (contents .entry)) (now (readers .entry)) (now (writers .entry))) lent .answer ⌝ }
 {
-    in_one(order_entry::run_own_list(book, log, contents, readers, writers, lent))
+    packed(order_entry::run_own_list(book, log, contents, readers, writers, lent))
 }
 
 // What `rental` prints. An output of fewer bytes than an answer may need is left as it is, and 0 given.

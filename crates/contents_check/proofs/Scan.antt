@@ -10,7 +10,7 @@ use Rattle.text.proofs.Words.{least-start, least-pass, least-stop, least-end}
 use Rattle.book.specs.declared.Function.{Function}
 use Rattle.book.specs.Book.{Program, Place, size, place}
 use Rattle.book.specs.Contents.{bad-value}
-use Rattle.contents_check.specs.Part.{Blameless, Past, Part}
+use Rattle.contents_check.specs.Part.{Faultless, SkippedTo, Part}
 
 -- places that are not at fault are passed
 least-skip :
@@ -40,7 +40,7 @@ module _ (B : Program) (c : List ℕ) (E P : ℕ) (f : Function) (first end : �
 
   module _ (l : ℕ) (from : first ≤ l) (p : Passed l) where
     -- those that hold what is blameless
-    pub scan-skip : (v r : ℕ) → Blameless c E f v → Past c v l end r → Passed r
+    pub scan-skip : (v r : ℕ) → Faultless c E f v → SkippedTo c v l end r → Passed r
     scan-skip v r fine h =
         let e : l - first + (r - l) ≡ r - first = omega (arith, h .from) in
         rw e at

@@ -15,11 +15,11 @@ abbrev pub arguments-by : ℕ → ℕ → ℕ → ℕ → List ℕ
 arguments-by arity i row col = if eqb arity 0 then [] else if eqb arity 1 then i ∷ [] else row ∷ col ∷ []
 
 -- a location of f that holds v is not at fault in the contents c
-abbrev pub Blameless : List ℕ → ℕ → Function → ℕ → Type 0
-Blameless c E f v = (B : Program) (l : ℕ) → B .E ≡ E → place B l .function ≡ f → getD c l 0 ≡ v → bad-value B c l ≡ false
+abbrev pub Faultless : List ℕ → ℕ → Function → ℕ → Type 0
+Faultless c E f v = (B : Program) (l : ℕ) → B .E ≡ E → place B l .function ≡ f → getD c l 0 ≡ v → bad-value B c l ≡ false
 
 -- the locations from l to r hold v, and r is not past the end
-pub record Past (c : List ℕ) (v l end r : ℕ) : Type 0 where
+pub record SkippedTo (c : List ℕ) (v l end r : ℕ) : Type 0 where
   pub from : l ≤ r
   pub to : r ≤ end
   pub held : (k : ℕ) → l ≤ k → k < r → getD c k 0 ≡ v

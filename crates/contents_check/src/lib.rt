@@ -12,7 +12,7 @@ ghost use Rattle.text.specs.Words.{least};
 ghost use Rattle.book.specs.Book.{Program, L, true-element, size, boolean, dynamic, default, place};
 ghost use Rattle.book.specs.Image.{held};
 ghost use Rattle.book.specs.Contents.{some-on-roll, all-permanent, bad-value};
-ghost use Rattle.contents_check.specs.Part.{arguments-by, Blameless, Past, Part};
+ghost use Rattle.contents_check.specs.Part.{arguments-by, Faultless, SkippedTo, Part};
 
 fn is_boolean(v: Value) -> bool
     ensures { λ r. ⌜ r ≡ boolean v ⌝ }
@@ -103,8 +103,8 @@ fn is_bad(contents: &[Value], e: Value, p: Value, f: Function, l: u32, i: u32) -
 }
 
 // What a location of f may hold without fault: its default, if that is an element and not on the roll; else a number that none holds.
-fn blameless(contents: &[Value], e: Value, f: Function) -> u32
-    ensures { λ r. ⌜ Blameless (now (contents .entry)) e f r ⌝ }
+fn faultless_value(contents: &[Value], e: Value, f: Function) -> u32
+    ensures { λ r. ⌜ Faultless (now (contents .entry)) e f r ⌝ }
 {
     let v = book_parts::default_of(f);
     if (v < e) & (text::fetch(contents, v as usize) != 2) {
@@ -114,9 +114,9 @@ fn blameless(contents: &[Value], e: Value, f: Function) -> u32
 }
 
 // A location from l to end, before which, from l on, all hold v.
-fn past(contents: &[Value], v: u32, l: u32, end: u32) -> u32
+fn skip_value(contents: &[Value], v: u32, l: u32, end: u32) -> u32
     requires { ⌜ l ≤ end ⌝ }
-    ensures { λ r. ⌜ Past (now (contents .entry)) v l end r ⌝ }
+    ensures { λ r. ⌜ SkippedTo (now (contents .entry)) v l end r ⌝ }
 {
     let n = text::smaller(end as usize, contents.len());
     let mut k = l as usize;
@@ -134,13 +134,13 @@ fn bad_part(contents: &[Value], e: Value, p: Value, f: Function, first: u32, end
     requires { ⌜ first ≤ end ⌝ }
     ensures { λ r. ⌜ ((B : Program) → Part B e p f first end → r ≡ least (λ i. bad-value B (now (contents .entry)) (first + i)) (size e (f .arity))) ⌝ }
 {
-    let v = blameless(contents, e, f);
-    let mut l = past(contents, v, first, end);
+    let v = faultless_value(contents, e, f);
+    let mut l = skip_value(contents, v, first, end);
     while l < end {
         if is_bad(contents, e, p, f, l, l - first) {
             return Found::Here(l - first);
         }
-        l = past(contents, v, l + 1, end);
+        l = skip_value(contents, v, l + 1, end);
     }
     Found::Nowhere
 }

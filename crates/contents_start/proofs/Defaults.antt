@@ -16,7 +16,7 @@ use Rattle.book_parts.specs.declared.Owner.{Owner}
 use Rattle.book_parts.specs.Part.{between, part-from}
 use Rattle.book_parts.proofs.Parts.{between-before, between-inside, between-after}
 use Rattle.book_parts.proofs.Places.{From, from-start, from-at, from-next, from-end}
-use Rattle.contents_start.specs.Written.{run-filled, defaults-in}
+use Rattle.contents_start.specs.Written.{function-filled, defaults-in}
 
 -- ---- a part filled with v
 
@@ -34,19 +34,19 @@ module _ (v : ℕ) where
 -- ---- a run of the table filled with v
 
 module _ (first end v : ℕ) (c : List ℕ) where
-  filled-long : length (run-filled first end v c) ≡ length c
+  filled-long : length (function-filled first end v c) ≡ length c
   filled-long = length-table-from (λ l. if between first end l then v else getD c l 0) 0 (length c)
 
-  filled-at : (k : ℕ) → k < length c → getD (run-filled first end v c) k 0 ≡ (if between first end k then v else getD c k 0)
+  filled-at : (k : ℕ) → k < length c → getD (function-filled first end v c) k 0 ≡ (if between first end k then v else getD c k 0)
   filled-at k h = getD-table (λ l. if between first end l then v else getD c l 0) (length c) k 0 h
 
-  filled-before : (k : ℕ) → k < length c → k < first → getD (run-filled first end v c) k 0 ≡ getD c k 0
+  filled-before : (k : ℕ) → k < length c → k < first → getD (function-filled first end v c) k 0 ≡ getD c k 0
   filled-before k h l = filled-at k h ∙ rw (between-before first end k l)
 
-  filled-inside : (k : ℕ) → k < length c → first ≤ k → k < end → getD (run-filled first end v c) k 0 ≡ v
+  filled-inside : (k : ℕ) → k < length c → first ≤ k → k < end → getD (function-filled first end v c) k 0 ≡ v
   filled-inside k h l m = filled-at k h ∙ rw (between-inside first end k l m)
 
-  filled-after : (k : ℕ) → k < length c → end ≤ k → getD (run-filled first end v c) k 0 ≡ getD c k 0
+  filled-after : (k : ℕ) → k < length c → end ≤ k → getD (function-filled first end v c) k 0 ≡ getD c k 0
   filled-after k h l = filled-at k h ∙ rw (between-after first end k l)
 
 -- the places from a to b replaced by as many v
@@ -93,18 +93,18 @@ module _ (a b v : ℕ) (c : List ℕ) (ordered : a ≤ b) (fits : b ≤ length c
 -- the run is lent as a part, as far as the table goes, and comes back filled
 pub run-is :
     (first end v a b : ℕ) (c ys : List ℕ) → first ≤ end → a ≡ min first (length c) → b ≡ min end (length c) → ys ≡ replicate (length (take (b - a) (drop a c))) v →
-    take a c ++ (ys ++ drop (b - a) (drop a c)) ≡ run-filled first end v c
+    take a c ++ (ys ++ drop (b - a) (drop a c)) ≡ function-filled first end v c
 run-is first end v a b c ys o ea eb e =
     let ordered : a ≤ b = omega arith in
     let fits : b ≤ length c = omega arith in
     let long : length (take (b - a) (drop a c)) ≡ b - a =
     length-take-le (b - a) (drop a c) (rw (length-drop a c) (omega arith)) in
     ap (λ (s : List ℕ). take a c ++ (s ++ drop (b - a) (drop a c))) (e ∙ ap (λ (n : ℕ). replicate n v) long)
-    ∙ ext-getD 0 (run a b v c ordered fits) (run-filled first end v c) (run-long a b v c ordered fits ∙ sym (filled-long first end v c))
+    ∙ ext-getD 0 (run a b v c ordered fits) (function-filled first end v c) (run-long a b v c ordered fits ∙ sym (filled-long first end v c))
     (λ k h. same ordered fits k (omega (arith, run-long a b v c ordered fits)) (ltb k first) refl (ltb k end) refl)
   where
     same : (ordered : a ≤ b) (fits : b ≤ length c) (k : ℕ) → k < length c → (s : Bool) → ltb k first ≡ s → (t : Bool) → ltb k end ≡ t
-        → getD (run a b v c ordered fits) k 0 ≡ getD (run-filled first end v c) k 0
+        → getD (run a b v c ordered fits) k 0 ≡ getD (function-filled first end v c) k 0
     same ordered fits k h true s t u =
         let l = ltb-true k first s in
         run-before a b v c ordered fits k (omega arith) ∙ sym (filled-before first end v c k h l)
@@ -136,7 +136,7 @@ module _ (B : Program) (c₀ : List ℕ) where
     here : (k : ℕ) → first ≤ k → k < end → default (function-at B g) ≡ default-at B k
     here k h l = ap (λ (x : Place). default (x .function)) (sym (from-at B g first (p .at) more k h (omega arith)))
 
-    filled-to : d ≡ run-filled first end (default (function-at B g)) c → Filled end (g + 1) d
+    filled-to : d ≡ function-filled first end (default (function-at B g)) c → Filled end (g + 1) d
     filled-to e =
         let w : ℕ = default (function-at B g) in
         record {
@@ -146,7 +146,7 @@ module _ (B : Program) (c₀ : List ℕ) where
           at = from-next B g first (p .at) more;
         }
       where
-        early : (k : ℕ) → k < length c → k < end → (b : Bool) → ltb k first ≡ b → getD (run-filled first end (default (function-at B g)) c) k 0 ≡ default-at B k
+        early : (k : ℕ) → k < length c → k < end → (b : Bool) → ltb k first ≡ b → getD (function-filled first end (default (function-at B g)) c) k 0 ≡ default-at B k
         early k h l true b =
             let m : k < first = ltb-true k first b in
             filled-before first end (default (function-at B g)) c k h m ∙ p .done k (omega (arith, p .same)) m
@@ -154,7 +154,7 @@ module _ (B : Program) (c₀ : List ℕ) where
             let m : first ≤ k = ltb-false k first b in
             filled-inside first end (default (function-at B g)) c k h m l ∙ here k m l
 
-    pub filled-function : (own : Owner) → own ≡ part-from B g first → d ≡ run-filled (own .first) (own .end) (default (own .function)) c → Filled (own .end) (g + 1) d
+    pub filled-function : (own : Owner) → own ≡ part-from B g first → d ≡ function-filled (own .first) (own .end) (default (own .function)) c → Filled (own .end) (g + 1) d
     filled-function own is e = rw is (filled-to (rw is at e))
 
   pub filled-all : (first g : ℕ) (c : List ℕ) → Filled first g c → length (B .functions) ≤ g → c ≡ defaults-in B c₀

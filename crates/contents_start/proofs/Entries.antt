@@ -25,22 +25,22 @@ use Rattle.book.proofs.Places.{spot}
 use Rattle.book.proofs.Start.{in-bounds-is}
 use Rattle.book_parts.proofs.Parts.{between-inside, part-numbered, part-own}
 use Rattle.book.proofs.Image.{uncapped}
-use Rattle.contents_start.specs.Written.{defaults-in, line-put, lines-put, contents-lines, started}
+use Rattle.contents_start.specs.Written.{defaults-in, entry-put, entries-put, entry-lines, started}
 use Rattle.contents_start.proofs.Defaults.{defaults-long}
 
 -- ---- the loop over the lines
 
 module _ (B : Program) (at : ℕ → Line) where
-  pub lines-first : (n : ℕ) (c : List ℕ) → lines-put B (table-from at 0 (n - 0)) c ≡ lines-put B (table at n) c
+  pub lines-first : (n : ℕ) (c : List ℕ) → entries-put B (table-from at 0 (n - 0)) c ≡ entries-put B (table at n) c
   lines-first n c = let e : n - 0 ≡ n = omega arith in rw e
 
-  pub lines-next : (n i : ℕ) (c d : List ℕ) → i < n → d ≡ line-put B (at i) c
-      → lines-put B (table-from at (i + 1) (n - (i + 1))) d ≡ lines-put B (table-from at i (n - i)) c
-  unfolding lines-put table-from
+  pub lines-next : (n i : ℕ) (c d : List ℕ) → i < n → d ≡ entry-put B (at i) c
+      → entries-put B (table-from at (i + 1) (n - (i + 1))) d ≡ entries-put B (table-from at i (n - i)) c
+  unfolding entries-put table-from
   lines-next n i c d h e = let f : n - i ≡ suc (n - suc i) = omega arith in rw (e, add-one i, f)
 
-  pub lines-last : (n i : ℕ) (c : List ℕ) → n ≤ i → lines-put B (table-from at i (n - i)) c ≡ c
-  unfolding lines-put table-from
+  pub lines-last : (n i : ℕ) (c : List ℕ) → n ≤ i → entries-put B (table-from at i (n - i)) c ≡ c
+  unfolding entries-put table-from
   lines-last n i c h = let e : n - i ≡ 0 = omega arith in rw e
 
 -- ---- lines that are in bounds
@@ -52,7 +52,7 @@ record Small (B : Program) (l : Line) : Type 0 where
   pub value : l .d < B .E
 
 module _ (B : Program) (ok : Lawful B) (few : length (B .functions) ≤ 32) (rest : List ℕ) where
-  put-same : (l : Line) (c : List ℕ) → length c ≡ L B → Small B l → line-put B l (c ++ rest) ≡ set c (entry-location B (entry-of l)) (l .d) ++ rest
+  put-same : (l : Line) (c : List ℕ) → length c ≡ L B → Small B l → entry-put B l (c ++ rest) ≡ set c (entry-location B (entry-of l)) (l .d) ++ rest
   put-same l c e s =
       let inside = spot B ok (l .a) (l .b) (l .c) (s .function) (s .first) (s .second) .inside in
       let f = function-at B (l .a) in
@@ -67,11 +67,11 @@ module _ (B : Program) (ok : Lawful B) (few : length (B .functions) ≤ 32) (res
       ) (set-append-left c rest (entry-location B (entry-of l)) (l .d) (omega (arith, e, inside)))
 
   put-all : (at : ℕ → Line) (i n : ℕ) (c : List ℕ) → length c ≡ L B → ((k : ℕ) → i ≤ k → k < i + n → Small B (at k))
-      → lines-put B (table-from at i n) (c ++ rest) ≡ enter B (table-from (λ k. entry-of (at k)) i n) c ++ rest
-  unfolding lines-put enter table-from
+      → entries-put B (table-from at i n) (c ++ rest) ≡ enter B (table-from (λ k. entry-of (at k)) i n) c ++ rest
+  unfolding entries-put enter table-from
   put-all at i zero c e s = refl
   put-all at i (suc n) c e s =
-      ap (λ (x : List ℕ). lines-put B (table-from at (suc i) n) x) (put-same (at i) c e (s i (omega arith) (omega arith)))
+      ap (λ (x : List ℕ). entries-put B (table-from at (suc i) n) x) (put-same (at i) c e (s i (omega arith) (omega arith)))
       ∙ put-all at (suc i) n (set c (entry-location B (entry-of (at i))) (at i .d)) (length-set c (entry-location B (entry-of (at i))) (at i .d) ∙ e)
       (λ k h l. s k (omega arith) (omega arith))
 
@@ -96,7 +96,7 @@ module _ (text : List ℕ) (b : Book) (passes : check-book text ≡ good b) (m :
   -- what its text says of it
   record Said : Type 0 where
     pub few : length (B .functions) ≤ 32
-    pub lines : contents-lines m text ≡ table at (length (b .entries))
+    pub lines : entry-lines m text ≡ table at (length (b .entries))
     pub entries : b .entries ≡ table (λ i. entry-of (at i)) (length (b .entries))
 
   said : Said
@@ -135,9 +135,9 @@ module _ (text : List ℕ) (b : Book) (passes : check-book text ≡ good b) (m :
       let s = said in
       let n : ℕ = length (b .entries) in
       let rest : List ℕ = drop (L B) c in
-      ap (λ (X : Program). lines-put X (contents-lines m text) (defaults-in X c)) held
-      ∙ ap (λ (ls : List Line). lines-put B ls (defaults-in B c)) (s .lines)
-      ∙ ap (λ (d : List ℕ). lines-put B (table at n) d) (defaults-long B c long)
+      ap (λ (X : Program). entries-put X (entry-lines m text) (defaults-in X c)) held
+      ∙ ap (λ (ls : List Line). entries-put B ls (defaults-in B c)) (s .lines)
+      ∙ ap (λ (d : List ℕ). entries-put B (table at n) d) (defaults-long B c long)
       ∙ put-all B (accepted text b passes) (s .few) rest at 0 n (defaults B) (length-table-from (default-at B) 0 (L B))
       (λ k h l. small s k (omega arith))
       ∙ ap (λ (es : List Entry). enter B es (defaults B) ++ rest) (sym (s .entries))

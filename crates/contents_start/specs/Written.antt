@@ -11,8 +11,8 @@ use Rattle.book.specs.Image.{first-entry-in, entry-count-in, held}
 use Rattle.book_parts.specs.Part.{between, put-in}
 
 -- the places from `first` to `end` hold v, the others what they held
-abbrev pub run-filled : ℕ → ℕ → ℕ → List ℕ → List ℕ
-run-filled first end v c = table (λ l. if between first end l then v else getD c l 0) (length c)
+abbrev pub function-filled : ℕ → ℕ → ℕ → List ℕ → List ℕ
+function-filled first end v c = table (λ l. if between first end l then v else getD c l 0) (length c)
 
 -- each location's default, as far as the table c goes; past the last location it is as it was
 abbrev pub defaults-in : Program → List ℕ → List ℕ
@@ -23,18 +23,18 @@ abbrev pub function-put : ℕ → Function → ℕ → ℕ → List ℕ → List
 function-put E g l v c = put-in (g .first) (g .first + size E (g .arity)) l v c
 
 -- a contents line put at its location: in an accepted book each of its numbers fits in sixteen bits
-abbrev pub line-put : Program → Line → List ℕ → List ℕ
-line-put B l c =
+abbrev pub entry-put : Program → Line → List ℕ → List ℕ
+entry-put B l c =
     function-put (B .E) (function-at B (l .a % 65536)) (location B (l .a % 65536) (l .b % 65536) (l .c % 65536)) (l .d % 65536) c
 
-unfoldable pub lines-put : Program → List Line → List ℕ → List ℕ
-lines-put B [] c = c
-lines-put B (l ∷ ls) c = lines-put B ls (line-put B l c)
+unfoldable pub entries-put : Program → List Line → List ℕ → List ℕ
+entries-put B [] c = c
+entries-put B (l ∷ ls) c = entries-put B ls (entry-put B l c)
 
 -- the contents lines of a book's text, where its image says that they are
-abbrev pub contents-lines : List ℕ → List ℕ → List Line
-contents-lines m text = table (λ i. line text (first-entry-in m + i)) (entry-count-in m)
+abbrev pub entry-lines : List ℕ → List ℕ → List Line
+entry-lines m text = table (λ i. line text (first-entry-in m + i)) (entry-count-in m)
 
 -- the start of a run written into the table c: each function's part filled with its default, then each contents line put at its location
 abbrev pub started : List ℕ → List ℕ → List ℕ → List ℕ
-started m text c = lines-put (held m) (contents-lines m text) (defaults-in (held m) c)
+started m text c = entries-put (held m) (entry-lines m text) (defaults-in (held m) c)

@@ -15,7 +15,7 @@ use Rattle.book.specs.Kinds.{sort, names-location}
 use Rattle.book.specs.Lines.{fits, bad-node, named}
 use Rattle.book.specs.Sound.{Lawful}
 use Rattle.engine.specs.Term.{Term, element, variable, self, at0, at1, at2, negated, joined, tree, term-at, Shape, an-element, a-variable, the-agent, of-none, of-one, of-two, a-not, no-term, a-join, shape, shapes}
-use Rattle.engine.specs.Rule.{Rule, skip, assign, pair, test, bind, for-all, import, free, choose, rule-tree, rule-at, RuleShape, a-skip, an-assign, a-pair, a-test, a-bind, a-for-all, an-import, a-free, a-choose, no-rule, rule-shape, rule-shapes}
+use Rattle.engine.specs.Rule.{Rule, skip, assign, pair, test, bind, for-all, import, release, choose, rule-tree, rule-at, RuleShape, a-skip, an-assign, a-pair, a-test, a-bind, a-for-all, an-import, a-release, a-choose, no-rule, rule-shape, rule-shapes}
 
 -- ---- terms and rules as check 5 leaves them
 
@@ -51,7 +51,7 @@ ProperRule B (test t r s) = Proper B t × ProperRule B r × ProperRule B s
 ProperRule B (bind x t r) = Proper B t × ProperRule B r
 ProperRule B (for-all x u r) = Named B u 1 × (relation (function-at B u) ≡ true) × ProperRule B r
 ProperRule B (import n x u r) = Named B u 1 × (function-at B u .kind ≡ 3) × ProperRule B r
-ProperRule B (free n t) = Proper B t
+ProperRule B (release n t) = Proper B t
 ProperRule B (choose n x u r) = Named B u 1 × (relation (function-at B u) ≡ true) × ProperRule B r
 
 -- ---- a test among others that fail
@@ -172,7 +172,7 @@ module _ (B : Program) (ok : Lawful B) where
   FitsRule a-pair x = Unit {0}
   FitsRule a-test x = Unit {0}
   FitsRule a-bind x = Unit {0}
-  FitsRule a-free x = Unit {0}
+  FitsRule a-release x = Unit {0}
   FitsRule no-rule x = Unit {0}
 
   abbrev unary : ℕ → Bool
@@ -226,7 +226,7 @@ module _ (B : Program) (ok : Lawful B) where
       go a-bind f r = (proper-term (suc d) (ns n .b), r (ns n .c))
       go a-for-all f r = (f .0, f .1, r (ns n .c))
       go an-import f r = (f .0, f .1, r (ns n .c))
-      go a-free f r = proper-term (suc d) (ns n .a)
+      go a-release f r = proper-term (suc d) (ns n .a)
       go a-choose f r = (f .0, f .1, r (ns n .c))
 
   pub proper-rule : (n : ℕ) → ProperRule B (rule-at ns n)

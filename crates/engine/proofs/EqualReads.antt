@@ -15,11 +15,11 @@ use Rattle.text.specs.declared.Found.{Found}
 use Rattle.text.specs.declared.Found.the-variants.{Nowhere, Here}
 use Rattle.book.specs.Book.{Program, L, dynamic-at}
 use Rattle.book.specs.Sound.{at}
-use Rattle.engine.specs.Look.{seen}
-use Rattle.engine.specs.Rule.{Walk, Walked, going, met, agent-walk}
+use Rattle.engine.specs.Reader.{locations-read}
+use Rattle.engine.specs.Rule.{Walk, Walked, walking, refused-at, agent-walk}
 use Rattle.engine.specs.Claims.{SameStatic}
-use Rattle.engine.specs.Move.{Input, Fired, fires, unless-clash, clashes, walked, looked, fired-of, judged, settle, move, reads-of, reads, dynamic-among, extra-reads}
-use Rattle.engine.proofs.Look.{Agree, local, seen-local}
+use Rattle.engine.specs.Move.{Input, Fired, fires, unless-clash, clashes, walked, walk-reads, fired-of, fire-or-clash, settle, move, reads-of, reads, dynamic-among, extra-reads}
+use Rattle.engine.proofs.Reader.{Agree, local, seen-local}
 
 -- past the last location both give 0
 static-agree : {B : Program} {c d : List ℕ} → SameStatic B c d → (l : ℕ) → dynamic-at B l ≡ false → at c l ≡ at d l
@@ -46,40 +46,40 @@ has-dynamic B (k ∷ ls) l h e = go (eqb k l) refl h (has-dynamic B ls l)
     go false q h r = keep (dynamic-at B k) (r h e)
 
 -- what the walk looks at is read, whatever becomes of the move
-looked-read : (B : Program) (c : List ℕ) (i : Input) (l : ℕ) → has (looked B c i) l ≡ true → has (reads B c i) l ≡ true
-unfolding reads move settle judged
+looked-read : (B : Program) (c : List ℕ) (i : Input) (l : ℕ) → has (walk-reads B c i) l ≡ true → has (reads B c i) l ≡ true
+unfolding reads move settle fire-or-clash
 looked-read B c i l h = go (walked B c i)
   where
-    judge : (o : Found) (f : Fired) → has (f .reads) l ≡ true → has (reads-of (looked B c i) (unless-clash o (fires f))) l ≡ true
+    judge : (o : Found) (f : Fired) → has (f .reads) l ≡ true → has (reads-of (walk-reads B c i) (unless-clash o (fires f))) l ≡ true
     judge Nowhere f m = m
     judge (Here k) f m = h
 
-    go : (w : Walked) → has (reads-of (looked B c i) (settle B c (looked B c i) w)) l ≡ true
-    go (met n q) = h
-    go (going w) =
-        let f = fired-of B c (looked B c i) (w .made) in
-        judge (least (clashes (f .instructions) (f .updates)) (length (f .updates))) f (rw (has-append (looked B c i) (extra-reads B c (w .made) (f .updates)) l, h))
+    go : (w : Walked) → has (reads-of (walk-reads B c i) (settle B c (walk-reads B c i) w)) l ≡ true
+    go (refused-at n q) = h
+    go (walking w) =
+        let f = fired-of B c (walk-reads B c i) (w .made) in
+        judge (least (clashes (f .instructions) (f .updates)) (length (f .updates))) f (rw (has-append (walk-reads B c i) (extra-reads B c (w .made) (f .updates)) l, h))
 
 -- none of 11 to 14, 18 and 19 met: the same instructions, and the same places looked at
-pub same-instructions : (B : Program) (c d : List ℕ) (i : Input) → SameStatic B c d → (w : Walk) → walked B c i ≡ going w
-    → ((l : ℕ) → has (reads B c i) l ≡ true → at c l ≡ at d l) → (walked B d i ≡ going w) × (looked B d i ≡ looked B c i)
+pub same-instructions : (B : Program) (c d : List ℕ) (i : Input) → SameStatic B c d → (w : Walk) → walked B c i ≡ walking w
+    → ((l : ℕ) → has (reads B c i) l ≡ true → at c l ≡ at d l) → (walked B d i ≡ walking w) × (walk-reads B d i ≡ walk-reads B c i)
 same-instructions B c d i s w e h =
     (sym (local c d (agent-walk B (i .agent) (i .picks)) agree) ∙ e, ap (dynamic-among B) (sym (seen-local c d (agent-walk B (i .agent) (i .picks)) agree)))
   where
-    by : (l : ℕ) → has (seen c (agent-walk B (i .agent) (i .picks))) l ≡ true → (b : Bool) → dynamic-at B l ≡ b → at c l ≡ at d l
+    by : (l : ℕ) → has (locations-read c (agent-walk B (i .agent) (i .picks))) l ≡ true → (b : Bool) → dynamic-at B l ≡ b → at c l ≡ at d l
     by l m false q = static-agree s l q
-    by l m true q = h l (looked-read B c i l (has-dynamic B (seen c (agent-walk B (i .agent) (i .picks))) l m q))
+    by l m true q = h l (looked-read B c i l (has-dynamic B (locations-read c (agent-walk B (i .agent) (i .picks))) l m q))
 
-    agree : Agree c d (seen c (agent-walk B (i .agent) (i .picks)))
+    agree : Agree c d (locations-read c (agent-walk B (i .agent) (i .picks)))
     agree l m = by l m (dynamic-at B l) refl
 
 -- One met: the same one, if Reserve, which is function 0, is the same throughout. The walk looks at Reserve for 12 and 13 too, so of what it reads
 -- the contents need only agree past Reserve.
-pub same-refusal : (B : Program) (c d : List ℕ) (i : Input) → SameStatic B c d → (n q : ℕ) → walked B c i ≡ met n q
-    → ((l : ℕ) → B .E ≤ l → has (reads B c i) l ≡ true → at c l ≡ at d l) → ((x : ℕ) → x < B .E → at c x ≡ at d x) → walked B d i ≡ met n q
+pub same-refusal : (B : Program) (c d : List ℕ) (i : Input) → SameStatic B c d → (n q : ℕ) → walked B c i ≡ refused-at n q
+    → ((l : ℕ) → B .E ≤ l → has (reads B c i) l ≡ true → at c l ≡ at d l) → ((x : ℕ) → x < B .E → at c x ≡ at d x) → walked B d i ≡ refused-at n q
 same-refusal B c d i s n q e h r = sym (local c d (agent-walk B (i .agent) (i .picks)) (λ l m. by l m (dynamic-at B l) refl)) ∙ e
   where
-    by : (l : ℕ) → has (seen c (agent-walk B (i .agent) (i .picks))) l ≡ true → (b : Bool) → dynamic-at B l ≡ b → at c l ≡ at d l
+    by : (l : ℕ) → has (locations-read c (agent-walk B (i .agent) (i .picks))) l ≡ true → (b : Bool) → dynamic-at B l ≡ b → at c l ≡ at d l
     by l m false p = static-agree s l p
     by l m true p = dite (decLt l (B .E)) (r l)
-        (λ (z : ¬ (l < B .E)). h l (omega arith) (looked-read B c i l (has-dynamic B (seen c (agent-walk B (i .agent) (i .picks))) l m p)))
+        (λ (z : ¬ (l < B .E)). h l (omega arith) (looked-read B c i l (has-dynamic B (locations-read c (agent-walk B (i .agent) (i .picks))) l m p)))

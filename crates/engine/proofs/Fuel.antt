@@ -13,7 +13,7 @@ use Rattle.book.specs.Kinds.{sort, is-node}
 use Rattle.book.specs.Sound.{Lawful}
 use Rattle.book.proofs.Depth.{depth-at, operand, root-depth, operand-depth, depth-most}
 use Rattle.engine.specs.Term.{at1, negated, tree, term-at, Shape, an-element, a-variable, the-agent, of-none, of-one, of-two, a-not, no-term, a-join, shape, shapes}
-use Rattle.engine.specs.Rule.{Rule, for-all, import, free, choose, rule-tree, rule-at, RuleShape, a-skip, an-assign, a-pair, a-test, a-bind, a-for-all, an-import, a-free, a-choose, no-rule, rule-shape, rule-shapes}
+use Rattle.engine.specs.Rule.{Rule, for-all, import, release, choose, rule-tree, rule-at, RuleShape, a-skip, an-assign, a-pair, a-test, a-bind, a-for-all, an-import, a-release, a-choose, no-rule, rule-shape, rule-shapes}
 
 module _ (B : Program) (ok : Lawful B) where
   abbrev ns : ℕ → Node
@@ -93,7 +93,7 @@ module _ (B : Program) (ok : Lawful B) where
   Parts n a-bind = Below n (ns n .b) × Below n (ns n .c)
   Parts n a-for-all = Below n (ns n .c)
   Parts n an-import = Below n (ns n .c)
-  Parts n a-free = Below n (ns n .a)
+  Parts n a-release = Below n (ns n .a)
   Parts n a-choose = Below n (ns n .c)
   Parts n a-skip = Unit {0}
   Parts n no-rule = Unit {0}
@@ -140,7 +140,7 @@ module _ (B : Program) (ok : Lawful B) where
       go a-bind b = deep (ns n .b) (b .0)
       go a-for-all b = deep (ns n .c) b
       go an-import b = deep (ns n .c) b
-      go a-free b = deep (ns n .a) b
+      go a-release b = deep (ns n .a) b
       go a-choose b = deep (ns n .c) b
       go a-skip b = refl
       go no-rule b = refl
@@ -156,7 +156,7 @@ module _ (B : Program) (ok : Lawful B) where
       go a-bind b t r = rw (t (ns n .b) (b .0), r (ns n .c) (b .1))
       go a-for-all b t r = ap (for-all (ns n .a) (ns n .b)) (r (ns n .c) b)
       go an-import b t r = ap (import n (ns n .a) (ns n .b)) (r (ns n .c) b)
-      go a-free b t r = ap (free n) (t (ns n .a) b)
+      go a-release b t r = ap (release n) (t (ns n .a) b)
       go a-choose b t r = ap (choose n (ns n .a) (ns n .b)) (r (ns n .c) b)
       go a-skip b t r = refl
       go no-rule b t r = refl

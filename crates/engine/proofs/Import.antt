@@ -10,22 +10,22 @@ use Rattle.text.specs.Words.{if_then_else_, table-from}
 use Rattle.text.specs.declared.Found.the-variants.{Here}
 use Rattle.book.specs.Book.{Program, true-element, agent-at, node-at}
 use Rattle.book.specs.Sound.{at}
-use Rattle.engine.specs.Look.{done, gives, seen, _>>=_}
+use Rattle.engine.specs.Reader.{done, value-in, locations-read, _>>=_}
 use Rattle.engine.specs.Rule.{Rule, import, Walk, _then_, lowest, import-of, all-taken, walk, agent-walk, rule-at, no-variables}
-use Rattle.engine.proofs.Look.{seen-bind}
+use Rattle.engine.proofs.Reader.{seen-bind}
 
 found-here : (x y : ℕ) → Here x ≡ Here y → x ≡ y
 found-here x y e = cc
 
 -- the labels from x to y, one by one
-pub lowest-reads : (c : List ℕ) (x n y : ℕ) → gives c (lowest x n) ≡ Here y → (x ≤ y) × (y < x + n) × (seen c (lowest x n) ≡ table-from (λ l. l) x (suc y - x))
-unfolding lowest gives seen _>>=_ table-from
+pub lowest-reads : (c : List ℕ) (x n y : ℕ) → value-in c (lowest x n) ≡ Here y → (x ≤ y) × (y < x + n) × (locations-read c (lowest x n) ≡ table-from (λ l. l) x (suc y - x))
+unfolding lowest value-in locations-read _>>=_ table-from
 lowest-reads c x zero y e = let z : _≡_ {A = ℕ} 0 1 = cc in absurd (omega arith)
 lowest-reads c x (suc n) y e = go (eqb (at c x) true-element) e (lowest-reads c (suc x) n y)
   where
-    go : (b : Bool) → gives c (if b then done (Here x) else lowest (suc x) n) ≡ Here y
-        → (gives c (lowest (suc x) n) ≡ Here y → (suc x ≤ y) × (y < suc x + n) × (seen c (lowest (suc x) n) ≡ table-from (λ l. l) (suc x) (suc y - suc x)))
-        → (x ≤ y) × (y < x + suc n) × (x ∷ seen c (if b then done (Here x) else lowest (suc x) n) ≡ table-from (λ l. l) x (suc y - x))
+    go : (b : Bool) → value-in c (if b then done (Here x) else lowest (suc x) n) ≡ Here y
+        → (value-in c (lowest (suc x) n) ≡ Here y → (suc x ≤ y) × (y < suc x + n) × (locations-read c (lowest (suc x) n) ≡ table-from (λ l. l) (suc x) (suc y - suc x)))
+        → (x ≤ y) × (y < x + suc n) × (x ∷ locations-read c (if b then done (Here x) else lowest (suc x) n) ≡ table-from (λ l. l) x (suc y - x))
     go true e r =
         let z : x ≡ y = found-here x y e in
         let k : suc y - x ≡ 1 = omega arith in
@@ -37,9 +37,9 @@ lowest-reads c x (suc n) y e = go (eqb (at c x) true-element) e (lowest-reads c 
         (omega arith, omega (arith, t .1), rw k (ap (λ (s : List ℕ). x ∷ s) (t .2)))
 
 -- so an import that finds y looks at Reserve from `next` to y, and then goes on with `next` past y
-pub import-reads : (B : Program) (c : List ℕ) (me n x u : ℕ) (r : Rule) (vs : List ℕ) (w : Walk) (y : ℕ) → gives c (lowest (w .next) (B .E - w .next)) ≡ Here y
-    → seen c (walk B me (import n x u r) vs w)
-    ≡ table-from (λ l. l) (w .next) (suc y - w .next) ++ seen c (import-of B n u w (λ z. walk B me r (set vs x z)) (Here y))
+pub import-reads : (B : Program) (c : List ℕ) (me n x u : ℕ) (r : Rule) (vs : List ℕ) (w : Walk) (y : ℕ) → value-in c (lowest (w .next) (B .E - w .next)) ≡ Here y
+    → locations-read c (walk B me (import n x u r) vs w)
+    ≡ table-from (λ l. l) (w .next) (suc y - w .next) ++ locations-read c (import-of B n u w (λ z. walk B me r (set vs x z)) (Here y))
 unfolding walk
 import-reads B c me n x u r vs w y e =
     seen-bind c (lowest (w .next) (B .E - w .next)) (λ o. import-of B n u w (λ z. walk B me r (set vs x z)) o)

@@ -1,4 +1,4 @@
-pub mod Look
+pub mod Reader
 pub mod Seen
 pub mod Import
 pub mod Picks

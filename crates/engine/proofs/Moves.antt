@@ -20,10 +20,10 @@ use Rattle.book.specs.Sound.{Lawful, at, Argument, OnRoll, Sound}
 use Rattle.book.proofs.Places.{roll-place, roll-inside, roll-argument, default-low}
 use Rattle.engine.specs.declared.Instruction.{Instruction}
 use Rattle.engine.specs.declared.Instruction.the-variants.{Update, Release}
-use Rattle.engine.specs.Look.{done, gives}
-use Rattle.engine.specs.Rule.{Walk, Walked, going, met, _then_, all-taken, walk, agent-walk, rule-at, no-variables}
-use Rattle.engine.specs.Move.{values, updates, values-at, released, other, two-values, clashes, idle, new-value, fire, is-some, writes, append-from, release-reads, changed-reads, extra-reads, Input, Fired, fires, unless-clash, walked, looked, fired-of, judged, settle, move, reads}
-use Rattle.engine.proofs.Look.{gives-bind}
+use Rattle.engine.specs.Reader.{done, value-in}
+use Rattle.engine.specs.Rule.{Walk, Walked, walking, refused-at, _then_, all-taken, walk, agent-walk, rule-at, no-variables}
+use Rattle.engine.specs.Move.{values, updates, values-at, released, other, two-values, clashes, idle, new-value, fire, is-some, writes, append-from, release-reads, changed-reads, extra-reads, Input, Fired, fires, unless-clash, walked, walk-reads, fired-of, fire-or-clash, settle, move, reads}
+use Rattle.engine.proofs.Reader.{gives-bind}
 use Rattle.engine.proofs.EqualReads.{has-append}
 use Rattle.engine.proofs.Append.{append-has}
 use Rattle.engine.proofs.Extra.{taken-has}
@@ -42,8 +42,8 @@ fire-length (ws ∷ us) (v ∷ c) = ap suc (fire-length us c)
 
 pub record Firing (B : Program) (c : List ℕ) (i : Input) (f : Fired) : Type 0 where
   pub walk : Walk
-  pub went : walked B c i ≡ going walk
-  pub gave : fired-of B c (looked B c i) (walk .made) ≡ f
+  pub went : walked B c i ≡ walking walk
+  pub gave : fired-of B c (walk-reads B c i) (walk .made) ≡ f
   pub no-clash : least (clashes (f .instructions) (f .updates)) (length (f .updates)) ≡ Nowhere
 
 settled : (o : Found) (g f : Fired) → unless-clash o (fires g) ≡ fires f → (o ≡ Nowhere) × (g ≡ f)
@@ -51,13 +51,13 @@ settled (Here l) g f e = let z : _≡_ {A = ℕ} 0 1 = cc in absurd (omega arith
 settled Nowhere g f e = (refl, cc)
 
 pub firing : (B : Program) (c : List ℕ) (i : Input) (f : Fired) → move B c i ≡ fires f → Firing B c i f
-unfolding move settle judged
+unfolding move settle fire-or-clash
 firing B c i f e = go (walked B c i) refl e
   where
-    go : (o : Walked) → walked B c i ≡ o → settle B c (looked B c i) o ≡ fires f → Firing B c i f
-    go (met n q) p h = let z : _≡_ {A = ℕ} 0 1 = cc in absurd (omega arith)
-    go (going w) p h =
-        let g = fired-of B c (looked B c i) (w .made) in
+    go : (o : Walked) → walked B c i ≡ o → settle B c (walk-reads B c i) o ≡ fires f → Firing B c i f
+    go (refused-at n q) p h = let z : _≡_ {A = ℕ} 0 1 = cc in absurd (omega arith)
+    go (walking w) p h =
+        let g = fired-of B c (walk-reads B c i) (w .made) in
         let s = settled (least (clashes (g .instructions) (g .updates)) (length (g .updates))) g f h in
         record {
           walk = w;
@@ -76,8 +76,8 @@ module _ (B : Program) (c : List ℕ) (i : Input) (f : Fired) (moves : move B c 
   unfolding reads
   fired-reads = rw moves
 
-  reads-parts : f .reads ≡ looked B c i ++ extra-reads B c (f .instructions) (f .updates)
-  reads-parts = subst (λ (g : Fired). g .reads ≡ looked B c i ++ extra-reads B c (g .instructions) (g .updates)) (firing B c i f moves .gave) refl
+  reads-parts : f .reads ≡ walk-reads B c i ++ extra-reads B c (f .instructions) (f .updates)
+  reads-parts = subst (λ (g : Fired). g .reads ≡ walk-reads B c i ++ extra-reads B c (g .instructions) (g .updates)) (firing B c i f moves .gave) refl
 
   -- no location is given two values
   pub one-value : (l v : ℕ) → has (values-at (f .updates) l) v ≡ true → new-value (at c l) (values-at (f .updates) l) ≡ v
@@ -111,8 +111,8 @@ held-inside B B-ok c c-ok l p = dite (decLt l (L B)) (λ h. h)
     absurd (omega (arith, B-ok .low)))
 
 module _ (B : Program) (B-ok : Lawful B) (c : List ℕ) (c-ok : Sound B c) (i : Input) where
-  walked-made : (w : Walk) → walked B c i ≡ going w → Made B c w
-  unfolding agent-walk gives
+  walked-made : (w : Walk) → walked B c i ≡ walking w → Made B c w
+  unfolding agent-walk value-in
   walked-made w e =
       let g = agent-at B (i .agent) in
       let o = walk B (g .element) (rule-at (node-at B) (g .root)) no-variables (record { made = []; next = B .P; left = i .picks }) in
@@ -120,12 +120,12 @@ module _ (B : Program) (B-ok : Lawful B) (c : List ℕ) (c-ok : Sound B c) (i : 
       (proper-rule B B-ok (g .root)) (λ v. rw (no-value v) (low-clean B c B-ok c-ok (B .P) 0 (omega (arith, B-ok .low))))
       (record { from = omega arith; upto = B-ok .high; all = tt; taken = λ x o h. absurd (omega (arith, c-ok .labels x o)) }) in
       let t : Comes B c (B .P) (walked B c i) = rw (gives-bind c o (λ x. done (x then λ v. all-taken (g .root) (v .left) v)))
-      (end (gives c o) (g .root) r) in
+      (end (value-in c o) (g .root) r) in
       subst (Comes B c (B .P)) e t .1
     where
       end : (o : Walked) (q : ℕ) → Comes B c (B .P) o → Comes B c (B .P) (o then λ v. all-taken q (v .left) v)
-      end (met n p) q h = tt
-      end (going v) q h = taken-comes B c (B .P) q (v .left) v h
+      end (refused-at n p) q h = tt
+      end (walking v) q h = taken-comes B c (B .P) q (v .left) v h
 
   module _ (f : Fired) (moves : move B c i ≡ fires f) where
     s : Firing B c i f
@@ -360,12 +360,12 @@ module _ (B : Program) (B-ok : Lawful B) (c : List ℕ) (c-ok : Sound B c) (i : 
         let m = append-has (changed-reads B c (f .updates)) 0 (L B) l (at c l) (omega arith) (omega (arith, held-inside B B-ok c c-ok l p)) one in
         rw (
           reads-parts B c i f moves,
-          has-append (looked B c i) _ (at c l),
+          has-append (walk-reads B c i) _ (at c l),
           has-append (append-from (release-reads B c (released (f .instructions))) 0 (L B)) _ (at c l),
           m,
           or-true (has (append-from (release-reads B c (released (f .instructions))) 0 (L B)) (at c l)),
         )
-        (or-true (has (looked B c i) (at c l)))
+        (or-true (has (walk-reads B c i) (at c l)))
 
 -- ---- an idle move
 

@@ -14,16 +14,16 @@ use Rattle.text.specs.declared.Found.{Found}
 use Rattle.text.specs.declared.Found.the-variants.{Nowhere, Here}
 use Rattle.text.proofs.Words.{length-table-from, least-here}
 use Rattle.book.specs.Book.{Program, L, true-element, false-element, reserve, location, no-node, node-at, agent-at}
-use Rattle.book.specs.Around.{most-depth}
+use Rattle.book.specs.Scopes.{most-depth}
 use Rattle.book.specs.declared.Agent.{Agent}
 use Rattle.engine.specs.declared.Instruction.{Instruction}
 use Rattle.engine.specs.declared.Instruction.the-variants.{Update, Release}
-use Rattle.engine.specs.Look.{Look, gives}
+use Rattle.engine.specs.Reader.{Reader, value-in}
 use Rattle.engine.specs.Term.{eval, target}
-use Rattle.engine.specs.Rule.{Rule, skip, assign, pair, test, bind, for-all, import, free, choose, Walk, Walked, going, met, _then_, after, most-instructions, give, take-label, take-pick, refuse-if, members, each, lowest, import-of, universe-at, choose-of, all-taken, not-boolean, not-free, not-member, walk, rule-tree, rule-at, RuleShape, a-skip, an-assign, a-pair, a-test, a-bind, a-for-all, an-import, a-free, a-choose, no-rule, rule-shape, no-variables}
-use Rattle.engine.specs.Move.{Input, Fired, Moved, fires, stopped, unless-clash, updates, clashes, fired-of, walked, looked, judged, settle, move}
+use Rattle.engine.specs.Rule.{Rule, skip, assign, pair, test, bind, for-all, import, release, choose, Walk, Walked, walking, refused-at, _then_, after, most-instructions, emit, take-label, take-pick, refuse-if, members, each, lowest, import-of, universe-at, choose-of, all-taken, not-boolean, unreleasable, not-member, walk, rule-tree, rule-at, RuleShape, a-skip, an-assign, a-pair, a-test, a-bind, a-for-all, an-import, a-release, a-choose, no-rule, rule-shape, no-variables}
+use Rattle.engine.specs.Move.{Input, Fired, Moved, fires, move-refused, unless-clash, updates, clashes, fired-of, walked, walk-reads, fire-or-clash, settle, move}
 use Rattle.engine.specs.Claims.{Inside}
-use Rattle.engine.proofs.Look.{gives-bind}
+use Rattle.engine.proofs.Reader.{gives-bind}
 use Rattle.engine.proofs.Picks.{rule-walk, walked-ends}
 
 -- ---- the nodes that a rule can be refused at
@@ -37,7 +37,7 @@ Below N (test t r s) = Below N r × Below N s
 Below N (bind x t r) = Below N r
 Below N (for-all x u r) = Below N r
 Below N (import n x u r) = (n < N) × Below N r
-Below N (free n t) = n < N
+Below N (release n t) = n < N
 Below N (choose n x u r) = (n < N) × Below N r
 
 -- those of a tree are nodes of the book: past its nodes there is no rule
@@ -58,7 +58,7 @@ tree-below B (suc (suc d)) n =
     go h a-bind r = r (node-at B n .c)
     go h a-for-all r = r (node-at B n .c)
     go h an-import r = (h, r (node-at B n .c))
-    go h a-free r = h
+    go h a-release r = h
     go h a-choose r = (h, r (node-at B n .c))
     go h a-skip r = tt
     go h no-rule r = tt
@@ -66,8 +66,8 @@ tree-below B (suc (suc d)) n =
 -- ---- 11 to 14, 18 and 19
 
 abbrev Says : ℕ → Walked → Type 0
-Says N (going w) = Unit {0}
-Says N (met n q) = Inside n × (q ≤ N)
+Says N (walking w) = Unit {0}
+Says N (refused-at n q) = Inside n × (q ≤ N)
 
 inside-small : (n : ℕ) → 11 ≤ n → n ≤ 15 → Inside n
 inside-small n a b = (a, omega arith, (λ e. omega arith), (λ e. omega arith))
@@ -75,48 +75,48 @@ inside-small n a b = (a, omega arith, (λ e. omega arith), (λ e. omega arith))
 inside-large : (n : ℕ) → 18 ≤ n → n ≤ 19 → Inside n
 inside-large n a b = (omega arith, b, (λ e. omega arith), (λ e. omega arith))
 
-give-says : (N n : ℕ) (i : Instruction) (w : Walk) → n < N → Says N (give n i w)
+give-says : (N n : ℕ) (i : Instruction) (w : Walk) → n < N → Says N (emit n i w)
 give-says N n i w h = go (ltb (length (w .made)) most-instructions) _
   where
-    go : (b : Bool) (v : Walk) → Says N (if b then going v else met list-full n)
+    go : (b : Bool) (v : Walk) → Says N (if b then walking v else refused-at list-full n)
     go true v = tt
     go false v = (inside-small 14 (omega arith) (omega arith), omega arith)
 
 then-says : (N : ℕ) (o : Walked) (f : Walk → Walked) → Says N o → ((w : Walk) → Says N (f w)) → Says N (o then f)
-then-says N (going w) f h k = k w
-then-says N (met n q) f h k = h
+then-says N (walking w) f h k = k w
+then-says N (refused-at n q) f h k = h
 
 refuse-says : (N : ℕ) (b : Bool) (r n : ℕ) (w : Walk) → Inside r × (n ≤ N) → Says N (refuse-if b r n w)
 refuse-says N true r n w h = h
 refuse-says N false r n w h = tt
 
 module _ (N : ℕ) (B : Program) (c : List ℕ) (me : ℕ) where
-  after-says : (o : Walked) (f : Walk → Look Walked) → Says N o → ((w : Walk) → Says N (gives c (f w))) → Says N (gives c (after o f))
-  unfolding gives
-  after-says (going w) f h k = k w
-  after-says (met n q) f h k = h
+  after-says : (o : Walked) (f : Walk → Reader Walked) → Says N o → ((w : Walk) → Says N (value-in c (f w))) → Says N (value-in c (after o f))
+  unfolding value-in
+  after-says (walking w) f h k = k w
+  after-says (refused-at n q) f h k = h
 
-  each-says : (f : ℕ → Walk → Look Walked) (ys : List ℕ) (w : Walk) → ((y : ℕ) (v : Walk) → Says N (gives c (f y v))) → Says N (gives c (each f ys w))
-  unfolding each gives
+  each-says : (f : ℕ → Walk → Reader Walked) (ys : List ℕ) (w : Walk) → ((y : ℕ) (v : Walk) → Says N (value-in c (f y v))) → Says N (value-in c (each f ys w))
+  unfolding each value-in
   each-says f [] w k = tt
-  each-says f (y ∷ ys) w k = rw (gives-bind c (f y w) (λ o. after o (each f ys))) (after-says (gives c (f y w)) (each f ys) (k y w) (λ v. each-says f ys v k))
+  each-says f (y ∷ ys) w k = rw (gives-bind c (f y w) (λ o. after o (each f ys))) (after-says (value-in c (f y w)) (each f ys) (k y w) (λ v. each-says f ys v k))
 
-  import-says : (n u : ℕ) (w : Walk) (body : ℕ → Walk → Look Walked) (o : Found) → n < N → ((y : ℕ) (v : Walk) → Says N (gives c (body y v)))
-      → Says N (gives c (import-of B n u w body o))
-  unfolding gives
+  import-says : (n u : ℕ) (w : Walk) (body : ℕ → Walk → Reader Walked) (o : Found) → n < N → ((y : ℕ) (v : Walk) → Says N (value-in c (body y v)))
+      → Says N (value-in c (import-of B n u w body o))
+  unfolding value-in
   import-says n u w body Nowhere h k = (inside-small 13 (omega arith) (omega arith), omega arith)
   import-says n u w body (Here x) h k =
-      after-says (give n (Update (reserve x) false-element) (take-label x w) then give n (Update (location B u x 0) true-element)) (body x)
-      (then-says N (give n (Update (reserve x) false-element) (take-label x w)) (give n (Update (location B u x 0) true-element))
+      after-says (emit n (Update (reserve x) false-element) (take-label x w) then emit n (Update (location B u x 0) true-element)) (body x)
+      (then-says N (emit n (Update (reserve x) false-element) (take-label x w)) (emit n (Update (location B u x 0) true-element))
       (give-says N n (Update (reserve x) false-element) (take-label x w) h) (λ v. give-says N n (Update (location B u x 0) true-element) v h)) (k x)
 
   -- the pick is refused or the body goes on with it
-  choose-says : (n u : ℕ) (w : Walk) (body : ℕ → Walk → Look Walked) (ys : List ℕ) → n < N → ((y : ℕ) (v : Walk) → Says N (gives c (body y v)))
-      → Says N (gives c (choose-of B n u w body ys))
-  unfolding gives
+  choose-says : (n u : ℕ) (w : Walk) (body : ℕ → Walk → Reader Walked) (ys : List ℕ) → n < N → ((y : ℕ) (v : Walk) → Says N (value-in c (body y v)))
+      → Says N (value-in c (choose-of B n u w body ys))
+  unfolding value-in
   choose-says n u w body [] h k = (inside-large 19 (omega arith) (omega arith), omega arith)
   choose-says n u w body (y ∷ ys) h k =
-      let v = gives c (universe-at B u y) in
+      let v = value-in c (universe-at B u y) in
       rw (gives-bind c (universe-at B u y) (λ v. after (refuse-if (not-member v) not-in-universe n (take-pick ys w)) (body y)))
       (after-says (refuse-if (not-member v) not-in-universe n (take-pick ys w)) (body y)
       (refuse-says N (not-member v) not-in-universe n (take-pick ys w) (inside-large 18 (omega arith) (omega arith), omega arith)) (k y))
@@ -125,37 +125,37 @@ module _ (N : ℕ) (B : Program) (c : List ℕ) (me : ℕ) where
   taken-says q [] w h = tt
   taken-says q (y ∷ ys) w h = (inside-large 19 (omega arith) (omega arith), h)
 
-  if-says : (b : Bool) (p q : Look Walked) → Says N (gives c p) → Says N (gives c q) → Says N (gives c (if b then p else q))
+  if-says : (b : Bool) (p q : Reader Walked) → Says N (value-in c p) → Says N (value-in c q) → Says N (value-in c (if b then p else q))
   if-says true p q f g = f
   if-says false p q f g = g
 
-  walk-says : (r : Rule) (vs : List ℕ) (w : Walk) → Below N r → Says N (gives c (walk B me r vs w))
-  unfolding walk gives
+  walk-says : (r : Rule) (vs : List ℕ) (w : Walk) → Below N r → Says N (value-in c (walk B me r vs w))
+  unfolding walk value-in
   walk-says skip vs w h = tt
   walk-says (assign n t u) vs w h =
       rw (gives-bind c (target B me vs t) _, gives-bind c (eval B me vs u) _)
-      (then-says N (refuse-if (not-boolean B t (gives c (eval B me vs u))) non-boolean n w)
-      (give n (Update (gives c (target B me vs t)) (gives c (eval B me vs u))))
-      (refuse-says N (not-boolean B t (gives c (eval B me vs u))) non-boolean n w (inside-small 11 (omega arith) (omega arith), omega arith))
-      (λ v. give-says N n (Update (gives c (target B me vs t)) (gives c (eval B me vs u))) v h))
+      (then-says N (refuse-if (not-boolean B t (value-in c (eval B me vs u))) non-boolean n w)
+      (emit n (Update (value-in c (target B me vs t)) (value-in c (eval B me vs u))))
+      (refuse-says N (not-boolean B t (value-in c (eval B me vs u))) non-boolean n w (inside-small 11 (omega arith) (omega arith), omega arith))
+      (λ v. give-says N n (Update (value-in c (target B me vs t)) (value-in c (eval B me vs u))) v h))
   walk-says (pair r s) vs w h = rw (gives-bind c (walk B me r vs w) (λ o. after o (walk B me s vs)))
-      (after-says (gives c (walk B me r vs w)) (walk B me s vs) (walk-says r vs w (h .0)) (λ v. walk-says s vs v (h .1)))
+      (after-says (value-in c (walk B me r vs w)) (walk B me s vs) (walk-says r vs w (h .0)) (λ v. walk-says s vs v (h .1)))
   walk-says (test t r s) vs w h =
       rw (gives-bind c (eval B me vs t) (λ x. if eqb x true-element then walk B me r vs w else walk B me s vs w))
-      (if-says (eqb (gives c (eval B me vs t)) true-element) (walk B me r vs w) (walk B me s vs w) (walk-says r vs w (h .0)) (walk-says s vs w (h .1)))
-  walk-says (bind x t r) vs w h = rw (gives-bind c (eval B me vs t) (λ y. walk B me r (set vs x y) w)) (walk-says r (set vs x (gives c (eval B me vs t))) w h)
+      (if-says (eqb (value-in c (eval B me vs t)) true-element) (walk B me r vs w) (walk B me s vs w) (walk-says r vs w (h .0)) (walk-says s vs w (h .1)))
+  walk-says (bind x t r) vs w h = rw (gives-bind c (eval B me vs t) (λ y. walk B me r (set vs x y) w)) (walk-says r (set vs x (value-in c (eval B me vs t))) w h)
   walk-says (for-all x u r) vs w h =
       rw (gives-bind c (members B u 0 (B .E)) (λ ys. each (λ y. walk B me r (set vs x y)) ys w))
-      (each-says (λ y. walk B me r (set vs x y)) (gives c (members B u 0 (B .E))) w (λ y v. walk-says r (set vs x y) v h))
+      (each-says (λ y. walk B me r (set vs x y)) (value-in c (members B u 0 (B .E))) w (λ y v. walk-says r (set vs x y) v h))
   walk-says (import n x u r) vs w h =
       rw (gives-bind c (lowest (w .next) (B .E - w .next)) (λ o. import-of B n u w (λ y. walk B me r (set vs x y)) o))
-      (import-says n u w (λ y. walk B me r (set vs x y)) (gives c (lowest (w .next) (B .E - w .next))) (h .0) (λ y v. walk-says r (set vs x y) v (h .1)))
-  walk-says (free n t) vs w h =
+      (import-says n u w (λ y. walk B me r (set vs x y)) (value-in c (lowest (w .next) (B .E - w .next))) (h .0) (λ y v. walk-says r (set vs x y) v (h .1)))
+  walk-says (release n t) vs w h =
       rw (gives-bind c (eval B me vs t) _)
-      (then-says N (refuse-if (not-free B (gives c (eval B me vs t)) (getD c (gives c (eval B me vs t)) 0)) not-releasable n w)
-      (give n (Release (gives c (eval B me vs t))))
-      (refuse-says N (not-free B (gives c (eval B me vs t)) (getD c (gives c (eval B me vs t)) 0)) not-releasable n w (inside-small 12 (omega arith) (omega arith), omega arith))
-      (λ v. give-says N n (Release (gives c (eval B me vs t))) v h))
+      (then-says N (refuse-if (unreleasable B (value-in c (eval B me vs t)) (getD c (value-in c (eval B me vs t)) 0)) not-releasable n w)
+      (emit n (Release (value-in c (eval B me vs t))))
+      (refuse-says N (unreleasable B (value-in c (eval B me vs t)) (getD c (value-in c (eval B me vs t)) 0)) not-releasable n w (inside-small 12 (omega arith) (omega arith), omega arith))
+      (λ v. give-says N n (Release (value-in c (eval B me vs t))) v h))
   walk-says (choose n x u r) vs w h =
       choose-says n u w (λ y. walk B me r (set vs x y)) (w .left) (h .0) (λ y v. walk-says r (set vs x y) v (h .1))
 
@@ -164,7 +164,7 @@ module _ (N : ℕ) (B : Program) (c : List ℕ) (me : ℕ) where
 -- q is at most N
 abbrev Stops : ℕ → Moved → Type 0
 Stops N (fires f) = Unit {0}
-Stops N (stopped n q) = Inside n × (q ≤ N)
+Stops N (move-refused n q) = Inside n × (q ≤ N)
 
 -- the q of a move's refusals is at most this
 abbrev pub last-place : Program → Input → ℕ
@@ -175,34 +175,34 @@ module _ (B : Program) (c : List ℕ) (i : Input) where
   g = agent-at B (i .agent)
 
   widen : (N M : ℕ) (o : Walked) → N ≤ M → Says N o → Says M o
-  widen N M (going w) h k = tt
-  widen N M (met n q) h k = (k .0, omega (arith, k .1))
+  widen N M (walking w) h k = tt
+  widen N M (refused-at n q) h k = (k .0, omega (arith, k .1))
 
   walk-stops : Says (last-place B i) (walked B c i)
   walk-stops =
       let M = last-place B i in
       let inner = walk-says (length (B .nodes)) B c (g .element) (rule-at (node-at B) (g .root)) no-variables
       (record { made = []; next = B .P; left = i .picks }) (tree-below B most-depth (g .root)) in
-      let o = gives c (rule-walk B i) in
+      let o = value-in c (rule-walk B i) in
       subst (Says M) (sym (walked-ends B c i))
       (then-says M o (λ w. all-taken (g .root) (w .left) w) (widen (length (B .nodes)) M o (omega arith) inner)
       (λ w. taken-says M B c (g .element) (g .root) (w .left) w (omega arith)))
 
   move-stops : Stops (last-place B i) (move B c i)
-  unfolding move settle judged updates
+  unfolding move settle fire-or-clash updates
   move-stops = go (walked B c i) walk-stops
     where
       settled : (o : Found) (f : Fired) → ((l : ℕ) → o ≡ Here l → l < L B) → Stops (last-place B i) (unless-clash o (fires f))
       settled (Here l) f h = (inside-small 15 (omega arith) (omega arith), omega (arith, h l refl))
       settled Nowhere f h = tt
 
-      go : (o : Walked) → Says (last-place B i) o → Stops (last-place B i) (settle B c (looked B c i) o)
-      go (met n q) h = h
-      go (going w) h =
-          let f = fired-of B c (looked B c i) (w .made) in
+      go : (o : Walked) → Says (last-place B i) o → Stops (last-place B i) (settle B c (walk-reads B c i) o)
+      go (refused-at n q) h = h
+      go (walking w) h =
+          let f = fired-of B c (walk-reads B c i) (w .made) in
           let bad = clashes (f .instructions) (f .updates) in
           let long : length (f .updates) ≡ L B = length-table-from _ 0 (L B) in
           settled (least bad (length (f .updates))) f (λ l e. omega (arith, long, least-here bad (length (f .updates)) l e .0))
 
-  pub move-number : (n q : ℕ) → move B c i ≡ stopped n q → Inside n × (q ≤ last-place B i)
+  pub move-number : (n q : ℕ) → move B c i ≡ move-refused n q → Inside n × (q ≤ last-place B i)
   move-number n q e = subst (Stops (last-place B i)) e move-stops

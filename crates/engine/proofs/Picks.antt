@@ -15,12 +15,12 @@ use Rattle.text.specs.Words.{if_then_else_, has, least, good}
 use Rattle.text.proofs.Words.{or-cases, least-none, bind-good, then-good, good-same}
 use Rattle.book.specs.Book.{Program, L, true-element, false-element, location, node-at, agent-at}
 use Rattle.book.specs.Sound.{at}
-use Rattle.engine.specs.Look.{Look, done, read, gives, seen}
-use Rattle.engine.specs.Rule.{Rule, choose, Walk, Walked, going, met, _then_, after, take-pick, refuse-if, not-member, universe-at, choose-of, all-taken, walk, agent-walk, rule-at, no-variables}
+use Rattle.engine.specs.Reader.{Reader, done, read, value-in, locations-read}
+use Rattle.engine.specs.Rule.{Rule, choose, Walk, Walked, walking, refused-at, _then_, after, take-pick, refuse-if, not-member, universe-at, choose-of, all-taken, walk, agent-walk, rule-at, no-variables}
 use Rattle.book.specs.Check.{check-book}
 use Rattle.engine.specs.Move.{Input, walked}
 use Rattle.engine.specs.Single.{bad-pick, no-pick-at, check-agent, check-picks, check-lent-step, check-contents, check-step}
-use Rattle.engine.proofs.Look.{gives-bind, seen-bind}
+use Rattle.engine.proofs.Reader.{gives-bind, seen-bind}
 
 -- ---- the universe at a pick
 
@@ -32,11 +32,11 @@ pub universe-high : (B : Program) (u y : ℕ) → B .E ≤ y → universe-at B u
 unfolding universe-at
 universe-high B u y h = rw (le-ltb y (B .E) h)
 
-pub universe-member : (B : Program) (c : List ℕ) (u y : ℕ) → gives c (universe-at B u y) ≡ true-element → (y < B .E) × (at c (location B u y 0) ≡ true-element)
-unfolding universe-at gives
+pub universe-member : (B : Program) (c : List ℕ) (u y : ℕ) → value-in c (universe-at B u y) ≡ true-element → (y < B .E) × (at c (location B u y 0) ≡ true-element)
+unfolding universe-at value-in
 universe-member B c u y e = go (ltb y (B .E)) refl e
   where
-    go : (b : Bool) → ltb y (B .E) ≡ b → gives c (if b then read (location B u y 0) else done false-element) ≡ true-element
+    go : (b : Bool) → ltb y (B .E) ≡ b → value-in c (if b then read (location B u y 0) else done false-element) ≡ true-element
         → (y < B .E) × (at c (location B u y 0) ≡ true-element)
     go true p q = (ltb-true y (B .E) p, q)
     go false p q = absurd (omega (arith, q))
@@ -44,47 +44,47 @@ universe-member B c u y e = go (ltb y (B .E)) refl e
 -- ---- a choice
 
 pub choice-reads : (B : Program) (c : List ℕ) (me n x u : ℕ) (r : Rule) (vs : List ℕ) (w : Walk) (y : ℕ) (ys : List ℕ) → w .left ≡ y ∷ ys → y < B .E
-    → seen c (walk B me (choose n x u r) vs w)
-    ≡ location B u y 0 ∷ seen c (after (refuse-if (not-member (at c (location B u y 0))) not-in-universe n (take-pick ys w)) (walk B me r (set vs x y)))
-unfolding walk gives seen
+    → locations-read c (walk B me (choose n x u r) vs w)
+    ≡ location B u y 0 ∷ locations-read c (after (refuse-if (not-member (at c (location B u y 0))) not-in-universe n (take-pick ys w)) (walk B me r (set vs x y)))
+unfolding walk value-in locations-read
 choice-reads B c me n x u r vs w y ys e h =
-    let f : ℕ → Look Walked = λ v. after (refuse-if (not-member v) not-in-universe n (take-pick ys w)) (walk B me r (set vs x y)) in
-    ap (λ (l : List ℕ). seen c (choose-of B n u w (λ z. walk B me r (set vs x z)) l)) e
-    ∙ (seen-bind c (universe-at B u y) f ∙ ap (λ (p : Look ℕ). seen c p ++ seen c (f (gives c p))) (universe-low B u y h))
+    let f : ℕ → Reader Walked = λ v. after (refuse-if (not-member v) not-in-universe n (take-pick ys w)) (walk B me r (set vs x y)) in
+    ap (λ (l : List ℕ). locations-read c (choose-of B n u w (λ z. walk B me r (set vs x z)) l)) e
+    ∙ (seen-bind c (universe-at B u y) f ∙ ap (λ (p : Reader ℕ). locations-read c p ++ locations-read c (f (value-in c p))) (universe-low B u y h))
 
 pub choice-lacks : (B : Program) (c : List ℕ) (me n x u : ℕ) (r : Rule) (vs : List ℕ) (w : Walk) → w .left ≡ []
-    → (gives c (walk B me (choose n x u r) vs w) ≡ met pick-count n) × (seen c (walk B me (choose n x u r) vs w) ≡ [])
-unfolding walk gives seen
+    → (value-in c (walk B me (choose n x u r) vs w) ≡ refused-at pick-count n) × (locations-read c (walk B me (choose n x u r) vs w) ≡ [])
+unfolding walk value-in locations-read
 choice-lacks B c me n x u r vs w e = (
-  ap (λ (l : List ℕ). gives c (choose-of B n u w (λ z. walk B me r (set vs x z)) l)) e,
-  ap (λ (l : List ℕ). seen c (choose-of B n u w (λ z. walk B me r (set vs x z)) l)) e,
+  ap (λ (l : List ℕ). value-in c (choose-of B n u w (λ z. walk B me r (set vs x z)) l)) e,
+  ap (λ (l : List ℕ). locations-read c (choose-of B n u w (λ z. walk B me r (set vs x z)) l)) e,
 )
 
 -- ---- the end of a walk
 
-ended : (o : Walked) (q : ℕ) (w : Walk) → (o then λ v. all-taken q (v .left) v) ≡ going w → (o ≡ going w) × (w .left ≡ [])
-ended (met n p) q w e = let z : _≡_ {A = ℕ} 0 1 = cc in absurd (omega arith)
-ended (going v) q w e = go (v .left) refl e
+ended : (o : Walked) (q : ℕ) (w : Walk) → (o then λ v. all-taken q (v .left) v) ≡ walking w → (o ≡ walking w) × (w .left ≡ [])
+ended (refused-at n p) q w e = let z : _≡_ {A = ℕ} 0 1 = cc in absurd (omega arith)
+ended (walking v) q w e = go (v .left) refl e
   where
-    same : (a b : Walk) → going a ≡ going b → a ≡ b
+    same : (a b : Walk) → walking a ≡ walking b → a ≡ b
     same a b f = cc
 
-    go : (l : List ℕ) → v .left ≡ l → all-taken q l v ≡ going w → (going v ≡ going w) × (w .left ≡ [])
+    go : (l : List ℕ) → v .left ≡ l → all-taken q l v ≡ walking w → (walking v ≡ walking w) × (w .left ≡ [])
     go [] p f = (f, ap (λ (x : Walk). x .left) (sym (same v w f)) ∙ p)
     go (y ∷ ys) p f = let z : _≡_ {A = ℕ} 0 1 = cc in absurd (omega arith)
 
 -- the walk of a move's rule, before what is left over is judged
-abbrev pub rule-walk : Program → Input → Look Walked
+abbrev pub rule-walk : Program → Input → Reader Walked
 rule-walk B i =
     let g = agent-at B (i .agent) in
     walk B (g .element) (rule-at (node-at B) (g .root)) no-variables (record { made = []; next = B .P; left = i .picks })
 
-pub walked-ends : (B : Program) (c : List ℕ) (i : Input) → walked B c i ≡ (gives c (rule-walk B i) then λ w. all-taken (agent-at B (i .agent) .root) (w .left) w)
-unfolding agent-walk gives
+pub walked-ends : (B : Program) (c : List ℕ) (i : Input) → walked B c i ≡ (value-in c (rule-walk B i) then λ w. all-taken (agent-at B (i .agent) .root) (w .left) w)
+unfolding agent-walk value-in
 walked-ends B c i = gives-bind c (rule-walk B i) (λ o. done (o then λ w. all-taken (agent-at B (i .agent) .root) (w .left) w))
 
-pub all-picks : (B : Program) (c : List ℕ) (i : Input) (w : Walk) → walked B c i ≡ going w → w .left ≡ []
-all-picks B c i w e = ended (gives c (rule-walk B i)) (agent-at B (i .agent) .root) w (sym (walked-ends B c i) ∙ e) .1
+pub all-picks : (B : Program) (c : List ℕ) (i : Input) (w : Walk) → walked B c i ≡ walking w → w .left ≡ []
+all-picks B c i w e = ended (value-in c (rule-walk B i)) (agent-at B (i .agent) .root) w (sym (walked-ends B c i) ∙ e) .1
 
 -- ---- the checks of the single-move entry
 

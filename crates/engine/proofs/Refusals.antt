@@ -11,7 +11,7 @@ use Rattle.text.proofs.Checks.{Ends, on, off, Any, bind-ends, then-ends, none-e
 use Rattle.book.specs.Book.{Program, L}
 use Rattle.book.proofs.Refusals.{Fits, book-before}
 use Rattle.engine.specs.declared.Instruction.{Instruction}
-use Rattle.engine.specs.Move.{Input, Moved, fires, stopped, walked, made-by, move}
+use Rattle.engine.specs.Move.{Input, Moved, fires, move-refused, walked, made-by, move}
 use Rattle.engine.specs.Claims.{Inside}
 use Rattle.engine.specs.Single.{pick-place, no-pick-at, check-picks, check-agent, check-lent-step, check-contents, check-step, stepped, step-answer, step-call}
 use Rattle.engine.proofs.Numbers.{move-number}
@@ -36,9 +36,9 @@ pub step-small : (text c : List ℕ) (i : Input) (n : ℕ) → Small (step-call 
 unfolding step-call
 step-small text c i n = go (check-step text c i n) (step-ends text c i n)
   where
-    moved : (d : List ℕ) (is : List Instruction) (o : Moved) → ((m q : ℕ) → o ≡ stopped m q → Inside m × (q < 2 ^ 24)) → Small (stepped c d is o .answer)
+    moved : (d : List ℕ) (is : List Instruction) (o : Moved) → ((m q : ℕ) → o ≡ move-refused m q → Inside m × (q < 2 ^ 24)) → Small (stepped c d is o .answer)
     moved d is (fires f) h = record { number = omega arith; not-16 = λ e. omega (arith, e); p = omega arith; q = omega arith }
-    moved d is (stopped m q) h = let r = h m q refl in record { number = r .0 .1; not-16 = r .0 .2; p = omega arith; q = r .1 }
+    moved d is (move-refused m q) h = let r = h m q refl in record { number = r .0 .1; not-16 = r .0 .2; p = omega arith; q = r .1 }
 
     go : (x : Checked Program) → Ends Fits Before x → Small (step-answer c i x .answer)
     go (refused m p q) (off h) = record { number = omega arith; not-16 = λ e. omega (arith, h .1, e); p = h .2; q = h .3 }

@@ -13,7 +13,7 @@ use Rattle.book.specs.Book.{Program, L}
 use Rattle.book.specs.Sound.{at}
 use Rattle.engine.specs.declared.Instruction.{Instruction}
 use Rattle.engine.specs.declared.Instruction.the-variants.{Update, Release}
-use Rattle.engine.specs.Move.{given, values, updates, values-at, released, new-value, writes, release-gives, release-reads, taken-reads, changed-reads, extra-reads, Input, Fired, fires, looked, fired-of, judged, settle, move}
+use Rattle.engine.specs.Move.{given, values, updates, values-at, released, new-value, writes, release-gives, release-reads, taken-reads, changed-reads, extra-reads, Input, Fired, fires, walk-reads, fired-of, fire-or-clash, settle, move}
 use Rattle.engine.specs.Claims.{SameStatic, SameHolders}
 use Rattle.engine.proofs.EqualReads.{same-instructions}
 use Rattle.engine.proofs.Append.{append-same}
@@ -78,15 +78,15 @@ module _ (B : Program) (c d : List ℕ) (i : Input) (t : SameStatic B c d) (f : 
       sym (updates-same B c d (f .instructions) h)
       ∙ subst (λ (k : Fired). updates B c (k .instructions) ≡ k .updates) (firing B c i f moves .gave) refl
 
-  whole : Written B c d (f .updates) → SameHolders c d (released (f .instructions)) → fired-of B d (looked B c i) (f .instructions) ≡ f
+  whole : Written B c d (f .updates) → SameHolders c d (released (f .instructions)) → fired-of B d (walk-reads B c i) (f .instructions) ≡ f
   whole k h =
       rw (made-same h, ← (extra-same B c d (f .instructions) (f .updates) h k))
-      (subst (λ (g : Fired). record { instructions = g .instructions; updates = g .updates; reads = looked B c i ++ extra-reads B c (g .instructions) (g .updates) } ≡ g) (firing B c i f moves .gave) refl)
+      (subst (λ (g : Fired). record { instructions = g .instructions; updates = g .updates; reads = walk-reads B c i ++ extra-reads B c (g .instructions) (g .updates) } ≡ g) (firing B c i f moves .gave) refl)
 
   pub same-fired : Written B c d (f .updates) → SameHolders c d (released (f .instructions)) → move B d i ≡ fires f
-  unfolding move settle judged
+  unfolding move settle fire-or-clash
   same-fired k h =
       let s = firing B c i f moves in
       let r = same-instructions B c d i t (s .walk) (s .went) (λ l h. agree l (rw (fired-reads B c i f moves) at h)) in
       let o : s .walk .made ≡ f .instructions = ap (λ (g : Fired). g .instructions) (s .gave) in
-      rw (r .0, r .1, o) (ap judged (whole k h) ∙ rw (s .no-clash))
+      rw (r .0, r .1, o) (ap fire-or-clash (whole k h) ∙ rw (s .no-clash))

@@ -10,9 +10,9 @@ use lib.ListN.{getD, length, List·getD-eq-default}
 use borrow.Author.Tests.{le-leb, lt-leb}
 use Rattle.book.specs.declared.Node.{Node}
 use Rattle.book.specs.Book.{undef, Program}
-use Rattle.engine.specs.Look.{Look, done}
+use Rattle.engine.specs.Reader.{Reader, done}
 use Rattle.engine.specs.Term.{Op, equal, both, either, plus, minus, less, Term, element, variable, self, at0, at1, at2, negated, joined, Shape, no-term, shapes, shape, tree, term-at, target, function-of}
-use Rattle.engine.specs.Rule.{Rule, skip, assign, pair, test, bind, for-all, import, free, choose, RuleShape, a-skip, no-rule, rule-shapes, rule-shape, rule-tree}
+use Rattle.engine.specs.Rule.{Rule, skip, assign, pair, test, bind, for-all, import, release, choose, RuleShape, a-skip, no-rule, rule-shapes, rule-shape, rule-tree}
 
 -- ---- a depth of at least one, or of at least two
 
@@ -126,9 +126,9 @@ module _ (ns : ℕ → Node) (d n : ℕ) (x : Node) (some : 2 ≤ d) (loaded : x
   rule-import k =
       by-two (λ e f. rule-from ns e n ≡ import n (x .a) (x .b) (rule-from ns f (x .c))) (λ e. rw (← loaded, k)) d some
 
-  pub rule-free : x .kind ≡ 27 → rule-from ns d n ≡ free n (term-at ns (d - 1) (x .a))
+  pub rule-free : x .kind ≡ 27 → rule-from ns d n ≡ release n (term-at ns (d - 1) (x .a))
   unfolding rule-tree
-  rule-free k = by-two (λ e f. rule-from ns e n ≡ free n (term-at ns f (x .a))) (λ e. rw (← loaded, k)) d some
+  rule-free k = by-two (λ e f. rule-from ns e n ≡ release n (term-at ns f (x .a))) (λ e. rw (← loaded, k)) d some
 
   pub rule-choose : x .kind ≡ 28 → rule-from ns d n ≡ choose n (x .a) (x .b) (rule-from ns (d - 1) (x .c))
   unfolding rule-tree

@@ -20,10 +20,10 @@ use Rattle.book.specs.Sound.{Lawful, at, Argument, OnRoll, Sound}
 use Rattle.book.proofs.Places.{spot, spot-argument, spot-first, roll-place, roll-inside, roll-argument, past-roll, default-low}
 use Rattle.engine.specs.declared.Instruction.{Instruction}
 use Rattle.engine.specs.declared.Instruction.the-variants.{Update, Release}
-use Rattle.engine.specs.Look.{Look, done, read, gives, _>>=_}
+use Rattle.engine.specs.Reader.{Reader, done, read, value-in, _>>=_}
 use Rattle.engine.specs.Term.{Op, equal, both, either, plus, minus, less, Term, element, variable, self, at0, at1, at2, negated, joined, number, apply, negate, eval, target, function-of}
-use Rattle.engine.specs.Rule.{Rule, skip, assign, pair, test, bind, for-all, import, free, choose, Walk, Walked, going, met, _then_, after, most-instructions, give, take-label, take-pick, refuse-if, members, each, lowest, import-of, universe-at, choose-of, all-taken, not-boolean, not-free, not-member, walk}
-use Rattle.engine.proofs.Look.{gives-bind}
+use Rattle.engine.specs.Rule.{Rule, skip, assign, pair, test, bind, for-all, import, release, choose, Walk, Walked, walking, refused-at, _then_, after, most-instructions, emit, take-label, take-pick, refuse-if, members, each, lowest, import-of, universe-at, choose-of, all-taken, not-boolean, unreleasable, not-member, walk}
+use Rattle.engine.proofs.Reader.{gives-bind}
 use Rattle.engine.proofs.Picks.{universe-member}
 use Rattle.engine.proofs.Seen.{names-one, names-two}
 use Rattle.engine.proofs.Decode.{Proper, Named, ProperTarget, ProperRule}
@@ -73,8 +73,8 @@ module _ (B : Program) (c : List ℕ) where
 
   -- what a walk from `next` on comes to
   abbrev pub Comes : ℕ → Walked → Type 0
-  Comes next (met n q) = Unit {0}
-  Comes next (going w) = (next ≤ w .next) × Made w
+  Comes next (refused-at n q) = Unit {0}
+  Comes next (walking w) = (next ≤ w .next) × Made w
 
   -- the variables' values
   abbrev pub Vars : ℕ → List ℕ → Type 0
@@ -93,8 +93,8 @@ module _ (B : Program) (c : List ℕ) where
   vars-more m n vs h f v = (f v .0, λ r. omega (arith, f v .1 r))
 
   comes-more : (m n : ℕ) (o : Walked) → m ≤ n → Comes n o → Comes m o
-  comes-more m n (met r q) h f = tt
-  comes-more m n (going w) h (a, b) = (omega arith, b)
+  comes-more m n (refused-at r q) h f = tt
+  comes-more m n (walking w) h (a, b) = (omega arith, b)
 
   all-snoc : (n : ℕ) (is : List Instruction) (i : Instruction) → All n is → Fine n i → All n (is ++ (i ∷ []))
   all-snoc n [] i a f = (f, tt)
@@ -119,10 +119,10 @@ module _ (B : Program) (c : List ℕ) where
 
   -- ---- one instruction more
 
-  give-made : (n : ℕ) (i : Instruction) (w : Walk) → Made w → Fine (w .next) i → Comes (w .next) (give n i w)
+  give-made : (n : ℕ) (i : Instruction) (w : Walk) → Made w → Fine (w .next) i → Comes (w .next) (emit n i w)
   give-made n i w m f = go (ltb (length (w .made)) most-instructions)
     where
-      go : (b : Bool) → Comes (w .next) (if b then going (record { made = w .made ++ (i ∷ []); next = w .next; left = w .left }) else met list-full n)
+      go : (b : Bool) → Comes (w .next) (if b then walking (record { made = w .made ++ (i ∷ []); next = w .next; left = w .left }) else refused-at list-full n)
       go false = tt
       go true = (
         omega arith,
@@ -134,15 +134,15 @@ module _ (B : Program) (c : List ℕ) where
         },
       )
 
-  after-comes : (m : ℕ) (o : Walked) (f : Walk → Look Walked) → Comes m o → ((w : Walk) → m ≤ w .next → Made w → Comes (w .next) (gives c (f w)))
-      → Comes m (gives c (after o f))
-  unfolding gives
-  after-comes m (met n q) f h k = tt
-  after-comes m (going w) f (a, b) k = comes-more m (w .next) (gives c (f w)) a (k w a b)
+  after-comes : (m : ℕ) (o : Walked) (f : Walk → Reader Walked) → Comes m o → ((w : Walk) → m ≤ w .next → Made w → Comes (w .next) (value-in c (f w)))
+      → Comes m (value-in c (after o f))
+  unfolding value-in
+  after-comes m (refused-at n q) f h k = tt
+  after-comes m (walking w) f (a, b) k = comes-more m (w .next) (value-in c (f w)) a (k w a b)
 
   then-comes : (m : ℕ) (o : Walked) (f : Walk → Walked) → Comes m o → ((w : Walk) → m ≤ w .next → Made w → Comes (w .next) (f w)) → Comes m (o then f)
-  then-comes m (met n q) f h k = tt
-  then-comes m (going w) f (a, b) k = comes-more m (w .next) (f w) a (k w a b)
+  then-comes m (refused-at n q) f h k = tt
+  then-comes m (walking w) f (a, b) k = comes-more m (w .next) (f w) a (k w a b)
 
   -- ---- terms
 
@@ -185,32 +185,32 @@ module _ (B : Program) (c : List ℕ) where
     apply-low less x y = if-low (number (B .P) x && number (B .P) y) (truth (ltb x y)) (λ e. truth-low (ltb x y))
 
     module _ (me : ℕ) (me-low : me < B .P) where
-      eval-clean : (n : ℕ) (vs : List ℕ) (t : Term) → Proper B t → Vars n vs → Clean n (gives c (eval B me vs t))
-      unfolding eval gives
+      eval-clean : (n : ℕ) (vs : List ℕ) (t : Term) → Proper B t → Vars n vs → Clean n (value-in c (eval B me vs t))
+      unfolding eval value-in
       eval-clean n vs (element x) p f = low-clean n x p
       eval-clean n vs (variable v) p f = f v
       eval-clean n vs self p f = low-clean n me me-low
       eval-clean n vs (at0 g) p f = held-clean n (location B g 0 0)
       eval-clean n vs (at1 g a) p f =
-          rw (gives-bind c (eval B me vs a) (λ x. read (location B g x 0))) (held-clean n (location B g (gives c (eval B me vs a)) 0))
+          rw (gives-bind c (eval B me vs a) (λ x. read (location B g x 0))) (held-clean n (location B g (value-in c (eval B me vs a)) 0))
       eval-clean n vs (at2 g a b) p f =
           rw (
             gives-bind c (eval B me vs a) (λ x. eval B me vs b >>= λ y. read (location B g x y)),
-            gives-bind c (eval B me vs b) (λ y. read (location B g (gives c (eval B me vs a)) y)),
+            gives-bind c (eval B me vs b) (λ y. read (location B g (value-in c (eval B me vs a)) y)),
           )
-          (held-clean n (location B g (gives c (eval B me vs a)) (gives c (eval B me vs b))))
+          (held-clean n (location B g (value-in c (eval B me vs a)) (value-in c (eval B me vs b))))
       eval-clean n vs (negated a) p f =
           rw (gives-bind c (eval B me vs a) (λ x. done (negate x)))
-          (low-clean n (negate (gives c (eval B me vs a)))
-          (if-low (boolean (gives c (eval B me vs a))) (truth (not (eqb (gives c (eval B me vs a)) 2)))
-          (λ e. truth-low (not (eqb (gives c (eval B me vs a)) 2)))))
+          (low-clean n (negate (value-in c (eval B me vs a)))
+          (if-low (boolean (value-in c (eval B me vs a))) (truth (not (eqb (value-in c (eval B me vs a)) 2)))
+          (λ e. truth-low (not (eqb (value-in c (eval B me vs a)) 2)))))
       eval-clean n vs (joined o a b) p f =
           rw (
             gives-bind c (eval B me vs a) (λ x. eval B me vs b >>= λ y. done (apply (B .P) o x y)),
-            gives-bind c (eval B me vs b) (λ y. done (apply (B .P) o (gives c (eval B me vs a)) y)),
+            gives-bind c (eval B me vs b) (λ y. done (apply (B .P) o (value-in c (eval B me vs a)) y)),
           )
-          (low-clean n (apply (B .P) o (gives c (eval B me vs a)) (gives c (eval B me vs b)))
-          (apply-low o (gives c (eval B me vs a)) (gives c (eval B me vs b))))
+          (low-clean n (apply (B .P) o (value-in c (eval B me vs a)) (value-in c (eval B me vs b)))
+          (apply-low o (value-in c (eval B me vs a)) (value-in c (eval B me vs b))))
 
       -- the location that a set names
       abbrev Aimed : ℕ → Term → ℕ → Type 0
@@ -235,18 +235,18 @@ module _ (B : Program) (c : List ℕ) where
       zero-clean : (n : ℕ) → Clean n 0
       zero-clean n = low-clean n 0 (omega (arith, B-ok .low))
 
-      target-aimed : (n : ℕ) (vs : List ℕ) (t : Term) → ProperTarget B t → Vars n vs → Aimed n t (gives c (target B me vs t))
-      unfolding target gives function-of
+      target-aimed : (n : ℕ) (vs : List ℕ) (t : Term) → ProperTarget B t → Vars n vs → Aimed n t (value-in c (target B me vs t))
+      unfolding target value-in function-of
       target-aimed n vs (element x) p f = absurd p
       target-aimed n vs (variable v) p f = absurd p
       target-aimed n vs self p f = absurd p
       target-aimed n vs (at0 g) p f = aimed n g 0 0 (at0 g) (p .0 .0, p .0 .1) refl (p .1) (zero-clean n) (zero-clean n)
       target-aimed n vs (at1 g a) p f =
           rw (names-one B c me vs g a)
-          (aimed n g (gives c (eval B me vs a)) 0 (at1 g a) (p .0 .0, p .0 .1) refl (p .1) (eval-clean n vs a (p .2) f) (zero-clean n))
+          (aimed n g (value-in c (eval B me vs a)) 0 (at1 g a) (p .0 .0, p .0 .1) refl (p .1) (eval-clean n vs a (p .2) f) (zero-clean n))
       target-aimed n vs (at2 g a b) p f =
           rw (names-two B c me vs g a b)
-          (aimed n g (gives c (eval B me vs a)) (gives c (eval B me vs b)) (at2 g a b) (p .0 .0, p .0 .1) refl (p .1) (eval-clean n vs a (p .2) f)
+          (aimed n g (value-in c (eval B me vs a)) (value-in c (eval B me vs b)) (at2 g a b) (p .0 .0, p .0 .1) refl (p .1) (eval-clean n vs a (p .2) f)
           (eval-clean n vs b (p .3) f))
       target-aimed n vs (negated a) p f = absurd p
       target-aimed n vs (joined o a b) p f = absurd p
@@ -260,15 +260,15 @@ module _ (B : Program) (c : List ℕ) where
       Members u [] = Unit {0}
       Members u (y ∷ ys) = Member u y × Members u ys
 
-      members-are : (u x n : ℕ) → x + n ≤ B .E → Members u (gives c (members B u x n))
-      unfolding members gives _>>=_
+      members-are : (u x n : ℕ) → x + n ≤ B .E → Members u (value-in c (members B u x n))
+      unfolding members value-in _>>=_
       members-are u x zero h = tt
       members-are u x (suc n) h =
           rw (gives-bind c (members B u (suc x) n) (λ ys. done (if eqb (at c (location B u x 0)) true-element then x ∷ ys else ys)))
           (go (eqb (at c (location B u x 0)) true-element) refl (members-are u (suc x) n (omega arith)))
         where
-          go : (b : Bool) → eqb (at c (location B u x 0)) true-element ≡ b → Members u (gives c (members B u (suc x) n))
-              → Members u (if b then x ∷ gives c (members B u (suc x) n) else gives c (members B u (suc x) n))
+          go : (b : Bool) → eqb (at c (location B u x 0)) true-element ≡ b → Members u (value-in c (members B u (suc x) n))
+              → Members u (if b then x ∷ value-in c (members B u (suc x) n) else value-in c (members B u (suc x) n))
           go true e r = ((omega arith, eqb-true (at c (location B u x 0)) true-element e), r)
           go false e r = r
 
@@ -283,20 +283,20 @@ module _ (B : Program) (c : List ℕ) where
               (spot-first B B-ok u y (p .1) h (p .2)) in
               omega (arith, default-low (place B (location B u y 0) .function))
 
-      each-comes : (f : ℕ → Walk → Look Walked) (ys : List ℕ) (u : ℕ) → Members u ys → (w : Walk) → Made w
-          → ((y : ℕ) → Member u y → (v : Walk) → w .next ≤ v .next → Made v → Comes (v .next) (gives c (f y v))) → Comes (w .next) (gives c (each f ys w))
-      unfolding each gives
+      each-comes : (f : ℕ → Walk → Reader Walked) (ys : List ℕ) (u : ℕ) → Members u ys → (w : Walk) → Made w
+          → ((y : ℕ) → Member u y → (v : Walk) → w .next ≤ v .next → Made v → Comes (v .next) (value-in c (f y v))) → Comes (w .next) (value-in c (each f ys w))
+      unfolding each value-in
       each-comes f [] u h w m k = (omega arith, m)
       each-comes f (y ∷ ys) u h w m k =
           rw (gives-bind c (f y w) (λ o. after o (each f ys)))
-          (after-comes (w .next) (gives c (f y w)) (each f ys) (k y (h .0) w (omega arith) m)
+          (after-comes (w .next) (value-in c (f y w)) (each f ys) (k y (h .0) w (omega arith) m)
           (λ v a b. each-comes f ys u (h .1) v b (λ z hz t q r. k z hz t (omega arith) r)))
 
-      for-comes : (f : ℕ → Walk → Look Walked) (u x n : ℕ) → x + n ≤ B .E → (w : Walk) → Made w
-          → ((y : ℕ) → Member u y → (v : Walk) → w .next ≤ v .next → Made v → Comes (v .next) (gives c (f y v)))
-          → Comes (w .next) (gives c (members B u x n >>= λ ys. each f ys w))
+      for-comes : (f : ℕ → Walk → Reader Walked) (u x n : ℕ) → x + n ≤ B .E → (w : Walk) → Made w
+          → ((y : ℕ) → Member u y → (v : Walk) → w .next ≤ v .next → Made v → Comes (v .next) (value-in c (f y v)))
+          → Comes (w .next) (value-in c (members B u x n >>= λ ys. each f ys w))
       for-comes f u x n h w m k =
-          rw (gives-bind c (members B u x n) (λ ys. each f ys w)) (each-comes f (gives c (members B u x n)) u (members-are u x n h) w m k)
+          rw (gives-bind c (members B u x n) (λ ys. each f ys w)) (each-comes f (value-in c (members B u x n)) u (members-are u x n h) w m k)
 
       -- ---- labels
 
@@ -305,8 +305,8 @@ module _ (B : Program) (c : List ℕ) where
       Lowest x Nowhere = Unit {0}
       Lowest x (Here y) = (x ≤ y) × OnRoll B c y × ((z : ℕ) → x ≤ z → z < y → at c z ≢ true-element)
 
-      lowest-is : (x n : ℕ) → x + n ≤ B .E → Lowest x (gives c (lowest x n))
-      unfolding lowest gives _>>=_
+      lowest-is : (x n : ℕ) → x + n ≤ B .E → Lowest x (value-in c (lowest x n))
+      unfolding lowest value-in _>>=_
       lowest-is x zero h = tt
       lowest-is x (suc n) h = go (eqb (at c x) true-element) refl (lowest-is (suc x) n (omega arith))
         where
@@ -314,10 +314,10 @@ module _ (B : Program) (c : List ℕ) where
           later d Nowhere r = tt
           later d (Here y) (a, b, e) = (omega arith, b, λ z p q. dite (ℕ-discrete z x) (λ i. rw i d) (λ i. e z (omega arith) q))
 
-          go : (b : Bool) → eqb (at c x) true-element ≡ b → Lowest (suc x) (gives c (lowest (suc x) n))
-              → Lowest x (gives c (if b then done (Here x) else lowest (suc x) n))
+          go : (b : Bool) → eqb (at c x) true-element ≡ b → Lowest (suc x) (value-in c (lowest (suc x) n))
+              → Lowest x (value-in c (if b then done (Here x) else lowest (suc x) n))
           go true e r = (omega arith, (omega arith, eqb-true (at c x) true-element e), λ z p q. absurd (omega arith))
-          go false e r = later (eqb-false (at c x) true-element e) (gives c (lowest (suc x) n)) r
+          go false e r = later (eqb-false (at c x) true-element e) (value-in c (lowest (suc x) n)) r
 
       -- An import takes the lowest Reserve label not yet taken: `next` says which are taken.
       pub taken-iff : (w : Walk) → Made w → (x : ℕ) → OnRoll B c x → (x < w .next) ↔ Sets x false-element (w .made)
@@ -327,7 +327,7 @@ module _ (B : Program) (c : List ℕ) where
             (rw (roll-place B B-ok x (o .0), B-ok .reserve, eq-eqb x x refl)) .1 o,
       )
 
-      pub import-takes : (w : Walk) → Made w → (y : ℕ) → gives c (lowest (w .next) (B .E - w .next)) ≡ Here y
+      pub import-takes : (w : Walk) → Made w → (y : ℕ) → value-in c (lowest (w .next) (B .E - w .next)) ≡ Here y
           → OnRoll B c y × ¬ Sets y false-element (w .made) × ((x : ℕ) → OnRoll B c x → ¬ Sets x false-element (w .made) → y ≤ x)
       import-takes w m y e =
           let l = subst (Lowest (w .next)) e (lowest-is (w .next) (B .E - w .next) (omega (arith, m .upto))) in (
@@ -337,18 +337,18 @@ module _ (B : Program) (c : List ℕ) where
                 (λ (d : ¬ (x < w .next)). l .2 x (omega arith) b (o .1)))) (λ (b : ¬ (x < y)). omega arith),
           )
 
-      lowest-none : (x n : ℕ) → gives c (lowest x n) ≡ Nowhere → (z : ℕ) → x ≤ z → z < x + n → at c z ≢ true-element
-      unfolding lowest gives _>>=_
+      lowest-none : (x n : ℕ) → value-in c (lowest x n) ≡ Nowhere → (z : ℕ) → x ≤ z → z < x + n → at c z ≢ true-element
+      unfolding lowest value-in _>>=_
       lowest-none x zero e z a b = absurd (omega arith)
       lowest-none x (suc n) e z a b = go (eqb (at c x) true-element) refl e (lowest-none (suc x) n)
         where
-          go : (t : Bool) → eqb (at c x) true-element ≡ t → gives c (if t then done (Here x) else lowest (suc x) n) ≡ Nowhere
-              → (gives c (lowest (suc x) n) ≡ Nowhere → (z : ℕ) → suc x ≤ z → z < suc x + n → at c z ≢ true-element) → at c z ≢ true-element
+          go : (t : Bool) → eqb (at c x) true-element ≡ t → value-in c (if t then done (Here x) else lowest (suc x) n) ≡ Nowhere
+              → (value-in c (lowest (suc x) n) ≡ Nowhere → (z : ℕ) → suc x ≤ z → z < suc x + n → at c z ≢ true-element) → at c z ≢ true-element
           go true q f r = let k : _≡_ {A = ℕ} 0 1 = cc in absurd (omega arith)
           go false q f r = dite (ℕ-discrete z x) (λ i. rw i (eqb-false (at c x) true-element q)) (λ i. r f z (omega arith) (omega arith))
 
       -- One that finds none, 13, has no Reserve label left untaken.
-      pub import-none : (w : Walk) → Made w → gives c (lowest (w .next) (B .E - w .next)) ≡ Nowhere → (x : ℕ) → OnRoll B c x
+      pub import-none : (w : Walk) → Made w → value-in c (lowest (w .next) (B .E - w .next)) ≡ Nowhere → (x : ℕ) → OnRoll B c x
           → Sets x false-element (w .made)
       import-none w m e x o =
           dite (decLt x (w .next)) (m .taken x o)
@@ -384,7 +384,7 @@ module _ (B : Program) (c : List ℕ) where
           this x (inl e) = (omega arith, λ r. omega arith)
           this x (inr e) = rw e (zero-clean n)
 
-      take-made : (n y : ℕ) (w : Walk) → Made w → Lowest (w .next) (Here y) → Comes (suc y) (give n (Update (reserve y) false-element) (take-label y w))
+      take-made : (n y : ℕ) (w : Walk) → Made w → Lowest (w .next) (Here y) → Comes (suc y) (emit n (Update (reserve y) false-element) (take-label y w))
       take-made n y w m (a, r, low) = go (ltb (length (w .made)) most-instructions)
         where
           taken : (x : ℕ) → OnRoll B c x → x < suc y → Sets x false-element (w .made ++ (Update y false-element ∷ []))
@@ -392,7 +392,7 @@ module _ (B : Program) (c : List ℕ) where
               (λ (b : ¬ (x < w .next)). dite (ℕ-discrete x y) (λ e. rw e (sets-last y false-element (w .made)))
               (λ d. absurd (low x (omega arith) (omega arith) (o .1))))
 
-          go : (b : Bool) → Comes (suc y) (if b then going (record { made = w .made ++ (Update (reserve y) false-element ∷ []); next = take-label y w .next; left = w .left }) else met list-full n)
+          go : (b : Bool) → Comes (suc y) (if b then walking (record { made = w .made ++ (Update (reserve y) false-element ∷ []); next = take-label y w .next; left = w .left }) else refused-at list-full n)
           go false = tt
           go true = (
             omega arith,
@@ -405,35 +405,35 @@ module _ (B : Program) (c : List ℕ) where
             },
           )
 
-      import-comes : (n u : ℕ) (body : ℕ → Walk → Look Walked) (w : Walk) (o : Found) → Named B u 1 → function-at B u .kind ≡ 3 → Made w → Lowest (w .next) o
-          → ((y : ℕ) → y < B .E → (v : Walk) → w .next ≤ v .next → y < v .next → Made v → Comes (v .next) (gives c (body y v)))
-          → Comes (w .next) (gives c (import-of B n u w body o))
-      unfolding gives
+      import-comes : (n u : ℕ) (body : ℕ → Walk → Reader Walked) (w : Walk) (o : Found) → Named B u 1 → function-at B u .kind ≡ 3 → Made w → Lowest (w .next) o
+          → ((y : ℕ) → y < B .E → (v : Walk) → w .next ≤ v .next → y < v .next → Made v → Comes (v .next) (value-in c (body y v)))
+          → Comes (w .next) (value-in c (import-of B n u w body o))
+      unfolding value-in
       import-comes n u body w Nowhere p k m l f = tt
       import-comes n u body w (Here y) p k m l f =
           let a : w .next ≤ y = l .0 in
-          comes-more (w .next) (suc y) (gives c (import-of B n u w body (Here y))) (omega arith)
-          (after-comes (suc y) (give n (Update (reserve y) false-element) (take-label y w) then give n (Update (location B u y 0) true-element)) (body y)
-          (then-comes (suc y) (give n (Update (reserve y) false-element) (take-label y w)) (give n (Update (location B u y 0) true-element))
+          comes-more (w .next) (suc y) (value-in c (import-of B n u w body (Here y))) (omega arith)
+          (after-comes (suc y) (emit n (Update (reserve y) false-element) (take-label y w) then emit n (Update (location B u y 0) true-element)) (body y)
+          (then-comes (suc y) (emit n (Update (reserve y) false-element) (take-label y w)) (emit n (Update (location B u y 0) true-element))
           (take-made n y w m l) (λ v b q. give-made n (Update (location B u y 0) true-element) v q (universe-fine u y (v .next) p k (l .1 .0) (omega arith))))
           (λ v b q. f y (l .1 .0) v (omega arith) (omega arith) q))
 
       -- ---- picks
 
-      choose-comes : (n u : ℕ) (body : ℕ → Walk → Look Walked) (w : Walk) (ys : List ℕ) → Made w
-          → ((y : ℕ) → Member u y → (v : Walk) → w .next ≤ v .next → Made v → Comes (v .next) (gives c (body y v)))
-          → Comes (w .next) (gives c (choose-of B n u w body ys))
-      unfolding gives
+      choose-comes : (n u : ℕ) (body : ℕ → Walk → Reader Walked) (w : Walk) (ys : List ℕ) → Made w
+          → ((y : ℕ) → Member u y → (v : Walk) → w .next ≤ v .next → Made v → Comes (v .next) (value-in c (body y v)))
+          → Comes (w .next) (value-in c (choose-of B n u w body ys))
+      unfolding value-in
       choose-comes n u body w [] m k = tt
       choose-comes n u body w (y ∷ ys) m k =
           rw (gives-bind c (universe-at B u y) (λ v. after (refuse-if (not-member v) not-in-universe n (take-pick ys w)) (body y)))
-          (go (eqb (gives c (universe-at B u y)) true-element) refl)
+          (go (eqb (value-in c (universe-at B u y)) true-element) refl)
         where
-          go : (b : Bool) → eqb (gives c (universe-at B u y)) true-element ≡ b
-              → Comes (w .next) (gives c (after (refuse-if (not b) not-in-universe n (take-pick ys w)) (body y)))
+          go : (b : Bool) → eqb (value-in c (universe-at B u y)) true-element ≡ b
+              → Comes (w .next) (value-in c (after (refuse-if (not b) not-in-universe n (take-pick ys w)) (body y)))
           go false e = tt
           go true e =
-              k y (universe-member B c u y (eqb-true (gives c (universe-at B u y)) true-element e)) (take-pick ys w) (omega arith)
+              k y (universe-member B c u y (eqb-true (value-in c (universe-at B u y)) true-element e)) (take-pick ys w) (omega arith)
               (record { from = m .from; upto = m .upto; all = m .all; taken = m .taken })
 
       -- ---- the walk
@@ -443,10 +443,10 @@ module _ (B : Program) (c : List ℕ) where
       no-and false b e h = absurd (false≢true h)
 
       assign-comes : (n : ℕ) (t : Term) (l v : ℕ) (w : Walk) → Made w → Aimed (w .next) t l → Clean (w .next) v
-          → Comes (w .next) (refuse-if (not-boolean B t v) non-boolean n w then give n (Update l v))
+          → Comes (w .next) (refuse-if (not-boolean B t v) non-boolean n w then emit n (Update l v))
       assign-comes n t l v w m a p = go (not-boolean B t v) refl
         where
-          go : (b : Bool) → not-boolean B t v ≡ b → Comes (w .next) (refuse-if b non-boolean n w then give n (Update l v))
+          go : (b : Bool) → not-boolean B t v ≡ b → Comes (w .next) (refuse-if b non-boolean n w then emit n (Update l v))
           go true e = tt
           go false e = give-made n (Update l v) w m (
             a .0,
@@ -457,59 +457,59 @@ module _ (B : Program) (c : List ℕ) where
             a .4,
           )
 
-      free-comes : (n x : ℕ) (w : Walk) → Made w → x < B .E → Comes (w .next) (refuse-if (not-free B x (at c x)) not-releasable n w then give n (Release x))
-      free-comes n x w m h = go (not-free B x (at c x)) refl
+      free-comes : (n x : ℕ) (w : Walk) → Made w → x < B .E → Comes (w .next) (refuse-if (unreleasable B x (at c x)) not-releasable n w then emit n (Release x))
+      free-comes n x w m h = go (unreleasable B x (at c x)) refl
         where
-          go : (b : Bool) → not-free B x (at c x) ≡ b → Comes (w .next) (refuse-if b not-releasable n w then give n (Release x))
+          go : (b : Bool) → unreleasable B x (at c x) ≡ b → Comes (w .next) (refuse-if b not-releasable n w then emit n (Release x))
           go true e = tt
           go false e =
               let p = or-no (ltb x (B .P)) (eqb (at c x) true-element) e in
               give-made n (Release x) w m (ltb-false x (B .P) (p .0), h, eqb-false (at c x) true-element (p .1))
 
-      if-comes : (b : Bool) (n : ℕ) (p q : Look Walked) → Comes n (gives c p) → Comes n (gives c q) → Comes n (gives c (if b then p else q))
+      if-comes : (b : Bool) (n : ℕ) (p q : Reader Walked) → Comes n (value-in c p) → Comes n (value-in c q) → Comes n (value-in c (if b then p else q))
       if-comes true n p q f g = f
       if-comes false n p q f g = g
 
-      pub walk-comes : (r : Rule) (vs : List ℕ) (w : Walk) → ProperRule B r → Vars (w .next) vs → Made w → Comes (w .next) (gives c (walk B me r vs w))
-      unfolding walk gives
+      pub walk-comes : (r : Rule) (vs : List ℕ) (w : Walk) → ProperRule B r → Vars (w .next) vs → Made w → Comes (w .next) (value-in c (walk B me r vs w))
+      unfolding walk value-in
       walk-comes skip vs w p f m = (omega arith, m)
       walk-comes (assign n t u) vs w p f m =
           rw (
-            gives-bind c (target B me vs t) (λ l. eval B me vs u >>= λ v. done (refuse-if (not-boolean B t v) non-boolean n w then give n (Update l v))),
-            gives-bind c (eval B me vs u) (λ v. done (refuse-if (not-boolean B t v) non-boolean n w then give n (Update (gives c (target B me vs t)) v))),
+            gives-bind c (target B me vs t) (λ l. eval B me vs u >>= λ v. done (refuse-if (not-boolean B t v) non-boolean n w then emit n (Update l v))),
+            gives-bind c (eval B me vs u) (λ v. done (refuse-if (not-boolean B t v) non-boolean n w then emit n (Update (value-in c (target B me vs t)) v))),
           )
-          (assign-comes n t (gives c (target B me vs t)) (gives c (eval B me vs u)) w m (target-aimed (w .next) vs t (p .0) f)
+          (assign-comes n t (value-in c (target B me vs t)) (value-in c (eval B me vs u)) w m (target-aimed (w .next) vs t (p .0) f)
           (eval-clean (w .next) vs u (p .1) f))
       walk-comes (pair r s) vs w p f m =
           rw (gives-bind c (walk B me r vs w) (λ o. after o (walk B me s vs)))
-          (after-comes (w .next) (gives c (walk B me r vs w)) (walk B me s vs) (walk-comes r vs w (p .0) f m)
+          (after-comes (w .next) (value-in c (walk B me r vs w)) (walk B me s vs) (walk-comes r vs w (p .0) f m)
           (λ v a q. walk-comes s vs v (p .1) (vars-more (w .next) (v .next) vs a f) q))
       walk-comes (test t r s) vs w p f m =
           rw (gives-bind c (eval B me vs t) (λ x. if eqb x true-element then walk B me r vs w else walk B me s vs w))
-          (if-comes (eqb (gives c (eval B me vs t)) true-element) (w .next) (walk B me r vs w) (walk B me s vs w) (walk-comes r vs w (p .1) f m)
+          (if-comes (eqb (value-in c (eval B me vs t)) true-element) (w .next) (walk B me r vs w) (walk B me s vs w) (walk-comes r vs w (p .1) f m)
           (walk-comes s vs w (p .2) f m))
       walk-comes (bind x t r) vs w p f m =
           rw (gives-bind c (eval B me vs t) (λ y. walk B me r (set vs x y) w))
-          (walk-comes r (set vs x (gives c (eval B me vs t))) w (p .1)
-          (vars-set (w .next) vs x (gives c (eval B me vs t)) f (eval-clean (w .next) vs t (p .0) f)) m)
+          (walk-comes r (set vs x (value-in c (eval B me vs t))) w (p .1)
+          (vars-set (w .next) vs x (value-in c (eval B me vs t)) f (eval-clean (w .next) vs t (p .0) f)) m)
       walk-comes (for-all x u r) vs w p f m =
           for-comes (λ y. walk B me r (set vs x y)) u _ _ (omega (arith, B-ok .high)) w m
           (λ y h v a q. walk-comes r (set vs x y) v (p .2) (vars-set (v .next) vs x y (vars-more (w .next) (v .next) vs a f)
           (member-clean (v .next) u y (p .0) h)) q)
       walk-comes (import n x u r) vs w p f m =
           rw (gives-bind c (lowest (w .next) (B .E - w .next)) (λ o. import-of B n u w (λ y. walk B me r (set vs x y)) o))
-          (import-comes n u (λ y. walk B me r (set vs x y)) w (gives c (lowest (w .next) (B .E - w .next))) (p .0) (p .1) m
+          (import-comes n u (λ y. walk B me r (set vs x y)) w (value-in c (lowest (w .next) (B .E - w .next))) (p .0) (p .1) m
           (lowest-is (w .next) (B .E - w .next) (omega (arith, m .upto)))
           (λ y h v a b q. walk-comes r (set vs x y) v (p .2) (vars-set (v .next) vs x y (vars-more (w .next) (v .next) vs a f) (h, λ o. b)) q))
-      walk-comes (free n t) vs w p f m =
-          rw (gives-bind c (eval B me vs t) (λ x. read (reserve x) >>= λ r. done (refuse-if (not-free B x r) not-releasable n w then give n (Release x))))
-          (free-comes n (gives c (eval B me vs t)) w m (eval-clean (w .next) vs t p f .0))
+      walk-comes (release n t) vs w p f m =
+          rw (gives-bind c (eval B me vs t) (λ x. read (reserve x) >>= λ r. done (refuse-if (unreleasable B x r) not-releasable n w then emit n (Release x))))
+          (free-comes n (value-in c (eval B me vs t)) w m (eval-clean (w .next) vs t p f .0))
       walk-comes (choose n x u r) vs w p f m =
           choose-comes n u (λ y. walk B me r (set vs x y)) w (w .left) m
           (λ y h v a q. walk-comes r (set vs x y) v (p .2) (vars-set (v .next) vs x y (vars-more (w .next) (v .next) vs a f)
           (member-clean (v .next) u y (p .0) h)) q)
 
   -- what is left over changes nothing of what is made
-  pub taken-comes : (m q : ℕ) (ys : List ℕ) (w : Walk) → Comes m (going w) → Comes m (all-taken q ys w)
+  pub taken-comes : (m q : ℕ) (ys : List ℕ) (w : Walk) → Comes m (walking w) → Comes m (all-taken q ys w)
   taken-comes m q [] w h = h
   taken-comes m q (y ∷ ys) w h = tt

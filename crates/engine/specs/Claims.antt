@@ -10,11 +10,11 @@ use Rattle.text.specs.declared.Found.the-variants.{Here}
 use Rattle.text.specs.Words.{has, table-from, good}
 use Rattle.text.specs.Refusals.{not-in-universe, pick-count}
 use Rattle.book.specs.Book.{Program, L, dynamic-at, location, node-at, agent-at}
-use Rattle.book.specs.Around.{most-depth}
+use Rattle.book.specs.Scopes.{most-depth}
 use Rattle.book.specs.Sound.{Lawful, at, Sound}
-use Rattle.engine.specs.Look.{gives, seen}
-use Rattle.engine.specs.Rule.{Rule, choose, Walk, going, met, after, take-pick, refuse-if, lowest, not-member, walk, rule-shape, rule-tree, rule-at}
-use Rattle.engine.specs.Move.{Input, Fired, fires, stopped, idle, move, walked, reads, released, values-at, new-value, fire, writes}
+use Rattle.engine.specs.Reader.{value-in, locations-read}
+use Rattle.engine.specs.Rule.{Rule, choose, Walk, walking, refused-at, after, take-pick, refuse-if, lowest, not-member, walk, rule-shape, rule-tree, rule-at}
+use Rattle.engine.specs.Move.{Input, Fired, fires, move-refused, idle, move, walked, reads, released, values-at, new-value, fire, writes}
 use Rattle.engine.specs.Move as move
 use Rattle.engine.specs.Single.{check-step, step-call}
 
@@ -34,11 +34,11 @@ SameHolders c d xs = (x l : ℕ) → has xs x ≡ true → (at c l ≡ x) ↔ (a
 -- to 14, 18 and 19 is met there, and otherwise the same refusal if they agree on Reserve throughout; what the move reads elsewhere is past Reserve's E
 -- locations. For a release to give the same updates, both must also hold its label at the same locations (02, F-3).
 pub record EqualReads (B : Program) (c d : List ℕ) (i : Input) : Type 0 where
-  pub instructions : (w : Walk) → walked B c i ≡ going w → ((l : ℕ) → has (reads B c i) l ≡ true → at c l ≡ at d l) → walked B d i ≡ going w
-  pub refusal : (n q : ℕ) → walked B c i ≡ met n q → ((l : ℕ) → B .E ≤ l → has (reads B c i) l ≡ true → at c l ≡ at d l)
-      → ((x : ℕ) → x < B .E → at c x ≡ at d x) → walked B d i ≡ met n q
-  pub updates : (w : Walk) → walked B c i ≡ going w → ((l : ℕ) → has (reads B c i) l ≡ true → at c l ≡ at d l)
-      → SameHolders c d (released (w .made)) → (walked B d i ≡ going w) × (move.updates B d (w .made) ≡ move.updates B c (w .made))
+  pub instructions : (w : Walk) → walked B c i ≡ walking w → ((l : ℕ) → has (reads B c i) l ≡ true → at c l ≡ at d l) → walked B d i ≡ walking w
+  pub refusal : (n q : ℕ) → walked B c i ≡ refused-at n q → ((l : ℕ) → B .E ≤ l → has (reads B c i) l ≡ true → at c l ≡ at d l)
+      → ((x : ℕ) → x < B .E → at c x ≡ at d x) → walked B d i ≡ refused-at n q
+  pub updates : (w : Walk) → walked B c i ≡ walking w → ((l : ℕ) → has (reads B c i) l ≡ true → at c l ≡ at d l)
+      → SameHolders c d (released (w .made)) → (walked B d i ≡ walking w) × (move.updates B d (w .made) ≡ move.updates B c (w .made))
 
 -- ---- what a move that fires leaves
 
@@ -76,29 +76,29 @@ Inside n = (11 ≤ n) × (n ≤ 19) × (n ≢ 16) × (n ≢ 17)
 
 -- a move is refused by one of them, and no single-move call gets 16
 abbrev pub MovesRefuse : Type 0
-MovesRefuse = (B : Program) (c : List ℕ) (i : Input) (n q : ℕ) → move B c i ≡ stopped n q → Inside n
+MovesRefuse = (B : Program) (c : List ℕ) (i : Input) (n q : ℕ) → move B c i ≡ move-refused n q → Inside n
 
 abbrev pub StepsAnswer : Type 0
 StepsAnswer = (book c : List ℕ) (i : Input) (n : ℕ) → step-call book c i n .answer .number ≢ 16
 
 -- an import that looks from label x on and takes y has looked at Reserve from x to y, and nowhere else
 abbrev pub ImportsRead : Type 0
-ImportsRead = (c : List ℕ) (x n y : ℕ) → gives c (lowest x n) ≡ Here y → seen c (lowest x n) ≡ table-from (λ l. l) x (suc y - x)
+ImportsRead = (c : List ℕ) (x n y : ℕ) → value-in c (lowest x n) ≡ Here y → locations-read c (lowest x n) ≡ table-from (λ l. l) x (suc y - x)
 
 -- a choice with an element left to pick looks at its universe there, before 18 is judged, and nowhere else on its own
 abbrev pub ChoicesRead : Type 0
 ChoicesRead = (B : Program) (c : List ℕ) (me n x u : ℕ) (r : Rule) (vs : List ℕ) (w : Walk) (y : ℕ) (ys : List ℕ) → w .left ≡ y ∷ ys → y < B .E
-    → seen c (walk B me (choose n x u r) vs w)
-    ≡ location B u y 0 ∷ seen c (after (refuse-if (not-member (at c (location B u y 0))) not-in-universe n (take-pick ys w)) (walk B me r (set vs x y)))
+    → locations-read c (walk B me (choose n x u r) vs w)
+    ≡ location B u y 0 ∷ locations-read c (after (refuse-if (not-member (at c (location B u y 0))) not-in-universe n (take-pick ys w)) (walk B me r (set vs x y)))
 
 -- one with none left is refused with 19 at its node, whatever its universe has, and looks nowhere
 abbrev pub ChoicesLack : Type 0
 ChoicesLack = (B : Program) (c : List ℕ) (me n x u : ℕ) (r : Rule) (vs : List ℕ) (w : Walk) → w .left ≡ []
-    → (gives c (walk B me (choose n x u r) vs w) ≡ met pick-count n) × (seen c (walk B me (choose n x u r) vs w) ≡ [])
+    → (value-in c (walk B me (choose n x u r) vs w) ≡ refused-at pick-count n) × (locations-read c (walk B me (choose n x u r) vs w) ≡ [])
 
 -- a walk that comes to its end has taken all its picks
 abbrev pub PicksTaken : Type 0
-PicksTaken = (B : Program) (c : List ℕ) (i : Input) (w : Walk) → walked B c i ≡ going w → w .left ≡ []
+PicksTaken = (B : Program) (c : List ℕ) (i : Input) (w : Walk) → walked B c i ≡ walking w → w .left ≡ []
 
 -- each pick of a single move that passes its checks is an element: there 18 is only about the universe
 abbrev pub PicksAreElements : Type 0

@@ -9,7 +9,7 @@ use Rattle.text.specs.Quoted.{padded, Case, case, all-right, each-right}
 use Rattle.book.specs.Book.{Book}
 use Rattle.book.specs.Check.{check-book}
 use Rattle.book.specs.Examples.{triple}
-use Rattle.engine.specs.Move.{values-at, idle, Input, input, Moved, fires, stopped, move, reads}
+use Rattle.engine.specs.Move.{values-at, idle, Input, input, Moved, fires, move-refused, move, reads}
 use Rattle.engine.specs.Single.{Stepped, step-call}
 use Rattle.engine.specs.Open.{open-engine}
 
@@ -32,7 +32,7 @@ read-by i c (refused n p q) = []
 -- 1 if it is idle, else 0, then how many values each location is given
 abbrev pub weighed : List ℕ → Moved → List ℕ
 weighed c (fires f) = (if idle c (f .updates) then 1 else 0) ∷ table (λ l. length (values-at (f .updates) l)) (length (f .updates))
-weighed c (stopped n q) = []
+weighed c (move-refused n q) = []
 
 abbrev pub given-by : List ℕ → Checked Book → List ℕ
 given-by c (good b) = weighed c (move (b .program) c (input 0 []))

@@ -1,4 +1,4 @@
-pub mod Look
+pub mod Reader
 pub mod Term
 pub mod Rule
 pub mod Move

@@ -12,8 +12,8 @@ use Rattle.text.specs.declared.Found.the-variants.{Nowhere, Here}
 use Rattle.book.specs.Book.{true-element, Program, L, dynamic-at, default-at, concerns, reserve}
 use Rattle.engine.specs.declared.Instruction.{Instruction}
 use Rattle.engine.specs.declared.Instruction.the-variants.{Update, Release}
-use Rattle.engine.specs.Look.{gives, seen}
-use Rattle.engine.specs.Rule.{Walked, going, met, agent-walk}
+use Rattle.engine.specs.Reader.{value-in, locations-read}
+use Rattle.engine.specs.Rule.{Walked, walking, refused-at, agent-walk}
 
 -- ---- updates: the values that instructions give each location
 
@@ -147,23 +147,23 @@ pub record Fired : Type 0 where
 -- a move fires, or is refused with its number and q
 pub data Moved : Type 0 where
   fires : Fired → Moved
-  stopped : ℕ → ℕ → Moved
+  move-refused : ℕ → ℕ → Moved
 
 abbrev pub unless-clash : Found → Moved → Moved
 unless-clash Nowhere m = m
-unless-clash (Here l) m = stopped clash l
+unless-clash (Here l) m = move-refused clash l
 
 -- the walk of a move in the contents c, and the dynamic locations that it looks at there: all terms are read in the contents before the move
 abbrev pub walked : Program → List ℕ → Input → Walked
-walked B c i = gives c (agent-walk B (i .agent) (i .picks))
+walked B c i = value-in c (agent-walk B (i .agent) (i .picks))
 
 -- the instructions of a walk that was not refused, by what is met on the way or by a pick left over; none of one that was
 abbrev pub made-by : Walked → List Instruction
-made-by (met n q) = []
-made-by (going w) = w .made
+made-by (refused-at n q) = []
+made-by (walking w) = w .made
 
-abbrev pub looked : Program → List ℕ → Input → List ℕ
-looked B c i = dynamic-among B (seen c (agent-walk B (i .agent) (i .picks)))
+abbrev pub walk-reads : Program → List ℕ → Input → List ℕ
+walk-reads B c i = dynamic-among B (locations-read c (agent-walk B (i .agent) (i .picks)))
 
 -- a walk that came to its end, having looked at ls
 abbrev pub fired-of : Program → List ℕ → List ℕ → List Instruction → Fired
@@ -172,21 +172,21 @@ fired-of B c ls is =
     record { instructions = is; updates = us; reads = ls ++ extra-reads B c is us }
 
 -- 15, or it fires
-unfoldable pub judged : Fired → Moved
-judged f = unless-clash (least (clashes (f .instructions) (f .updates)) (length (f .updates))) (fires f)
+unfoldable pub fire-or-clash : Fired → Moved
+fire-or-clash f = unless-clash (least (clashes (f .instructions) (f .updates)) (length (f .updates))) (fires f)
 
 -- 11 to 14, 18 and 19 as met, then 15
 unfoldable pub settle : Program → List ℕ → List ℕ → Walked → Moved
-settle B c ls (met n q) = stopped n q
-settle B c ls (going w) = judged (fired-of B c ls (w .made))
+settle B c ls (refused-at n q) = move-refused n q
+settle B c ls (walking w) = fire-or-clash (fired-of B c ls (w .made))
 
 unfoldable pub move : Program → List ℕ → Input → Moved
-move B c i = settle B c (looked B c i) (walked B c i)
+move B c i = settle B c (walk-reads B c i) (walked B c i)
 
 -- what a move reads; one that is refused, what its walk looks at
 abbrev pub reads-of : List ℕ → Moved → List ℕ
 reads-of ls (fires f) = f .reads
-reads-of ls (stopped n q) = ls
+reads-of ls (move-refused n q) = ls
 
 unfoldable pub reads : Program → List ℕ → Input → List ℕ
-reads B c i = reads-of (looked B c i) (move B c i)
+reads B c i = reads-of (walk-reads B c i) (move B c i)

@@ -14,11 +14,11 @@ use Rattle.book.specs.Contents.{bad-value}
 use Rattle.book.specs.Check.{check-book}
 use Rattle.engine.specs.declared.Instruction.{Instruction}
 use Rattle.engine.specs.Rule.{most-instructions}
-use Rattle.engine.specs.Move.{Input, Fired, Moved, fires, stopped, walked, made-by, move, fire}
+use Rattle.engine.specs.Move.{Input, Fired, Moved, fires, move-refused, walked, made-by, move, fire}
 
 -- a table's first records, and those past them as they were
-abbrev pub over : List ℕ → List ℕ → List ℕ
-over new old = new ++ drop (length new) old
+abbrev pub over-first : List ℕ → List ℕ → List ℕ
+over-first new old = new ++ drop (length new) old
 
 -- 9 with place 0 if there is no such agent
 unfoldable pub check-agent : Program → ℕ → Checked (Unit {0})
@@ -76,8 +76,8 @@ pub record Stepped : Type 0 where
 
 -- the table c, whose first records d are the contents that the move is made on; its walk gave the instructions is
 abbrev pub stepped : List ℕ → List ℕ → List Instruction → Moved → Stepped
-stepped c d is (fires f) = record { answer = record { number = 0; p = 0; q = 0 }; contents = over (fire (f .updates) d) c; instructions = is }
-stepped c d is (stopped n q) = record { answer = record { number = n; p = 0; q = q }; contents = c; instructions = is }
+stepped c d is (fires f) = record { answer = record { number = 0; p = 0; q = 0 }; contents = over-first (fire (f .updates) d) c; instructions = is }
+stepped c d is (move-refused n q) = record { answer = record { number = n; p = 0; q = q }; contents = c; instructions = is }
 
 abbrev pub step-move : Program → List ℕ → Input → Stepped
 step-move B c i =

@@ -7,7 +7,7 @@ use lib.ListN.{getD}
 use Rattle.text.specs.Words.{if_then_else_}
 use Rattle.book.specs.declared.Node.{Node}
 use Rattle.book.specs.Book.{undef, true-element, zero-element, boolean, truth, Program, location}
-use Rattle.engine.specs.Look.{Look, done, read, _>>=_}
+use Rattle.engine.specs.Reader.{Reader, done, read, _>>=_}
 
 pub data Op : Type 0 where
   equal both either plus minus less : Op
@@ -79,7 +79,7 @@ abbrev pub negate : ℕ → ℕ
 negate x = if boolean x then truth (not (eqb x true-element)) else undef
 
 -- The value of a term for the agent whose element is me; vs are the variables' values.
-unfoldable pub eval : Program → ℕ → List ℕ → Term → Look ℕ
+unfoldable pub eval : Program → ℕ → List ℕ → Term → Reader ℕ
 unfolding _>>=_
 eval B me vs (element x) = done x
 eval B me vs (variable v) = done (getD vs v undef)
@@ -101,7 +101,7 @@ eval B me vs (joined o a b) = do
   done (apply (B .P) o x y)
 
 -- The location that a term of kind 4 to 6 names: its arguments are evaluated, and it is not read. No other term is ever asked.
-unfoldable pub target : Program → ℕ → List ℕ → Term → Look ℕ
+unfoldable pub target : Program → ℕ → List ℕ → Term → Reader ℕ
 unfolding _>>=_
 target B me vs (element x) = done 0
 target B me vs (variable v) = done 0

@@ -18,7 +18,7 @@ use Rattle.engine.specs.Move.{given, values, updates, released, other, two-valu
 use Rattle.engine.proofs.EqualReads.{has-append}
 use Rattle.engine.proofs.Values.{length-updates, updates-at}
 use Rattle.engine_instruction.specs.Traces.{own, gets, any}
-use Rattle.engine_clash.specs.Against.{doomed, trouble, better, best}
+use Rattle.engine_clash.specs.Against.{sets-released, clashes-by, least-with, least-clash}
 use Rattle.engine_instruction.proofs.Laws.{and-none, other-append, own-given}
 
 -- ---- tests
@@ -81,12 +81,12 @@ has-values v B c l [] = refl
 has-values v B c l (i ∷ is) =
     has-append (given B c l i) (values B c l is) v ∙ ap (λ (b : Bool). has (given B c l i) v || b) (has-values v B c l is)
 
-sets-any : (xs : List ℕ) (l : ℕ) (is : List Instruction) → set-to-label xs l is ≡ any (λ i. eqb (own i) l && doomed xs i) is
+sets-any : (xs : List ℕ) (l : ℕ) (is : List Instruction) → set-to-label xs l is ≡ any (λ i. eqb (own i) l && sets-released xs i) is
 unfolding any set-to-label
 sets-any xs l [] = refl
-sets-any xs l (i ∷ is) = rw (sets-any xs l is) (ap (λ (b : Bool). b || any (λ i. eqb (own i) l && doomed xs i) is) (step i))
+sets-any xs l (i ∷ is) = rw (sets-any xs l is) (ap (λ (b : Bool). b || any (λ i. eqb (own i) l && sets-released xs i) is) (step i))
   where
-    step : (i : Instruction) → sets-label xs l i ≡ eqb (own i) l && doomed xs i
+    step : (i : Instruction) → sets-label xs l i ≡ eqb (own i) l && sets-released xs i
     step (Update k v) = refl
     step (Release x) = sym (and-none (eqb x l))
 
@@ -139,21 +139,21 @@ module _ (B : Program) (c : List ℕ) (all : List Instruction) where
   Bad l = two-values (values B c l all) || set-to-label (released all) l all
 
   -- so trouble at an instruction is a clash at its location
-  trouble-clash : (i : Instruction) → Member all i → trouble B c all i ≡ true → Bad (own i) ≡ true
+  trouble-clash : (i : Instruction) → Member all i → clashes-by B c all i ≡ true → Bad (own i) ≡ true
   trouble-clash i h e =
       rw (← (two-other (gets i) (values B c (own i) all) (gives-own i h)))
-      (step (other (gets i) (values B c (own i) all)) (doomed (released all) i) refl e)
+      (step (other (gets i) (values B c (own i) all)) (sets-released (released all) i) refl e)
     where
-      step : (a b : Bool) → doomed (released all) i ≡ b → a || b ≡ true → a || set-to-label (released all) (own i) all ≡ true
+      step : (a b : Bool) → sets-released (released all) i ≡ b → a || b ≡ true → a || set-to-label (released all) (own i) all ≡ true
       step true b f g = refl
       step false true f g =
           sets-any (released all) (own i) all
-          ∙ h (λ j. eqb (own j) (own i) && doomed (released all) j) (rw (eq-eqb (own i) (own i) refl, f))
+          ∙ h (λ j. eqb (own j) (own i) && sets-released (released all) j) (rw (eq-eqb (own i) (own i) refl, f))
       step false false f g = cc
 
   -- trouble at an instruction about l
   abbrev pub bad-one : ℕ → Instruction → Bool
-  bad-one l i = eqb (own i) l && trouble B c all i
+  bad-one l i = eqb (own i) l && clashes-by B c all i
 
   -- and a clash is trouble at some instruction about the location
   clash-trouble : (l : ℕ) → Bad l ≡ true → any (bad-one l) all ≡ true
@@ -171,9 +171,9 @@ module _ (B : Program) (c : List ℕ) (all : List Instruction) where
           let o : own i ≡ l = eqb-true (own i) l k in
           rw (eq-eqb (own i) l o, two-other (gets i) (values B c (own i) all) (gives-own i h), o, f))
       step false f g =
-          find all (λ i. eqb (own i) l && doomed (released all) i) (bad-one l) all (λ t h. h)
+          find all (λ i. eqb (own i) l && sets-released (released all) i) (bad-one l) all (λ t h. h)
           (sym (sets-any (released all) l all) ∙ g)
-          (λ i h k. either (eqb (own i) l) (doomed (released all) i) (other (gets i) (values B c (own i) all)) k)
+          (λ i h k. either (eqb (own i) l) (sets-released (released all) i) (other (gets i) (values B c (own i) all)) k)
         where
           either : (a b d : Bool) → a && b ≡ true → a && (d || b) ≡ true
           either true b d k = rw k (or-true d)
@@ -181,21 +181,21 @@ module _ (B : Program) (c : List ℕ) (all : List Instruction) where
 
   -- ---- the best of them
 
-  better-le : (i : Instruction) (b : ℕ) → better B c all i b ≤ b
-  better-le i b = step (ltb (own i) b) (trouble B c all i) refl
+  better-le : (i : Instruction) (b : ℕ) → least-with B c all i b ≤ b
+  better-le i b = step (ltb (own i) b) (clashes-by B c all i) refl
     where
       step : (t u : Bool) → ltb (own i) b ≡ t → (if t && u then own i else b) ≤ b
       step true true e = omega (arith, ltb-true)
       step true false e = omega arith
       step false u e = omega arith
 
-  pub best-le : (is : List Instruction) (b : ℕ) → best B c all is b ≤ b
-  unfolding best
+  pub best-le : (is : List Instruction) (b : ℕ) → least-clash B c all is b ≤ b
+  unfolding least-clash
   best-le [] b = omega arith
-  best-le (i ∷ is) b = omega (arith, best-le is (better B c all i b), better-le i b)
+  best-le (i ∷ is) b = omega (arith, best-le is (least-with B c all i b), better-le i b)
 
-  better-here : (i : Instruction) (b l : ℕ) → bad-one l i ≡ true → better B c all i b ≤ l
-  better-here i b l e = step (eqb (own i) l) (ltb (own i) b) (trouble B c all i) refl refl e
+  better-here : (i : Instruction) (b l : ℕ) → bad-one l i ≡ true → least-with B c all i b ≤ l
+  better-here i b l e = step (eqb (own i) l) (ltb (own i) b) (clashes-by B c all i) refl refl e
     where
       step : (s t u : Bool) → eqb (own i) l ≡ s → ltb (own i) b ≡ t → s && u ≡ true → (if t && u then own i else b) ≤ l
       step true true true f g h = omega (arith, eqb-true)
@@ -203,35 +203,35 @@ module _ (B : Program) (c : List ℕ) (all : List Instruction) where
       step true t false f g h = let z : _≡_ {A = ℕ} 0 1 = cc in absurd (omega arith)
       step false t u f g h = let z : _≡_ {A = ℕ} 0 1 = cc in absurd (omega arith)
 
-  pub best-here : (is : List Instruction) (b l : ℕ) → any (bad-one l) is ≡ true → best B c all is b ≤ l
-  unfolding best any
+  pub best-here : (is : List Instruction) (b l : ℕ) → any (bad-one l) is ≡ true → least-clash B c all is b ≤ l
+  unfolding least-clash any
   best-here [] b l e = let z : _≡_ {A = ℕ} 0 1 = cc in absurd (omega arith)
-  best-here (i ∷ is) b l e = step (bad-one l i) refl e (λ g. best-here is (better B c all i b) l g)
+  best-here (i ∷ is) b l e = step (bad-one l i) refl e (λ g. best-here is (least-with B c all i b) l g)
     where
       step : (t : Bool) → bad-one l i ≡ t → t || any (bad-one l) is ≡ true
-          → (any (bad-one l) is ≡ true → best B c all is (better B c all i b) ≤ l)
-          → best B c all is (better B c all i b) ≤ l
-      step true f g r = omega (arith, best-le is (better B c all i b), better-here i b l f)
+          → (any (bad-one l) is ≡ true → least-clash B c all is (least-with B c all i b) ≤ l)
+          → least-clash B c all is (least-with B c all i b) ≤ l
+      step true f g r = omega (arith, best-le is (least-with B c all i b), better-here i b l f)
       step false f g r = r g
 
   -- what is better than the start clashes
-  better-clashes : (i : Instruction) → Member all i → (b n : ℕ) → (b < n → Bad b ≡ true) → better B c all i b < n → Bad (better B c all i b) ≡ true
-  better-clashes i h b n old = step (ltb (own i) b) (trouble B c all i) refl
+  better-clashes : (i : Instruction) → Member all i → (b n : ℕ) → (b < n → Bad b ≡ true) → least-with B c all i b < n → Bad (least-with B c all i b) ≡ true
+  better-clashes i h b n old = step (ltb (own i) b) (clashes-by B c all i) refl
     where
-      step : (t u : Bool) → trouble B c all i ≡ u → (if t && u then own i else b) < n → Bad (if t && u then own i else b) ≡ true
+      step : (t u : Bool) → clashes-by B c all i ≡ u → (if t && u then own i else b) < n → Bad (if t && u then own i else b) ≡ true
       step true true e k = trouble-clash i h e
       step true false e k = old k
       step false u e k = old k
 
-  best-clashes : (is : List Instruction) → Within all is → (b n : ℕ) → (b < n → Bad b ≡ true) → best B c all is b < n → Bad (best B c all is b) ≡ true
-  unfolding best
+  best-clashes : (is : List Instruction) → Within all is → (b n : ℕ) → (b < n → Bad b ≡ true) → least-clash B c all is b < n → Bad (least-clash B c all is b) ≡ true
+  unfolding least-clash
   best-clashes [] h b n old k = old k
   best-clashes (i ∷ is) h b n old k =
-      best-clashes is (rest-in all i is h) (better B c all i b) n (better-clashes i (first-in all i is h) b n old) k
+      best-clashes is (rest-in all i is h) (least-with B c all i b) n (better-clashes i (first-in all i is h) b n old) k
 
   -- what is better than the start has trouble
-  pub best-trouble : (b : ℕ) → best B c all all b < b → any (bad-one (best B c all all b)) all ≡ true
-  best-trouble b h = clash-trouble (best B c all all b) (best-clashes all (λ t k. k) b b (λ k. absurd (omega arith)) h)
+  pub best-trouble : (b : ℕ) → least-clash B c all all b < b → any (bad-one (least-clash B c all all b)) all ≡ true
+  best-trouble b h = clash-trouble (least-clash B c all all b) (best-clashes all (λ t k. k) b b (λ k. absurd (omega arith)) h)
 
   clashes-at : (l : ℕ) → l < L B → clashes all (updates B c all) l ≡ Bad l
   unfolding clashes
@@ -240,7 +240,7 @@ module _ (B : Program) (c : List ℕ) (all : List Instruction) where
   -- begun from a number k that is no location
   module _ (k : ℕ) (k-high : L B ≤ k) where
     abbrev found : ℕ
-    found = best B c all all k
+    found = least-clash B c all all k
 
     -- one below L is the least location that clashes
     pub best-least : found < L B → Here found ≡ least (clashes all (updates B c all)) (length (updates B c all))

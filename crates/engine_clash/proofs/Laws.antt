@@ -13,22 +13,22 @@ use Rattle.engine.specs.declared.Instruction.the-variants.{Update, Release}
 use Rattle.engine.specs.Move.{given, values, label-of, released, other}
 use Rattle.engine_instruction.specs.Traces.{any}
 use Rattle.engine_instruction.proofs.Laws.{other-append}
-use Rattle.engine_clash.specs.declared.Spot.{Spot}
-use Rattle.engine_clash.specs.Against.{gives, spot}
+use Rattle.engine_clash.specs.declared.HeldPlace.{HeldPlace}
+use Rattle.engine_clash.specs.Against.{value-given, held-place}
 
 -- a location whose function and number within it are known
 pub spot-is :
     (B : Program) (c : List ℕ) (l : ℕ) (f : Function) (i v : ℕ) → place B l ≡ record { function = f; index = i } → v ≡ getD c l 0 →
-    _≡_ {A = Spot} (record { location = l; function = f; index = i; held = v }) (spot B c l)
+    _≡_ {A = HeldPlace} (record { location = l; function = f; index = i; held = v }) (held-place B c l)
 spot-is B c l f i v p h = rw (p, h)
 
 -- what an instruction gives a location, seen from there
-pub given-spot : (B : Program) (c : List ℕ) (l : ℕ) (i : Instruction) → given B c l i ≡ gives (B .E) (spot B c l) i
-unfolding given gives
+pub given-spot : (B : Program) (c : List ℕ) (l : ℕ) (i : Instruction) → given B c l i ≡ value-given (B .E) (held-place B c l) i
+unfolding given value-given
 given-spot B c l (Update k v) = refl
 given-spot B c l (Release x) = refl
 
-pub other-any : (w : ℕ) (B : Program) (c : List ℕ) (l : ℕ) (is : List Instruction) → other w (values B c l is) ≡ any (λ i. other w (gives (B .E) (spot B c l) i)) is
+pub other-any : (w : ℕ) (B : Program) (c : List ℕ) (l : ℕ) (is : List Instruction) → other w (values B c l is) ≡ any (λ i. other w (value-given (B .E) (held-place B c l) i)) is
 unfolding any other values
 other-any w B c l [] = refl
 other-any w B c l (i ∷ is) =

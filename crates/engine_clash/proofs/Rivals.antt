@@ -20,8 +20,8 @@ use Rattle.engine.specs.declared.Instruction.the-variants.{Update}
 use Rattle.engine.specs.Move.{values, label-of, released, other}
 use Rattle.engine_instruction.specs.Code.{decode-of, items}
 use Rattle.engine_instruction.specs.Traces.{any}
-use Rattle.engine_clash.specs.Against.{spot, gives, best}
-use Rattle.engine_clash.specs.Steps.{releases, location-of, slot-of, Last, Linked, Chain, nearer}
+use Rattle.engine_clash.specs.Against.{held-place, value-given, least-clash}
+use Rattle.engine_clash.specs.Steps.{releases, location-of, slot-of, Last, Linked, Chain, least-with-update}
 use Rattle.engine_instruction.proofs.Laws.{or-assoc}
 use Rattle.engine_clash.proofs.Laws.{other-any, has-any}
 use Rattle.engine_clash.proofs.Best.{bad-one, best-le, best-here, best-trouble}
@@ -116,7 +116,7 @@ module _ (list : List ℕ) (n : ℕ) where
 
   module _ {b j least i : ℕ} (so-far : Looked b j least) (more : j < n) (held : Last location-of list (code j) j i) (update : code j < releases) where
     abbrev left : ℕ
-    left = nearer list i (code j) least
+    left = least-with-update list i (code j) least
 
     left-low : left ≤ least
     left-low = go (eqb i 0) (eqb (code (i - 1)) (code j)) (leb least (at j)) refl
@@ -308,16 +308,16 @@ module _ (B : Program) (c : List ℕ) {list : List ℕ} {n b j least : ℕ} (fit
       false≢true (sym (ap (λ (i : Instruction). has (label-of i []) x) (is-update (s .0) (s .1))) ∙ s .2))
 
   -- an update gives a location a value other than w
-  gives-other : (l w k : ℕ) → k < n → other w (gives (B .E) (spot B c l) (decode-of (getD list k 0))) ≡ eqb (at list n k) l && not (eqb (val k) w)
-  unfolding gives other
+  gives-other : (l w k : ℕ) → k < n → other w (value-given (B .E) (held-place B c l) (decode-of (getD list k 0))) ≡ eqb (at list n k) l && not (eqb (val k) w)
+  unfolding value-given other
   gives-other l w k h = rw (is-update k h) (go (eqb (at list n k) l))
     where
       go : (b : Bool) → other w (if b then val k ∷ [] else []) ≡ b && not (eqb (val k) w)
       go true = or-false (not (eqb (val k) w))
       go false = refl
 
-  others : (l w : ℕ) → other w (values B c l all) ≡ some-below (λ k. other w (gives (B .E) (spot B c l) (decode-of (getD list k 0)))) n
-  others l w = other-any w B c l all ∙ any-some (λ i. other w (gives (B .E) (spot B c l) i)) list n fits
+  others : (l w : ℕ) → other w (values B c l all) ≡ some-below (λ k. other w (value-given (B .E) (held-place B c l) (decode-of (getD list k 0)))) n
+  others l w = other-any w B c l all ∙ any-some (λ i. other w (value-given (B .E) (held-place B c l) i)) list n fits
 
   rivals-trouble : (l : ℕ) → Rivals list n l → any (bad-one B c all l) all ≡ true
   rivals-trouble l r =
@@ -331,7 +331,7 @@ module _ (B : Program) (c : List ℕ) {list : List ℕ} {n b j least : ℕ} (fit
       two : other (val (r .one)) (values B c (at list n (r .one)) all) ≡ true
       two =
           others (at list n (r .one)) (val (r .one))
-          ∙ some-below-from (λ k. other (val (r .one)) (gives (B .E) (spot B c (at list n (r .one))) (decode-of (getD list k 0)))) n (r .two) (r .two-in)
+          ∙ some-below-from (λ k. other (val (r .one)) (value-given (B .E) (held-place B c (at list n (r .one))) (decode-of (getD list k 0)))) n (r .two) (r .two-in)
           (gives-other (at list n (r .one)) (val (r .one)) (r .two) (r .two-in)
           ∙ rw (eq-eqb (at list n (r .two)) (at list n (r .one)) (r .two-at ∙ sym (r .one-at)), ne-eqb (val (r .two)) (val (r .one)) apart))
 
@@ -341,7 +341,7 @@ module _ (B : Program) (c : List ℕ) {list : List ℕ} {n b j least : ℕ} (fit
       let k = s .0 in
       let t = and-cases (eqb (at list n k) l) (other (val k) (values B c (at list n k) all) || has (released all) (val k)) (sym (ap (bad-one B c all l) (is-update k (s .1))) ∙ s .2) in
       let u : other (val k) (values B c (at list n k) all) ≡ true = sym (or-false (other (val k) (values B c (at list n k) all))) ∙ (rw (none-released (val k)) at (t .1)) in
-      let v = some-below-true (λ i. other (val k) (gives (B .E) (spot B c (at list n k)) (decode-of (getD list i 0)))) n (sym (others (at list n k) (val k)) ∙ u) in
+      let v = some-below-true (λ i. other (val k) (value-given (B .E) (held-place B c (at list n k)) (decode-of (getD list i 0)))) n (sym (others (at list n k) (val k)) ∙ u) in
       let i = v .0 in
       let w = and-cases (eqb (at list n i) (at list n k)) (not (eqb (val i) (val k))) (sym (gives-other (at list n k) (val k) i (v .1)) ∙ v .2) in
       let same : at list n k ≡ l = eqb-true (at list n k) l (t .0) in
@@ -355,23 +355,23 @@ module _ (B : Program) (c : List ℕ) {list : List ℕ} {n b j least : ℕ} (fit
         differ = λ q. eqb-false (val i) (val k) (not-true (eqb (val i) (val k)) (w .1)) (ap (λ (x : ℕ). x % 65536) q);
       }
 
-  not-above : best B c all all b ≤ least
+  not-above : least-clash B c all all b ≤ least
   not-above = go (ltb least b) refl
     where
-      go : (t : Bool) → ltb least b ≡ t → best B c all all b ≤ least
+      go : (t : Bool) → ltb least b ≡ t → least-clash B c all all b ≤ least
       go true q = best-here B c all all b least (rivals-trouble least (done .bad (ltb-true least b q)))
       go false q = omega (arith, best-le B c all all b, ltb-false least b q)
 
-  not-below : least ≤ best B c all all b
-  not-below = go (ltb (best B c all all b) b) refl
+  not-below : least ≤ least-clash B c all all b
+  not-below = go (ltb (least-clash B c all all b) b) refl
     where
-      go : (t : Bool) → ltb (best B c all all b) b ≡ t → least ≤ best B c all all b
+      go : (t : Bool) → ltb (least-clash B c all all b) b ≡ t → least ≤ least-clash B c all all b
       go true q =
-          let r = trouble-rivals (best B c all all b) (best-trouble B c all b (ltb-true (best B c all all b) b q)) in
+          let r = trouble-rivals (least-clash B c all all b) (best-trouble B c all b (ltb-true (least-clash B c all all b) b q)) in
           let f = done .found (r .one) (r .two) (omega (arith, r .one-in)) (omega (arith, r .two-in)) (r .one-at ∙ sym (r .two-at)) (r .differ) in
           omega (arith, f, r .two-at)
-      go false q = omega (arith, done .low, ltb-false (best B c all all b) b q)
+      go false q = omega (arith, done .low, ltb-false (least-clash B c all all b) b q)
 
   -- the least location that clashes
-  pub looked-best : least ≡ best B c all all b
+  pub looked-best : least ≡ least-clash B c all all b
   looked-best = omega (arith, not-above, not-below)

@@ -10,17 +10,17 @@ use Rattle.engine.specs.declared.Instruction.{Instruction}
 use Rattle.engine.specs.declared.Instruction.the-variants.{Update, Release}
 use Rattle.engine.specs.Move.{values, released, other}
 use Rattle.engine_instruction.specs.Traces.{own, gets, trace-in}
-use Rattle.engine_clash.specs.declared.Spot.{Spot}
+use Rattle.engine_clash.specs.declared.HeldPlace.{HeldPlace}
 
 -- ---- one location
 
-abbrev pub spot : Program → List ℕ → ℕ → Spot
-spot B c l = record { location = l; function = place B l .function; index = place B l .index; held = getD c l 0 }
+abbrev pub held-place : Program → List ℕ → ℕ → HeldPlace
+held-place B c l = record { location = l; function = place B l .function; index = place B l .index; held = getD c l 0 }
 
 -- what an instruction gives it
-unfoldable pub gives : ℕ → Spot → Instruction → List ℕ
-gives E s (Update l v) = if eqb l (s .location) then v ∷ [] else []
-gives E s (Release x) =
+unfoldable pub value-given : ℕ → HeldPlace → Instruction → List ℕ
+value-given E s (Update l v) = if eqb l (s .location) then v ∷ [] else []
+value-given E s (Release x) =
     if eqb x (s .location) then true-element ∷ []
     else if trace-in E (s .function) (s .index) (s .held) x then default (s .function) ∷ []
     else []
@@ -28,17 +28,17 @@ gives E s (Release x) =
 -- ---- all
 
 -- an update whose value is one of the labels
-abbrev pub doomed : List ℕ → Instruction → Bool
-doomed xs (Update l v) = has xs v
-doomed xs (Release x) = false
+abbrev pub sets-released : List ℕ → Instruction → Bool
+sets-released xs (Update l v) = has xs v
+sets-released xs (Release x) = false
 
 -- an instruction's own value is not the only one at its location, or is released
-abbrev pub trouble : Program → List ℕ → List Instruction → Instruction → Bool
-trouble B c all i = other (gets i) (values B c (own i) all) || doomed (released all) i
+abbrev pub clashes-by : Program → List ℕ → List Instruction → Instruction → Bool
+clashes-by B c all i = other (gets i) (values B c (own i) all) || sets-released (released all) i
 
-abbrev pub better : Program → List ℕ → List Instruction → Instruction → ℕ → ℕ
-better B c all i b = if ltb (own i) b && trouble B c all i then own i else b
+abbrev pub least-with : Program → List ℕ → List Instruction → Instruction → ℕ → ℕ
+least-with B c all i b = if ltb (own i) b && clashes-by B c all i then own i else b
 
-unfoldable pub best : Program → List ℕ → List Instruction → List Instruction → ℕ → ℕ
-best B c all [] b = b
-best B c all (i ∷ is) b = best B c all is (better B c all i b)
+unfoldable pub least-clash : Program → List ℕ → List Instruction → List Instruction → ℕ → ℕ
+least-clash B c all [] b = b
+least-clash B c all (i ∷ is) b = least-clash B c all is (least-with B c all i b)

@@ -34,8 +34,8 @@ pub record Chain (list prior : List ℕ) (c p : ℕ) : Type 0 where
   pub same : 0 < p → slot-of (getD list (p - 1) 0) ≡ slot-of c
 
 -- c's location where it is less than b and number i, counted from 1, gives it another value; else b
-abbrev pub nearer : List ℕ → ℕ → ℕ → ℕ → ℕ
-nearer list i c b =
+abbrev pub least-with-update : List ℕ → ℕ → ℕ → ℕ → ℕ
+least-with-update list i c b =
     if eqb i 0 then b
     else if eqb (getD list (i - 1) 0) c || leb b (location-of c) then b
     else location-of c

@@ -10,13 +10,13 @@ ghost use Rattle.book.specs.Image.{held};
 ghost use Rattle.engine.specs.Move.{label-of, released, other};
 ghost use Rattle.engine_instruction.specs.Code.{items};
 ghost use Rattle.engine_instruction.specs.Traces.{any, trace-in};
-ghost use Rattle.engine_clash.specs.Against.{spot, gives, doomed, better, best};
+ghost use Rattle.engine_clash.specs.Against.{held-place, value-given, sets-released, least-with, least-clash};
 ghost use Prim.Native.Nat.{_<_, _≤_};
 ghost use lib.ListN.{length};
-ghost use Rattle.engine_clash.specs.Steps.{location-of, slot-of, Last, Chain, nearer};
+ghost use Rattle.engine_clash.specs.Steps.{location-of, slot-of, Last, Chain, least-with-update};
 
 // A location, its function and its number within it, and what it holds.
-struct Spot {
+struct HeldPlace {
     location: u32,
     function: Function,
     index: usize,
@@ -26,7 +26,7 @@ struct Spot {
 // ---- one location
 
 // It is a trace of x.
-fn is_trace(e: Value, s: Spot, x: Value) -> bool
+fn is_trace(e: Value, s: HeldPlace, x: Value) -> bool
     ensures { λ r. ⌜ r ≡ trace-in e (s .function) (s .index) (s .held) x ⌝ }
 {
     let i = s.index;
@@ -39,14 +39,14 @@ fn is_trace(e: Value, s: Spot, x: Value) -> bool
 }
 
 // Location l as it stands; past the last function there is none.
-fn spot_of(image: &Image, contents: &[Value], l: u32) -> Spot
-    ensures { λ r. ⌜ r ≡ spot (held (now (image .entry))) (now (contents .entry)) l ⌝ }
+fn held_place(image: &Image, contents: &[Value], l: u32) -> HeldPlace
+    ensures { λ r. ⌜ r ≡ held-place (held (now (image .entry))) (now (contents .entry)) l ⌝ }
 {
     let at = l as usize;
     let owner = book_parts::owner_of(image, at);
     let index = if at < owner.end { at - owner.first } else { 0 };
     let f = owner.function;
-    Spot {
+    HeldPlace {
         location: l,
         function: f,
         index: index,
@@ -55,8 +55,8 @@ fn spot_of(image: &Image, contents: &[Value], l: u32) -> Spot
 }
 
 // An instruction gives the location a value other than w.
-fn against(e: Value, s: Spot, w: Value, what: Instruction) -> bool
-    ensures { λ r. ⌜ r ≡ other w (gives e s what) ⌝ }
+fn gives_other(e: Value, s: HeldPlace, w: Value, what: Instruction) -> bool
+    ensures { λ r. ⌜ r ≡ other w (value-given e s what) ⌝ }
 {
     match what {
         Instruction::Update { location, value } => {
@@ -78,14 +78,14 @@ fn against(e: Value, s: Spot, w: Value, what: Instruction) -> bool
 }
 
 // An instruction of the list does.
-fn other_at(e: Value, list: &[u64], len: usize, s: Spot, w: Value) -> bool
-    ensures { λ r. ⌜ r ≡ any (λ i. other w (gives e s i)) (items (now (list .entry)) len) ⌝ }
+fn some_gives_other(e: Value, list: &[u64], len: usize, s: HeldPlace, w: Value) -> bool
+    ensures { λ r. ⌜ r ≡ any (λ i. other w (value-given e s i)) (items (now (list .entry)) len) ⌝ }
 {
     let n = text::smaller(len, list.len());
     let mut j: usize = 0;
     while j < n {
         let what = engine_instruction::decode(list[j]);
-        if against(e, s, w, what) {
+        if gives_other(e, s, w, what) {
             return true;
         }
         j = j + 1;
@@ -125,8 +125,8 @@ fn is_released(list: &[u64], len: usize, x: Value) -> bool
 // ---- all
 
 // An instruction is an update whose value the list releases.
-fn is_doomed(list: &[u64], len: usize, what: Instruction) -> bool
-    ensures { λ r. ⌜ r ≡ doomed (released (items (now (list .entry)) len)) what ⌝ }
+fn sets_released(list: &[u64], len: usize, what: Instruction) -> bool
+    ensures { λ r. ⌜ r ≡ sets-released (released (items (now (list .entry)) len)) what ⌝ }
 {
     match what {
         Instruction::Update { location: _, value } => is_released(list, len, value),
@@ -135,7 +135,7 @@ fn is_doomed(list: &[u64], len: usize, what: Instruction) -> bool
 }
 
 // The location of the instruction where it is less than best and clashes; else best.
-fn better_of(
+fn least_with(
     image: &Image,
     contents: &[Value],
     list: &[u64],
@@ -143,33 +143,33 @@ fn better_of(
     what: Instruction,
     best: u32,
 ) -> u32
-    ensures { λ r. ⌜ r ≡ better (held (now (image .entry))) (now (contents .entry)) (items (now (list .entry)) len) what best ⌝ }
+    ensures { λ r. ⌜ r ≡ least-with (held (now (image .entry))) (now (contents .entry)) (items (now (list .entry)) len) what best ⌝ }
 {
     let at = engine_instruction::own_location(what);
     if best <= at {
         return best;
     }
     let e = book_image::elements(image);
-    let s = spot_of(image, contents, at);
-    if other_at(e, list, len, s, engine_instruction::own_value(what)) {
+    let s = held_place(image, contents, at);
+    if some_gives_other(e, list, len, s, engine_instruction::own_value(what)) {
         return at;
     }
-    if is_doomed(list, len, what) {
+    if sets_released(list, len, what) {
         return at;
     }
     best
 }
 
 // The least location that clashes, or most: each instruction is held against all.
-pub fn first_of_all(image: &Image, contents: &[Value], list: &[u64], len: usize, most: u32) -> u32
-    ensures { λ r. ⌜ r ≡ best (held (now (image .entry))) (now (contents .entry)) (items (now (list .entry)) len) (items (now (list .entry)) len) most ⌝ }
+pub fn least_of_all(image: &Image, contents: &[Value], list: &[u64], len: usize, most: u32) -> u32
+    ensures { λ r. ⌜ r ≡ least-clash (held (now (image .entry))) (now (contents .entry)) (items (now (list .entry)) len) (items (now (list .entry)) len) most ⌝ }
 {
     let n = text::smaller(len, list.len());
     let mut least = most;
     let mut j: usize = 0;
     while j < n {
         let what = engine_instruction::decode(list[j]);
-        least = better_of(image, contents, list, len, what, least);
+        least = least_with(image, contents, list, len, what, least);
         j = j + 1;
     }
     least
@@ -195,7 +195,7 @@ fn slot(code: u64) -> usize
 
 // The last of the first p updates with the location of this one, counted from 1; 0 if none has it. Only those at its slot are tried: p is one, and
 // prior has the one before each.
-fn last_at(list: &[u64], prior: &[u16; 256], p: u16, code: u64) -> usize
+fn last_at_slot(list: &[u64], prior: &[u16; 256], p: u16, code: u64) -> usize
     requires { ⌜ Chain (now list) (now prior) code p ⌝ }
     ensures { λ r. ⌜ Last location-of (now (list .entry)) code p r ⌝ }
 {
@@ -225,9 +225,9 @@ fn last_before(list: &[u64], p: usize, code: u64) -> usize
 }
 
 // The location of an update where it is less than least and update i, counted from 1, gives it another value; else least.
-fn nearer(list: &[u64], i: usize, code: u64, least: u64) -> u64
+fn least_with_update(list: &[u64], i: usize, code: u64, least: u64) -> u64
     requires { ⌜ i ≤ length (now list) ⌝ }
-    ensures { λ r. ⌜ r ≡ nearer (now (list .entry)) i code least ⌝ }
+    ensures { λ r. ⌜ r ≡ least-with-update (now (list .entry)) i code least ⌝ }
 {
     if i == 0 {
         return least;
@@ -239,18 +239,18 @@ fn nearer(list: &[u64], i: usize, code: u64, least: u64) -> u64
 }
 
 // The least location that clashes among the first n, or most, with no tables.
-fn first_of_few(image: &Image, contents: &[Value], list: &[u64], n: usize, most: u32) -> u32
+fn least_of_few(image: &Image, contents: &[Value], list: &[u64], n: usize, most: u32) -> u32
     requires { ⌜ n ≤ length (now list) ⌝ }
-    ensures { λ r. ⌜ r ≡ best (held (now (image .entry))) (now (contents .entry)) (items (now (list .entry)) n) (items (now (list .entry)) n) most ⌝ }
+    ensures { λ r. ⌜ r ≡ least-clash (held (now (image .entry))) (now (contents .entry)) (items (now (list .entry)) n) (items (now (list .entry)) n) most ⌝ }
 {
     let mut least = most as u64;
     let mut j: usize = 0;
     while j < n {
         let code = list[j];
         if RELEASES <= code {
-            return first_of_all(image, contents, list, n, most);
+            return least_of_all(image, contents, list, n, most);
         }
-        least = nearer(list, last_before(list, j, code), code, least);
+        least = least_with_update(list, last_before(list, j, code), code, least);
         j = j + 1;
     }
     least as u32
@@ -258,15 +258,15 @@ fn first_of_few(image: &Image, contents: &[Value], list: &[u64], n: usize, most:
 
 // The least location that clashes, or most. Without a release it is enough to hold each update against the last one before it at its location.
 // Counted from 1, `last` has the last update at each slot, and `prior` the one before each update at its slot.
-pub fn first_clash(image: &Image, contents: &[Value], list: &[u64], len: usize, most: u32) -> u32
-    ensures { λ r. ⌜ r ≡ best (held (now (image .entry))) (now (contents .entry)) (items (now (list .entry)) len) (items (now (list .entry)) len) most ⌝ }
+pub fn least_clash(image: &Image, contents: &[Value], list: &[u64], len: usize, most: u32) -> u32
+    ensures { λ r. ⌜ r ≡ least-clash (held (now (image .entry))) (now (contents .entry)) (items (now (list .entry)) len) (items (now (list .entry)) len) most ⌝ }
 {
     let n = text::smaller(len, list.len());
     if n <= FEW {
-        return first_of_few(image, contents, list, n, most);
+        return least_of_few(image, contents, list, n, most);
     }
     if MOST < n {
-        return first_of_all(image, contents, list, len, most);
+        return least_of_all(image, contents, list, len, most);
     }
     let mut last = [0u16; 512];
     let mut prior = [0u16; 256];
@@ -275,11 +275,11 @@ pub fn first_clash(image: &Image, contents: &[Value], list: &[u64], len: usize, 
     while j < n {
         let code = list[j];
         if RELEASES <= code {
-            return first_of_all(image, contents, list, len, most);
+            return least_of_all(image, contents, list, len, most);
         }
         let s = slot(code);
         let p = last[s];
-        least = nearer(list, last_at(list, &prior, p, code), code, least);
+        least = least_with_update(list, last_at_slot(list, &prior, p, code), code, least);
         prior[j] = p;
         last[s] = j as u16 + 1;
         j = j + 1;

@@ -15,74 +15,74 @@ use Rattle.text.specs.Refusals.{non-boolean, not-releasable, no-label-left, lis
 use Rattle.book.specs.Book.{true-element, false-element, boolean, relation, Program, function-at, location, reserve}
 use Rattle.engine.specs.declared.Instruction.{Instruction}
 use Rattle.engine.specs.declared.Instruction.the-variants.{Update, Release}
-use Rattle.engine.specs.Rule.{Walked, going, met, _then_, most-instructions, give, not-free, all-taken}
+use Rattle.engine.specs.Rule.{Walked, walking, refused-at, _then_, most-instructions, emit, unreleasable, all-taken}
 use Rattle.engine_instruction.specs.Code.{decode-of, items}
-use Rattle.engine_emit.specs.declared.Pace.{Pace}
-use Rattle.engine_emit.specs.Giving.{walk-from, reached, refused-by, setting, freeing, taking, enrolling, next-pick, picking}
+use Rattle.engine_emit.specs.declared.Progress.{Progress}
+use Rattle.engine_emit.specs.Emit.{walk-from, reached, refused-by, setting, releasing, importing, importing-found, next-pick, picking}
 
-pub reached-going : (ys : List ℕ) (s : Pace) (l : List ℕ) → s .refused ≡ 0 → reached ys s l ≡ going (walk-from ys s l)
+pub reached-going : (ys : List ℕ) (s : Progress) (l : List ℕ) → s .refused ≡ 0 → reached ys s l ≡ walking (walk-from ys s l)
 unfolding reached
 reached-going ys s l e = rw (eq-eqb (s .refused) 0 e)
 
-pub reached-met : (ys : List ℕ) (s : Pace) (l : List ℕ) → ((s .refused ≡ 0) → ⊥) → reached ys s l ≡ met (s .refused) (s .node)
+pub reached-met : (ys : List ℕ) (s : Progress) (l : List ℕ) → ((s .refused ≡ 0) → ⊥) → reached ys s l ≡ refused-at (s .refused) (s .node)
 unfolding reached
 reached-met ys s l e = rw (ne-eqb (s .refused) 0 e)
 
 -- one instruction more, or 14
-module _ (ys : List ℕ) (s : Pace) (l : List ℕ) (i : Instruction) (n : ℕ) (long : length l ≡ most-instructions) where
+module _ (ys : List ℕ) (s : Progress) (l : List ℕ) (i : Instruction) (n : ℕ) (long : length l ≡ most-instructions) where
   pub give-room : (v : ℕ) → s .len < 256 → decode-of v ≡ i
-      → going (record { made = items (set l (s .len) v) (s .len + 1); next = s .label; left = ys }) ≡ give n i (walk-from ys s l)
+      → walking (record { made = items (set l (s .len) v) (s .len + 1); next = s .label; left = ys }) ≡ emit n i (walk-from ys s l)
   give-room v h e =
       let j : s .len < length l = omega arith in
       let k : length (items l (s .len)) < 256 = rw (length-map, length-take) (omega arith) in
       rw (lt-ltb (length (items l (s .len))) 256 k, add-one, take-suc-set l (s .len) v j, map-append, e)
 
-  pub give-full : 256 ≤ s .len → met list-full n ≡ give n i (walk-from ys s l)
+  pub give-full : 256 ≤ s .len → refused-at list-full n ≡ emit n i (walk-from ys s l)
   give-full h =
       let k : 256 ≤ length (items l (s .len)) = rw (length-map, length-take) (omega arith) in
       rw (le-ltb (length (items l (s .len))) 256 k)
 
 -- 11 and 12, or one instruction more
 module _ (B : Program) (f l v n : ℕ) where
-  pub setting-ok : (relation (function-at B f) && not (boolean v)) ≡ false → (o : Walked) → (o then setting B f l v n) ≡ (o then give n (Update l v))
-  setting-ok e (going w) = rw e
-  setting-ok e (met r q) = refl
+  pub setting-ok : (relation (function-at B f) && not (boolean v)) ≡ false → (o : Walked) → (o then setting B f l v n) ≡ (o then emit n (Update l v))
+  setting-ok e (walking w) = rw e
+  setting-ok e (refused-at r q) = refl
 
   pub setting-bad : (relation (function-at B f) && not (boolean v)) ≡ true → (o : Walked) → (o then setting B f l v n) ≡ (o then refused-by non-boolean n)
-  setting-bad e (going w) = rw e
-  setting-bad e (met r q) = refl
+  setting-bad e (walking w) = rw e
+  setting-bad e (refused-at r q) = refl
 
 module _ (B : Program) (x r n : ℕ) where
-  pub freeing-ok : not-free B x r ≡ false → (o : Walked) → (o then freeing B x r n) ≡ (o then give n (Release x))
-  freeing-ok e (going w) = rw e
-  freeing-ok e (met a q) = refl
+  pub freeing-ok : unreleasable B x r ≡ false → (o : Walked) → (o then releasing B x r n) ≡ (o then emit n (Release x))
+  freeing-ok e (walking w) = rw e
+  freeing-ok e (refused-at a q) = refl
 
-  pub freeing-bad : not-free B x r ≡ true → (o : Walked) → (o then freeing B x r n) ≡ (o then refused-by not-releasable n)
-  freeing-bad e (going w) = rw e
-  freeing-bad e (met a q) = refl
+  pub freeing-bad : unreleasable B x r ≡ true → (o : Walked) → (o then releasing B x r n) ≡ (o then refused-by not-releasable n)
+  freeing-bad e (walking w) = rw e
+  freeing-bad e (refused-at a q) = refl
 
 -- ---- an import's label
 
 -- with label x taken, the two updates of an import, unless there is a refusal already
-pub taking-from : (B : Program) (u x n : ℕ) (ys : List ℕ) (s : Pace) (l : List ℕ)
-    → (reached ys (record { len = s .len; label = x + 1; refused = s .refused; node = s .node }) l then give n (Update (reserve x) false-element) then give n (Update (location B u x 0) true-element))
-    ≡ (reached ys s l then taking B u x n)
+pub taking-from : (B : Program) (u x n : ℕ) (ys : List ℕ) (s : Progress) (l : List ℕ)
+    → (reached ys (record { len = s .len; label = x + 1; refused = s .refused; node = s .node }) l then emit n (Update (reserve x) false-element) then emit n (Update (location B u x 0) true-element))
+    ≡ (reached ys s l then importing B u x n)
 unfolding reached
 taking-from B u x n ys s l = rw (add-one x) (go (eqb (s .refused) 0))
   where
-    go : (b : Bool) → ((if b then going (record { made = items l (s .len); next = suc x; left = ys }) else met (s .refused) (s .node)) then give n (Update (reserve x) false-element) then give n (Update (location B u x 0) true-element))
-        ≡ ((if b then going (walk-from ys s l) else met (s .refused) (s .node)) then taking B u x n)
+    go : (b : Bool) → ((if b then walking (record { made = items l (s .len); next = suc x; left = ys }) else refused-at (s .refused) (s .node)) then emit n (Update (reserve x) false-element) then emit n (Update (location B u x 0) true-element))
+        ≡ ((if b then walking (walk-from ys s l) else refused-at (s .refused) (s .node)) then importing B u x n)
     go true = refl
     go false = refl
 
 module _ (B : Program) (u x n : ℕ) where
-  pub enrolling-in : x < B .E → (o : Walked) → (o then enrolling B u x n) ≡ (o then taking B u x n)
-  enrolling-in h (going w) = rw (lt-ltb x (B .E) h)
-  enrolling-in h (met r q) = refl
+  pub enrolling-in : x < B .E → (o : Walked) → (o then importing-found B u x n) ≡ (o then importing B u x n)
+  enrolling-in h (walking w) = rw (lt-ltb x (B .E) h)
+  enrolling-in h (refused-at r q) = refl
 
-  pub enrolling-none : B .E ≤ x → (o : Walked) → (o then enrolling B u x n) ≡ (o then refused-by no-label-left n)
-  enrolling-none h (going w) = rw (le-ltb x (B .E) h)
-  enrolling-none h (met r q) = refl
+  pub enrolling-none : B .E ≤ x → (o : Walked) → (o then importing-found B u x n) ≡ (o then refused-by no-label-left n)
+  enrolling-none h (walking w) = rw (le-ltb x (B .E) h)
+  enrolling-none h (refused-at r q) = refl
 
 -- ---- picks
 
@@ -110,13 +110,13 @@ module _ (E : ℕ) (ys : List ℕ) (i : ℕ) where
   next-none h = rw (drop-past ys i h)
 
 -- 28, by what is left
-module _ (s : Pace) (l : List ℕ) (ys : List ℕ) (i v n : ℕ) where
+module _ (s : Progress) (l : List ℕ) (ys : List ℕ) (i v n : ℕ) where
   pub picking-none : length ys ≤ i → (reached (drop i ys) s l then refused-by pick-count n) ≡ (reached (drop i ys) s l then picking v n)
   unfolding reached
   picking-none h = rw (drop-past ys i h) (go (eqb (s .refused) 0))
     where
-      go : (b : Bool) → ((if b then going (walk-from [] s l) else met (s .refused) (s .node)) then refused-by pick-count n)
-          ≡ ((if b then going (walk-from [] s l) else met (s .refused) (s .node)) then picking v n)
+      go : (b : Bool) → ((if b then walking (walk-from [] s l) else refused-at (s .refused) (s .node)) then refused-by pick-count n)
+          ≡ ((if b then walking (walk-from [] s l) else refused-at (s .refused) (s .node)) then picking v n)
       go true = refl
       go false = refl
 
@@ -124,8 +124,8 @@ module _ (s : Pace) (l : List ℕ) (ys : List ℕ) (i v n : ℕ) where
   unfolding reached
   picking-some h e = rw (drop-at ys i h, e) (go (eqb (s .refused) 0))
     where
-      go : (b : Bool) → (if b then going (walk-from (drop (suc i) ys) s l) else met (s .refused) (s .node))
-          ≡ ((if b then going (walk-from (getD ys i 0 ∷ drop (suc i) ys) s l) else met (s .refused) (s .node)) then picking true-element n)
+      go : (b : Bool) → (if b then walking (walk-from (drop (suc i) ys) s l) else refused-at (s .refused) (s .node))
+          ≡ ((if b then walking (walk-from (getD ys i 0 ∷ drop (suc i) ys) s l) else refused-at (s .refused) (s .node)) then picking true-element n)
       go true = refl
       go false = refl
 
@@ -133,19 +133,19 @@ module _ (s : Pace) (l : List ℕ) (ys : List ℕ) (i v n : ℕ) where
   unfolding reached
   picking-other h e = rw (drop-at ys i h) (go (eqb (s .refused) 0))
     where
-      go : (b : Bool) → ((if b then going (walk-from (getD ys i 0 ∷ drop (suc i) ys) s l) else met (s .refused) (s .node)) then refused-by not-in-universe n)
-          ≡ ((if b then going (walk-from (getD ys i 0 ∷ drop (suc i) ys) s l) else met (s .refused) (s .node)) then picking v n)
+      go : (b : Bool) → ((if b then walking (walk-from (getD ys i 0 ∷ drop (suc i) ys) s l) else refused-at (s .refused) (s .node)) then refused-by not-in-universe n)
+          ≡ ((if b then walking (walk-from (getD ys i 0 ∷ drop (suc i) ys) s l) else refused-at (s .refused) (s .node)) then picking v n)
       go true = rw (ne-eqb v true-element e)
       go false = refl
 
 -- at the end all picks are used, or one is left
-module _ (s : Pace) (l : List ℕ) (ys : List ℕ) (i q : ℕ) where
+module _ (s : Progress) (l : List ℕ) (ys : List ℕ) (i q : ℕ) where
   pub taken-all : length ys ≤ i → reached [] s l ≡ (reached (drop i ys) s l then λ w. all-taken q (w .left) w)
   unfolding reached
   taken-all h = rw (drop-past ys i h) (go (eqb (s .refused) 0))
     where
-      go : (b : Bool) → (if b then going (walk-from [] s l) else met (s .refused) (s .node))
-          ≡ ((if b then going (walk-from [] s l) else met (s .refused) (s .node)) then λ w. all-taken q (w .left) w)
+      go : (b : Bool) → (if b then walking (walk-from [] s l) else refused-at (s .refused) (s .node))
+          ≡ ((if b then walking (walk-from [] s l) else refused-at (s .refused) (s .node)) then λ w. all-taken q (w .left) w)
       go true = refl
       go false = refl
 
@@ -153,7 +153,7 @@ module _ (s : Pace) (l : List ℕ) (ys : List ℕ) (i q : ℕ) where
   unfolding reached
   taken-some h = rw (drop-at ys i h) (go (eqb (s .refused) 0))
     where
-      go : (b : Bool) → ((if b then going (walk-from [] s l) else met (s .refused) (s .node)) then refused-by pick-count q)
-          ≡ ((if b then going (walk-from (getD ys i 0 ∷ drop (suc i) ys) s l) else met (s .refused) (s .node)) then λ w. all-taken q (w .left) w)
+      go : (b : Bool) → ((if b then walking (walk-from [] s l) else refused-at (s .refused) (s .node)) then refused-by pick-count q)
+          ≡ ((if b then walking (walk-from (getD ys i 0 ∷ drop (suc i) ys) s l) else refused-at (s .refused) (s .node)) then λ w. all-taken q (w .left) w)
       go true = refl
       go false = refl

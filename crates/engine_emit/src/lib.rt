@@ -9,14 +9,14 @@ ghost use Prim.Native.Nat.{ℕ, suc, _<_};
 ghost use lib.ListN.{length, getD};
 ghost use Rattle.book.specs.Book.{node-at};
 ghost use Rattle.engine.specs.Term.{term-at, function-of};
-ghost use Rattle.engine.specs.Rule.{_then_, most-instructions, give, all-taken};
+ghost use Rattle.engine.specs.Rule.{_then_, most-instructions, emit, all-taken};
 ghost use Rattle.book.specs.Image.{held};
-ghost use Rattle.engine_emit.specs.Giving.{reached, left-of, refused-by, setting, freeing, taking, enrolling, next-pick, picking};
+ghost use Rattle.engine_emit.specs.Emit.{reached, picks-left, refused-by, setting, releasing, importing, importing-found, next-pick, picking};
 
 // How far a walk is: how many instructions it has given, the label from which the next import looks,
 // its refusal (0 for none) and the refusal's node. Eight bytes go from node to node in a register; how many picks it has used stands in a
 // cell that is lent beside it.
-pub struct Pace {
+pub struct Progress {
     pub len: u16,
     pub label: Value,
     pub refused: u16,
@@ -24,14 +24,14 @@ pub struct Pace {
 }
 
 // A refusal at node n, unless there is one already.
-fn refuse(s: Pace, number: u32, n: u16) -> Pace
+fn refuse_at(s: Progress, number: u32, n: u16) -> Progress
     requires { ⌜ (0 < number) × (number < 65536) ⌝ }
     ensures { λ r. ⌜ ((ys l : List ℕ) → reached ys r l ≡ (reached ys s l then refused-by number n)) ⌝ }
 {
     if s.refused != 0 {
         return s;
     }
-    Pace {
+    Progress {
         len: s.len,
         label: s.label,
         refused: number as u16,
@@ -40,9 +40,9 @@ fn refuse(s: Pace, number: u32, n: u16) -> Pace
 }
 
 // One more instruction, which node n gives; 14 if it does not fit.
-fn give(list: &mut [u64], s: Pace, i: Instruction, n: u16) -> Pace
+fn emit(list: &mut [u64], s: Progress, i: Instruction, n: u16) -> Progress
     requires { ⌜ length (now list) ≡ most-instructions ⌝ }
-    ensures { λ r. ⌜ ((ys : List ℕ) → reached ys r (now (list .exit)) ≡ (reached ys s (now (list .entry)) then give n i)) ⌝ }
+    ensures { λ r. ⌜ ((ys : List ℕ) → reached ys r (now (list .exit)) ≡ (reached ys s (now (list .entry)) then emit n i)) ⌝ }
 {
     if s.refused != 0 {
         return s;
@@ -50,19 +50,19 @@ fn give(list: &mut [u64], s: Pace, i: Instruction, n: u16) -> Pace
     let at = s.len as usize;
     if at < 256 {
         list[at] = engine_instruction::code(i);
-        Pace {
+        Progress {
             len: s.len + 1,
             label: s.label,
             refused: 0,
             node: s.node,
         }
     } else {
-        refuse(s, text::LIST_FULL, n)
+        refuse_at(s, text::LIST_FULL, n)
     }
 }
 
 // The function of the location that the term at node n names.
-pub fn named(image: &Image, depth: usize, n: u16) -> u16
+pub fn target_function(image: &Image, depth: usize, n: u16) -> u16
     ensures { λ r. ⌜ r ≡ function-of (term-at (node-at (held (now (image .entry)))) depth n) ⌝ }
 {
     if depth == 0 {
@@ -79,20 +79,20 @@ pub fn named(image: &Image, depth: usize, n: u16) -> u16
 }
 
 // Sets a location of function f to x; 11 if f is a relation and x not Boolean.
-pub fn update(
+pub fn emit_update(
     image: &Image,
     list: &mut [u64; 256],
-    s: Pace,
+    s: Progress,
     n: u16,
     f: u16,
     at: u32,
     x: Value,
-) -> Pace
+) -> Progress
     ensures { λ r. ⌜ ((ys : List ℕ) → reached ys r (now (list .exit)) ≡ (reached ys s (now (list .entry)) then setting (held (now (image .entry))) f at x n)) ⌝ }
 {
     if book_parts::is_relation(book_image::function_at(image, f as u32)) {
-        if engine_term::boolean(x) {
-            give(
+        if engine_term::is_boolean(x) {
+            emit(
                 list,
                 s,
                 Instruction::Update {
@@ -102,10 +102,10 @@ pub fn update(
                 n,
             )
         } else {
-            refuse(s, text::NON_BOOLEAN, n)
+            refuse_at(s, text::NON_BOOLEAN, n)
         }
     } else {
-        give(
+        emit(
             list,
             s,
             Instruction::Update {
@@ -118,17 +118,24 @@ pub fn update(
 }
 
 // The two updates by which an import at node n takes label x into universe u.
-fn take(image: &Image, list: &mut [u64; 256], s: Pace, n: u16, u: u16, x: Value) -> Pace
+fn emit_import(
+    image: &Image,
+    list: &mut [u64; 256],
+    s: Progress,
+    n: u16,
+    u: u16,
+    x: Value,
+) -> Progress
     requires { ⌜ x < 65535 ⌝ }
-    ensures { λ r. ⌜ ((ys : List ℕ) → reached ys r (now (list .exit)) ≡ (reached ys s (now (list .entry)) then taking (held (now (image .entry))) u x n)) ⌝ }
+    ensures { λ r. ⌜ ((ys : List ℕ) → reached ys r (now (list .exit)) ≡ (reached ys s (now (list .entry)) then importing (held (now (image .entry))) u x n)) ⌝ }
 {
-    let r = Pace {
+    let r = Progress {
         len: s.len,
         label: x + 1,
         refused: s.refused,
         node: s.node,
     };
-    let t = give(
+    let t = emit(
         list,
         r,
         Instruction::Update {
@@ -138,7 +145,7 @@ fn take(image: &Image, list: &mut [u64; 256], s: Pace, n: u16, u: u16, x: Value)
         n,
     );
     let at = engine_term::location(image, u, x, 0);
-    give(
+    emit(
         list,
         t,
         Instruction::Update {
@@ -150,33 +157,47 @@ fn take(image: &Image, list: &mut [u64; 256], s: Pace, n: u16, u: u16, x: Value)
 }
 
 // The same if x is an element; 13 if not, as no label is left.
-pub fn enroll(image: &Image, list: &mut [u64; 256], s: Pace, n: u16, u: u16, x: Value) -> Pace
-    ensures { λ r. ⌜ ((ys : List ℕ) → reached ys r (now (list .exit)) ≡ (reached ys s (now (list .entry)) then enrolling (held (now (image .entry))) u x n)) ⌝ }
+pub fn import_label(
+    image: &Image,
+    list: &mut [u64; 256],
+    s: Progress,
+    n: u16,
+    u: u16,
+    x: Value,
+) -> Progress
+    ensures { λ r. ⌜ ((ys : List ℕ) → reached ys r (now (list .exit)) ≡ (reached ys s (now (list .entry)) then importing-found (held (now (image .entry))) u x n)) ⌝ }
 {
     if x < book_image::elements(image) {
-        take(image, list, s, n, u, x)
+        emit_import(image, list, s, n, u, x)
     } else {
-        refuse(s, text::NO_LABEL_LEFT, n)
+        refuse_at(s, text::NO_LABEL_LEFT, n)
     }
 }
 
 // Releases x, Reserve there being v; 12 if x is no label or in Reserve.
-pub fn free(image: &Image, list: &mut [u64; 256], s: Pace, n: u16, x: Value, v: Value) -> Pace
-    ensures { λ r. ⌜ ((ys : List ℕ) → reached ys r (now (list .exit)) ≡ (reached ys s (now (list .entry)) then freeing (held (now (image .entry))) x v n)) ⌝ }
+pub fn emit_release(
+    image: &Image,
+    list: &mut [u64; 256],
+    s: Progress,
+    n: u16,
+    x: Value,
+    v: Value,
+) -> Progress
+    ensures { λ r. ⌜ ((ys : List ℕ) → reached ys r (now (list .exit)) ≡ (reached ys s (now (list .entry)) then releasing (held (now (image .entry))) x v n)) ⌝ }
 {
     if x < book_parts::permanent(image) {
-        return refuse(s, text::NOT_RELEASABLE, n);
+        return refuse_at(s, text::NOT_RELEASABLE, n);
     }
     if v == 2 {
-        refuse(s, text::NOT_RELEASABLE, n)
+        refuse_at(s, text::NOT_RELEASABLE, n)
     } else {
-        give(list, s, Instruction::Release { label: x }, n)
+        emit(list, s, Instruction::Release { label: x }, n)
     }
 }
 
 // The pick that is next; E if there is none, or it is no element.
 pub fn next_pick(image: &Image, picks: &[Pick], used: &[usize; 1]) -> Value
-    ensures { λ r. ⌜ r ≡ next-pick (held (now (image .entry)) .E) (left-of (now (picks .entry)) (now (used .entry))) ⌝ }
+    ensures { λ r. ⌜ r ≡ next-pick (held (now (image .entry)) .E) (picks-left (now (picks .entry)) (now (used .entry))) ⌝ }
 {
     let e = book_image::elements(image);
     let i = used[0];
@@ -190,7 +211,7 @@ pub fn next_pick(image: &Image, picks: &[Pick], used: &[usize; 1]) -> Value
 }
 
 // One pick more is used.
-fn advance(used: &mut [usize])
+fn use_pick(used: &mut [usize])
     requires { ⌜ (0 < length (now used)) × (getD (now used) 0 0 < 18446744073709551615) ⌝ }
     ensures { λ _. ⌜ getD (now (used .exit)) 0 0 ≡ suc (getD (now (used .entry)) 0 0) ⌝ }
 {
@@ -198,26 +219,26 @@ fn advance(used: &mut [usize])
 }
 
 // Takes the pick that is next, the universe having the value v there; 19 if there is none, 18 if it is no member.
-pub fn pick(picks: &[Pick], used: &mut [usize; 1], s: Pace, n: u16, v: Value) -> Pace
-    ensures { λ r. ⌜ ((l : List ℕ) → reached (left-of (now (picks .entry)) (now (used .exit))) r l ≡ (reached (left-of (now (picks .entry)) (now (used .entry))) s l then picking v n)) ⌝ }
+pub fn take_pick(picks: &[Pick], used: &mut [usize; 1], s: Progress, n: u16, v: Value) -> Progress
+    ensures { λ r. ⌜ ((l : List ℕ) → reached (picks-left (now (picks .entry)) (now (used .exit))) r l ≡ (reached (picks-left (now (picks .entry)) (now (used .entry))) s l then picking v n)) ⌝ }
 {
     let i = used[0];
     if picks.len() <= i {
-        return refuse(s, text::PICK_COUNT, n);
+        return refuse_at(s, text::PICK_COUNT, n);
     }
     if v != 2 {
-        return refuse(s, text::NOT_IN_UNIVERSE, n);
+        return refuse_at(s, text::NOT_IN_UNIVERSE, n);
     }
-    advance(used);
+    use_pick(used);
     s
 }
 
 // 19 at the root if picks are left at the walk's end.
-pub fn all_used(picks: &[Pick], used: &[usize; 1], s: Pace, root: u16) -> Pace
-    ensures { λ r. ⌜ ((l : List ℕ) → reached [] r l ≡ (reached (left-of (now (picks .entry)) (now (used .entry))) s l then λ w. all-taken root (w .left) w)) ⌝ }
+pub fn all_used(picks: &[Pick], used: &[usize; 1], s: Progress, root: u16) -> Progress
+    ensures { λ r. ⌜ ((l : List ℕ) → reached [] r l ≡ (reached (picks-left (now (picks .entry)) (now (used .entry))) s l then λ w. all-taken root (w .left) w)) ⌝ }
 {
     if used[0] < picks.len() {
-        return refuse(s, text::PICK_COUNT, root);
+        return refuse_at(s, text::PICK_COUNT, root);
     }
     s
 }

@@ -8,37 +8,37 @@ use native.Mathlib.Omega.{arith}
 use lib.ListN.{length}
 use borrow.Author.Tests.{eq-eqb, ne-eqb}
 use Rattle.engine.specs.declared.Instruction.{Instruction}
-use Rattle.engine.specs.Rule.{going}
+use Rattle.engine.specs.Rule.{walking}
 use Rattle.engine.specs.Move.{made-by}
 use Rattle.engine_instruction.specs.Code.{items}
 use Rattle.engine_instruction.proofs.Lists.{clipped}
-use Rattle.engine_walk.specs.declared.State.{State}
+use Rattle.engine_walk.specs.declared.WalkEnd.{WalkEnd}
 use Rattle.engine_walk.specs.Walk.{outcome}
 use Rattle.engine_walk.proofs.Steps.{outcome-going, outcome-met}
-use Rattle.engine_fire.specs.Count.{given-of}
+use Rattle.engine_fire.specs.Count.{instructions-given}
 
-pub given-none : (s : State) → s .refused ≢ 0 → 0 ≡ given-of s
+pub given-none : (s : WalkEnd) → s .refused ≢ 0 → 0 ≡ instructions-given s
 given-none s h = rw (ne-eqb (s .refused) 0 h)
 
-pub given-some : (s : State) (n : ℕ) → s .refused ≡ 0 → n ≡ min (s .len) 256 → n ≡ given-of s
+pub given-some : (s : WalkEnd) (n : ℕ) → s .refused ≡ 0 → n ≡ min (s .len) 256 → n ≡ instructions-given s
 given-some s n h e = rw (eq-eqb (s .refused) 0 h) e
 
-pub given-few : (s : State) → given-of s ≤ 256
+pub given-few : (s : WalkEnd) → instructions-given s ≤ 256
 given-few s = dite (ℕ-discrete (s .refused) 0)
     (λ (h : s .refused ≡ 0). rw (eq-eqb (s .refused) 0 h) (omega arith))
     (λ (h : s .refused ≢ 0). rw (ne-eqb (s .refused) 0 h) (omega arith))
 
 -- what the list holds
-pub made-of : (s : State) (l : List ℕ) → length l ≡ 256 → items l (given-of s) ≡ made-by (outcome s l)
+pub made-of : (s : WalkEnd) (l : List ℕ) → length l ≡ 256 → items l (instructions-given s) ≡ made-by (outcome s l)
 made-of s l e = dite (ℕ-discrete (s .refused) 0)
     (λ (h : s .refused ≡ 0). rw (outcome-going s l h, eq-eqb (s .refused) 0 h) (clipped l (s .len) (min (s .len) 256) (omega arith)))
     (λ (h : s .refused ≢ 0). rw (outcome-met s l h, ne-eqb (s .refused) 0 h))
 
 -- and another list that holds the same
-pub same-outcome : (s : State) (l l′ : List ℕ) → length l ≡ 256 → length l′ ≡ 256 → items l′ (given-of s) ≡ items l (given-of s) → outcome s l′ ≡ outcome s l
+pub same-outcome : (s : WalkEnd) (l l′ : List ℕ) → length l ≡ 256 → length l′ ≡ 256 → items l′ (instructions-given s) ≡ items l (instructions-given s) → outcome s l′ ≡ outcome s l
 same-outcome s l l′ e e′ q = dite (ℕ-discrete (s .refused) 0)
     (λ (h : s .refused ≡ 0).
     let i : items l′ (s .len) ≡ items l (s .len) =
     sym (clipped l′ (s .len) (min (s .len) 256) (omega arith)) ∙ (rw (eq-eqb (s .refused) 0 h) at q) ∙ clipped l (s .len) (min (s .len) 256) (omega arith) in
-    outcome-going s l′ h ∙ ap (λ (is : List Instruction). going (record { made = is; next = s .label; left = [] })) i ∙ sym (outcome-going s l h))
+    outcome-going s l′ h ∙ ap (λ (is : List Instruction). walking (record { made = is; next = s .label; left = [] })) i ∙ sym (outcome-going s l h))
     (λ (h : s .refused ≢ 0). outcome-met s l′ h ∙ sym (outcome-met s l h))

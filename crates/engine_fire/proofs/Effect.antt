@@ -14,8 +14,8 @@ use Rattle.text.specs.Words.{has, least}
 use Rattle.text.specs.Refusals.{clash}
 use Rattle.book.specs.Book.{Program}
 use Rattle.engine.specs.declared.Instruction.{Instruction}
-use Rattle.engine.specs.Rule.{Walked, going, met}
-use Rattle.engine.specs.Move.{Moved, fires, stopped, updates, clashes, is-some, writes, extra-reads, Input, Fired, looked, fired-of, judged, settle, move}
+use Rattle.engine.specs.Rule.{Walked, walking, refused-at}
+use Rattle.engine.specs.Move.{Moved, fires, move-refused, updates, clashes, is-some, writes, extra-reads, Input, Fired, walk-reads, fired-of, fire-or-clash, settle, move}
 use Rattle.engine.proofs.Values.{updates-past}
 use Rattle.engine.proofs.EqualReads.{has-append}
 use Rattle.engine.proofs.Moves.{fired-label}
@@ -27,26 +27,26 @@ use Rattle.engine_term.proofs.Leaves.{placed}
 use Rattle.engine_term.proofs.Marking.{marked-append}
 use Rattle.engine_release.specs.Marks.{mark}
 use Rattle.engine_release.proofs.Sweep.{length-each, getD-each, each-is}
-use Rattle.engine_walk.specs.declared.State.{State}
+use Rattle.engine_walk.specs.declared.WalkEnd.{WalkEnd}
 use Rattle.engine_walk.specs.Walk as walk
-use Rattle.engine_walk.specs.Gather.{cleared, Gathered}
+use Rattle.engine_walk.specs.WalkMarks.{bits-cleared, WalkMarked}
 use Rattle.engine_walk.proofs.Kept.{taken-back}
 use Rattle.engine_fire.specs.Tables.{Tables, tables}
-use Rattle.engine_fire.specs.Effect.{joined, left, move-answer, Fit, Effect, After}
-use Rattle.engine_fire.specs.Close.{closed-after, Completed}
+use Rattle.engine_fire.specs.Effect.{marks-joined, tables-after, move-answer, MoveFits, MoveEffect, AfterWalk}
+use Rattle.engine_fire.specs.Close.{readers-at-end-of, MoveFinished}
 use Rattle.engine_fire.proofs.Marks.{marked-joined}
 
-joined-same : (bit : ℕ) (s t : ℕ → Bool) (ms : List ℕ) → ((k : ℕ) → s k ≡ t k) → joined bit s ms ≡ joined bit t ms
+joined-same : (bit : ℕ) (s t : ℕ → Bool) (ms : List ℕ) → ((k : ℕ) → s k ≡ t k) → marks-joined bit s ms ≡ marks-joined bit t ms
 joined-same bit s t ms h =
-    each-is (λ (l m : ℕ). mark bit (t l) m) ms (joined bit s ms) (length-each (λ (l m : ℕ). mark bit (s l) m) 0 ms)
+    each-is (λ (l m : ℕ). mark bit (t l) m) ms (marks-joined bit s ms) (length-each (λ (l m : ℕ). mark bit (s l) m) 0 ms)
     (λ l k. getD-each (λ (l m : ℕ). mark bit (s l) m) ms l k ∙ ap (λ (b : Bool). mark bit b (getD ms l 0)) (h l))
 
-module _ (B : Program) (i : Input) (bit at : ℕ) (c rs ws : List ℕ) (fit : Fit B i bit (tables c rs ws)) where
+module _ (B : Program) (i : Input) (bit at : ℕ) (c rs ws : List ℕ) (fit : MoveFits B i bit (tables c rs ws)) where
   abbrev ls : List ℕ
-  ls = looked B c i
+  ls = walk-reads B c i
 
   -- the writer marks: contents of an accepted book have all its locations
-  all-marked : (is : List Instruction) → write-marked bit (length c) (updates B c is) ws ≡ joined bit (writes (updates B c is)) ws
+  all-marked : (is : List Instruction) → write-marked bit (length c) (updates B c is) ws ≡ marks-joined bit (writes (updates B c is)) ws
   all-marked is =
       each-is (λ (l m : ℕ). mark bit (writes (updates B c is) l) m) ws (write-marked bit (length c) (updates B c is) ws)
       (length-each (λ (l m : ℕ). mark bit (ltb l (length c) && writes (updates B c is) l) m) 0 ws)
@@ -57,33 +57,33 @@ module _ (B : Program) (i : Input) (bit at : ℕ) (c rs ws : List ℕ) (fit : Fi
       go l true e = refl
       go l false e = sym (ap is-some (updates-past B c is l (omega (arith, ltb-false l (length c) e, fit .sound .long))))
 
-  module _ (o : Walked) (rs′ : List ℕ) (walks : Gathered B c bit i o rs rs′) (r : Answer) (c″ rs″ ws″ : List ℕ)
-      (done : Completed B bit at o (tables c rs′ ws) r (tables c″ rs″ ws″)) where
+  module _ (o : Walked) (rs′ : List ℕ) (walks : WalkMarked B c bit i o rs rs′) (r : Answer) (c″ rs″ ws″ : List ℕ)
+      (done : MoveFinished B bit at o (tables c rs′ ws) r (tables c″ rs″ ws″)) where
     same : move B c i ≡ settle B c ls o
     unfolding move
     same = ap (settle B c ls) (sym (walks .outcome))
 
-    whole : (m : Moved) → settle B c ls o ≡ m → tables c″ rs″ ws″ ≡ tables (contents-after c m) (closed-after B bit c o m rs′) (writers-after bit (length c) ws m)
+    whole : (m : Moved) → settle B c ls o ≡ m → tables c″ rs″ ws″ ≡ tables (contents-after c m) (readers-at-end-of B bit c o m rs′) (writers-after bit (length c) ws m)
     whole m e = rw (done .contents ls, done .readers ls, done .writers ls, e)
 
     -- where the move comes to m
     ends : (m : Moved) → settle B c ls o ≡ m
-        → tables (contents-after c m) (closed-after B bit c o m rs′) (writers-after bit (length c) ws m) ≡ left bit (tables c rs ws) m
-        → Effect B i bit at (tables c rs ws) r (tables c″ rs″ ws″)
+        → tables (contents-after c m) (readers-at-end-of B bit c o m rs′) (writers-after bit (length c) ws m) ≡ tables-after bit (tables c rs ws) m
+        → MoveEffect B i bit at (tables c rs ws) r (tables c″ rs″ ws″)
     ends m e t =
         record {
           answer = done .answer ls ∙ ap (move-answer at) (sym same);
-          tables = whole m e ∙ t ∙ ap (left bit (tables c rs ws)) (sym (same ∙ e));
+          tables = whole m e ∙ t ∙ ap (tables-after bit (tables c rs ws)) (sym (same ∙ e));
         }
 
-  pub completed-effect : (o : Walked) (rs′ : List ℕ) → Gathered B c bit i o rs rs′ → (r : Answer) (c″ rs″ ws″ : List ℕ)
-      → Completed B bit at o (tables c rs′ ws) r (tables c″ rs″ ws″) → Effect B i bit at (tables c rs ws) r (tables c″ rs″ ws″)
-  unfolding settle judged
-  completed-effect (met n q) rs′ walks r c″ rs″ ws″ done =
+  pub completed-effect : (o : Walked) (rs′ : List ℕ) → WalkMarked B c bit i o rs rs′ → (r : Answer) (c″ rs″ ws″ : List ℕ)
+      → MoveFinished B bit at o (tables c rs′ ws) r (tables c″ rs″ ws″) → MoveEffect B i bit at (tables c rs ws) r (tables c″ rs″ ws″)
+  unfolding settle fire-or-clash
+  completed-effect (refused-at n q) rs′ walks r c″ rs″ ws″ done =
       let p = fit .power in
-      ends (met n q) rs′ walks r c″ rs″ ws″ done (stopped n q) refl
+      ends (refused-at n q) rs′ walks r c″ rs″ ws″ done (move-refused n q) refl
       (ap (λ (x : List ℕ). tables c x ws) (walks .refused (placed B (fit .lawful)) n q refl (p .0) (p .1) (fit .unmarked)))
-  completed-effect (going w) rs′ walks r c″ rs″ ws″ done = go (least (clashes (f .instructions) (f .updates)) (length (f .updates))) refl
+  completed-effect (walking w) rs′ walks r c″ rs″ ws″ done = go (least (clashes (f .instructions) (f .updates)) (length (f .updates))) refl
     where
       f : Fired
       f = fired-of B c ls (w .made)
@@ -92,12 +92,12 @@ module _ (B : Program) (i : Input) (bit at : ℕ) (c rs ws : List ℕ) (fit : Fi
       noted : rs′ ≡ marked bit ls rs
       noted = walks .fired (placed B (fit .lawful)) w refl
 
-      back : cleared bit rs′ ≡ rs
-      back = let p = fit .power in ap (cleared bit) noted ∙ taken-back bit (p .0) ls rs (p .1) (fit .unmarked)
+      back : bits-cleared bit rs′ ≡ rs
+      back = let p = fit .power in ap (bits-cleared bit) noted ∙ taken-back bit (p .0) ls rs (p .1) (fit .unmarked)
 
       -- and those that firing adds: what it reads is what the definition says
       rest : move B c i ≡ fires f → least (clashes (f .instructions) (f .updates)) (length (f .updates)) ≡ Nowhere
-          → read-marked bit B (w .made) c rs′ ≡ joined bit (has (f .reads)) rs
+          → read-marked bit B (w .made) c rs′ ≡ marks-joined bit (has (f .reads)) rs
       rest fired e =
           ap (marked bit (fire-reads B (w .made) c)) noted
           ∙ sym (marked-append bit ls (fire-reads B (w .made) c) rs)
@@ -107,24 +107,24 @@ module _ (B : Program) (i : Input) (bit at : ℕ) (c rs ws : List ℕ) (fit : Fi
           ∙ ap (λ (b : Bool). has ls k || b) (fire-reads-are B (fit .lawful) c (fit .sound .long) (w .made) e (λ x h. fired-label B (fit .lawful) c (fit .sound) i f fired x h .1) k)
           ∙ sym (has-append ls (extra-reads B c (w .made) (f .updates)) k))
 
-      go : (x : Found) → least (clashes (f .instructions) (f .updates)) (length (f .updates)) ≡ x → Effect B i bit at (tables c rs ws) r (tables c″ rs″ ws″)
+      go : (x : Found) → least (clashes (f .instructions) (f .updates)) (length (f .updates)) ≡ x → MoveEffect B i bit at (tables c rs ws) r (tables c″ rs″ ws″)
       go Nowhere e =
-          let fired : move B c i ≡ fires f = same (going w) rs′ walks r c″ rs″ ws″ done ∙ rw e in
-          ends (going w) rs′ walks r c″ rs″ ws″ done (fires f) (rw e) (rw (rest fired e, all-marked (w .made)))
-      go (Here l) e = ends (going w) rs′ walks r c″ rs″ ws″ done (stopped clash l) (rw e) (rw back)
+          let fired : move B c i ≡ fires f = same (walking w) rs′ walks r c″ rs″ ws″ done ∙ rw e in
+          ends (walking w) rs′ walks r c″ rs″ ws″ done (fires f) (rw e) (rw (rest fired e, all-marked (w .made)))
+      go (Here l) e = ends (walking w) rs′ walks r c″ rs″ ws″ done (move-refused clash l) (rw e) (rw back)
 
 -- as the code has it: the tables c, rs and ws that the walk, begun on t, left with its state s and the list l
-pub finished-effect : (B : Program) (i : Input) (bit at : ℕ) (t : Tables) (s : State) (l c rs ws : List ℕ) → After B i bit t s l (tables c rs ws) → (r : Answer) (u : Tables)
-    → Completed B bit at (walk.outcome s l) (tables c rs ws) r u → Effect B i bit at t r u
+pub finished-effect : (B : Program) (i : Input) (bit at : ℕ) (t : Tables) (s : WalkEnd) (l c rs ws : List ℕ) → AfterWalk B i bit t s l (tables c rs ws) → (r : Answer) (u : Tables)
+    → MoveFinished B bit at (walk.outcome s l) (tables c rs ws) r u → MoveEffect B i bit at t r u
 finished-effect B i bit at t s l c rs ws after r u done =
-    subst (λ (x : Tables). Effect B i bit at x r u) begun
+    subst (λ (x : Tables). MoveEffect B i bit at x r u) begun
     (completed-effect B i bit at c (t .readers) ws fit (walk.outcome s l) rs walks r (u .contents) (u .readers) (u .writers) done)
   where
     begun : tables c (t .readers) ws ≡ t
     begun = rw (after .contents, after .writers)
 
-    fit : Fit B i bit (tables c (t .readers) ws)
-    fit = subst (Fit B i bit) (sym begun) (after .fit)
+    fit : MoveFits B i bit (tables c (t .readers) ws)
+    fit = subst (MoveFits B i bit) (sym begun) (after .fit)
 
-    walks : Gathered B c bit i (walk.outcome s l) (t .readers) rs
-    walks = subst (λ (x : List ℕ). Gathered B x bit i (walk.outcome s l) (t .readers) rs) (sym (after .contents)) (after .readers)
+    walks : WalkMarked B c bit i (walk.outcome s l) (t .readers) rs
+    walks = subst (λ (x : List ℕ). WalkMarked B x bit i (walk.outcome s l) (t .readers) rs) (sym (after .contents)) (after .readers)

@@ -20,10 +20,10 @@ use Rattle.engine.specs.declared.Instruction.the-variants.{Update, Release}
 use Rattle.engine.specs.Move.{given, values, updates, values-at, released, other, two-values, set-to-label, clashes, new-value, fire, is-some, writes}
 use Rattle.engine.proofs.Values.{length-updates, updates-at, updates-past, fire-inside}
 use Rattle.engine.proofs.Moves.{fire-length}
-use Rattle.engine_release.specs.Marks.{each, mark}
+use Rattle.engine_release.specs.Marks.{by-place, mark}
 use Rattle.engine_fire.specs.Outcome.{write-marked}
 use Rattle.engine_instruction.specs.Traces.{own, gets, any}
-use Rattle.engine_release.specs.Steps.{trace, wiped, clear-of, clear-marks-of, clears, clear-marks}
+use Rattle.engine_release.specs.Steps.{trace, value-cleared, instruction-cleared, instruction-marks, all-cleared, all-marks}
 use Rattle.engine_fire.specs.Steps.{puts, put-marks}
 use Rattle.engine_instruction.proofs.Laws.{and-none, other-append}
 use Rattle.engine_release.proofs.Sweep.{length-each, getD-each, each-is}
@@ -58,7 +58,7 @@ module _ (B : Program) (l : ℕ) where
 
   abbrev wipe-of : Instruction → ℕ → ℕ
   wipe-of (Update k w) v = v
-  wipe-of (Release x) v = wiped B x l v
+  wipe-of (Release x) v = value-cleared B x l v
 
   -- what clearing leaves there
   unfoldable pub wipe-by : List Instruction → ℕ → ℕ
@@ -101,10 +101,10 @@ module _ (B : Program) (l : ℕ) where
   past-wipe h (Update k w ∷ is) v = past-wipe h is v
   past-wipe h (Release x ∷ is) v = rw (past-trace h v x) (past-wipe h is v)
 
-  pub wiped-true : (x v : ℕ) → trace B l v x ≡ true → wiped B x l v ≡ rest
+  pub wiped-true : (x v : ℕ) → trace B l v x ≡ true → value-cleared B x l v ≡ rest
   wiped-true x v e = rw e
 
-  pub wiped-false : (x v : ℕ) → trace B l v x ≡ false → wiped B x l v ≡ v
+  pub wiped-false : (x v : ℕ) → trace B l v x ≡ false → value-cleared B x l v ≡ v
   wiped-false x v e = rw e
 
   -- the default stays the default
@@ -112,7 +112,7 @@ module _ (B : Program) (l : ℕ) where
   wipe-rest (Update k w) = refl
   wipe-rest (Release x) = step (trace B l rest x) refl
     where
-      step : (b : Bool) → trace B l rest x ≡ b → wiped B x l rest ≡ rest
+      step : (b : Bool) → trace B l rest x ≡ b → value-cleared B x l rest ≡ rest
       step true e = wiped-true x rest e
       step false e = wiped-false x rest e
 
@@ -145,7 +145,7 @@ module _ (B : Program) (l : ℕ) where
       step (Update k w) r = r
       step (Release x) r = look (trace B l v x) refl
         where
-          look : (b : Bool) → trace B l v x ≡ b → note-by bit is (wiped B x l v) (mark bit (trace B l v x) m) ≡ mark bit (trace B l v x || any (trace-of v) is) m
+          look : (b : Bool) → trace B l v x ≡ b → note-by bit is (value-cleared B x l v) (mark bit (trace B l v x) m) ≡ mark bit (trace B l v x || any (trace-of v) is) m
           look true e = rw e (note-again bit is rest m)
           look false e =
               ap₂ (note-by bit is) (wiped-false x v e) (ap (λ (b : Bool). mark bit b m) e) ∙ r ∙ ap (λ (b : Bool). mark bit (b || any (trace-of v) is) m) (sym e)
@@ -175,7 +175,7 @@ module _ (B : Program) (l : ℕ) where
         step (Update k w) f r = rw (given-update k w f) r
         step (Release x) f r = look (trace B l held x) refl
           where
-            look : (b : Bool) → trace B l held x ≡ b → wipe-by is (wiped B x l held) ≡ new-value held (given B c l (Release x) ++ values B c l is)
+            look : (b : Bool) → trace B l held x ≡ b → wipe-by is (value-cleared B x l held) ≡ new-value held (given B c l (Release x) ++ values B c l is)
             look true e = ap (wipe-by is) (wiped-true x held e) ∙ wipe-by-rest is ∙ rw (given-release x true f e)
             look false e = ap (wipe-by is) (wiped-false x held e) ∙ r ∙ rw (given-release x false f e)
 
@@ -266,14 +266,14 @@ module _ (B : Program) (l : ℕ) where
 
 -- ---- the whole tables
 
-pub length-clear-of : (B : Program) (i : Instruction) (c : List ℕ) → length (clear-of B i c) ≡ length c
+pub length-clear-of : (B : Program) (i : Instruction) (c : List ℕ) → length (instruction-cleared B i c) ≡ length c
 length-clear-of B (Update k w) c = refl
-length-clear-of B (Release x) c = length-each (wiped B x) 0 c
+length-clear-of B (Release x) c = length-each (value-cleared B x) 0 c
 
-pub length-clears : (B : Program) (is : List Instruction) (c : List ℕ) → length (clears B is c) ≡ length c
-unfolding clears
+pub length-clears : (B : Program) (is : List Instruction) (c : List ℕ) → length (all-cleared B is c) ≡ length c
+unfolding all-cleared
 length-clears B [] c = refl
-length-clears B (i ∷ is) c = length-clears B is (clear-of B i c) ∙ length-clear-of B i c
+length-clears B (i ∷ is) c = length-clears B is (instruction-cleared B i c) ∙ length-clear-of B i c
 
 pub length-put : (b : Bool) (c : List ℕ) (k v : ℕ) → length (if b then set c k v else c) ≡ length c
 length-put true c k v = length-set c k v
@@ -285,30 +285,30 @@ length-puts n [] c = refl
 length-puts n (i ∷ is) c =
     length-puts n is (if ltb (own i) n then set c (own i) (gets i) else c) ∙ length-put (ltb (own i) n) c (own i) (gets i)
 
-length-clear-marks-of : (bit : ℕ) (B : Program) (i : Instruction) (c ms : List ℕ) → length (clear-marks-of bit B i c ms) ≡ length ms
+length-clear-marks-of : (bit : ℕ) (B : Program) (i : Instruction) (c ms : List ℕ) → length (instruction-marks bit B i c ms) ≡ length ms
 length-clear-marks-of bit B (Update k w) c ms = refl
 length-clear-marks-of bit B (Release x) c ms = length-each (λ (l m : ℕ). mark bit (ltb l (length c) && trace B l (getD c l 0) x) m) 0 ms
 
-length-clear-marks : (bit : ℕ) (B : Program) (is : List Instruction) (c ms : List ℕ) → length (clear-marks bit B is c ms) ≡ length ms
-unfolding clear-marks
+length-clear-marks : (bit : ℕ) (B : Program) (is : List Instruction) (c ms : List ℕ) → length (all-marks bit B is c ms) ≡ length ms
+unfolding all-marks
 length-clear-marks bit B [] c ms = refl
 length-clear-marks bit B (i ∷ is) c ms =
-    length-clear-marks bit B is (clear-of B i c) (clear-marks-of bit B i c ms) ∙ length-clear-marks-of bit B i c ms
+    length-clear-marks bit B is (instruction-cleared B i c) (instruction-marks bit B i c ms) ∙ length-clear-marks-of bit B i c ms
 
 length-put-marks : (bit n : ℕ) (is : List Instruction) (ms : List ℕ) → length (put-marks bit n is ms) ≡ length ms
 unfolding put-marks
 length-put-marks bit n [] ms = refl
 length-put-marks bit n (i ∷ is) ms = length-put-marks bit n is (set ms (own i) (mark bit (ltb (own i) n) (getD ms (own i) 0))) ∙ simp length-set
 
-pub clear-of-at : (B : Program) (i : Instruction) (c : List ℕ) (l : ℕ) → l < length c → getD (clear-of B i c) l 0 ≡ wipe-of B l i (getD c l 0)
+pub clear-of-at : (B : Program) (i : Instruction) (c : List ℕ) (l : ℕ) → l < length c → getD (instruction-cleared B i c) l 0 ≡ wipe-of B l i (getD c l 0)
 clear-of-at B (Update k w) c l h = refl
-clear-of-at B (Release x) c l h = getD-each (wiped B x) c l h
+clear-of-at B (Release x) c l h = getD-each (value-cleared B x) c l h
 
-pub clears-at : (B : Program) (is : List Instruction) (c : List ℕ) (l : ℕ) → l < length c → getD (clears B is c) l 0 ≡ wipe-by B l is (getD c l 0)
-unfolding clears wipe-by
+pub clears-at : (B : Program) (is : List Instruction) (c : List ℕ) (l : ℕ) → l < length c → getD (all-cleared B is c) l 0 ≡ wipe-by B l is (getD c l 0)
+unfolding all-cleared wipe-by
 clears-at B [] c l h = refl
 clears-at B (i ∷ is) c l h =
-    clears-at B is (clear-of B i c) l (omega (arith, length-clear-of B i c)) ∙ ap (wipe-by B l is) (clear-of-at B i c l h)
+    clears-at B is (instruction-cleared B i c) l (omega (arith, length-clear-of B i c)) ∙ ap (wipe-by B l is) (clear-of-at B i c l h)
 
 -- a store seen from one place
 pub set-at : (c : List ℕ) (k v l : ℕ) → l < length c → getD (set c k v) l 0 ≡ (if eqb k l then v else getD c l 0)
@@ -341,27 +341,27 @@ puts-past n (i ∷ is) c l k = puts-past n is (if ltb (own i) n then set c (own 
 
 clear-marks-of-at :
     (bit : ℕ) (B : Program) (i : Instruction) (c ms : List ℕ) (l : ℕ) → l < length ms →
-    getD (clear-marks-of bit B i c ms) l 0 ≡ mark bit (ltb l (length c) && trace-of B l (getD c l 0) i) (getD ms l 0)
+    getD (instruction-marks bit B i c ms) l 0 ≡ mark bit (ltb l (length c) && trace-of B l (getD c l 0) i) (getD ms l 0)
 clear-marks-of-at bit B (Update k w) c ms l h = rw (and-none (ltb l (length c)))
 clear-marks-of-at bit B (Release x) c ms l h = getD-each (λ (l m : ℕ). mark bit (ltb l (length c) && trace B l (getD c l 0) x) m) ms l h
 
 clear-marks-at :
     (bit : ℕ) (B : Program) (is : List Instruction) (c ms : List ℕ) (l : ℕ) → l < length ms → l < length c →
-    getD (clear-marks bit B is c ms) l 0 ≡ note-by B l bit is (getD c l 0) (getD ms l 0)
-unfolding clear-marks note-by
+    getD (all-marks bit B is c ms) l 0 ≡ note-by B l bit is (getD c l 0) (getD ms l 0)
+unfolding all-marks note-by
 clear-marks-at bit B [] c ms l h k = refl
 clear-marks-at bit B (i ∷ is) c ms l h k =
-    clear-marks-at bit B is (clear-of B i c) (clear-marks-of bit B i c ms) l (omega (arith, length-clear-marks-of bit B i c ms))
+    clear-marks-at bit B is (instruction-cleared B i c) (instruction-marks bit B i c ms) l (omega (arith, length-clear-marks-of bit B i c ms))
     (omega (arith, length-clear-of B i c))
     ∙ ap₂ (note-by B l bit is) (clear-of-at B i c l k) (clear-marks-of-at bit B i c ms l h ∙ rw (lt-ltb l (length c) k))
 
 clear-marks-out :
     (bit : ℕ) (B : Program) (is : List Instruction) (c ms : List ℕ) (l : ℕ) → l < length ms → length c ≤ l →
-    getD (clear-marks bit B is c ms) l 0 ≡ getD ms l 0
-unfolding clear-marks
+    getD (all-marks bit B is c ms) l 0 ≡ getD ms l 0
+unfolding all-marks
 clear-marks-out bit B [] c ms l h k = refl
 clear-marks-out bit B (i ∷ is) c ms l h k =
-    clear-marks-out bit B is (clear-of B i c) (clear-marks-of bit B i c ms) l (omega (arith, length-clear-marks-of bit B i c ms))
+    clear-marks-out bit B is (instruction-cleared B i c) (instruction-marks bit B i c ms) l (omega (arith, length-clear-marks-of bit B i c ms))
     (omega (arith, length-clear-of B i c))
     ∙ clear-marks-of-at bit B i c ms l h
     ∙ rw (le-ltb l (length c) k)
@@ -394,41 +394,41 @@ module _ (B : Program) (is : List Instruction) (c : List ℕ) where
       rw (updates-at B c is l k) at (or-no (two-values (values-at (updates B c is) l)) (set-to-label (released is) l is) e .0)
 
   -- a move that does not clash: the contents after
-  pub fired-is : least (clashes is (updates B c is)) (length (updates B c is)) ≡ Nowhere → puts (L B) is (clears B is c) ≡ fire (updates B c is) c
+  pub fired-is : least (clashes is (updates B c is)) (length (updates B c is)) ≡ Nowhere → puts (L B) is (all-cleared B is c) ≡ fire (updates B c is) c
   fired-is h =
-      let n : length (puts (L B) is (clears B is c)) ≡ length c = length-puts (L B) is (clears B is c) ∙ length-clears B is c in
-      ext-getD 0 (puts (L B) is (clears B is c)) (fire (updates B c is) c) (n ∙ sym (fire-length (updates B c is) c))
+      let n : length (puts (L B) is (all-cleared B is c)) ≡ length c = length-puts (L B) is (all-cleared B is c) ∙ length-clears B is c in
+      ext-getD 0 (puts (L B) is (all-cleared B is c)) (fire (updates B c is) c) (n ∙ sym (fire-length (updates B c is) c))
       (λ l k. let m : l < length c = omega arith in step l m (ltb l (L B)) refl ∙ sym (fire-inside (updates B c is) c l m))
     where
       step : (l : ℕ) → l < length c → (b : Bool) → ltb l (L B) ≡ b
-          → getD (puts (L B) is (clears B is c)) l 0 ≡ new-value (getD c l 0) (values-at (updates B c is) l)
+          → getD (puts (L B) is (all-cleared B is c)) l 0 ≡ new-value (getD c l 0) (values-at (updates B c is) l)
       step l m true e =
           let i : l < L B = ltb-true l (L B) e in
-          puts-at B (L B) is (clears B is c) l (omega (arith, length-clears B is c)) i
+          puts-at B (L B) is (all-cleared B is c) l (omega (arith, length-clears B is c)) i
           ∙ ap (put-by B l is) (clears-at B is c l m)
           ∙ after-is B l c is (unclashed h l i)
           ∙ rw (updates-at B c is l i)
       step l m false e =
           let o : L B ≤ l = ltb-false l (L B) e in
-          puts-past (L B) is (clears B is c) l o
+          puts-past (L B) is (all-cleared B is c) l o
           ∙ clears-at B is c l m
           ∙ past-wipe B l o is (getD c l 0)
           ∙ rw (updates-past B c is l o)
 
   -- and the marks
   abbrev n : ℕ
-  n = min (L B) (length (clears B is c))
+  n = min (L B) (length (all-cleared B is c))
 
   pub marked-is : (bit : ℕ) (ms : List ℕ)
-      → put-marks bit n is (clear-marks bit B is c ms) ≡ write-marked bit (length c) (updates B c is) ms
+      → put-marks bit n is (all-marks bit B is c ms) ≡ write-marked bit (length c) (updates B c is) ms
   marked-is bit ms =
-      each-is (λ (l m : ℕ). mark bit (ltb l (length c) && writes (updates B c is) l) m) ms (put-marks bit n is (clear-marks bit B is c ms))
-      (length-put-marks bit n is (clear-marks bit B is c ms) ∙ length-clear-marks bit B is c ms)
-      (λ l k. put-marks-at bit n is (clear-marks bit B is c ms) l (omega (arith, length-clear-marks bit B is c ms))
+      each-is (λ (l m : ℕ). mark bit (ltb l (length c) && writes (updates B c is) l) m) ms (put-marks bit n is (all-marks bit B is c ms))
+      (length-put-marks bit n is (all-marks bit B is c ms) ∙ length-clear-marks bit B is c ms)
+      (λ l k. put-marks-at bit n is (all-marks bit B is c ms) l (omega (arith, length-clear-marks bit B is c ms))
       ∙ step l k (ltb l n) refl (ltb l (length c)) refl)
     where
       step : (l : ℕ) → l < length ms → (t : Bool) → ltb l n ≡ t → (u : Bool) → ltb l (length c) ≡ u
-          → mark bit (t && any (about B l) is) (getD (clear-marks bit B is c ms) l 0) ≡ mark bit (u && writes (updates B c is) l) (getD ms l 0)
+          → mark bit (t && any (about B l) is) (getD (all-marks bit B is c ms) l 0) ≡ mark bit (u && writes (updates B c is) l) (getD ms l 0)
       step l k true e true f =
           let h : l < L B = omega (arith, ltb-true l n e) in
           ap (mark bit (any (about B l) is)) (clear-marks-at bit B is c ms l k (ltb-true l (length c) f) ∙ note-is B l bit is (getD c l 0) (getD ms l 0))

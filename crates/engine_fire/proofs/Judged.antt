@@ -8,11 +8,11 @@ use Rattle.book.specs.Book.{Program, L}
 use Rattle.book.specs.Image.{held}
 use Rattle.engine.specs.declared.Instruction.{Instruction}
 use Rattle.engine_instruction.specs.Code.{items}
-use Rattle.engine_clash.specs.Against.{best}
+use Rattle.engine_clash.specs.Against.{least-clash}
 use Rattle.engine_clash.proofs.Best.{best-least, best-none}
 use Rattle.text.specs.declared.Found.the-variants.{Nowhere, Here}
 use Rattle.text.specs.Refusals.{clash}
-use Rattle.engine.specs.Move.{fires, stopped, fire, judged}
+use Rattle.engine.specs.Move.{fires, move-refused, fire, fire-or-clash}
 use Rattle.engine.specs.Move as move
 use Rattle.engine_fire.specs.declared.Outcome.the-variants.{Fired, Clash}
 use Rattle.engine_clash.specs.Clash.{updates-by, clash-by}
@@ -24,7 +24,7 @@ module _ (image list : List ℕ) (n bit : ℕ) (t : Tables) where
   f ls = move-by image (t .contents) list n ls
 
   pub clash-settled : (l : ℕ) → clash-by image (t .contents) list n ≡ Here l → Settled image list n bit t (Clash l) t
-  unfolding judged
+  unfolding fire-or-clash
   clash-settled l e =
       record {
         outcome = q;
@@ -33,7 +33,7 @@ module _ (image list : List ℕ) (n bit : ℕ) (t : Tables) where
         writers = λ ls. sym (ap (writers-after bit (length (t .contents)) (t .writers)) (q ls));
       }
     where
-      q : (ls : List ℕ) → judged (f ls) ≡ stopped clash l
+      q : (ls : List ℕ) → fire-or-clash (f ls) ≡ move-refused clash l
       q ls = rw e
 
   pub fire-settled :
@@ -41,7 +41,7 @@ module _ (image list : List ℕ) (n bit : ℕ) (t : Tables) where
       u .contents ≡ fire (updates-by image (t .contents) list n) (t .contents) →
       u .readers ≡ read-marked bit (held image) (items list n) (t .contents) (t .readers) →
       u .writers ≡ write-marked bit (length (t .contents)) (updates-by image (t .contents) list n) (t .writers) → Settled image list n bit t Fired u
-  unfolding judged
+  unfolding fire-or-clash
   fire-settled e u h r k =
       record {
         outcome = q;
@@ -50,7 +50,7 @@ module _ (image list : List ℕ) (n bit : ℕ) (t : Tables) where
         writers = λ ls. k ∙ sym (ap (writers-after bit (length (t .contents)) (t .writers)) (q ls));
       }
     where
-      q : (ls : List ℕ) → judged (f ls) ≡ fires (f ls)
+      q : (ls : List ℕ) → fire-or-clash (f ls) ≡ fires (f ls)
       q ls = rw e
 
 -- ---- what the code finds
@@ -63,8 +63,8 @@ module _ (image c list : List ℕ) (n : ℕ) (k : ℕ) (high : L (held image) �
   is = items list n
 
   -- r is found, begun from k
-  pub clash-at : (r : ℕ) → r ≡ best B c is is k → r < L B → clash-by image c list n ≡ Here r
+  pub clash-at : (r : ℕ) → r ≡ least-clash B c is is k → r < L B → clash-by image c list n ≡ Here r
   clash-at r q h = sym (best-least B c is k high (omega (arith, q, h))) ∙ ap Here (sym q)
 
-  pub clash-none : (r : ℕ) → r ≡ best B c is is k → L B ≤ r → clash-by image c list n ≡ Nowhere
+  pub clash-none : (r : ℕ) → r ≡ least-clash B c is is k → L B ≤ r → clash-by image c list n ≡ Nowhere
   clash-none r q h = sym (best-none B c is k high (omega (arith, q, h)))

@@ -24,7 +24,7 @@ use Rattle.engine.proofs.Extra.{release-in, taken-in, taken-has}
 use Rattle.engine.proofs.Values.{Frees, updates-at, frees-values, only-value}
 use Rattle.engine_instruction.specs.Traces.{own, gets, any}
 use Rattle.engine_release.specs.Part.{cleared-reads}
-use Rattle.engine_release.specs.Steps.{trace, wiped, clear-of, clear-reads, clears, clears-reads}
+use Rattle.engine_release.specs.Steps.{trace, value-cleared, instruction-cleared, label-reads, all-cleared, all-reads}
 use Rattle.engine_fire.specs.Steps.{put-reads, fire-reads}
 use Rattle.engine_fire.proofs.Fires.{rest, wipe-by, about, trace-of, wiped-true, wiped-false, wipe-by-rest, own-is, both, some-given, some-values, length-clear-of, length-clears, length-put, clear-of-at, clears-at, set-at, unclashed}
 
@@ -49,7 +49,7 @@ module _ (B : Program) where
   read-why l v k (inl e) = rw (eq-eqb l k (sym e))
   read-why l v k (inr (p, n, e)) = rw (e, taken-has (B .P) v (default-at B l) p n) (or-true (eqb l v))
 
-  clear-in : (x : ℕ) (c : List ℕ) (k : ℕ) → has (clear-reads B x c) k ≡ true
+  clear-in : (x : ℕ) (c : List ℕ) (k : ℕ) → has (label-reads B x c) k ≡ true
       → (l : ℕ) × (l < length c) × (trace B l (getD c l 0) x ≡ true) × Why l (getD c l 0) k
   clear-in x c k h = let s = append-in (cleared-at x c) 0 (length c) k h in go (s .0) (s .1) (trace B (s .0) (getD c (s .0) 0) x) refl (s .2)
     where
@@ -59,53 +59,53 @@ module _ (B : Program) where
       go l m true e h = (l, omega arith, e, why-read l (getD c l 0) k h)
       go l m false e h = absurd (false≢true h)
 
-  clear-has : (x : ℕ) (c : List ℕ) (l k : ℕ) → l < length c → trace B l (getD c l 0) x ≡ true → Why l (getD c l 0) k → has (clear-reads B x c) k ≡ true
+  clear-has : (x : ℕ) (c : List ℕ) (l k : ℕ) → l < length c → trace B l (getD c l 0) x ≡ true → Why l (getD c l 0) k → has (label-reads B x c) k ≡ true
   clear-has x c l k h e w = append-has (cleared-at x c) 0 (length c) l k (omega arith) (omega arith) (rw e (read-why l (getD c l 0) k w))
 
   -- k is read where some location is cleared: what that held before the first release decides
   abbrev ClearedAt : List Instruction → List ℕ → ℕ → Type 0
   ClearedAt is c k = (l : ℕ) × (l < length c) × (any (trace-of B l (getD c l 0)) is ≡ true) × Why l (getD c l 0) k
 
-  clears-in : (is : List Instruction) (c : List ℕ) (k : ℕ) → has (clears-reads B is c) k ≡ true → ClearedAt is c k
-  unfolding clears-reads any
+  clears-in : (is : List Instruction) (c : List ℕ) (k : ℕ) → has (all-reads B is c) k ≡ true → ClearedAt is c k
+  unfolding all-reads any
   clears-in [] c k h = absurd (false≢true h)
   clears-in (Update j w ∷ is) c k h = clears-in is c k h
   clears-in (Release x ∷ is) c k h =
-      go (or-cases (has (clear-reads B x c) k) (has (clears-reads B is (clear-of B (Release x) c)) k) (sym (has-append (clear-reads B x c) (clears-reads B is (clear-of B (Release x) c)) k) ∙ h))
-      (clears-in is (clear-of B (Release x) c) k)
+      go (or-cases (has (label-reads B x c) k) (has (all-reads B is (instruction-cleared B (Release x) c)) k) (sym (has-append (label-reads B x c) (all-reads B is (instruction-cleared B (Release x) c)) k) ∙ h))
+      (clears-in is (instruction-cleared B (Release x) c) k)
     where
-      later : (l : ℕ) → l < length c → (v : ℕ) → v ≡ wiped B x l (getD c l 0) → any (trace-of B l v) is ≡ true → Why l v k → (b : Bool) → trace B l (getD c l 0) x ≡ b → ClearedAt (Release x ∷ is) c k
+      later : (l : ℕ) → l < length c → (v : ℕ) → v ≡ value-cleared B x l (getD c l 0) → any (trace-of B l v) is ≡ true → Why l v k → (b : Bool) → trace B l (getD c l 0) x ≡ b → ClearedAt (Release x ∷ is) c k
       later l m v q a (inl e) true t = (l, m, rw t, inl e)
       later l m v q a (inr (p, n, e)) true t = absurd (n (sym (q ∙ wiped-true B l x (getD c l 0) t)))
       later l m v q a w false t =
           let s : v ≡ getD c l 0 = q ∙ wiped-false B l x (getD c l 0) t in
           (l, m, rw (rw s at a) (or-true (trace B l (getD c l 0) x)), rw s at w)
 
-      go : (has (clear-reads B x c) k ≡ true) ⊎ (has (clears-reads B is (clear-of B (Release x) c)) k ≡ true)
-          → (has (clears-reads B is (clear-of B (Release x) c)) k ≡ true → ClearedAt is (clear-of B (Release x) c) k) → ClearedAt (Release x ∷ is) c k
+      go : (has (label-reads B x c) k ≡ true) ⊎ (has (all-reads B is (instruction-cleared B (Release x) c)) k ≡ true)
+          → (has (all-reads B is (instruction-cleared B (Release x) c)) k ≡ true → ClearedAt is (instruction-cleared B (Release x) c) k) → ClearedAt (Release x ∷ is) c k
       go (inl e) r = let s = clear-in x c k e in (s .0, s .1, rw (s .2), s .3)
       go (inr e) r =
           let s = r e in
           let m : s .0 < length c = omega (arith, s .1, length-clear-of B (Release x) c) in
-          later (s .0) m (getD (clear-of B (Release x) c) (s .0) 0) (clear-of-at B (Release x) c (s .0) m) (s .2) (s .3) (trace B (s .0) (getD c (s .0) 0) x) refl
+          later (s .0) m (getD (instruction-cleared B (Release x) c) (s .0) 0) (clear-of-at B (Release x) c (s .0) m) (s .2) (s .3) (trace B (s .0) (getD c (s .0) 0) x) refl
 
   clears-has : (is : List Instruction) (c : List ℕ) (l k : ℕ) → l < length c → any (trace-of B l (getD c l 0)) is ≡ true → Why l (getD c l 0) k
-      → has (clears-reads B is c) k ≡ true
-  unfolding clears-reads any
+      → has (all-reads B is c) k ≡ true
+  unfolding all-reads any
   clears-has [] c l k h a w = absurd (false≢true a)
   clears-has (Update j v ∷ is) c l k h a w = clears-has is c l k h a w
   clears-has (Release x ∷ is) c l k h a w =
-      has-append (clear-reads B x c) (clears-reads B is (clear-of B (Release x) c)) k
-      ∙ go (trace B l (getD c l 0) x) refl (clears-has is (clear-of B (Release x) c) l k (omega (arith, length-clear-of B (Release x) c)))
+      has-append (label-reads B x c) (all-reads B is (instruction-cleared B (Release x) c)) k
+      ∙ go (trace B l (getD c l 0) x) refl (clears-has is (instruction-cleared B (Release x) c) l k (omega (arith, length-clear-of B (Release x) c)))
     where
       go : (b : Bool) → trace B l (getD c l 0) x ≡ b
-          → (any (trace-of B l (getD (clear-of B (Release x) c) l 0)) is ≡ true → Why l (getD (clear-of B (Release x) c) l 0) k → has (clears-reads B is (clear-of B (Release x) c)) k ≡ true)
-          → (has (clear-reads B x c) k || has (clears-reads B is (clear-of B (Release x) c)) k) ≡ true
+          → (any (trace-of B l (getD (instruction-cleared B (Release x) c) l 0)) is ≡ true → Why l (getD (instruction-cleared B (Release x) c) l 0) k → has (all-reads B is (instruction-cleared B (Release x) c)) k ≡ true)
+          → (has (label-reads B x c) k || has (all-reads B is (instruction-cleared B (Release x) c)) k) ≡ true
       go true t r = rw (clear-has x c l k h t w)
       go false t r =
-          let q : getD (clear-of B (Release x) c) l 0 ≡ getD c l 0 = clear-of-at B (Release x) c l h ∙ wiped-false B l x (getD c l 0) t in
+          let q : getD (instruction-cleared B (Release x) c) l 0 ≡ getD c l 0 = clear-of-at B (Release x) c l h ∙ wiped-false B l x (getD c l 0) t in
           let z : any (trace-of B l (getD c l 0)) is ≡ true = rw t at a in
-          rw (r (rw q z) (rw q w)) (or-true (has (clear-reads B x c) k))
+          rw (r (rw q z) (rw q w)) (or-true (has (label-reads B x c) k))
 
   -- what clearing leaves of v at l
   wipe-is : (l : ℕ) (is : List Instruction) (v : ℕ) → wipe-by B l is v ≡ (if any (trace-of B l v) is then rest B l else v)
@@ -115,7 +115,7 @@ module _ (B : Program) where
   wipe-is l (Release x ∷ is) v = go (trace B l v x) refl (wipe-is l is v)
     where
       go : (b : Bool) → trace B l v x ≡ b → wipe-by B l is v ≡ (if any (trace-of B l v) is then rest B l else v)
-          → wipe-by B l is (wiped B x l v) ≡ (if trace B l v x || any (trace-of B l v) is then rest B l else v)
+          → wipe-by B l is (value-cleared B x l v) ≡ (if trace B l v x || any (trace-of B l v) is then rest B l else v)
       go true t r = ap (wipe-by B l is) (wiped-true B l x v t) ∙ wipe-by-rest B l is ∙ rw t
       go false t r = ap (wipe-by B l is) (wiped-false B l x v t) ∙ r ∙ rw t
 
@@ -261,7 +261,7 @@ module _ (B : Program) (ok : Lawful B) (c : List ℕ) (long : length c ≡ L B) 
       given : (v : ℕ) → has (values B c l is) v ≡ true → new l ≡ v
       given v m = only-value (getD c l 0) (values B c l is) v (unclashed B is c fired l h) m
 
-  wiped-at : (l : ℕ) → l < L B → getD (clears B is c) l 0 ≡ (if any (trace-of B l (getD c l 0)) is then rest B l else getD c l 0)
+  wiped-at : (l : ℕ) → l < L B → getD (all-cleared B is c) l 0 ≡ (if any (trace-of B l (getD c l 0)) is then rest B l else getD c l 0)
   wiped-at l h = clears-at B is c l (omega (arith, long)) ∙ wipe-is B l is (getD c l 0)
 
   changes : (l : ℕ) → l < L B → B .P ≤ getD c l 0 → new l ≢ getD c l 0 → has (append-from (changed-reads B c (updates B c is)) 0 (L B)) (getD c l 0) ≡ true
@@ -276,13 +276,13 @@ module _ (B : Program) (ok : Lawful B) (c : List ℕ) (long : length c ≡ L B) 
   changed = append-from (changed-reads B c (updates B c is)) 0 (L B)
 
   abbrev Read : ℕ → Type 0
-  Read k = (has (clears-reads B is c) k || has (put-reads (B .P) (L B) is (clears B is c)) k) ≡ true
+  Read k = (has (all-reads B is c) k || has (put-reads (B .P) (L B) is (all-cleared B is c)) k) ≡ true
 
   to : (k : ℕ) → has (fire-reads B is c) k ≡ true → has (extra-reads B c is (updates B c is)) k ≡ true
   unfolding extra-reads
   to k h =
       has-append releases changed k
-      ∙ go (or-cases (has (clears-reads B is c) k) (has (put-reads (B .P) (L B) is (clears B is c)) k) (sym (has-append (clears-reads B is c) (put-reads (B .P) (L B) is (clears B is c)) k) ∙ h))
+      ∙ go (or-cases (has (all-reads B is c) k) (has (put-reads (B .P) (L B) is (all-cleared B is c)) k) (sym (has-append (all-reads B is c) (put-reads (B .P) (L B) is (all-cleared B is c)) k) ∙ h))
     where
       by-clearing : (l : ℕ) → l < L B → any (trace-of B l (getD c l 0)) is ≡ true → Why B l (getD c l 0) k → (has releases k || has changed k) ≡ true
       by-clearing l b a (inl e) =
@@ -298,27 +298,27 @@ module _ (B : Program) (ok : Lawful B) (c : List ℕ) (long : length c ≡ L B) 
           let m : has changed k ≡ true = rw (e ∙ q) (changes l b (rw q at p) (λ z. n (z ∙ sym q))) in
           rw m (or-true (has releases k))
 
-      go : (has (clears-reads B is c) k ≡ true) ⊎ (has (put-reads (B .P) (L B) is (clears B is c)) k ≡ true) → (has releases k || has changed k) ≡ true
+      go : (has (all-reads B is c) k ≡ true) ⊎ (has (put-reads (B .P) (L B) is (all-cleared B is c)) k ≡ true) → (has releases k || has changed k) ≡ true
       go (inl e) = let s = clears-in B is c k e in by-clearing (s .0) (omega (arith, s .1, long)) (s .2) (s .3)
       go (inr e) =
-          let s = puts-in (B .P) (L B) new is (alike is one) (clears B is c) k e in
-          by-putting (s .0) (s .1) (getD (clears B is c) (s .0) 0) (s .3) (s .4) (s .5) (any (trace-of B (s .0) (getD c (s .0) 0)) is) (wiped-at (s .0) (s .1))
+          let s = puts-in (B .P) (L B) new is (alike is one) (all-cleared B is c) k e in
+          by-putting (s .0) (s .1) (getD (all-cleared B is c) (s .0) 0) (s .3) (s .4) (s .5) (any (trace-of B (s .0) (getD c (s .0) 0)) is) (wiped-at (s .0) (s .1))
 
   from : (k : ℕ) → has (extra-reads B c is (updates B c is)) k ≡ true → has (fire-reads B is c) k ≡ true
   unfolding extra-reads
   from k h =
-      has-append (clears-reads B is c) (put-reads (B .P) (L B) is (clears B is c)) k
+      has-append (all-reads B is c) (put-reads (B .P) (L B) is (all-cleared B is c)) k
       ∙ go (or-cases (has releases k) (has changed k) (sym (has-append releases changed k) ∙ h))
     where
       -- a label that is taken out: by a release, or else by a value that is put
       by-taking : (l : ℕ) → l < L B → B .P ≤ getD c l 0 → new l ≢ getD c l 0 → getD c l 0 ≡ k → (t : Bool) → any (trace-of B l (getD c l 0)) is ≡ t → Read k
       by-taking l b p n e true a = rw (clears-has B is c l k (omega (arith, long)) a (inr (p, (λ z. omega (arith, low l)), sym e)))
       by-taking l b p n e false a =
-          let q : getD (clears B is c) l 0 ≡ getD c l 0 = wiped-at l b ∙ rw a in
+          let q : getD (all-cleared B is c) l 0 ≡ getD c l 0 = wiped-at l b ∙ rw a in
           let o : any (about B l) is ≡ true = given-about (values B c l is) refl in
-          let m = puts-has (B .P) (L B) new is (alike is one) (clears B is c) l b (omega (arith, long, length-clears B is c)) o (rw q p) (λ z. n (z ∙ q)) in
-          let y : has (put-reads (B .P) (L B) is (clears B is c)) k ≡ true = rw (q ∙ e) at m in
-          rw y (or-true (has (clears-reads B is c) k))
+          let m = puts-has (B .P) (L B) new is (alike is one) (all-cleared B is c) l b (omega (arith, long, length-clears B is c)) o (rw q p) (λ z. n (z ∙ q)) in
+          let y : has (put-reads (B .P) (L B) is (all-cleared B is c)) k ≡ true = rw (q ∙ e) at m in
+          rw y (or-true (has (all-reads B is c) k))
         where
           given-about : (vs : List ℕ) → values B c l is ≡ vs → any (about B l) is ≡ true
           given-about [] r = absurd (n (rw r))

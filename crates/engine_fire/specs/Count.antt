@@ -3,8 +3,8 @@ use Prim.Native.Nat.{ℕ, min}
 use lib.Dec.{eqb}
 use Rattle.text.specs.Words.{if_then_else_}
 use Rattle.engine.specs.Rule.{most-instructions}
-use Rattle.engine_walk.specs.declared.State.{State}
+use Rattle.engine_walk.specs.declared.WalkEnd.{WalkEnd}
 
 -- none if it was refused
-abbrev pub given-of : State → ℕ
-given-of s = if eqb (s .refused) 0 then min (s .len) most-instructions else 0
+abbrev pub instructions-given : WalkEnd → ℕ
+instructions-given s = if eqb (s .refused) 0 then min (s .len) most-instructions else 0

@@ -8,34 +8,34 @@ use Rattle.text.specs.declared.Answer.{Answer}
 use Rattle.text.specs.Words.{has}
 use Rattle.book.specs.Book.{Program}
 use Rattle.book.specs.Sound.{Lawful, Sound}
-use Rattle.engine.specs.Move.{Input, Moved, fires, stopped, move, fire, writes}
-use Rattle.engine_release.specs.Marks.{each, mark}
+use Rattle.engine.specs.Move.{Input, Moved, fires, move-refused, move, fire, writes}
+use Rattle.engine_release.specs.Marks.{by-place, mark}
 use Rattle.engine_fire.specs.Tables.{Tables}
-use Rattle.engine_walk.specs.declared.State.{State}
+use Rattle.engine_walk.specs.declared.WalkEnd.{WalkEnd}
 use Rattle.engine_walk.specs.Walk.{outcome}
-use Rattle.engine_walk.specs.Gather.{Gathered}
+use Rattle.engine_walk.specs.WalkMarks.{WalkMarked}
 
 -- marks with the bit joined wherever the test passes
-abbrev pub joined : ℕ → (ℕ → Bool) → List ℕ → List ℕ
-joined bit test ms = each (λ l m. mark bit (test l) m) 0 ms
+abbrev pub marks-joined : ℕ → (ℕ → Bool) → List ℕ → List ℕ
+marks-joined bit test ms = by-place (λ l m. mark bit (test l) m) 0 ms
 
 -- a move that fires leaves its updates, and its bit where it reads and where it writes; a refused one leaves all as it was
-abbrev pub left : ℕ → Tables → Moved → Tables
-left bit t (fires f) =
+abbrev pub tables-after : ℕ → Tables → Moved → Tables
+tables-after bit t (fires f) =
     record {
       contents = fire (f .updates) (t .contents);
-      readers = joined bit (has (f .reads)) (t .readers);
-      writers = joined bit (writes (f .updates)) (t .writers);
+      readers = marks-joined bit (has (f .reads)) (t .readers);
+      writers = marks-joined bit (writes (f .updates)) (t .writers);
     }
-left bit t (stopped n q) = t
+tables-after bit t (move-refused n q) = t
 
 -- the paper's triple for move i: 0 0 0 if it fires
 abbrev pub move-answer : ℕ → Moved → Answer
 move-answer i (fires f) = record { number = 0; p = 0; q = 0 }
-move-answer i (stopped n q) = record { number = n; p = i; q = q }
+move-answer i (move-refused n q) = record { number = n; p = i; q = q }
 
 -- What a call is made on: an accepted book, sound contents, one of its agents, and a bit above all marks so far: the moves before have lower ones
-pub record Fit (B : Program) (x : Input) (bit : ℕ) (t : Tables) : Type 0 where
+pub record MoveFits (B : Program) (x : Input) (bit : ℕ) (t : Tables) : Type 0 where
   pub lawful : Lawful B
   pub sound : Sound B (t .contents)
   pub agent : x .agent < length (B .agents)
@@ -43,13 +43,13 @@ pub record Fit (B : Program) (x : Input) (bit : ℕ) (t : Tables) : Type 0 where
   pub unmarked : (l : ℕ) → getD (t .readers) l 0 < bit
 
 -- what the move with input x, number i and marked as `bit`, gives and leaves of the tables t: its answer r, and the tables u
-pub record Effect (B : Program) (x : Input) (bit i : ℕ) (t : Tables) (r : Answer) (u : Tables) : Type 0 where
+pub record MoveEffect (B : Program) (x : Input) (bit i : ℕ) (t : Tables) (r : Answer) (u : Tables) : Type 0 where
   pub answer : r ≡ move-answer i (move B (t .contents) x)
-  pub tables : u ≡ left bit t (move B (t .contents) x)
+  pub tables : u ≡ tables-after bit t (move B (t .contents) x)
 
 -- the walk of the move with input x, made on the tables t, came to the state s with the list l, and left the tables u
-pub record After (B : Program) (x : Input) (bit : ℕ) (t : Tables) (s : State) (l : List ℕ) (u : Tables) : Type 0 where
-  pub fit : Fit B x bit t
+pub record AfterWalk (B : Program) (x : Input) (bit : ℕ) (t : Tables) (s : WalkEnd) (l : List ℕ) (u : Tables) : Type 0 where
+  pub fit : MoveFits B x bit t
   pub contents : u .contents ≡ t .contents
-  pub readers : Gathered B (t .contents) bit x (outcome s l) (t .readers) (u .readers)
+  pub readers : WalkMarked B (t .contents) bit x (outcome s l) (t .readers) (u .readers)
   pub writers : u .writers ≡ t .writers

@@ -9,11 +9,11 @@ use Rattle.text.specs.Refusals.{clash}
 use Rattle.book.specs.Book.{Program}
 use Rattle.book.specs.Image.{held}
 use Rattle.engine.specs.declared.Instruction.{Instruction}
-use Rattle.engine.specs.Move.{Moved, fires, stopped, fire, writes, fired-of, judged}
+use Rattle.engine.specs.Move.{Moved, fires, move-refused, fire, writes, fired-of, fire-or-clash}
 use Rattle.engine.specs.Move as move
 use Rattle.engine_instruction.specs.Code.{items}
 use Rattle.engine_term.specs.Marks.{marked}
-use Rattle.engine_release.specs.Marks.{each, mark}
+use Rattle.engine_release.specs.Marks.{by-place, mark}
 use Rattle.engine_fire.specs.Steps.{fire-reads}
 use Rattle.engine_fire.specs.Tables.{Tables}
 use Rattle.engine_fire.specs.declared.Outcome.{Outcome}
@@ -30,21 +30,21 @@ move-by image c list n ls = fired-of (held image) c ls (items list n)
 -- the paper's number and q for each
 abbrev pub moved-by : move.Fired → Outcome → Moved
 moved-by f Fired = fires f
-moved-by f (Clash l) = stopped clash l
+moved-by f (Clash l) = move-refused clash l
 
 -- ---- the contents and the marks after: a refused move leaves them as they were
 
 abbrev pub contents-after : List ℕ → Moved → List ℕ
 contents-after c (fires f) = fire (f .updates) c
-contents-after c (stopped n q) = c
+contents-after c (move-refused n q) = c
 
 -- the bit is joined wherever the updates write a location of the contents, which are n long: changed or not
 abbrev pub write-marked : ℕ → ℕ → List (List ℕ) → List ℕ → List ℕ
-write-marked bit n us ms = each (λ l m. mark bit (ltb l n && writes us l) m) 0 ms
+write-marked bit n us ms = by-place (λ l m. mark bit (ltb l n && writes us l) m) 0 ms
 
 abbrev pub writers-after : ℕ → ℕ → List ℕ → Moved → List ℕ
 writers-after bit n ms (fires f) = write-marked bit n (f .updates) ms
-writers-after bit n ms (stopped k q) = ms
+writers-after bit n ms (move-refused k q) = ms
 
 -- The bit is joined wherever firing by these instructions reads. Of an accepted book, sound contents and a move that fires this is what the move reads beside
 -- what its walk looks at (`fire-reads-are`, proofs/Taken).
@@ -53,11 +53,11 @@ read-marked bit B is c rs = marked bit (fire-reads B is c) rs
 
 abbrev pub readers-after : ℕ → Program → List ℕ → List ℕ → Moved → List ℕ
 readers-after bit B c rs (fires f) = read-marked bit B (f .instructions) c rs
-readers-after bit B c rs (stopped k q) = rs
+readers-after bit B c rs (move-refused k q) = rs
 
 -- the move of the first n of a list, whatever its walk looked at, is settled: how, and what it leaves of the tables t
 pub record Settled (image list : List ℕ) (n bit : ℕ) (t : Tables) (r : Outcome) (u : Tables) : Type 0 where
-  pub outcome : (ls : List ℕ) → judged (move-by image (t .contents) list n ls) ≡ moved-by (move-by image (t .contents) list n ls) r
-  pub contents : (ls : List ℕ) → u .contents ≡ contents-after (t .contents) (judged (move-by image (t .contents) list n ls))
-  pub readers : (ls : List ℕ) → u .readers ≡ readers-after bit (held image) (t .contents) (t .readers) (judged (move-by image (t .contents) list n ls))
-  pub writers : (ls : List ℕ) → u .writers ≡ writers-after bit (length (t .contents)) (t .writers) (judged (move-by image (t .contents) list n ls))
+  pub outcome : (ls : List ℕ) → fire-or-clash (move-by image (t .contents) list n ls) ≡ moved-by (move-by image (t .contents) list n ls) r
+  pub contents : (ls : List ℕ) → u .contents ≡ contents-after (t .contents) (fire-or-clash (move-by image (t .contents) list n ls))
+  pub readers : (ls : List ℕ) → u .readers ≡ readers-after bit (held image) (t .contents) (t .readers) (fire-or-clash (move-by image (t .contents) list n ls))
+  pub writers : (ls : List ℕ) → u .writers ≡ writers-after bit (length (t .contents)) (t .writers) (fire-or-clash (move-by image (t .contents) list n ls))

@@ -11,7 +11,7 @@ use Rattle.engine.specs.declared.Instruction.{Instruction}
 use Rattle.engine.specs.Move.{taken-reads}
 use Rattle.engine_instruction.specs.Traces.{own, gets}
 use Rattle.engine_release.specs.Marks.{mark}
-use Rattle.engine_release.specs.Steps.{clears, clears-reads}
+use Rattle.engine_release.specs.Steps.{all-cleared, all-reads}
 
 -- the part that l is in, the one that is held being tried first
 abbrev pub part-after : Program → Part → ℕ → Part
@@ -36,4 +36,4 @@ put-reads P n (i ∷ is) c =
 
 -- what firing reads: traces are cleared, then each own value is put
 abbrev pub fire-reads : Program → List Instruction → List ℕ → List ℕ
-fire-reads B is c = clears-reads B is c ++ put-reads (B .P) (L B) is (clears B is c)
+fire-reads B is c = all-reads B is c ++ put-reads (B .P) (L B) is (all-cleared B is c)

@@ -3,7 +3,7 @@
 use book::Image;
 use book_parts::Part;
 use engine::Pick;
-use engine_walk::State;
+use engine_walk::WalkEnd;
 use text::Answer;
 use text::Value;
 ghost use mathlib.Core.Path.{_≡_};
@@ -25,12 +25,12 @@ ghost use Rattle.engine_release.specs.Marks.{mark};
 ghost use Rattle.engine_fire.specs.Outcome.{write-marked, read-marked, Settled, moved-by};
 ghost use Rattle.engine_fire.specs.Steps.{part-after, puts, put-marks, put-reads};
 ghost use Rattle.engine_fire.specs.Tables.{tables};
-ghost use Rattle.engine.specs.Rule.{going};
-ghost use Rattle.engine_walk.specs.Gather.{cleared, Gathered};
+ghost use Rattle.engine.specs.Rule.{walking};
+ghost use Rattle.engine_walk.specs.WalkMarks.{bits-cleared, WalkMarked};
 ghost use Rattle.engine_walk.specs.Walk.{outcome};
 ghost use Rattle.engine_fire.specs.Effect.{move-answer};
-ghost use Rattle.engine_fire.specs.Close.{told, kept, Completed};
-ghost use Rattle.engine_fire.specs.Count.{given-of};
+ghost use Rattle.engine_fire.specs.Close.{answer-at, readers-kept, MoveFinished};
+ghost use Rattle.engine_fire.specs.Count.{instructions-given};
 
 // What becomes of a move.
 pub enum Outcome {
@@ -58,7 +58,7 @@ fn is_location(image: &Image, l: u32) -> bool
 // ---- firing
 
 // Place i of a part gets v.
-fn put(part: &mut [Value], i: usize, v: Value)
+fn put_value(part: &mut [Value], i: usize, v: Value)
     requires { ⌜ i < length (now part) ⌝ }
     ensures { λ _. ⌜ now (part .exit) ≡ set (now (part .entry)) i v ⌝ }
 {
@@ -77,7 +77,7 @@ fn mark_in(writers: &mut [u64], first: usize, end: usize, at: usize, bit: u64)
 }
 
 // A function's own part is lent, from its first location, as far as the table goes; location `at` gets v there, and its mark the bit.
-fn put_in(
+fn put_in_part(
     contents: &mut [Value],
     writers: &mut [u64],
     first: usize,
@@ -92,7 +92,7 @@ fn put_in(
 {
     let e = text::smaller(end, contents.len());
     if at < e {
-        put(&mut contents[first..e], at - first, v);
+        put_value(&mut contents[first..e], at - first, v);
         mark_in(writers, first, end, at, bit);
     }
 }
@@ -127,7 +127,7 @@ fn part_at(image: &Image, last: Part, at: usize) -> Part
 }
 
 // Each instruction's own location gets its own value, in its function's part; what that reads and writes is marked.
-fn put_all(
+fn put_values(
     image: &Image,
     contents: &mut [Value],
     readers: &mut [u64],
@@ -150,7 +150,7 @@ fn put_all(
         let v = engine_instruction::own_value(what);
         part = part_at(image, part, at);
         mark_put(contents, readers, part.end, at, v, p, bit);
-        put_in(contents, writers, part.first, part.end, at, v, bit);
+        put_in_part(contents, writers, part.first, part.end, at, v, bit);
         j = j + 1;
     }
 }
@@ -169,8 +169,8 @@ fn fire(
     ensures { λ _. ⌜ now (readers .exit) ≡ read-marked bit (held (now (image .entry))) (items (now (list .entry)) len) (now (contents .entry)) (now (readers .entry)) ⌝ }
     ensures { λ _. ⌜ now (writers .exit) ≡ write-marked bit (length (now (contents .entry))) (updates-by (now (image .entry)) (now (contents .entry)) (now (list .entry)) len) (now (writers .entry)) ⌝ }
 {
-    engine_release::clear_all(image, contents, readers, writers, list, len, bit);
-    put_all(image, contents, readers, writers, list, len, bit);
+    engine_release::clear_released(image, contents, readers, writers, list, len, bit);
+    put_values(image, contents, readers, writers, list, len, bit);
 }
 
 // ---- the move
@@ -187,7 +187,7 @@ pub fn settle(
 ) -> Outcome
     ensures { λ r. ⌜ Settled (now (image .entry)) (now (list .entry)) len bit (tables (now (contents .entry)) (now (readers .entry)) (now (writers .entry))) r (tables (now (contents .exit)) (now (readers .exit)) (now (writers .exit))) ⌝ }
 {
-    let at = engine_clash::first_clash(image, contents, list, len, NO_LOCATION);
+    let at = engine_clash::least_clash(image, contents, list, len, NO_LOCATION);
     if is_location(image, at) {
         return Outcome::Clash { location: at };
     }
@@ -202,13 +202,13 @@ const MOST_INSTRUCTIONS: usize = 256;
 
 // A move that is begun: how its walk ended, and how many instructions it gave.
 pub struct Begun {
-    pub walk: State,
+    pub walk: WalkEnd,
     pub count: usize,
 }
 
 // How many instructions a walk gave: none if it was refused.
-fn given(s: State) -> usize
-    ensures { λ r. ⌜ r ≡ given-of s ⌝ }
+fn instructions_given(s: WalkEnd) -> usize
+    ensures { λ r. ⌜ r ≡ instructions-given s ⌝ }
 {
     if s.refused != 0 {
         return 0;
@@ -220,7 +220,7 @@ fn given(s: State) -> usize
 }
 
 // An agent's move is begun: its rule is walked with these picks, and what the walk looks at is marked.
-pub fn begin(
+pub fn begin_move(
     image: &Image,
     contents: &[Value],
     readers: &mut [u64],
@@ -229,10 +229,10 @@ pub fn begin(
     agent: u32,
     picks: &[Pick],
 ) -> Begun
-    ensures { λ r. ⌜ Gathered (held (now (image .entry))) (now (contents .entry)) bit (input agent (now (picks .entry))) (outcome (r .walk) (now (list .exit))) (now (readers .entry)) (now (readers .exit)) × (r .count ≡ given-of (r .walk)) × (length (now (list .exit)) ≡ 256) ⌝ }
+    ensures { λ r. ⌜ WalkMarked (held (now (image .entry))) (now (contents .entry)) bit (input agent (now (picks .entry))) (outcome (r .walk) (now (list .exit))) (now (readers .entry)) (now (readers .exit)) × (r .count ≡ instructions-given (r .walk)) × (length (now (list .exit)) ≡ 256) ⌝ }
 {
-    let walk = engine_walk::gather(image, contents, readers, bit, list, agent, picks);
-    let count = given(walk);
+    let walk = engine_walk::walk_move(image, contents, readers, bit, list, agent, picks);
+    let count = instructions_given(walk);
     Begun {
         walk: walk,
         count: count,
@@ -240,11 +240,11 @@ pub fn begin(
 }
 
 // The answer to move `at` where it is refused; its reader marks are taken back.
-fn refuse(readers: &mut [u64], bit: u64, number: u32, at: u32, q: u32) -> Answer
-    ensures { λ r. ⌜ r ≡ told number at q ⌝ }
-    ensures { λ _. ⌜ now (readers .exit) ≡ cleared bit (now (readers .entry)) ⌝ }
+fn refuse_move(readers: &mut [u64], bit: u64, number: u32, at: u32, q: u32) -> Answer
+    ensures { λ r. ⌜ r ≡ answer-at number at q ⌝ }
+    ensures { λ _. ⌜ now (readers .exit) ≡ bits-cleared bit (now (readers .entry)) ⌝ }
 {
-    engine_walk::clear(readers, bit);
+    engine_walk::clear_marks(readers, bit);
     Answer {
         number: number,
         p: at,
@@ -253,9 +253,9 @@ fn refuse(readers: &mut [u64], bit: u64, number: u32, at: u32, q: u32) -> Answer
 }
 
 // The answer to move `at`, which is settled; if it is refused, its reader marks are taken back.
-fn close(readers: &mut [u64], bit: u64, at: u32, what: Outcome) -> Answer
+fn answer_move(readers: &mut [u64], bit: u64, at: u32, what: Outcome) -> Answer
     ensures { λ r. ⌜ ((f : Fired) → r ≡ move-answer at (moved-by f what)) ⌝ }
-    ensures { λ _. ⌜ ((f : Fired) → now (readers .exit) ≡ kept bit (moved-by f what) (now (readers .entry))) ⌝ }
+    ensures { λ _. ⌜ ((f : Fired) → now (readers .exit) ≡ readers-kept bit (moved-by f what) (now (readers .entry))) ⌝ }
 {
     match what {
         Outcome::Fired => Answer {
@@ -263,7 +263,7 @@ fn close(readers: &mut [u64], bit: u64, at: u32, what: Outcome) -> Answer
             p: 0,
             q: 0,
         },
-        Outcome::Clash { location } => refuse(readers, bit, text::CLASH, at, location),
+        Outcome::Clash { location } => refuse_move(readers, bit, text::CLASH, at, location),
     }
 }
 
@@ -278,24 +278,24 @@ fn settle_listed(
     len: usize,
     at: u32,
 ) -> Answer
-    ensures { λ r. ⌜ ((next : ℕ) → Completed (held (now (image .entry))) bit at (going (record { made = items (now (list .entry)) len; next = next; left = [] })) (tables (now (contents .entry)) (now (readers .entry)) (now (writers .entry))) r (tables (now (contents .exit)) (now (readers .exit)) (now (writers .exit)))) ⌝ }
+    ensures { λ r. ⌜ ((next : ℕ) → MoveFinished (held (now (image .entry))) bit at (walking (record { made = items (now (list .entry)) len; next = next; left = [] })) (tables (now (contents .entry)) (now (readers .entry)) (now (writers .entry))) r (tables (now (contents .exit)) (now (readers .exit)) (now (writers .exit)))) ⌝ }
 {
     let what = settle(image, contents, readers, writers, list, len, bit);
-    close(readers, bit, at, what)
+    answer_move(readers, bit, at, what)
 }
 
 // The rest of move `at`, whose walk came to the state s: refused as the walk was, or settled by the first s.len of the list.
-pub fn finish(
+pub fn finish_move(
     image: &Image,
     contents: &mut [Value],
     readers: &mut [u64],
     writers: &mut [u64],
     bit: u64,
     list: &[u64; 256],
-    s: State,
+    s: WalkEnd,
     at: u32,
 ) -> Answer
-    ensures { λ r. ⌜ Completed (held (now (image .entry))) bit at (outcome s (now (list .entry))) (tables (now (contents .entry)) (now (readers .entry)) (now (writers .entry))) r (tables (now (contents .exit)) (now (readers .exit)) (now (writers .exit))) ⌝ }
+    ensures { λ r. ⌜ MoveFinished (held (now (image .entry))) bit at (outcome s (now (list .entry))) (tables (now (contents .entry)) (now (readers .entry)) (now (writers .entry))) r (tables (now (contents .exit)) (now (readers .exit)) (now (writers .exit))) ⌝ }
 {
     if s.refused != 0 {
         return Answer {

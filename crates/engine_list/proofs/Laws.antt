@@ -9,7 +9,7 @@ use Rattle.engine.specs.declared.Instruction.{Instruction}
 use Rattle.engine.specs.declared.Instruction.the-variants.{Update}
 use Rattle.engine.specs.declared.Record.{Record}
 use Rattle.engine_instruction.specs.Code.{decode-of, items}
-use Rattle.engine_list.specs.Written.{what-of, written, through}
+use Rattle.engine_list.specs.Written.{what-of, records-written, through}
 
 -- what a list is read as past its end
 abbrev pub blank : Record
@@ -20,28 +20,28 @@ record-of c = record { what = decode-of c }
 
 -- ---- writing
 
-pub length-written : (is : List Instruction) (ys : List Record) → length (written is ys) ≡ length ys
-unfolding written
+pub length-written : (is : List Instruction) (ys : List Record) → length (records-written is ys) ≡ length ys
+unfolding records-written
 length-written [] ys = refl
 length-written (i ∷ is) [] = refl
 length-written (i ∷ is) (y ∷ ys) = ap suc (length-written is ys)
 
-pub none-written : (xs : List ℕ) (ys : List Record) → written (items xs 0) ys ≡ ys
-unfolding written
+pub none-written : (xs : List ℕ) (ys : List Record) → records-written (items xs 0) ys ≡ ys
+unfolding records-written
 none-written xs ys = refl
 
 -- one record more
 pub one-written : (i : ℕ) (xs : List ℕ) (ys : List Record) → i < length xs → i < length ys
-    → set (written (items xs i) ys) i (record-of (getD xs i 0)) ≡ written (items xs (suc i)) ys
-unfolding written
+    → set (records-written (items xs i) ys) i (record-of (getD xs i 0)) ≡ records-written (items xs (suc i)) ys
+unfolding records-written
 one-written i [] ys hx hy = absurd (not-suc-le-zero hx)
 one-written i (x ∷ xs) [] hx hy = absurd (not-suc-le-zero hy)
 one-written zero (x ∷ xs) (y ∷ ys) hx hy = refl
 one-written (suc i) (x ∷ xs) (y ∷ ys) hx hy = ap (λ (zs : List Record). record-of x ∷ zs) (one-written i xs ys (le-of-suc-le-suc hx) (le-of-suc-le-suc hy))
 
 -- the numbers or the records come to an end
-pub all-written : (m n : ℕ) (xs : List ℕ) (ys : List Record) → m ≤ n → (m < n → m < length ys → m < length xs → ⊥) → written (items xs m) ys ≡ written (items xs n) ys
-unfolding written
+pub all-written : (m n : ℕ) (xs : List ℕ) (ys : List Record) → m ≤ n → (m < n → m < length ys → m < length xs → ⊥) → records-written (items xs m) ys ≡ records-written (items xs n) ys
+unfolding records-written
 all-written zero zero xs ys h over = refl
 all-written zero (suc n) [] ys h over = refl
 all-written zero (suc n) (x ∷ xs) [] h over = refl
@@ -77,15 +77,15 @@ one-read (suc i) c (y ∷ ys) (z ∷ zs) hy hz e s =
     ∙ ap (λ (ks : List Instruction). y .what ∷ ks) (one-read i c ys zs (le-of-suc-le-suc hy) (le-of-suc-le-suc hz) e (ap tail-of s))
 
 -- what was written is read back
-pub read-back : (n : ℕ) (xs : List ℕ) (ys : List Record) → n ≤ length xs → n ≤ length ys → map what-of (take n (written (items xs n) ys)) ≡ items xs n
-unfolding written
+pub read-back : (n : ℕ) (xs : List ℕ) (ys : List Record) → n ≤ length xs → n ≤ length ys → map what-of (take n (records-written (items xs n) ys)) ≡ items xs n
+unfolding records-written
 read-back zero xs ys hx hy = refl
 read-back (suc n) [] ys hx hy = absurd (not-suc-le-zero hx)
 read-back (suc n) (x ∷ xs) [] hx hy = absurd (not-suc-le-zero hy)
 read-back (suc n) (x ∷ xs) (y ∷ ys) hx hy = ap (λ (ks : List Instruction). decode-of x ∷ ks) (read-back n xs ys (le-of-suc-le-suc hx) (le-of-suc-le-suc hy))
 
 -- the same of n numbers, as many as there is room for
-pub through-back : (n : ℕ) (xs : List ℕ) (ys : List Record) → map what-of (take (through n ys xs) (written (items xs n) ys)) ≡ items xs (through n ys xs)
+pub through-back : (n : ℕ) (xs : List ℕ) (ys : List Record) → map what-of (take (through n ys xs) (records-written (items xs n) ys)) ≡ items xs (through n ys xs)
 through-back n xs ys =
     ap (λ (zs : List Record). map what-of (take (through n ys xs) zs)) (sym (all-written (through n ys xs) n xs ys (omega arith) (λ a b c. omega arith)))
     ∙ read-back (through n ys xs) xs ys (omega arith) (omega arith)

@@ -11,20 +11,20 @@ abbrev pub what-of : Record → Instruction
 what-of r = r .what
 
 -- the instructions in front, as far as there are records; every other record as it was
-unfoldable pub written : List Instruction → List Record → List Record
-written [] ys = ys
-written (i ∷ is) [] = []
-written (i ∷ is) (y ∷ ys) = record { what = i } ∷ written is ys
+unfoldable pub records-written : List Instruction → List Record → List Record
+records-written [] ys = ys
+records-written (i ∷ is) [] = []
+records-written (i ∷ is) (y ∷ ys) = record { what = i } ∷ records-written is ys
 
 -- one list of instructions after the other
-unfoldable pub all-written : List (List Instruction) → List Record → List Record
-all-written [] ys = ys
-all-written (is ∷ iss) ys = all-written iss (written is ys)
+unfoldable pub all-records-written : List (List Instruction) → List Record → List Record
+all-records-written [] ys = ys
+all-records-written (is ∷ iss) ys = all-records-written iss (records-written is ys)
 
 -- how many of n numbers go through the list: those that have a number and a record
 abbrev pub through : ℕ → List Record → List ℕ → ℕ
 through n ys xs = min n (min (length ys) (length xs))
 
 -- The first n of the numbers xs went through the list ys: it is now zs, as written, and the numbers us stand for the same instructions.
-abbrev pub Passed : ℕ → List Record → List ℕ → List Record → List ℕ → Type 0
-Passed n ys xs zs us = (zs ≡ written (items xs n) ys) × (items us (through n ys xs) ≡ items xs (through n ys xs))
+abbrev pub PassedThrough : ℕ → List Record → List ℕ → List Record → List ℕ → Type 0
+PassedThrough n ys xs zs us = (zs ≡ records-written (items xs n) ys) × (items us (through n ys xs) ≡ items xs (through n ys xs))

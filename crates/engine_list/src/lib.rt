@@ -7,7 +7,7 @@ ghost use Prim.Native.Nat.{min};
 ghost use lib.ListN.{take};
 ghost use Rattle.engine.specs.declared.Instruction.the-variants.{Release};
 ghost use Rattle.engine_instruction.specs.Code.{decode-of, items};
-ghost use Rattle.engine_list.specs.Written.{what-of, written, through, Passed};
+ghost use Rattle.engine_list.specs.Written.{what-of, records-written, through, PassedThrough};
 
 // The record that a number stands for, and a number that stands for a record.
 fn record_of(c: u64) -> Record
@@ -34,8 +34,8 @@ fn least(a: usize, b: usize, c: usize) -> usize
 
 // The first n records of the list are those that the first n numbers stand for; every other is as
 // it was.
-fn fill(list: &mut [Record], from: &[u64], n: usize)
-    ensures { λ _. ⌜ now (list .exit) ≡ written (items (now (from .entry)) n) (now (list .entry)) ⌝ }
+fn write_records(list: &mut [Record], from: &[u64], n: usize)
+    ensures { λ _. ⌜ now (list .exit) ≡ records-written (items (now (from .entry)) n) (now (list .entry)) ⌝ }
 {
     let m = least(n, list.len(), from.len());
     let mut i: usize = 0;
@@ -46,7 +46,7 @@ fn fill(list: &mut [Record], from: &[u64], n: usize)
 }
 
 // The first n numbers stand for the first n records of the list, as far as both go.
-fn load(list: &[Record], to: &mut [u64], n: usize)
+fn read_records(list: &[Record], to: &mut [u64], n: usize)
     ensures { λ _. ⌜ items (now (to .exit)) (through n (now (list .entry)) (now (to .entry))) ≡ map what-of (take (through n (now (list .entry)) (now (to .entry))) (now (list .entry))) ⌝ }
 {
     let m = least(n, list.len(), to.len());
@@ -59,10 +59,10 @@ fn load(list: &[Record], to: &mut [u64], n: usize)
 
 // The first n numbers go through the list: they are filled in, and scanned again.
 pub fn pass(list: &mut [Record], work: &mut [u64], n: usize)
-    ensures { λ _. ⌜ Passed n (now (list .entry)) (now (work .entry)) (now (list .exit)) (now (work .exit)) ⌝ }
+    ensures { λ _. ⌜ PassedThrough n (now (list .entry)) (now (work .entry)) (now (list .exit)) (now (work .exit)) ⌝ }
 {
-    fill(list, work, n);
-    load(list, work, n);
+    write_records(list, work, n);
+    read_records(list, work, n);
 }
 
 // A record that nothing was written to.

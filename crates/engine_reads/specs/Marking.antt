@@ -9,7 +9,7 @@ use Rattle.text.specs.declared.Found.{Found}
 use Rattle.text.specs.declared.Found.the-variants.{Nowhere, Here}
 use Rattle.book.specs.declared.Function.{Function}
 use Rattle.book.specs.Book.{Program, true-element, offset, location}
-use Rattle.engine.specs.Look.{gives}
+use Rattle.engine.specs.Reader.{value-in}
 use Rattle.engine.specs.Rule.{members}
 use Rattle.engine_term.specs.Marks.{marked, dynamic-of}
 
@@ -28,13 +28,13 @@ abbrev pub member : List ℕ → Function → ℕ → ℕ → Bool
 member c f E y = eqb (getD c (f .first + offset E (f .arity) y 0) 0) true-element
 
 -- the least of the k numbers from x on that passes the test, or the one past them
-unfoldable pub next : (ℕ → Bool) → ℕ → ℕ → ℕ
-next t x zero = x
-next t x (suc k) = let r = next t (suc x) k in if t x then x else r
+unfoldable pub next-passing : (ℕ → Bool) → ℕ → ℕ → ℕ
+next-passing t x zero = x
+next-passing t x (suc k) = let r = next-passing t (suc x) k in if t x then x else r
 
 -- the members of the universe u from y on
 abbrev pub members-from : Program → List ℕ → ℕ → ℕ → List ℕ
-members-from B c u y = gives c (members B u y (B .E - y))
+members-from B c u y = value-in c (members B u y (B .E - y))
 
 -- x and the members after it, or none if x is no element
 abbrev pub first-and-rest : Program → List ℕ → ℕ → ℕ → List ℕ

@@ -8,16 +8,16 @@ ghost use Prim.Native.Nat.{_+_, _-_, _≤_};
 ghost use lib.Bits.{bitOr, bitAnd};
 ghost use Rattle.text.specs.Words.{if_then_else_, table, table-from};
 ghost use Rattle.book.specs.Book.{offset, reserve, dynamic-at};
-ghost use Rattle.engine.specs.Look.{read};
+ghost use Rattle.engine.specs.Reader.{read};
 ghost use Rattle.engine.specs.Rule.{lowest, universe-at};
 ghost use Rattle.book.specs.Image.{low, low-function, held};
-ghost use Rattle.engine_term.specs.Marks.{noted, marked, Placed, Runs};
-ghost use Rattle.engine_reads.specs.Marking.{found-below, universe-marked, member, next};
+ghost use Rattle.engine_term.specs.Marks.{marked-if-dynamic, marked, Placed, Runs};
+ghost use Rattle.engine_reads.specs.Marking.{found-below, universe-marked, member, next-passing};
 
 // ---- parts
 
 // Keeps only the bits of the mask in all marks.
-pub fn keep(readers: &mut [u64], mask: u64)
+pub fn mask_marks(readers: &mut [u64], mask: u64)
     ensures { λ _. ⌜ now (readers .exit) ≡ map (λ v. bitAnd v mask) (now (readers .entry)) ⌝ }
 {
     let mut i: usize = 0;
@@ -50,7 +50,7 @@ fn mark_between(readers: &mut [u64], bit: u64, first: usize, end: usize)
 // ---- labels and Reserve
 
 // The lowest label of Reserve from `from` on, or E; the labels tried are marked.
-pub fn lowest(
+pub fn lowest_label(
     image: &Image,
     contents: &[Value],
     readers: &mut [u64],
@@ -72,7 +72,7 @@ pub fn lowest(
 }
 
 // Whether location x, Reserve's while x is an element, is dynamic.
-fn roll(image: &Image, x: Value) -> bool
+fn is_reserve_dynamic(image: &Image, x: Value) -> bool
     ensures { λ r. ⌜ (Placed (held (now (image .entry))) → r ≡ dynamic-at (held (now (image .entry))) x) ⌝ }
 {
     if x < book_image::elements(image) {
@@ -82,16 +82,16 @@ fn roll(image: &Image, x: Value) -> bool
 }
 
 // Marks Reserve at x.
-fn note_roll(image: &Image, readers: &mut [u64], bit: u64, x: Value)
-    ensures { λ _. ⌜ (Placed (held (now (image .entry))) → now (readers .exit) ≡ noted (held (now (image .entry))) bit x (now (readers .entry))) ⌝ }
+fn mark_reserve(image: &Image, readers: &mut [u64], bit: u64, x: Value)
+    ensures { λ _. ⌜ (Placed (held (now (image .entry))) → now (readers .exit) ≡ marked-if-dynamic (held (now (image .entry))) bit x (now (readers .entry))) ⌝ }
 {
-    if roll(image, x) {
+    if is_reserve_dynamic(image, x) {
         engine_term::mark(readers, bit, x as usize);
     }
 }
 
 // The value of Reserve at x.
-pub fn read_roll(
+pub fn read_reserve(
     image: &Image,
     contents: &[Value],
     readers: &mut [u64],
@@ -100,7 +100,7 @@ pub fn read_roll(
 ) -> Value
     ensures { λ r. ⌜ Runs (held (now (image .entry))) (now (contents .entry)) bit (read (reserve x)) r (now (readers .entry)) (now (readers .exit)) ⌝ }
 {
-    note_roll(image, readers, bit, x);
+    mark_reserve(image, readers, bit, x);
     text::fetch(contents, x as usize)
 }
 
@@ -119,7 +119,7 @@ fn mark_each(readers: &mut [u64], bit: u64, f: Function, e: Value)
 }
 
 // The same; the locations of a unary function, as every universe is, are one part.
-fn mark_run(readers: &mut [u64], bit: u64, f: Function, e: Value)
+fn mark_function(readers: &mut [u64], bit: u64, f: Function, e: Value)
     ensures { λ _. ⌜ now (readers .exit) ≡ marked bit (table (λ y. low (f .first) + offset e (f .arity) y 0) e) (now (readers .entry)) ⌝ }
 {
     if f.arity == 1 {
@@ -131,11 +131,11 @@ fn mark_run(readers: &mut [u64], bit: u64, f: Function, e: Value)
 }
 
 // Marks the universe u at all elements if it is dynamic.
-pub fn universe(image: &Image, readers: &mut [u64], bit: u64, u: u16)
+pub fn mark_universe(image: &Image, readers: &mut [u64], bit: u64, u: u16)
     ensures { λ _. ⌜ now (readers .exit) ≡ universe-marked (held (now (image .entry))) bit u (now (readers .entry)) ⌝ }
 {
     if engine_term::dynamic(image, u, 0, 0) {
-        mark_run(
+        mark_function(
             readers,
             bit,
             book_image::function_at(image, u as u32),
@@ -163,7 +163,7 @@ pub fn read_universe(
 
 // The least member of a universe from `from` on, or e; f is the universe.
 pub fn next_member(contents: &[Value], f: Function, e: Value, from: Value) -> Value
-    ensures { λ r. ⌜ (from ≤ r) × (r ≡ next (member (now (contents .entry)) (low-function f) e) from (e - from)) ⌝ }
+    ensures { λ r. ⌜ (from ≤ r) × (r ≡ next-passing (member (now (contents .entry)) (low-function f) e) from (e - from)) ⌝ }
 {
     let mut y = from;
     while y < e {

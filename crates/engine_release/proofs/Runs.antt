@@ -19,8 +19,8 @@ use Rattle.engine.specs.Move.{append-from}
 use Rattle.engine_term.specs.Marks.{marked}
 use Rattle.engine_release.specs.Marks.{mark}
 use Rattle.engine_instruction.specs.Traces.{trace-in}
-use Rattle.engine_release.specs.Part.{wiped-in, part-cleared, part-marked, cleared-reads, reads-in, part-reads}
-use Rattle.engine_release.specs.Steps.{run-cleared, run-marked, run-reads, trace, wiped, cleared, clear-marked, clear-reads}
+use Rattle.engine_release.specs.Part.{value-cleared-in, part-cleared, part-marked, cleared-reads, reads-in, part-reads}
+use Rattle.engine_release.specs.Steps.{function-cleared, function-marked, function-reads, trace, value-cleared, label-cleared, label-marks, label-reads}
 use Rattle.engine_instruction.proofs.Laws.{and-none}
 use Rattle.engine.proofs.Append.{append-split, append-same, append-past}
 use Rattle.engine_term.proofs.Marking.{marked-on}
@@ -34,9 +34,9 @@ module _ (E : ℕ) (f : Function) (x bit first end : ℕ) (c ms : List ℕ) (ord
     (b-is : b ≡ min end (length c)) where
   pub run-contents :
       (ys : List ℕ) → ys ≡ part-cleared E f x (take (b - a) (drop a c)) →
-      take a c ++ (ys ++ drop (b - a) (drop a c)) ≡ run-cleared E f x first end c
+      take a c ++ (ys ++ drop (b - a) (drop a c)) ≡ function-cleared E f x first end c
   run-contents ys q =
-      part-back (wiped-in E f x) (λ (l v : ℕ). if between first end l then wiped-in E f x (l - first) v else v) a b c ys (omega arith) (omega arith)
+      part-back (value-cleared-in E f x) (λ (l v : ℕ). if between first end l then value-cleared-in E f x (l - first) v else v) a b c ys (omega arith) (omega arith)
       (λ k h v. rw (between-before first end k (omega arith)))
       (λ k h l v.
       let n : first ≡ a = omega arith in
@@ -65,7 +65,7 @@ module _ (E : ℕ) (f : Function) (x bit first end : ℕ) (c ms : List ℕ) (ord
   pub run-marks :
       (p r : ℕ) (ys : List ℕ) → p ≡ min first (length ms) → r ≡ min end (length ms) →
       ys ≡ part-marked bit E f x (take (b - a) (drop a c)) (take (r - p) (drop p ms)) →
-      take p ms ++ (ys ++ drop (r - p) (drop p ms)) ≡ run-marked bit E f x first end c ms
+      take p ms ++ (ys ++ drop (r - p) (drop p ms)) ≡ function-marked bit E f x first end c ms
   run-marks p r ys p-is r-is q =
       part-back (λ (i m : ℕ). mark bit (ltb i (length part) && trace-in E f i (getD part i 0) x) m)
       (λ (l m : ℕ). mark bit (between first end l && (ltb l (length c) && trace-in E f (l - first) (getD c l 0) x)) m) p r ms ys (omega arith) (omega arith)
@@ -77,7 +77,7 @@ module _ (E : ℕ) (f : Function) (x bit first end : ℕ) (c ms : List ℕ) (ord
       q
 
   -- the part ends where the contents do; there the run has no traces
-  pub run-read : (P : ℕ) → part-reads E P f x first (take (b - a) (drop a c)) ≡ run-reads E P f x first end c
+  pub run-read : (P : ℕ) → part-reads E P f x first (take (b - a) (drop a c)) ≡ function-reads E P f x first end c
   run-read P =
       let n : length part ≡ b - a = cut-length a b c (omega arith) in
       let m : length part + (end - first - length part) ≡ end - first = omega arith in
@@ -103,7 +103,7 @@ module _ (E : ℕ) (f : Function) (x bit first end : ℕ) (c ms : List ℕ) (ord
 
 module _ (B : Program) (x bit : ℕ) (c₀ ms₀ rs₀ : List ℕ) where
   abbrev wipe : ℕ → ℕ → ℕ
-  wipe l v = wiped B x l v
+  wipe l v = value-cleared B x l v
 
   abbrev note : ℕ → ℕ → ℕ
   note l m = mark bit (ltb l (length c₀) && trace B l (getD c₀ l 0) x) m
@@ -131,7 +131,7 @@ module _ (B : Program) (x bit : ℕ) (c₀ ms₀ rs₀ : List ℕ) where
     here k h l = from-at B g first (u .at) more k h (omega arith)
 
     -- what the run reads
-    run-here : run-reads (B .E) (B .P) (function-at B g) x first end c ≡ append-from read (0 + first) (end - first)
+    run-here : function-reads (B .E) (B .P) (function-at B g) x first end c ≡ append-from read (0 + first) (end - first)
     run-here =
         append-same (λ (l : ℕ). if ltb l (length c) && trace-in (B .E) (function-at B g) (l - first) (getD c l 0) x then cleared-reads (B .P) (default (function-at B g)) l (getD c l 0) else [])
         read first (0 + first) (end - first)
@@ -141,12 +141,12 @@ module _ (B : Program) (x bit : ℕ) (c₀ ms₀ rs₀ : List ℕ) where
         rw (z, here (first + k) (omega arith) l, u .contents .left (first + k) (omega arith), u .contents .same))
 
     upto-function :
-        (c′ ms′ rs′ : List ℕ) → c′ ≡ run-cleared (B .E) (function-at B g) x first end c → ms′ ≡ run-marked bit (B .E) (function-at B g) x first end c ms →
-        rs′ ≡ marked bit (run-reads (B .E) (B .P) (function-at B g) x first end c) rs → Upto end (g + 1) c′ ms′ rs′
+        (c′ ms′ rs′ : List ℕ) → c′ ≡ function-cleared (B .E) (function-at B g) x first end c → ms′ ≡ function-marked bit (B .E) (function-at B g) x first end c ms →
+        rs′ ≡ marked bit (function-reads (B .E) (B .P) (function-at B g) x first end c) rs → Upto end (g + 1) c′ ms′ rs′
     upto-function c′ ms′ rs′ p q r =
         record {
           contents =
-              sweep-run wipe (λ (l v : ℕ). if between first end l then wiped-in (B .E) (function-at B g) x (l - first) v else v) first end c₀ c c′
+              sweep-run wipe (λ (l v : ℕ). if between first end l then value-cleared-in (B .E) (function-at B g) x (l - first) v else v) first end c₀ c c′
               (omega arith) (u .contents) p
               (λ k h l v. rw (between-before first end k h))
               (λ k h l m. rw (between-inside first end k h l, here k h l))
@@ -165,14 +165,14 @@ module _ (B : Program) (x bit : ℕ) (c₀ ms₀ rs₀ : List ℕ) where
         }
 
     pub upto-next :
-        (own : Owner) (c′ ms′ rs′ : List ℕ) → own ≡ part-from B g first → c′ ≡ run-cleared (B .E) (own .function) x first (own .end) c →
-        ms′ ≡ run-marked bit (B .E) (own .function) x first (own .end) c ms → rs′ ≡ marked bit (run-reads (B .E) (B .P) (own .function) x first (own .end) c) rs →
+        (own : Owner) (c′ ms′ rs′ : List ℕ) → own ≡ part-from B g first → c′ ≡ function-cleared (B .E) (own .function) x first (own .end) c →
+        ms′ ≡ function-marked bit (B .E) (own .function) x first (own .end) c ms → rs′ ≡ marked bit (function-reads (B .E) (B .P) (own .function) x first (own .end) c) rs →
         Upto (own .end) (g + 1) c′ ms′ rs′
     upto-next own c′ ms′ rs′ is p q r = rw is (upto-function c′ ms′ rs′ (rw is at p) (rw is at q) (rw is at r))
 
   module _ (first g : ℕ) (c ms rs : List ℕ) (u : Upto first g c ms rs) (done : length (B .functions) ≤ g) where
     -- past the last function's locations there are no traces, and past the contents nothing is read
-    all-read : append-from read 0 first ≡ clear-reads B x c₀
+    all-read : append-from read 0 first ≡ label-reads B x c₀
     all-read =
         let n : first + (length c₀ - first) ≡ length c₀ + (first - length c₀) = omega arith in
         sym (append-past read 0 first (length c₀ - first) (λ k h. rw (from-past B g first (u .at) done (0 + first + k) (omega arith), and-none)))
@@ -181,7 +181,7 @@ module _ (B : Program) (x bit : ℕ) (c₀ ms₀ rs₀ : List ℕ) where
         ∙ append-same read (λ (l : ℕ). if trace B l (getD c₀ l 0) x then cleared-reads (B .P) (default-at B l) l (getD c₀ l 0) else []) 0 0 (length c₀)
         (λ k h. rw (lt-ltb (0 + k) (length c₀) (omega arith)))
 
-    pub upto-end : (c ≡ cleared B x c₀) × (ms ≡ clear-marked bit B x c₀ ms₀) × (rs ≡ marked bit (clear-reads B x c₀) rs₀)
+    pub upto-end : (c ≡ label-cleared B x c₀) × (ms ≡ label-marks bit B x c₀ ms₀) × (rs ≡ marked bit (label-reads B x c₀) rs₀)
     upto-end = (
       sweep-end wipe first c₀ c (u .contents) (λ k h l. rw (from-past B g first (u .at) done k h)),
       sweep-end note first ms₀ ms (u .marks) (λ k h l. rw (from-past B g first (u .at) done k h, and-none)),

@@ -8,26 +8,26 @@ use borrow.Author.Tests.{eqb-true, eqb-false, ltb-true, ltb-false}
 use lib.Dec.{eqb, ltb}
 use lib.ListN.{length, getD, set, take, drop, length-set, length-take, length-drop, take-append-drop, List·getD-eq-default}
 use lib.Seq.{ext-getD, getD-set-same, getD-set-other, length-take-le}
-use Rattle.engine_release.specs.Marks.{each}
+use Rattle.engine_release.specs.Marks.{by-place}
 
-pub length-each : (f : ℕ → ℕ → ℕ) (i : ℕ) (s : List ℕ) → length (each f i s) ≡ length s
-unfolding each
+pub length-each : (f : ℕ → ℕ → ℕ) (i : ℕ) (s : List ℕ) → length (by-place f i s) ≡ length s
+unfolding by-place
 length-each f i [] = refl
 length-each f i (v ∷ vs) = ap suc (length-each f (suc i) vs)
 
-getD-each-from : (f : ℕ → ℕ → ℕ) (i : ℕ) (s : List ℕ) (k : ℕ) → k < length s → getD (each f i s) k 0 ≡ f (i + k) (getD s k 0)
-unfolding each
+getD-each-from : (f : ℕ → ℕ → ℕ) (i : ℕ) (s : List ℕ) (k : ℕ) → k < length s → getD (by-place f i s) k 0 ≡ f (i + k) (getD s k 0)
+unfolding by-place
 getD-each-from f i [] k h = absurd (omega arith)
 getD-each-from f i (v ∷ vs) zero h = ap (λ (n : ℕ). f n v) (omega arith)
 getD-each-from f i (v ∷ vs) (suc k) h =
     getD-each-from f (suc i) vs k (omega arith) ∙ ap (λ (n : ℕ). f n (getD vs k 0)) (omega arith)
 
-pub getD-each : (f : ℕ → ℕ → ℕ) (s : List ℕ) (k : ℕ) → k < length s → getD (each f 0 s) k 0 ≡ f k (getD s k 0)
+pub getD-each : (f : ℕ → ℕ → ℕ) (s : List ℕ) (k : ℕ) → k < length s → getD (by-place f 0 s) k 0 ≡ f k (getD s k 0)
 getD-each f s k h = getD-each-from f 0 s k h ∙ ap (λ (n : ℕ). f n (getD s k 0)) (omega arith)
 
-pub each-is : (f : ℕ → ℕ → ℕ) (s t : List ℕ) → length t ≡ length s → ((k : ℕ) → k < length s → getD t k 0 ≡ f k (getD s k 0)) → t ≡ each f 0 s
+pub each-is : (f : ℕ → ℕ → ℕ) (s t : List ℕ) → length t ≡ length s → ((k : ℕ) → k < length s → getD t k 0 ≡ f k (getD s k 0)) → t ≡ by-place f 0 s
 each-is f s t e h =
-    ext-getD 0 t (each f 0 s) (e ∙ sym (length-each f 0 s)) (λ k l. let m : k < length s = omega arith in h k m ∙ sym (getD-each f s k m))
+    ext-getD 0 t (by-place f 0 s) (e ∙ sym (length-each f 0 s)) (λ k l. let m : k < length s = omega arith in h k m ∙ sym (getD-each f s k m))
 
 -- s is s₀ with the places below i put by f
 pub record Swept (f : ℕ → ℕ → ℕ) (i : ℕ) (s₀ s : List ℕ) : Type 0 where
@@ -70,7 +70,7 @@ sweep-pass f i j s₀ s w h same =
     place k l m true e = w .done k (ltb-true k i e) m
     place k l m false e = let n : i ≤ k = ltb-false k i e in w .left k n ∙ sym (same k n l)
 
-pub sweep-end : (f : ℕ → ℕ → ℕ) (i : ℕ) (s₀ s : List ℕ) → Swept f i s₀ s → ((k : ℕ) → i ≤ k → k < length s₀ → f k (getD s₀ k 0) ≡ getD s₀ k 0) → s ≡ each f 0 s₀
+pub sweep-end : (f : ℕ → ℕ → ℕ) (i : ℕ) (s₀ s : List ℕ) → Swept f i s₀ s → ((k : ℕ) → i ≤ k → k < length s₀ → f k (getD s₀ k 0) ≡ getD s₀ k 0) → s ≡ by-place f 0 s₀
 sweep-end f i s₀ s w h = each-is f s₀ s (w .same) (λ k l. place k l (ltb k i) refl)
   where
     place : (k : ℕ) → k < length s₀ → (b : Bool) → ltb k i ≡ b → getD s k 0 ≡ f k (getD s₀ k 0)
@@ -78,7 +78,7 @@ sweep-end f i s₀ s w h = each-is f s₀ s (w .same) (λ k l. place k l (ltb k 
     place k l false m = let n : i ≤ k = ltb-false k i m in w .left k n ∙ sym (h k n l)
 
 -- a whole pass that puts the places from i to j by g and leaves the rest
-pub sweep-run : (f g : ℕ → ℕ → ℕ) (i j : ℕ) (s₀ s t : List ℕ) → i ≤ j → Swept f i s₀ s → t ≡ each g 0 s
+pub sweep-run : (f g : ℕ → ℕ → ℕ) (i j : ℕ) (s₀ s t : List ℕ) → i ≤ j → Swept f i s₀ s → t ≡ by-place g 0 s
     → ((k : ℕ) → k < i → k < length s₀ → (v : ℕ) → g k v ≡ v)
     → ((k : ℕ) → i ≤ k → k < j → k < length s₀ → g k (getD s₀ k 0) ≡ f k (getD s₀ k 0))
     → ((k : ℕ) → j ≤ k → k < length s₀ → (v : ℕ) → g k v ≡ v)
@@ -106,21 +106,21 @@ sweep-run f g i j s₀ s t i≤j w q before inside after =
 
 -- ---- a part that is lent, and put back
 
-each-append : (f : ℕ → ℕ → ℕ) (i : ℕ) (s t : List ℕ) → each f i (s ++ t) ≡ each f i s ++ each f (i + length s) t
-unfolding each
-each-append f i [] t = ap (λ (n : ℕ). each f n t) (omega arith)
-each-append f i (v ∷ vs) t = ap (_∷_ (f i v)) (each-append f (suc i) vs t ∙ ap (λ (n : ℕ). each f (suc i) vs ++ each f n t) (omega arith))
+each-append : (f : ℕ → ℕ → ℕ) (i : ℕ) (s t : List ℕ) → by-place f i (s ++ t) ≡ by-place f i s ++ by-place f (i + length s) t
+unfolding by-place
+each-append f i [] t = ap (λ (n : ℕ). by-place f n t) (omega arith)
+each-append f i (v ∷ vs) t = ap (_∷_ (f i v)) (each-append f (suc i) vs t ∙ ap (λ (n : ℕ). by-place f (suc i) vs ++ by-place f n t) (omega arith))
 
-each-same : (f g : ℕ → ℕ → ℕ) (i j : ℕ) (s : List ℕ) → ((k : ℕ) → k < length s → (v : ℕ) → f (i + k) v ≡ g (j + k) v) → each f i s ≡ each g j s
-unfolding each
+each-same : (f g : ℕ → ℕ → ℕ) (i j : ℕ) (s : List ℕ) → ((k : ℕ) → k < length s → (v : ℕ) → f (i + k) v ≡ g (j + k) v) → by-place f i s ≡ by-place g j s
+unfolding by-place
 each-same f g i j [] h = refl
 each-same f g i j (v ∷ vs) h =
     let e : f i v ≡ g j v = ap (λ (n : ℕ). f n v) (omega arith) ∙ h 0 (omega arith) v ∙ ap (λ (n : ℕ). g n v) (omega arith) in
-    ap (λ (y : ℕ). y ∷ each f (suc i) vs) e
+    ap (λ (y : ℕ). y ∷ by-place f (suc i) vs) e
     ∙ ap (_∷_ (g j v)) (each-same f g (suc i) (suc j) vs (λ k l u. ap (λ (n : ℕ). f n u) (omega arith) ∙ h (suc k) (omega arith) u ∙ ap (λ (n : ℕ). g n u) (omega arith)))
 
-each-id : (i : ℕ) (s : List ℕ) → each (λ (k v : ℕ). v) i s ≡ s
-unfolding each
+each-id : (i : ℕ) (s : List ℕ) → by-place (λ (k v : ℕ). v) i s ≡ s
+unfolding by-place
 each-id i [] = refl
 each-id i (v ∷ vs) = ap (_∷_ v) (each-id (suc i) vs)
 
@@ -128,23 +128,23 @@ module _ (g h : ℕ → ℕ → ℕ) (a e : ℕ) (xs ys : List ℕ) (a≤e : a �
     (before : (k : ℕ) → k < a → (v : ℕ) → h k v ≡ v)
     (inside : (k : ℕ) → a ≤ k → k < e → (v : ℕ) → h k v ≡ g (k - a) v)
     (after : (k : ℕ) → e ≤ k → k < length xs → (v : ℕ) → h k v ≡ v)
-    (q : ys ≡ each g 0 (take (e - a) (drop a xs))) where
+    (q : ys ≡ by-place g 0 (take (e - a) (drop a xs))) where
   abbrev mid : List ℕ
   mid = take (e - a) (drop a xs)
 
   abbrev post : List ℕ
   post = drop (e - a) (drop a xs)
 
-  pub part-back : take a xs ++ (ys ++ drop (e - a) (drop a xs)) ≡ each h 0 xs
+  pub part-back : take a xs ++ (ys ++ drop (e - a) (drop a xs)) ≡ by-place h 0 xs
   part-back =
       let n : length (take a xs) ≡ a = length-take-le a xs (omega arith) in
       let m : length mid ≡ e - a = length-take (e - a) (drop a xs) ∙ simp length-drop (omega arith) in
       let p : length post ≡ length xs - e = length-drop (e - a) (drop a xs) ∙ simp length-drop (omega arith) in
       let whole : take a xs ++ (mid ++ post) ≡ xs = ap (λ (z : List ℕ). take a xs ++ z) (take-append-drop (e - a) (drop a xs)) ∙ take-append-drop a xs in
-      let one : each h 0 (take a xs) ≡ take a xs = each-same h (λ (k v : ℕ). v) 0 0 (take a xs) (λ k l v. before (0 + k) (omega (arith, n)) v) ∙ each-id 0 (take a xs) in
-      let two : each h (0 + length (take a xs)) mid ≡ ys = each-same h g (0 + length (take a xs)) 0 mid (λ k l v. inside (0 + length (take a xs) + k) (omega (arith, n)) (omega (arith, n, m)) v ∙ ap (λ (z : ℕ). g z v) (omega (arith, n))) ∙ sym q in
-      let three : each h (0 + length (take a xs) + length mid) post ≡ post = each-same h (λ (k v : ℕ). v) (0 + length (take a xs) + length mid) 0 post (λ k l v. after (0 + length (take a xs) + length mid + k) (omega (arith, n, m)) (omega (arith, n, m, p)) v) ∙ each-id 0 post in
-      sym (ap (each h 0) (sym whole) ∙ each-append h 0 (take a xs) (mid ++ post)
-      ∙ ap (λ (z : List ℕ). z ++ each h (0 + length (take a xs)) (mid ++ post)) one
+      let one : by-place h 0 (take a xs) ≡ take a xs = each-same h (λ (k v : ℕ). v) 0 0 (take a xs) (λ k l v. before (0 + k) (omega (arith, n)) v) ∙ each-id 0 (take a xs) in
+      let two : by-place h (0 + length (take a xs)) mid ≡ ys = each-same h g (0 + length (take a xs)) 0 mid (λ k l v. inside (0 + length (take a xs) + k) (omega (arith, n)) (omega (arith, n, m)) v ∙ ap (λ (z : ℕ). g z v) (omega (arith, n))) ∙ sym q in
+      let three : by-place h (0 + length (take a xs) + length mid) post ≡ post = each-same h (λ (k v : ℕ). v) (0 + length (take a xs) + length mid) 0 post (λ k l v. after (0 + length (take a xs) + length mid + k) (omega (arith, n, m)) (omega (arith, n, m, p)) v) ∙ each-id 0 post in
+      sym (ap (by-place h 0) (sym whole) ∙ each-append h 0 (take a xs) (mid ++ post)
+      ∙ ap (λ (z : List ℕ). z ++ by-place h (0 + length (take a xs)) (mid ++ post)) one
       ∙ ap (λ (z : List ℕ). take a xs ++ z)
-      (each-append h (0 + length (take a xs)) mid post ∙ ap (λ (z : List ℕ). z ++ each h (0 + length (take a xs) + length mid) post) two ∙ ap (λ (z : List ℕ). ys ++ z) three))
+      (each-append h (0 + length (take a xs)) mid post ∙ ap (λ (z : List ℕ). z ++ by-place h (0 + length (take a xs) + length mid) post) two ∙ ap (λ (z : List ℕ). ys ++ z) three))

@@ -14,7 +14,7 @@ use Rattle.engine_instruction.specs.Traces.{trace-in}
 use Rattle.engine_instruction.proofs.Laws.{and-none}
 use Rattle.engine_release.specs.declared.Released.{Released}
 use Rattle.engine_release.specs.Marks.{mark}
-use Rattle.engine_release.specs.Part.{wiped-in, part-cleared, part-marked, reads-in, part-reads}
+use Rattle.engine_release.specs.Part.{value-cleared-in, part-cleared, part-marked, reads-in, part-reads}
 use Rattle.engine_release.proofs.Next.{marked-next}
 use Rattle.engine_release.proofs.Sweep.{Swept, sweep-start, sweep-next, sweep-pass, sweep-end}
 
@@ -23,7 +23,7 @@ module _ (r : Released) (part₀ readers₀ marks₀ : List ℕ) where
   is-trace k v = trace-in (r .elements) (r .function) k v (r .label)
 
   abbrev wipe : ℕ → ℕ → ℕ
-  wipe k v = wiped-in (r .elements) (r .function) (r .label) k v
+  wipe k v = value-cleared-in (r .elements) (r .function) (r .label) k v
 
   abbrev note : ℕ → ℕ → ℕ
   note k m = mark (r .bit) (ltb k (length part₀) && is-trace k (getD part₀ k 0)) m

@@ -5,9 +5,9 @@ use Prim.Native.Nat.{ℕ, suc}
 use lib.Bits.{bitOr}
 
 -- each element by its place, from i on
-unfoldable pub each : (ℕ → ℕ → ℕ) → ℕ → List ℕ → List ℕ
-each f i [] = []
-each f i (v ∷ vs) = f i v ∷ each f (suc i) vs
+unfoldable pub by-place : (ℕ → ℕ → ℕ) → ℕ → List ℕ → List ℕ
+by-place f i [] = []
+by-place f i (v ∷ vs) = f i v ∷ by-place f (suc i) vs
 
 abbrev pub mark : ℕ → Bool → ℕ → ℕ
 mark bit true m = bitOr m bit

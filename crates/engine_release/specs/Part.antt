@@ -9,18 +9,18 @@ use Rattle.book.specs.declared.Function.{Function}
 use Rattle.book.specs.Book.{default}
 use Rattle.engine.specs.Move.{append-from, taken-reads}
 use Rattle.engine_instruction.specs.Traces.{trace-in}
-use Rattle.engine_release.specs.Marks.{each, mark}
+use Rattle.engine_release.specs.Marks.{by-place, mark}
 
 -- what that leaves of v at location i of f
-abbrev pub wiped-in : ℕ → Function → ℕ → ℕ → ℕ → ℕ
-wiped-in E f x i v = if trace-in E f i v x then default f else v
+abbrev pub value-cleared-in : ℕ → Function → ℕ → ℕ → ℕ → ℕ
+value-cleared-in E f x i v = if trace-in E f i v x then default f else v
 
 -- the whole part
 abbrev pub part-cleared : ℕ → Function → ℕ → List ℕ → List ℕ
-part-cleared E f x part = each (wiped-in E f x) 0 part
+part-cleared E f x part = by-place (value-cleared-in E f x) 0 part
 
 abbrev pub part-marked : ℕ → ℕ → Function → ℕ → List ℕ → List ℕ → List ℕ
-part-marked bit E f x part ms = each (λ i m. mark bit (ltb i (length part) && trace-in E f i (getD part i 0) x) m) 0 ms
+part-marked bit E f x part ms = by-place (λ i m. mark bit (ltb i (length part) && trace-in E f i (getD part i 0) x) m) 0 ms
 
 -- ---- what it reads
 

@@ -12,19 +12,19 @@ use Rattle.engine.specs.declared.Instruction.{Instruction}
 use Rattle.engine.specs.declared.Instruction.the-variants.{Update, Release}
 use Rattle.engine.specs.Move.{append-from}
 use Rattle.engine_instruction.specs.Traces.{trace-in}
-use Rattle.engine_release.specs.Marks.{each, mark}
-use Rattle.engine_release.specs.Part.{wiped-in, cleared-reads}
+use Rattle.engine_release.specs.Marks.{by-place, mark}
+use Rattle.engine_release.specs.Part.{value-cleared-in, cleared-reads}
 
 -- a function's run of the whole table
-abbrev pub run-cleared : ℕ → Function → ℕ → ℕ → ℕ → List ℕ → List ℕ
-run-cleared E f x first end c = each (λ l v. if between first end l then wiped-in E f x (l - first) v else v) 0 c
+abbrev pub function-cleared : ℕ → Function → ℕ → ℕ → ℕ → List ℕ → List ℕ
+function-cleared E f x first end c = by-place (λ l v. if between first end l then value-cleared-in E f x (l - first) v else v) 0 c
 
-abbrev pub run-marked : ℕ → ℕ → Function → ℕ → ℕ → ℕ → List ℕ → List ℕ → List ℕ
-run-marked bit E f x first end c ms =
-    each (λ l m. mark bit (between first end l && (ltb l (length c) && trace-in E f (l - first) (getD c l 0) x)) m) 0 ms
+abbrev pub function-marked : ℕ → ℕ → Function → ℕ → ℕ → ℕ → List ℕ → List ℕ → List ℕ
+function-marked bit E f x first end c ms =
+    by-place (λ l m. mark bit (between first end l && (ltb l (length c) && trace-in E f (l - first) (getD c l 0) x)) m) 0 ms
 
-abbrev pub run-reads : ℕ → ℕ → Function → ℕ → ℕ → ℕ → List ℕ → List ℕ
-run-reads E P f x first end c =
+abbrev pub function-reads : ℕ → ℕ → Function → ℕ → ℕ → ℕ → List ℕ → List ℕ
+function-reads E P f x first end c =
     append-from (λ l. if ltb l (length c) && trace-in E f (l - first) (getD c l 0) x then cleared-reads P (default f) l (getD c l 0) else []) first
     (end - first)
 
@@ -32,41 +32,41 @@ run-reads E P f x first end c =
 abbrev pub trace : Program → ℕ → ℕ → ℕ → Bool
 trace B l v x = trace-in (B .E) (place B l .function) (place B l .index) v x
 
-abbrev pub wiped : Program → ℕ → ℕ → ℕ → ℕ
-wiped B x l v = wiped-in (B .E) (place B l .function) x (place B l .index) v
+abbrev pub value-cleared : Program → ℕ → ℕ → ℕ → ℕ
+value-cleared B x l v = value-cleared-in (B .E) (place B l .function) x (place B l .index) v
 
-abbrev pub cleared : Program → ℕ → List ℕ → List ℕ
-cleared B x c = each (wiped B x) 0 c
+abbrev pub label-cleared : Program → ℕ → List ℕ → List ℕ
+label-cleared B x c = by-place (value-cleared B x) 0 c
 
-abbrev pub clear-marked : ℕ → Program → ℕ → List ℕ → List ℕ → List ℕ
-clear-marked bit B x c ms = each (λ l m. mark bit (ltb l (length c) && trace B l (getD c l 0) x) m) 0 ms
+abbrev pub label-marks : ℕ → Program → ℕ → List ℕ → List ℕ → List ℕ
+label-marks bit B x c ms = by-place (λ l m. mark bit (ltb l (length c) && trace B l (getD c l 0) x) m) 0 ms
 
-abbrev pub clear-reads : Program → ℕ → List ℕ → List ℕ
-clear-reads B x c =
+abbrev pub label-reads : Program → ℕ → List ℕ → List ℕ
+label-reads B x c =
     append-from (λ l. if trace B l (getD c l 0) x then cleared-reads (B .P) (default-at B l) l (getD c l 0) else []) 0 (length c)
 
 -- one instruction
-abbrev pub clear-of : Program → Instruction → List ℕ → List ℕ
-clear-of B (Update l v) c = c
-clear-of B (Release x) c = cleared B x c
+abbrev pub instruction-cleared : Program → Instruction → List ℕ → List ℕ
+instruction-cleared B (Update l v) c = c
+instruction-cleared B (Release x) c = label-cleared B x c
 
-abbrev pub clear-marks-of : ℕ → Program → Instruction → List ℕ → List ℕ → List ℕ
-clear-marks-of bit B (Update l v) c ms = ms
-clear-marks-of bit B (Release x) c ms = clear-marked bit B x c ms
+abbrev pub instruction-marks : ℕ → Program → Instruction → List ℕ → List ℕ → List ℕ
+instruction-marks bit B (Update l v) c ms = ms
+instruction-marks bit B (Release x) c ms = label-marks bit B x c ms
 
-abbrev pub clear-reads-of : Program → Instruction → List ℕ → List ℕ
-clear-reads-of B (Update l v) c = []
-clear-reads-of B (Release x) c = clear-reads B x c
+abbrev pub instruction-reads : Program → Instruction → List ℕ → List ℕ
+instruction-reads B (Update l v) c = []
+instruction-reads B (Release x) c = label-reads B x c
 
 -- all of them
-unfoldable pub clears : Program → List Instruction → List ℕ → List ℕ
-clears B [] c = c
-clears B (i ∷ is) c = clears B is (clear-of B i c)
+unfoldable pub all-cleared : Program → List Instruction → List ℕ → List ℕ
+all-cleared B [] c = c
+all-cleared B (i ∷ is) c = all-cleared B is (instruction-cleared B i c)
 
-unfoldable pub clear-marks : ℕ → Program → List Instruction → List ℕ → List ℕ → List ℕ
-clear-marks bit B [] c ms = ms
-clear-marks bit B (i ∷ is) c ms = clear-marks bit B is (clear-of B i c) (clear-marks-of bit B i c ms)
+unfoldable pub all-marks : ℕ → Program → List Instruction → List ℕ → List ℕ → List ℕ
+all-marks bit B [] c ms = ms
+all-marks bit B (i ∷ is) c ms = all-marks bit B is (instruction-cleared B i c) (instruction-marks bit B i c ms)
 
-unfoldable pub clears-reads : Program → List Instruction → List ℕ → List ℕ
-clears-reads B [] c = []
-clears-reads B (i ∷ is) c = clear-reads-of B i c ++ clears-reads B is (clear-of B i c)
+unfoldable pub all-reads : Program → List Instruction → List ℕ → List ℕ
+all-reads B [] c = []
+all-reads B (i ∷ is) c = instruction-reads B i c ++ all-reads B is (instruction-cleared B i c)

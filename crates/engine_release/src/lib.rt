@@ -16,10 +16,10 @@ ghost use Rattle.engine.specs.Move.{taken-reads};
 ghost use Rattle.engine_term.specs.Marks.{marked};
 ghost use Rattle.engine_instruction.specs.Traces.{trace-in};
 ghost use Rattle.engine_release.specs.Marks.{mark};
-ghost use Rattle.engine_release.specs.Part.{wiped-in, part-cleared, part-marked, cleared-reads, reads-in, part-reads};
+ghost use Rattle.engine_release.specs.Part.{value-cleared-in, part-cleared, part-marked, cleared-reads, reads-in, part-reads};
 ghost use Rattle.book.specs.Image.{held};
 ghost use Rattle.engine_instruction.specs.Code.{items};
-ghost use Rattle.engine_release.specs.Steps.{run-cleared, run-marked, run-reads, cleared, clear-marked, clear-reads, clear-of, clear-marks-of, clear-reads-of, clears, clear-marks, clears-reads};
+ghost use Rattle.engine_release.specs.Steps.{function-cleared, function-marked, function-reads, label-cleared, label-marks, label-reads, instruction-cleared, instruction-marks, instruction-reads, all-cleared, all-marks, all-reads};
 
 // A label that a move releases, and what clearing its traces in a function's part needs: E and P, the function with its first location, the move's bit.
 pub struct Released {
@@ -146,7 +146,7 @@ fn pass_over(part: &[Value], r: Released, i: usize) -> usize
 // Location i of the part gets its default, if it is a trace of the label; what that reads and writes is marked.
 fn clear_one(part: &mut [Value], readers: &mut [u64], writers: &mut [u64], r: Released, i: usize)
     requires { ⌜ i < length (now part) ⌝ }
-    ensures { λ _. ⌜ now (part .exit) ≡ set (now (part .entry)) i (wiped-in (r .elements) (r .function) (r .label) i (getD (now (part .entry)) i 0)) ⌝ }
+    ensures { λ _. ⌜ now (part .exit) ≡ set (now (part .entry)) i (value-cleared-in (r .elements) (r .function) (r .label) i (getD (now (part .entry)) i 0)) ⌝ }
     ensures { λ _. ⌜ now (writers .exit) ≡ set (now (writers .entry)) i (mark (r .bit) (trace-in (r .elements) (r .function) i (getD (now (part .entry)) i 0) (r .label)) (getD (now (writers .entry)) i 0)) ⌝ }
     ensures { λ _. ⌜ now (readers .exit) ≡ marked (r .bit) (reads-in (r .elements) (r .permanent) (r .function) (r .label) (r .first) i (getD (now (part .entry)) i 0)) (now (readers .entry)) ⌝ }
 {
@@ -176,7 +176,7 @@ pub fn clear_part(part: &mut [Value], readers: &mut [u64], writers: &mut [u64], 
 // ---- function after function
 
 // The function's own part is lent, from its first location up to `end`; so are its writer marks.
-fn clear_run(
+fn clear_function(
     contents: &mut [Value],
     readers: &mut [u64],
     writers: &mut [u64],
@@ -184,9 +184,9 @@ fn clear_run(
     end: usize,
 )
     requires { ⌜ r .first ≤ end ⌝ }
-    ensures { λ _. ⌜ now (contents .exit) ≡ run-cleared (r .elements) (r .function) (r .label) (r .first) end (now (contents .entry)) ⌝ }
-    ensures { λ _. ⌜ now (writers .exit) ≡ run-marked (r .bit) (r .elements) (r .function) (r .label) (r .first) end (now (contents .entry)) (now (writers .entry)) ⌝ }
-    ensures { λ _. ⌜ now (readers .exit) ≡ marked (r .bit) (run-reads (r .elements) (r .permanent) (r .function) (r .label) (r .first) end (now (contents .entry))) (now (readers .entry)) ⌝ }
+    ensures { λ _. ⌜ now (contents .exit) ≡ function-cleared (r .elements) (r .function) (r .label) (r .first) end (now (contents .entry)) ⌝ }
+    ensures { λ _. ⌜ now (writers .exit) ≡ function-marked (r .bit) (r .elements) (r .function) (r .label) (r .first) end (now (contents .entry)) (now (writers .entry)) ⌝ }
+    ensures { λ _. ⌜ now (readers .exit) ≡ marked (r .bit) (function-reads (r .elements) (r .permanent) (r .function) (r .label) (r .first) end (now (contents .entry))) (now (readers .entry)) ⌝ }
 {
     let first = r.first as usize;
     let n = contents.len();
@@ -199,7 +199,7 @@ fn clear_run(
 }
 
 // The traces of x in all functions.
-fn clear(
+fn clear_label(
     image: &Image,
     contents: &mut [Value],
     readers: &mut [u64],
@@ -207,9 +207,9 @@ fn clear(
     x: Value,
     bit: u64,
 )
-    ensures { λ _. ⌜ now (contents .exit) ≡ cleared (held (now (image .entry))) x (now (contents .entry)) ⌝ }
-    ensures { λ _. ⌜ now (writers .exit) ≡ clear-marked bit (held (now (image .entry))) x (now (contents .entry)) (now (writers .entry)) ⌝ }
-    ensures { λ _. ⌜ now (readers .exit) ≡ marked bit (clear-reads (held (now (image .entry))) x (now (contents .entry))) (now (readers .entry)) ⌝ }
+    ensures { λ _. ⌜ now (contents .exit) ≡ label-cleared (held (now (image .entry))) x (now (contents .entry)) ⌝ }
+    ensures { λ _. ⌜ now (writers .exit) ≡ label-marks bit (held (now (image .entry))) x (now (contents .entry)) (now (writers .entry)) ⌝ }
+    ensures { λ _. ⌜ now (readers .exit) ≡ marked bit (label-reads (held (now (image .entry))) x (now (contents .entry))) (now (readers .entry)) ⌝ }
 {
     let e = book_image::elements(image);
     let p = book_parts::permanent(image);
@@ -227,13 +227,13 @@ fn clear(
             first: first,
             bit: bit,
         };
-        clear_run(contents, readers, writers, r, own.end);
+        clear_function(contents, readers, writers, r, own.end);
         first = own.end as u32;
         g = g + 1;
     }
 }
 
-fn clear_for(
+fn clear_instruction(
     image: &Image,
     contents: &mut [Value],
     readers: &mut [u64],
@@ -241,9 +241,9 @@ fn clear_for(
     what: Instruction,
     bit: u64,
 )
-    ensures { λ _. ⌜ now (contents .exit) ≡ clear-of (held (now (image .entry))) what (now (contents .entry)) ⌝ }
-    ensures { λ _. ⌜ now (writers .exit) ≡ clear-marks-of bit (held (now (image .entry))) what (now (contents .entry)) (now (writers .entry)) ⌝ }
-    ensures { λ _. ⌜ now (readers .exit) ≡ marked bit (clear-reads-of (held (now (image .entry))) what (now (contents .entry))) (now (readers .entry)) ⌝ }
+    ensures { λ _. ⌜ now (contents .exit) ≡ instruction-cleared (held (now (image .entry))) what (now (contents .entry)) ⌝ }
+    ensures { λ _. ⌜ now (writers .exit) ≡ instruction-marks bit (held (now (image .entry))) what (now (contents .entry)) (now (writers .entry)) ⌝ }
+    ensures { λ _. ⌜ now (readers .exit) ≡ marked bit (instruction-reads (held (now (image .entry))) what (now (contents .entry))) (now (readers .entry)) ⌝ }
 {
     match what {
         Instruction::Update {
@@ -251,13 +251,13 @@ fn clear_for(
             value: _,
         } => {}
         Instruction::Release { label } => {
-            clear(image, contents, readers, writers, label, bit);
+            clear_label(image, contents, readers, writers, label, bit);
         }
     }
 }
 
 // The traces of every label that is released.
-pub fn clear_all(
+pub fn clear_released(
     image: &Image,
     contents: &mut [Value],
     readers: &mut [u64],
@@ -266,15 +266,15 @@ pub fn clear_all(
     len: usize,
     bit: u64,
 )
-    ensures { λ _. ⌜ now (contents .exit) ≡ clears (held (now (image .entry))) (items (now (list .entry)) len) (now (contents .entry)) ⌝ }
-    ensures { λ _. ⌜ now (writers .exit) ≡ clear-marks bit (held (now (image .entry))) (items (now (list .entry)) len) (now (contents .entry)) (now (writers .entry)) ⌝ }
-    ensures { λ _. ⌜ now (readers .exit) ≡ marked bit (clears-reads (held (now (image .entry))) (items (now (list .entry)) len) (now (contents .entry))) (now (readers .entry)) ⌝ }
+    ensures { λ _. ⌜ now (contents .exit) ≡ all-cleared (held (now (image .entry))) (items (now (list .entry)) len) (now (contents .entry)) ⌝ }
+    ensures { λ _. ⌜ now (writers .exit) ≡ all-marks bit (held (now (image .entry))) (items (now (list .entry)) len) (now (contents .entry)) (now (writers .entry)) ⌝ }
+    ensures { λ _. ⌜ now (readers .exit) ≡ marked bit (all-reads (held (now (image .entry))) (items (now (list .entry)) len) (now (contents .entry))) (now (readers .entry)) ⌝ }
 {
     let n = text::smaller(len, list.len());
     let mut j: usize = 0;
     while j < n {
         let what = engine_instruction::decode(list[j]);
-        clear_for(image, contents, readers, writers, what, bit);
+        clear_instruction(image, contents, readers, writers, what, bit);
         j = j + 1;
     }
 }

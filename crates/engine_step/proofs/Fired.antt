@@ -7,7 +7,7 @@ use lib.Seq.{length-take-le}
 use Rattle.text.specs.declared.Answer.{Answer}
 use Rattle.book.specs.Book.{Program, L}
 use Rattle.engine.specs.declared.Instruction.{Instruction}
-use Rattle.engine.specs.Move.{Input, Moved, fires, stopped, walked, made-by, move}
+use Rattle.engine.specs.Move.{Input, Moved, fires, move-refused, walked, made-by, move}
 use Rattle.engine.specs.Single.{stepped, step-move}
 use Rattle.engine.proofs.Moves.{fire-length}
 use Rattle.engine_fire.specs.Outcome.{contents-after}
@@ -23,4 +23,4 @@ moved-step B c k h r d = go (made-by (walked B (take (L B) c) k)) (move B (take 
     go : (is : List Instruction) (o : Moved) → r ≡ move-answer 0 o → d ≡ contents-after (take (L B) c) o ++ drop (L B) c
         → (r ≡ stepped c (take (L B) c) is o .answer) × (d ≡ stepped c (take (L B) c) is o .contents)
     go is (fires f) a t = (a, t ∙ rw (fire-length (f .updates) (take (L B) c), length-take-le (L B) c h))
-    go is (stopped m x) a t = (a, t ∙ take-append-drop (L B) c)
+    go is (move-refused m x) a t = (a, t ∙ take-append-drop (L B) c)

@@ -2,5 +2,5 @@ pub mod Numbered
 pub mod Checks
 pub mod Fired
 pub mod Whole
-pub mod Halves
+pub mod Stages
 pub mod Longer

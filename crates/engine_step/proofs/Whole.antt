@@ -12,20 +12,20 @@ use Rattle.book.specs.Image.{word, held}
 use Rattle.engine.specs.Move.{Input}
 use Rattle.engine.specs.Single.{check-agent, check-picks, check-step-lengths, check-contents, check-step, step-move, step-answer, step-call}
 use Rattle.engine_step.specs.Call.{check-call}
-use Rattle.engine_step.specs.Stages.{Tells}
-use Rattle.book_check.specs.Opened.{Opened}
+use Rattle.engine_step.specs.Leaves.{CallLeaves}
+use Rattle.book_check.specs.ImageOf.{ImageOf}
 use Rattle.book_check.proofs.Fits.{held-is}
 use Rattle.engine_step.proofs.Numbered.{book-numbered, call-numbered, accepts}
 use Rattle.engine_step.proofs.Checks.{lengths-are, Passed, call-passed}
 
 -- a refusal before the move: no instruction, and the contents as they were
 module _ (c l : List ℕ) (k : Input) where
-  book-stops : (x : Checked Book) (f : Book → Checked Program) → answer-of x .number ≢ 0 → Tells (answer-of x) 0 l c (step-answer c k (x >>= f))
+  book-stops : (x : Checked Book) (f : Book → Checked Program) → answer-of x .number ≢ 0 → CallLeaves (answer-of x) 0 l c (step-answer c k (x >>= f))
   unfolding _>>=_
   book-stops (good b) f h = absurd (h refl)
   book-stops (refused n p q) f h = record { answer = refl; instructions = refl; contents = refl }
 
-  call-stops : (x : Checked (Unit {0})) (B : Program) → answer-of x .number ≢ 0 → Tells (answer-of x) 0 l c (step-answer c k (x >> good B))
+  call-stops : (x : Checked (Unit {0})) (B : Program) → answer-of x .number ≢ 0 → CallLeaves (answer-of x) 0 l c (step-answer c k (x >> good B))
   unfolding _>>_
   call-stops (good u) B h = absurd (h refl)
   call-stops (refused n p q) B h = record { answer = refl; instructions = refl; contents = refl }
@@ -50,7 +50,7 @@ joined (refused n p q) y z v w = refl
 module _ (text c l : List ℕ) (k : Input) (n : ℕ) where
   -- ---- the book is refused
 
-  pub refused-book : (a : Answer) → a ≡ answer-of (check-book text) → a .number ≢ 0 → Tells a 0 l c (step-call text c k n)
+  pub refused-book : (a : Answer) → a ≡ answer-of (check-book text) → a .number ≢ 0 → CallLeaves a 0 l c (step-call text c k n)
   unfolding step-call check-step
   refused-book a e h = rw e (book-stops c l k (check-book text) _ (rw e at h))
 
@@ -64,7 +64,7 @@ module _ (text c l : List ℕ) (k : Input) (n : ℕ) where
       rw (e, ← lengths-are B i c n same, ← same)
       (ap (step-answer c k) (joined (check-agent B (k .agent)) (check-picks B (k .picks)) (check-step-lengths i c n) (check-contents B (take i c)) (good B)))
 
-  module _ (m : List ℕ) (opened : Opened m (check-book text)) (a : Answer) (told : a ≡ answer-of (check-book text)) (zero-a : a .number ≡ 0)
+  module _ (m : List ℕ) (opened : ImageOf m (check-book text)) (a : Answer) (told : a ≡ answer-of (check-book text)) (zero-a : a .number ≡ 0)
       (b : Answer) (call : b ≡ answer-of (check-call (held m) (word m 6) c k n)) where
     accepted-as : (b : Book) × (check-book text ≡ good b)
     accepted-as = accepts (check-book text) (book-numbered text) (sym (ap (λ (r : Answer). r .number) told) ∙ zero-a)
@@ -84,7 +84,7 @@ module _ (text c l : List ℕ) (k : Input) (n : ℕ) where
     call-held : check-call (held m) (word m 6) c k n ≡ check-call B (word m 6) c k n
     call-held = ap (λ (A : Program). check-call A (word m 6) c k n) is-held
 
-    pub refused-call : b .number ≢ 0 → Tells b 0 l c (step-call text c k n)
+    pub refused-call : b .number ≢ 0 → CallLeaves b 0 l c (step-call text c k n)
     refused-call h =
         let e : b ≡ answer-of (check-call B (word m 6) c k n) = call ∙ ap (λ (x : Checked (Unit {0})). answer-of x) call-held in
         rw (e, whole) (call-stops c l k (check-call B (word m 6) c k n) B (λ z. h (ap (λ (r : Answer). r .number) e ∙ z)))

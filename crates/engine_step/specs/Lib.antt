@@ -1,3 +1,3 @@
 pub mod Call
+pub mod Leaves
 pub mod Stages
-pub mod Halves

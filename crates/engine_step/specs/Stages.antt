@@ -1,13 +1,48 @@
--- The single-move entry: what a call leaves (01, "Refused, and how").
+-- The single-move entry in two halves, between which the move's instructions go through the lent list.
 use mathlib.Core.Path.{_≡_}
-use mathlib.Core.List.{List}
-use Prim.Native.Nat.{ℕ}
+use mathlib.Core.Logic.{_≢_}
+use mathlib.Core.List.{List, [], _++_}
+use Prim.Native.Nat.{ℕ, _≤_}
+use lib.ListN.{length, take, drop}
 use Rattle.text.specs.declared.Answer.{Answer}
-use Rattle.engine.specs.Single.{Stepped}
-use Rattle.engine_instruction.specs.Code.{items}
+use Rattle.book.specs.Book.{Program, L}
+use Rattle.book.specs.Image.{word, held}
+use Rattle.engine.specs.Rule.{most-instructions}
+use Rattle.engine.specs.Move.{Input, settle}
+use Rattle.engine.specs.Single.{step-move, step-call}
+use Rattle.engine_walk.specs.Walk.{outcome}
+use Rattle.engine_walk.specs.WalkMarks.{WalkMarked}
+use Rattle.engine_fire.specs.declared.Begun.{Begun}
+use Rattle.engine_fire.specs.Outcome.{contents-after}
+use Rattle.engine_fire.specs.Count.{instructions-given}
+use Rattle.engine_fire.specs.Effect.{move-answer}
+use Rattle.engine_step.specs.declared.BegunCall.{BegunCall}
+use Rattle.engine_step.specs.Leaves.{CallLeaves}
 
--- the answer a, the first n numbers of the list l and the contents d are those of a call
-pub record Tells (a : Answer) (n : ℕ) (l d : List ℕ) (s : Stepped) : Type 0 where
-  pub answer : a ≡ s .answer
-  pub instructions : items l n ≡ s .instructions
-  pub contents : d ≡ s .contents
+-- the move with input k is begun in the contents c, with no marks: its walk came to s, with its instructions in the list l
+pub record MoveWalked (B : Program) (c : List ℕ) (k : Input) (l : List ℕ) (s : Begun) : Type 0 where
+  pub walk : WalkMarked B c 1 k (outcome (s .walk) l) [] []
+  pub count : s .count ≡ instructions-given (s .walk)
+  pub room : length l ≡ most-instructions
+
+-- the call that was not refused before its move, whose image is m
+pub record CallMoves (text c : List ℕ) (k : Input) (n : ℕ) (m l : List ℕ) (s : Begun) : Type 0 where
+  pub lent : most-instructions ≤ n
+  pub locations : word m 6 ≡ L (held m)
+  pub long : L (held m) ≤ length c
+  pub walked : MoveWalked (held m) (take (L (held m)) c) k l s
+  pub whole : step-move (held m) c k ≡ step-call text c k n
+
+-- a call up to the list
+pub record CallBegun (text c : List ℕ) (k : Input) (n : ℕ) (m l : List ℕ) (p : BegunCall) : Type 0 where
+  pub stops : p .answer .number ≢ 0 → (p .begun .count ≡ 0) × CallLeaves (p .answer) 0 l c (step-call text c k n)
+  pub moves : p .answer .number ≡ 0 → CallMoves text c k n m l (p .begun)
+
+-- The second half, whatever came before: an answer that refuses stays, and the contents with it; else the move is settled by its walk's end and the list l,
+-- on the first records of the table c, as many as the image m notes as L.
+pub record CallFinished (m c l : List ℕ) (p : BegunCall) (r : Answer) (d : List ℕ) : Type 0 where
+  pub stops : p .answer .number ≢ 0 → (r ≡ p .answer) × (d ≡ c)
+  pub moves : p .answer .number ≡ 0 → (ls : List ℕ) → (
+      let o = settle (held m) (take (word m 6) c) ls (outcome (p .begun .walk) l) in
+      (r ≡ move-answer 0 o) × (d ≡ contents-after (take (word m 6) c) o ++ drop (word m 6) c)
+      )

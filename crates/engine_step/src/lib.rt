@@ -4,7 +4,7 @@ use book::Image;
 use engine::Pick;
 use engine::Record;
 use engine_fire::Begun;
-use engine_walk::State;
+use engine_walk::WalkEnd;
 use text::Answer;
 use text::Found;
 use text::Value;
@@ -15,8 +15,8 @@ ghost use Rattle.book.specs.Image.{word, held};
 ghost use Rattle.engine.specs.Move.{input};
 ghost use Rattle.engine.specs.Single.{pick-place, check-agent, check-picks, check-step-lengths, check-contents, step-call};
 ghost use Rattle.engine_step.specs.Call.{check-call};
-ghost use Rattle.engine_step.specs.Halves.{Walked, Halfway, Concluded};
-ghost use Rattle.engine_list.specs.Written.{written};
+ghost use Rattle.engine_step.specs.Stages.{MoveWalked, CallBegun, CallFinished};
+ghost use Rattle.engine_list.specs.Written.{records-written};
 
 // Records in a list of instructions.
 const MOST_INSTRUCTIONS: usize = 256;
@@ -124,16 +124,16 @@ pub fn check_call(
 // ---- the call in stages: the checks and the move begun, then the move finished; in between its instructions may go through a lent list
 
 // A call up to the list: the answer of its checks, and its move begun if they pass.
-pub struct Paused {
+pub struct BegunCall {
     pub answer: Answer,
     pub begun: Begun,
 }
 
 // No move is begun.
-fn refused(answer: Answer) -> Paused
+fn refused_call(answer: Answer) -> BegunCall
     ensures { λ r. ⌜ (r .answer ≡ answer) × (r .begun .count ≡ 0) ⌝ }
 {
-    let walk = State {
+    let walk = WalkEnd {
         len: 0,
         label: 0,
         refused: 0,
@@ -143,26 +143,26 @@ fn refused(answer: Answer) -> Paused
         walk: walk,
         count: 0,
     };
-    Paused {
+    BegunCall {
         answer: answer,
         begun: begun,
     }
 }
 
 // The move is begun, on the records of a lent table that the book has locations for.
-fn begin_move(
+fn walk_call(
     image: &Image,
     contents: &[Value],
     agent: u32,
     picks: &[Pick],
     work: &mut [u64; 256],
 ) -> Begun
-    ensures { λ r. ⌜ Walked (held (now (image .entry))) (take (word (now (image .entry)) 6) (now (contents .entry))) (input agent (now (picks .entry))) (now (work .exit)) r ⌝ }
+    ensures { λ r. ⌜ MoveWalked (held (now (image .entry))) (take (word (now (image .entry)) 6) (now (contents .entry))) (input agent (now (picks .entry))) (now (work .exit)) r ⌝ }
 {
     let all = book_image::locations(image) as usize;
     let n = text::smaller(all, contents.len());
     let mut readers = [0u64; 1];
-    engine_fire::begin(
+    engine_fire::begin_move(
         image,
         &contents[..n],
         &mut readers[..0],
@@ -182,27 +182,27 @@ pub fn begin_call(
     lent: usize,
     image: &mut Image,
     work: &mut [u64; 256],
-) -> Paused
-    ensures { λ r. ⌜ Halfway (now (book .entry)) (now (contents .entry)) (input agent (now (picks .entry))) lent (now (image .exit)) (now (work .exit)) r ⌝ }
+) -> BegunCall
+    ensures { λ r. ⌜ CallBegun (now (book .entry)) (now (contents .entry)) (input agent (now (picks .entry))) lent (now (image .exit)) (now (work .exit)) r ⌝ }
 {
     let opened = book_check::check_into(book, image);
     if opened.number != 0 {
-        return refused(opened);
+        return refused_call(opened);
     }
     let checked = check_call(image, contents, agent, picks, lent);
     if checked.number != 0 {
-        return refused(checked);
+        return refused_call(checked);
     }
-    let begun = begin_move(image, contents, agent as u32, picks, work);
-    Paused {
+    let begun = walk_call(image, contents, agent as u32, picks, work);
+    BegunCall {
         answer: checked,
         begun: begun,
     }
 }
 
 // The move is finished, by the instructions that came back from the list.
-pub fn finish_call(contents: &mut [Value], image: &Image, work: &[u64; 256], p: Paused) -> Answer
-    ensures { λ r. ⌜ Concluded (now (image .entry)) (now (contents .entry)) (now (work .entry)) p r (now (contents .exit)) ⌝ }
+pub fn finish_call(contents: &mut [Value], image: &Image, work: &[u64; 256], p: BegunCall) -> Answer
+    ensures { λ r. ⌜ CallFinished (now (image .entry)) (now (contents .entry)) (now (work .entry)) p r (now (contents .exit)) ⌝ }
 {
     let answer = p.answer;
     if answer.number != 0 {
@@ -214,7 +214,7 @@ pub fn finish_call(contents: &mut [Value], image: &Image, work: &[u64; 256], p: 
     let n = text::smaller(all, contents.len());
     let mut readers = [0u64; 1];
     let mut writers = [0u64; 1];
-    engine_fire::finish(
+    engine_fire::finish_move(
         image,
         &mut contents[..n],
         &mut readers[..0],
@@ -237,7 +237,7 @@ pub fn step(
     picks: &[Pick],
     instructions: &mut [Record],
 ) -> Answer
-    ensures { λ r. ⌜ (r ≡ step-call (now (book .entry)) (now (contents .entry)) (input agent (now (picks .entry))) (length (now (instructions .entry))) .answer) × (now (contents .exit) ≡ step-call (now (book .entry)) (now (contents .entry)) (input agent (now (picks .entry))) (length (now (instructions .entry))) .contents) × (now (instructions .exit) ≡ written (step-call (now (book .entry)) (now (contents .entry)) (input agent (now (picks .entry))) (length (now (instructions .entry))) .instructions) (now (instructions .entry))) ⌝ }
+    ensures { λ r. ⌜ (r ≡ step-call (now (book .entry)) (now (contents .entry)) (input agent (now (picks .entry))) (length (now (instructions .entry))) .answer) × (now (contents .exit) ≡ step-call (now (book .entry)) (now (contents .entry)) (input agent (now (picks .entry))) (length (now (instructions .entry))) .contents) × (now (instructions .exit) ≡ records-written (step-call (now (book .entry)) (now (contents .entry)) (input agent (now (picks .entry))) (length (now (instructions .entry))) .instructions) (now (instructions .entry))) ⌝ }
 {
     let lent = instructions.len();
     let mut image = [0u32; 2248];

@@ -7,10 +7,10 @@ use lib.Bits.{bitOr}
 use lib.ListN.{length, getD, length-set}
 use Rattle.text.specs.Words.{if_then_else_}
 use Rattle.book.specs.Book.{Program, dynamic-at}
-use Rattle.engine.specs.Look.{Look, done, read, gives, seen, _>>=_}
+use Rattle.engine.specs.Reader.{Reader, done, read, value-in, locations-read, _>>=_}
 use Rattle.engine.specs.Move.{dynamic-among}
-use Rattle.engine.proofs.Look.{gives-bind, seen-bind}
-use Rattle.engine_term.specs.Marks.{mark-one, marked, noted, Placed, Runs}
+use Rattle.engine.proofs.Reader.{gives-bind, seen-bind}
+use Rattle.engine_term.specs.Marks.{mark-one, marked, marked-if-dynamic, Placed, Runs}
 
 pub dynamic-append : (B : Program) (ls ks : List ℕ) → dynamic-among B (ls ++ ks) ≡ dynamic-among B ls ++ dynamic-among B ks
 unfolding dynamic-among
@@ -37,7 +37,7 @@ length-marked bit [] m = refl
 length-marked bit (l ∷ ls) m = length-marked bit ls (mark-one bit l m) ∙ length-set m l (bitOr (getD m l 0) bit)
 
 -- one location more
-pub marked-noted : (B : Program) (bit l : ℕ) (ls m : List ℕ) → marked bit (dynamic-among B (l ∷ ls)) m ≡ marked bit (dynamic-among B ls) (noted B bit l m)
+pub marked-noted : (B : Program) (bit l : ℕ) (ls m : List ℕ) → marked bit (dynamic-among B (l ∷ ls)) m ≡ marked bit (dynamic-among B ls) (marked-if-dynamic B bit l m)
 unfolding marked dynamic-among
 marked-noted B bit l ls m = go (dynamic-at B l)
   where
@@ -47,24 +47,24 @@ marked-noted B bit l ls m = go (dynamic-at B l)
 
 module _ (B : Program) (c : List ℕ) (bit : ℕ) where
   pub runs-done : {A : Type 0} (a : A) (m : List ℕ) → Runs B c bit (done a) a m m
-  unfolding gives seen dynamic-among marked
+  unfolding value-in locations-read dynamic-among marked
   runs-done a m = record { value = refl; marks = λ p. refl }
 
   pub runs-gives : {A : Type 0} (a b : A) (m : List ℕ) → a ≡ b → Runs B c bit (done b) a m m
   runs-gives a b m e = rw e (runs-done b m)
 
-  pub runs-read : (l v : ℕ) (m n : List ℕ) → v ≡ getD c l 0 → (Placed B → n ≡ noted B bit l m) → Runs B c bit (read l) v m n
-  unfolding gives seen marked dynamic-among
+  pub runs-read : (l v : ℕ) (m n : List ℕ) → v ≡ getD c l 0 → (Placed B → n ≡ marked-if-dynamic B bit l m) → Runs B c bit (read l) v m n
+  unfolding value-in locations-read marked dynamic-among
   runs-read l v m n e h = record { value = e; marks = λ p. h p ∙ sym (marked-noted B bit l [] m) }
 
-  pub runs-bind : {A C : Type 0} (w : Look A) (f : A → Look C) (a : A) (z : C) (m n o : List ℕ)
+  pub runs-bind : {A C : Type 0} (w : Reader A) (f : A → Reader C) (a : A) (z : C) (m n o : List ℕ)
       → Runs B c bit w a m n → Runs B c bit (f a) z n o → Runs B c bit (w >>= f) z m o
   runs-bind w f a z m n o h k =
       record {
         value = k .value ∙ rw (h .value) (sym (gives-bind c w f));
-        marks = λ p. k .marks p ∙ rw (h .marks p, h .value, seen-bind c w f, dynamic-append B (seen c w) (seen c (f (gives c w)))) (sym (marked-append bit (dynamic-among B (seen c w)) (dynamic-among B (seen c (f (gives c w)))) m));
+        marks = λ p. k .marks p ∙ rw (h .marks p, h .value, seen-bind c w f, dynamic-append B (locations-read c w) (locations-read c (f (value-in c w)))) (sym (marked-append bit (dynamic-among B (locations-read c w)) (dynamic-among B (locations-read c (f (value-in c w)))) m));
       }
 
   -- the look may be put in another form
-  pub runs-as : {A : Type 0} (v w : Look A) (a : A) (m n : List ℕ) → v ≡ w → Runs B c bit w a m n → Runs B c bit v a m n
+  pub runs-as : {A : Type 0} (v w : Reader A) (a : A) (m n : List ℕ) → v ≡ w → Runs B c bit w a m n → Runs B c bit v a m n
   runs-as v w a m n e h = rw e h

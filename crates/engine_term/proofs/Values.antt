@@ -11,7 +11,7 @@ use borrow.Author.Tests.{eqb-true, ltb-true, leb-true}
 use Rattle.text.proofs.Words.{or-cases, and-cases}
 use Rattle.book.specs.Book.{undef, boolean, truth}
 use Rattle.engine.specs.Term.{Op, equal, both, either, plus, minus, less, number, shapes, no-term, a-join}
-use Rattle.engine_term.specs.Held.{operated}
+use Rattle.engine_term.specs.Held.{operator-value}
 
 -- the product of two numbers up to m
 pub product : (m : ℕ) {a b : ℕ} → a ≤ m → b ≤ m → a * b ≤ m * m
@@ -50,7 +50,7 @@ join-kind (suc (suc (suc (suc (suc (suc (suc (suc (suc (suc (suc (suc (suc zero)
 join-kind (suc (suc (suc (suc (suc (suc (suc (suc (suc (suc (suc (suc (suc (suc k)))))))))))))) a b n = absurd (omega arith)
 
 pub no-join : (P k x y : ℕ) → ((k ≡ 7) → ⊥) → ((k ≡ 9) → ⊥) → ((k ≡ 10) → ⊥) → ((k ≡ 11) → ⊥) → ((k ≡ 12) → ⊥) → ((k ≡ 13) → ⊥)
-    → undef ≡ operated P (getD shapes k no-term) x y
+    → undef ≡ operator-value P (getD shapes k no-term) x y
 no-join P zero x y a b c d e f = refl
 no-join P (suc zero) x y a b c d e f = refl
 no-join P (suc (suc zero)) x y a b c d e f = refl

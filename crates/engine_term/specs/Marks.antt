@@ -8,7 +8,7 @@ use lib.Dec.{ltb}
 use lib.ListN.{length, getD, set}
 use Rattle.text.specs.Words.{if_then_else_}
 use Rattle.book.specs.Book.{Program, dynamic, dynamic-at, function-at, location}
-use Rattle.engine.specs.Look.{Look, gives, seen}
+use Rattle.engine.specs.Reader.{Reader, value-in, locations-read}
 use Rattle.engine.specs.Move.{dynamic-among}
 
 -- the marks m with this bit put in at location l; past their end there is none
@@ -21,8 +21,8 @@ marked bit [] m = m
 marked bit (l ∷ ls) m = marked bit ls (mark-one bit l m)
 
 -- at l if it is dynamic
-abbrev pub noted : Program → ℕ → ℕ → List ℕ → List ℕ
-noted B bit l m = if dynamic-at B l then mark-one bit l m else m
+abbrev pub marked-if-dynamic : Program → ℕ → ℕ → List ℕ → List ℕ
+marked-if-dynamic B bit l m = if dynamic-at B l then mark-one bit l m else m
 
 -- whether function f's location at x and y is dynamic; of a function's location at elements its kind says so
 abbrev pub dynamic-of : Program → ℕ → ℕ → ℕ → Bool
@@ -34,6 +34,6 @@ pub record Placed (B : Program) : Type 0 where
   pub roll : (x : ℕ) → x < B .E → dynamic-at B x ≡ true
 
 -- On the contents c the look w gives a, and the marks m become n: each dynamic location that it sees has the bit.
-pub record Runs {A : Type 0} (B : Program) (c : List ℕ) (bit : ℕ) (w : Look A) (a : A) (m n : List ℕ) : Type 0 where
-  pub value : a ≡ gives c w
-  pub marks : Placed B → n ≡ marked bit (dynamic-among B (seen c w)) m
+pub record Runs {A : Type 0} (B : Program) (c : List ℕ) (bit : ℕ) (w : Reader A) (a : A) (m n : List ℕ) : Type 0 where
+  pub value : a ≡ value-in c w
+  pub marks : Placed B → n ≡ marked bit (dynamic-among B (locations-read c w)) m

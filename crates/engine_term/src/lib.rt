@@ -7,9 +7,9 @@ ghost use Prim.Native.Nat.{_+_};
 ghost use lib.ListN.{getD};
 ghost use Rattle.book.specs.Book.{undef, boolean, truth, offset, location, dynamic-at};
 ghost use Rattle.text.specs.Words.{if_then_else_};
-ghost use Rattle.engine.specs.Look.{read};
+ghost use Rattle.engine.specs.Reader.{read};
 ghost use Rattle.engine.specs.Term.{both, either, plus, minus, less, number, negate, apply, shapes, no-term};
-ghost use Rattle.engine_term.specs.Held.{variables-of, value-at, aim-at, operated};
+ghost use Rattle.engine_term.specs.Held.{variables-of, value-at, target-at, operator-value};
 ghost use Rattle.book.specs.Image.{low, held};
 ghost use Rattle.engine_term.specs.Marks.{mark-one, dynamic-of, Runs};
 
@@ -73,7 +73,15 @@ pub fn mark(readers: &mut [u64], bit: u64, at: usize)
 }
 
 // Marks function f's location at x and y, which is `at`, if it is dynamic.
-fn note(image: &Image, readers: &mut [u64], bit: u64, f: u16, x: Value, y: Value, at: u32)
+fn mark_if_dynamic(
+    image: &Image,
+    readers: &mut [u64],
+    bit: u64,
+    f: u16,
+    x: Value,
+    y: Value,
+    at: u32,
+)
     ensures { λ _. ⌜ now (readers .exit) ≡ (if dynamic-of (held (now (image .entry))) f x y then mark-one bit at (now (readers .entry)) else now (readers .entry)) ⌝ }
 {
     if dynamic(image, f, x, y) {
@@ -94,7 +102,7 @@ pub fn read(
     ensures { λ r. ⌜ Runs (held (now (image .entry))) (now (contents .entry)) bit (read (location (held (now (image .entry))) f x y)) r (now (readers .entry)) (now (readers .exit)) ⌝ }
 {
     let at = location(image, f, x, y);
-    note(image, readers, bit, f, x, y, at);
+    mark_if_dynamic(image, readers, bit, f, x, y, at);
     text::fetch(contents, at as usize)
 }
 
@@ -105,7 +113,7 @@ fn truth(t: bool) -> Value
 }
 
 // Whether x is false or true.
-pub fn boolean(x: Value) -> bool
+pub fn is_boolean(x: Value) -> bool
     ensures { λ r. ⌜ r ≡ boolean x ⌝ }
 {
     match x {
@@ -116,7 +124,7 @@ pub fn boolean(x: Value) -> bool
 }
 
 // Whether x is a number of the book.
-fn number(p: Value, x: Value) -> bool
+fn is_number(p: Value, x: Value) -> bool
     ensures { λ r. ⌜ r ≡ number p x ⌝ }
 {
     if 3 <= x { x < p } else { false }
@@ -135,8 +143,8 @@ fn not(x: Value) -> Value
 fn and(x: Value, y: Value) -> Value
     ensures { λ r. ⌜ r ≡ apply 0 both x y ⌝ }
 {
-    if boolean(x) {
-        if boolean(y) {
+    if is_boolean(x) {
+        if is_boolean(y) {
             if x == 2 { y } else { 1 }
         } else {
             0
@@ -149,8 +157,8 @@ fn and(x: Value, y: Value) -> Value
 fn or(x: Value, y: Value) -> Value
     ensures { λ r. ⌜ r ≡ apply 0 either x y ⌝ }
 {
-    if boolean(x) {
-        if boolean(y) {
+    if is_boolean(x) {
+        if is_boolean(y) {
             if x == 2 { 2 } else { y }
         } else {
             0
@@ -163,8 +171,8 @@ fn or(x: Value, y: Value) -> Value
 fn plus(p: Value, x: Value, y: Value) -> Value
     ensures { λ r. ⌜ r ≡ apply p plus x y ⌝ }
 {
-    if number(p, x) {
-        if number(p, y) {
+    if is_number(p, x) {
+        if is_number(p, y) {
             let sum = x as u32 + y as u32 - 3;
             if sum < p as u32 { sum as Value } else { 0 }
         } else {
@@ -178,8 +186,8 @@ fn plus(p: Value, x: Value, y: Value) -> Value
 fn minus(p: Value, x: Value, y: Value) -> Value
     ensures { λ r. ⌜ r ≡ apply p minus x y ⌝ }
 {
-    if number(p, x) {
-        if number(p, y) {
+    if is_number(p, x) {
+        if is_number(p, y) {
             if y <= x { 3 + (x - y) } else { 0 }
         } else {
             0
@@ -192,8 +200,8 @@ fn minus(p: Value, x: Value, y: Value) -> Value
 fn less(p: Value, x: Value, y: Value) -> Value
     ensures { λ r. ⌜ r ≡ apply p less x y ⌝ }
 {
-    if number(p, x) {
-        if number(p, y) { truth(x < y) } else { 0 }
+    if is_number(p, x) {
+        if is_number(p, y) { truth(x < y) } else { 0 }
     } else {
         0
     }
@@ -201,7 +209,7 @@ fn less(p: Value, x: Value, y: Value) -> Value
 
 // The value of a term of two operands from theirs.
 fn operate(p: Value, k: u16, x: Value, y: Value) -> Value
-    ensures { λ r. ⌜ r ≡ operated p (getD shapes k no-term) x y ⌝ }
+    ensures { λ r. ⌜ r ≡ operator-value p (getD shapes k no-term) x y ⌝ }
 {
     match k {
         7 => truth(x == y),
@@ -266,7 +274,7 @@ pub fn eval(
 }
 
 // The location that the term at node n names; its arguments are read.
-pub fn aim(
+pub fn target_location(
     image: &Image,
     contents: &[Value],
     readers: &mut [u64],
@@ -275,7 +283,7 @@ pub fn aim(
     depth: usize,
     n: u16,
 ) -> u32
-    ensures { λ r. ⌜ Runs (held (now (image .entry))) (now (contents .entry)) bit (aim-at (now (image .entry)) (now (scope .entry)) depth n) r (now (readers .entry)) (now (readers .exit)) ⌝ }
+    ensures { λ r. ⌜ Runs (held (now (image .entry))) (now (contents .entry)) bit (target-at (now (image .entry)) (now (scope .entry)) depth n) r (now (readers .entry)) (now (readers .exit)) ⌝ }
 {
     if depth == 0 {
         return 0;

@@ -13,13 +13,13 @@ use borrow.Author.Tests.{eqb-true}
 use Rattle.text.specs.Words.{if_then_else_}
 use Rattle.book.specs.declared.Agent.{Agent}
 use Rattle.book.specs.Book.{Program, node-at, agent-at}
-use Rattle.engine.specs.Look.{done}
-use Rattle.engine.specs.Move.{Input, looked}
-use Rattle.engine.specs.Rule.{Walk, Walked, going, met, _then_, all-taken, walk, no-variables, agent-walk}
+use Rattle.engine.specs.Reader.{done}
+use Rattle.engine.specs.Move.{Input, walk-reads}
+use Rattle.engine.specs.Rule.{Walk, Walked, walking, refused-at, _then_, all-taken, walk, no-variables, agent-walk}
 use Rattle.engine_term.specs.Marks.{mark-one, marked, Runs}
 use Rattle.engine_term.proofs.Marking.{runs-bind, runs-gives}
 use Rattle.engine_walk.specs.Walk.{rule-from}
-use Rattle.engine_walk.specs.Gather.{masked, cleared, Below, Gathered}
+use Rattle.engine_walk.specs.WalkMarks.{masked, bits-cleared, LowerBits, WalkMarked}
 
 -- ---- marks taken back
 
@@ -40,19 +40,19 @@ masked-marked k (l ∷ ls) m =
     masked-marked k ls (mark-one (2 ^ k) l m)
     ∙ map-set-same (λ v. bitAnd v (2 ^ k - 1)) m l (bitOr (getD m l 0) (2 ^ k)) 0 (own-bit k (getD m l 0))
 
-masked-below : (k : ℕ) (m : List ℕ) → Below (2 ^ k) m → masked (2 ^ k - 1) m ≡ m
+masked-below : (k : ℕ) (m : List ℕ) → LowerBits (2 ^ k) m → masked (2 ^ k - 1) m ≡ m
 masked-below k [] h = refl
 masked-below k (x ∷ xs) h =
     let e : bitAnd x (2 ^ k - 1) ≡ x = and-mask x k ∙ mod-eq-of-lt (h 0) in
     rw (e, masked-below k xs (λ i. h (suc i)))
 
-pub taken-back : (bit k : ℕ) (ls m : List ℕ) → bit ≡ 2 ^ k → Below bit m → cleared bit (marked bit ls m) ≡ m
+pub taken-back : (bit k : ℕ) (ls m : List ℕ) → bit ≡ 2 ^ k → LowerBits bit m → bits-cleared bit (marked bit ls m) ≡ m
 taken-back bit k ls m e h = go (eqb bit 0) refl
   where
     go : (b : Bool) → eqb bit 0 ≡ b → (if b then marked bit ls m else masked (bit - 1) (marked bit ls m)) ≡ m
     go true q = rw (eqb-true bit 0 q) (marked-zero ls m)
     go false q =
-        let g : Below (2 ^ k) m = rw e at h in
+        let g : LowerBits (2 ^ k) m = rw e at h in
         rw e (masked-marked k ls m ∙ masked-below k m g)
 
 -- ---- the walk of a move's rule
@@ -76,26 +76,26 @@ module _ (B : Program) (c : List ℕ) (bit : ℕ) (z : Walked) (m n : List ℕ) 
       (runs-gives B c bit y (z then λ w. all-taken (h .root) (w .left) w) n (t ∙ same))
 
 module _ (B : Program) (c : List ℕ) (bit : ℕ) (i : Input) (o : Walked) (m n : List ℕ) (h : Runs B c bit (agent-walk B (i .agent) (i .picks)) o m n) where
-  pub gathered : (w : Walk) → o ≡ going w → Gathered B c bit i o m n
+  pub gathered : (w : Walk) → o ≡ walking w → WalkMarked B c bit i o m n
   gathered w e =
       record {
         outcome = h .value;
         fired = λ p v q. h .marks p;
         refused = λ p r q u k b low.
-            let g : going w ≡ met r q = sym e ∙ u in
+            let g : walking w ≡ refused-at r q = sym e ∙ u in
             let z : _≡_ {A = ℕ} 0 1 = cc g in
             absurd (omega arith);
-        silent = λ p q. h .marks p ∙ rw q (marked-zero (looked B c i) m);
+        silent = λ p q. h .marks p ∙ rw q (marked-zero (walk-reads B c i) m);
       }
 
-  pub gathered-back : (r q : ℕ) (k : List ℕ) → o ≡ met r q → k ≡ cleared bit n → Gathered B c bit i o m k
+  pub gathered-back : (r q : ℕ) (k : List ℕ) → o ≡ refused-at r q → k ≡ bits-cleared bit n → WalkMarked B c bit i o m k
   gathered-back r q k e t =
       record {
         outcome = h .value;
         fired = λ p w u.
-            let g : met r q ≡ going w = sym e ∙ u in
+            let g : refused-at r q ≡ walking w = sym e ∙ u in
             let z : _≡_ {A = ℕ} 0 1 = cc g in
             absurd (omega arith);
-        refused = λ p a b u j v low. t ∙ rw (h .marks p) (taken-back bit j (looked B c i) m v low);
-        silent = λ p u. t ∙ rw (h .marks p, u) (marked-zero (looked B c i) m);
+        refused = λ p a b u j v low. t ∙ rw (h .marks p) (taken-back bit j (walk-reads B c i) m v low);
+        silent = λ p u. t ∙ rw (h .marks p, u) (marked-zero (walk-reads B c i) m);
       }

@@ -15,32 +15,32 @@ use Rattle.text.specs.Refusals.{no-label-left, not-in-universe, pick-count}
 use Rattle.text.specs.declared.Found.the-variants.{Nowhere, Here}
 use Rattle.book.specs.declared.Node.{Node}
 use Rattle.book.specs.Book.{Program}
-use Rattle.engine.specs.Look.{Look, done, gives, _>>=_}
+use Rattle.engine.specs.Reader.{Reader, done, value-in, _>>=_}
 use Rattle.engine.specs.Term.{term-at, eval}
-use Rattle.engine.specs.Rule.{Rule, skip, pair, test, Walk, Walked, going, met, after, take-pick, refuse-if, universe-at, not-member, import-of, choose-of, walk}
+use Rattle.engine.specs.Rule.{Rule, skip, pair, test, Walk, Walked, walking, refused-at, after, take-pick, refuse-if, universe-at, not-member, import-of, choose-of, walk}
 use Rattle.engine.proofs.Steps.{rule-pair, rule-test, rule-skip, no-rule-at}
 use Rattle.engine_term.specs.Held.{variables-of, agent-of}
 use Rattle.engine_term.specs.Marks.{Runs}
 use Rattle.engine.proofs.Picks.{universe-high}
 use Rattle.engine_term.proofs.Marking.{runs-done, runs-bind, runs-as}
-use Rattle.engine_emit.specs.declared.Pace.{Pace}
-use Rattle.engine_emit.specs.Giving.{walk-from, reached, taking, enrolling, next-pick, picked}
+use Rattle.engine_emit.specs.declared.Progress.{Progress}
+use Rattle.engine_emit.specs.Emit.{walk-from, reached, importing, importing-found, next-pick, picked}
 use Rattle.engine_emit.proofs.Steps.{reached-going}
 use Rattle.engine_reads.specs.Marking.{found-below}
-use Rattle.engine_walk.specs.declared.State.{State}
+use Rattle.engine_walk.specs.declared.WalkEnd.{WalkEnd}
 use Rattle.engine_walk.specs.Walk.{walk-of, outcome, rule-from}
 
 -- ---- what a walk came to
 
-pub outcome-going : (s : State) (l : List ℕ) → s .refused ≡ 0 → outcome s l ≡ going (walk-of s l)
+pub outcome-going : (s : WalkEnd) (l : List ℕ) → s .refused ≡ 0 → outcome s l ≡ walking (walk-of s l)
 unfolding outcome
 outcome-going s l e = rw (eq-eqb (s .refused) 0 e)
 
-pub outcome-met : (s : State) (l : List ℕ) → ((s .refused ≡ 0) → ⊥) → outcome s l ≡ met (s .refused) (s .node)
+pub outcome-met : (s : WalkEnd) (l : List ℕ) → ((s .refused ≡ 0) → ⊥) → outcome s l ≡ refused-at (s .refused) (s .node)
 unfolding outcome
 outcome-met s l e = rw (ne-eqb (s .refused) 0 e)
 
-pub outcome-reached : (s : Pace) (l : List ℕ) → outcome (record { len = s .len; label = s .label; refused = s .refused; node = s .node }) l ≡ reached [] s l
+pub outcome-reached : (s : Progress) (l : List ℕ) → outcome (record { len = s .len; label = s .label; refused = s .refused; node = s .node }) l ≡ reached [] s l
 unfolding outcome reached
 outcome-reached s l = refl
 
@@ -64,7 +64,7 @@ module _ (B : Program) (c : List ℕ) (bit : ℕ) where
 
   -- ---- what follows a pace
 
-  module _ (f : Walk → Look Walked) (ys : List ℕ) (s : Pace) (l : List ℕ) (h : s .refused ≡ 0) (z : Walked) (m n : List ℕ) where
+  module _ (f : Walk → Reader Walked) (ys : List ℕ) (s : Progress) (l : List ℕ) (h : s .refused ≡ 0) (z : Walked) (m n : List ℕ) where
     pub runs-from : Runs B c bit (after (reached ys s l) f) z m n → Runs B c bit (f (walk-from ys s l)) z m n
     runs-from k = rw (reached-going ys s l h) at k
 
@@ -72,26 +72,26 @@ module _ (B : Program) (c : List ℕ) (bit : ℕ) where
     runs-after k = rw (reached-going ys s l h) k
 
   -- nothing more is done
-  pub runs-met : (f : Walk → Look Walked) (o : Walked) (r q : ℕ) (m : List ℕ) → o ≡ met r q → Runs B c bit (after o f) o m m
-  runs-met f o r q m e = rw e (runs-done B c bit (met r q) m)
+  pub runs-met : (f : Walk → Reader Walked) (o : Walked) (r q : ℕ) (m : List ℕ) → o ≡ refused-at r q → Runs B c bit (after o f) o m m
+  runs-met f o r q m e = rw e (runs-done B c bit (refused-at r q) m)
 
   pub runs-skip : (me : ℕ) (vs : List ℕ) (r : Rule) (o : Walked) (m : List ℕ) → r ≡ skip → Runs B c bit (after o (walk B me r vs)) o m m
   unfolding walk
   runs-skip me vs r o m e = rw e (go o)
     where
-      go : (o : Walked) → Runs B c bit (after o (λ w. done (going w))) o m m
-      go (going w) = runs-done B c bit (going w) m
-      go (met a q) = runs-done B c bit (met a q) m
+      go : (o : Walked) → Runs B c bit (after o (λ w. done (walking w))) o m m
+      go (walking w) = runs-done B c bit (walking w) m
+      go (refused-at a q) = runs-done B c bit (refused-at a q) m
 
   -- the rule t, known to be r
-  pub runs-rule : (me : ℕ) (vs : List ℕ) (t r : Rule) (ys : List ℕ) (s : Pace) (l : List ℕ) (z : Walked) (m n : List ℕ) → s .refused ≡ 0 → t ≡ r
+  pub runs-rule : (me : ℕ) (vs : List ℕ) (t r : Rule) (ys : List ℕ) (s : Progress) (l : List ℕ) (z : Walked) (m n : List ℕ) → s .refused ≡ 0 → t ≡ r
       → Runs B c bit (walk B me r vs (walk-from ys s l)) z m n → Runs B c bit (after (reached ys s l) (walk B me t vs)) z m n
   runs-rule me vs t r ys s l z m n h e k = rw e (runs-after (walk B me r vs) ys s l h z m n k)
 
   -- ---- rules: a pair, a test, an import, none
 
-  module _ (me : ℕ) (vs : List ℕ) (ns : ℕ → Node) (d i : ℕ) (x : Node) (some : 2 ≤ d) (loaded : x ≡ ns i) (ys : List ℕ) (s : Pace) (l : List ℕ) (h : s .refused ≡ 0) where
-    abbrev go : ℕ → Walk → Look Walked
+  module _ (me : ℕ) (vs : List ℕ) (ns : ℕ → Node) (d i : ℕ) (x : Node) (some : 2 ≤ d) (loaded : x ≡ ns i) (ys : List ℕ) (s : Progress) (l : List ℕ) (h : s .refused ≡ 0) where
+    abbrev go : ℕ → Walk → Reader Walked
     go p = walk B me (rule-from ns (d - 1) p) vs
 
     pub runs-pair : (p z : Walked) (j m n : List ℕ) → x .kind ≡ 22 → Runs B c bit (after (reached ys s l) (go (x .a))) p j m → Runs B c bit (after p (go (x .b))) z m n
@@ -117,26 +117,26 @@ module _ (B : Program) (c : List ℕ) (bit : ℕ) where
         branch false e t = rw e at t
 
 -- an import, by the label that its search came to
-pub import-as : (B : Program) (n u x : ℕ) (w : Walk) (body : ℕ → Walk → Look Walked)
-    → import-of B n u w body (found-below (B .E) x) ≡ after (enrolling B u x n w) (body x)
+pub import-as : (B : Program) (n u x : ℕ) (w : Walk) (body : ℕ → Walk → Reader Walked)
+    → import-of B n u w body (found-below (B .E) x) ≡ after (importing-found B u x n w) (body x)
 import-as B n u x w body = go (ltb x (B .E))
   where
-    go : (b : Bool) → import-of B n u w body (if b then Here x else Nowhere) ≡ after (if b then taking B u x n w else met no-label-left n) (body x)
+    go : (b : Bool) → import-of B n u w body (if b then Here x else Nowhere) ≡ after (if b then importing B u x n w else refused-at no-label-left n) (body x)
     go true = refl
     go false = refl
 
 -- a choice, by the pick that is next and the value of the universe there
-module _ (B : Program) (c : List ℕ) (bit n u : ℕ) (w : Walk) (body : ℕ → Walk → Look Walked) (v : ℕ) (z : Walked) (j m k : List ℕ) where
+module _ (B : Program) (c : List ℕ) (bit n u : ℕ) (w : Walk) (body : ℕ → Walk → Reader Walked) (v : ℕ) (z : Walked) (j m k : List ℕ) where
   -- with none left nothing is looked at
-  choose-none : Runs B c bit (universe-at B u (B .E)) v j m → Runs B c bit (done (met pick-count n)) z m k → Runs B c bit (done (met pick-count n)) z j k
+  choose-none : Runs B c bit (universe-at B u (B .E)) v j m → Runs B c bit (done (refused-at pick-count n)) z m k → Runs B c bit (done (refused-at pick-count n)) z j k
   unfolding _>>=_
   choose-none r t =
-      let f : ℕ → Look Walked = λ v. done (met pick-count n) in
-      runs-as B c bit (done (met pick-count n)) (universe-at B u (B .E) >>= f) z j k
-      (sym (ap (λ (p : Look ℕ). p >>= f) (universe-high B u (B .E) (omega arith)))) (runs-bind B c bit (universe-at B u (B .E)) f v z j m k r t)
+      let f : ℕ → Reader Walked = λ v. done (refused-at pick-count n) in
+      runs-as B c bit (done (refused-at pick-count n)) (universe-at B u (B .E) >>= f) z j k
+      (sym (ap (λ (p : Reader ℕ). p >>= f) (universe-high B u (B .E) (omega arith)))) (runs-bind B c bit (universe-at B u (B .E)) f v z j m k r t)
 
   module _ (y : ℕ) (ys : List ℕ) where
-    abbrev next : ℕ → Look Walked
+    abbrev next : ℕ → Reader Walked
     next v = after (refuse-if (not-member v) not-in-universe n (take-pick ys w)) (body y)
 
     -- an element
@@ -147,10 +147,10 @@ module _ (B : Program) (c : List ℕ) (bit n u : ℕ) (w : Walk) (body : ℕ →
     choose-high : B .E ≤ y → Runs B c bit (universe-at B u (B .E)) v j m
         → Runs B c bit (after (refuse-if (not-member v) not-in-universe n (take-pick ys w)) (body (B .E))) z m k
         → Runs B c bit (universe-at B u y >>= next) z j k
-    unfolding gives
+    unfolding value-in
     choose-high h r t =
         let e : universe-at B u y ≡ universe-at B u (B .E) = universe-high B u y h ∙ sym (universe-high B u (B .E) (omega arith)) in
-        let one : v ≡ 1 = r .value ∙ ap (gives c) (universe-high B u (B .E) (omega arith)) in
+        let one : v ≡ 1 = r .value ∙ ap (value-in c) (universe-high B u (B .E) (omega arith)) in
         let q : Runs B c bit (next v) z m k = refused v one t in
         runs-bind B c bit (universe-at B u y) next v z j m k (rw e r) q
       where

@@ -1,2 +1,2 @@
 pub mod Walk
-pub mod Gather
+pub mod WalkMarks

@@ -1,8 +1,8 @@
 // The walk of a rule: its instructions or its refusal, and the marks of what it reads.
 use book::Image;
-use book_parts::Row;
+use book_parts::StoredNode;
 use engine::Pick;
-use engine_emit::Pace;
+use engine_emit::Progress;
 use text::Value;
 ghost use mathlib.Core.Path.{_≡_};
 ghost use mathlib.Core.List.{List, []};
@@ -13,17 +13,17 @@ ghost use Rattle.text.specs.Words.{if_then_else_};
 ghost use Rattle.book.specs.Book.{node-at};
 ghost use Rattle.engine.specs.Move.{input};
 ghost use Rattle.engine.specs.Term.{term-at};
-ghost use Rattle.engine.specs.Rule.{assign, bind, for-all, import, free, choose, after, most-instructions, walk};
+ghost use Rattle.engine.specs.Rule.{assign, bind, for-all, import, release, choose, after, most-instructions, walk};
 ghost use Rattle.engine_term.specs.Held.{variables-of, agent-of};
 ghost use Rattle.book.specs.Image.{held};
 ghost use Rattle.engine_term.specs.Marks.{Runs};
-ghost use Rattle.engine_emit.specs.Giving.{left-of, walk-from, reached};
-ghost use Rattle.engine_walk.specs.Gather.{cleared, Gathered};
+ghost use Rattle.engine_emit.specs.Emit.{picks-left, walk-from, reached};
+ghost use Rattle.engine_walk.specs.WalkMarks.{bits-cleared, WalkMarked};
 ghost use Rattle.engine_walk.specs.Walk.{outcome, rule-from, walk-at, body-at};
 
 // How far a walk came: how many instructions it has given, the label from which the next import looks,
 // its refusal (0 for none) and the refusal's node.
-pub struct State {
+pub struct WalkEnd {
     pub len: usize,
     pub label: Value,
     pub refused: u32,
@@ -31,7 +31,7 @@ pub struct State {
 }
 
 // Puts variable a at x.
-fn bind(scope: &mut [Value; 9], a: u16, x: Value)
+fn bind_variable(scope: &mut [Value; 9], a: u16, x: Value)
     ensures { λ _. ⌜ (variables-of (now (scope .exit)) ≡ set (variables-of (now (scope .entry))) a x) × (agent-of (now (scope .exit)) ≡ agent-of (now (scope .entry))) ⌝ }
 {
     if a < 8 {
@@ -47,7 +47,7 @@ fn branch(x: Value, b: u16, c: u16) -> u16
 }
 
 // Rule 21: the location that node a names gets the value of term b.
-fn assign(
+fn walk_assign(
     image: &Image,
     contents: &[Value],
     readers: &mut [u64],
@@ -55,21 +55,21 @@ fn assign(
     list: &mut [u64; 256],
     scope: &[Value; 9],
     depth: usize,
-    s: Pace,
+    s: Progress,
     n: u16,
-    row: Row,
-) -> Pace
+    row: StoredNode,
+) -> Progress
     requires { ⌜ s .refused ≡ 0 ⌝ }
     ensures { λ r. ⌜ ((ys : List ℕ) → Runs (held (now (image .entry))) (now (contents .entry)) bit (walk (held (now (image .entry))) (agent-of (now (scope .entry))) (assign n (term-at (node-at (held (now (image .entry)))) depth (row .a)) (term-at (node-at (held (now (image .entry)))) depth (row .b))) (variables-of (now (scope .entry))) (walk-from ys s (now (list .entry)))) (reached ys r (now (list .exit))) (now (readers .entry)) (now (readers .exit))) ⌝ }
 {
-    let at = engine_term::aim(image, contents, readers, bit, scope, depth, row.a);
+    let at = engine_term::target_location(image, contents, readers, bit, scope, depth, row.a);
     let x = engine_term::eval(image, contents, readers, bit, scope, depth, row.b);
-    let f = engine_emit::named(image, depth, row.a);
-    engine_emit::update(image, list, s, n, f, at, x)
+    let f = engine_emit::target_function(image, depth, row.a);
+    engine_emit::emit_update(image, list, s, n, f, at, x)
 }
 
 // Rule 27: the label that term a gives goes back to the roll.
-fn release(
+fn walk_release(
     image: &Image,
     contents: &[Value],
     readers: &mut [u64],
@@ -77,16 +77,16 @@ fn release(
     list: &mut [u64; 256],
     scope: &[Value; 9],
     depth: usize,
-    s: Pace,
+    s: Progress,
     n: u16,
-    row: Row,
-) -> Pace
+    row: StoredNode,
+) -> Progress
     requires { ⌜ s .refused ≡ 0 ⌝ }
-    ensures { λ r. ⌜ ((ys : List ℕ) → Runs (held (now (image .entry))) (now (contents .entry)) bit (walk (held (now (image .entry))) (agent-of (now (scope .entry))) (free n (term-at (node-at (held (now (image .entry)))) depth (row .a))) (variables-of (now (scope .entry))) (walk-from ys s (now (list .entry)))) (reached ys r (now (list .exit))) (now (readers .entry)) (now (readers .exit))) ⌝ }
+    ensures { λ r. ⌜ ((ys : List ℕ) → Runs (held (now (image .entry))) (now (contents .entry)) bit (walk (held (now (image .entry))) (agent-of (now (scope .entry))) (release n (term-at (node-at (held (now (image .entry)))) depth (row .a))) (variables-of (now (scope .entry))) (walk-from ys s (now (list .entry)))) (reached ys r (now (list .exit))) (now (readers .entry)) (now (readers .exit))) ⌝ }
 {
     let x = engine_term::eval(image, contents, readers, bit, scope, depth, row.a);
-    let v = engine_reads::read_roll(image, contents, readers, bit, x);
-    engine_emit::free(image, list, s, n, x, v)
+    let v = engine_reads::read_reserve(image, contents, readers, bit, x);
+    engine_emit::emit_release(image, list, s, n, x, v)
 }
 
 // The rule at node n, looking at most `depth` nodes down; after a refusal nothing more is done.
@@ -101,10 +101,10 @@ fn walk(
     used: &mut [usize; 1],
     scope: &[Value; 9],
     depth: usize,
-    s: Pace,
+    s: Progress,
     n: u16,
-) -> Pace
-    ensures { λ r. ⌜ Runs (held (now (image .entry))) (now (contents .entry)) bit (after (reached (left-of (now (picks .entry)) (now (used .entry))) s (now (list .entry))) (walk-at (now (image .entry)) (now (scope .entry)) depth n)) (reached (left-of (now (picks .entry)) (now (used .exit))) r (now (list .exit))) (now (readers .entry)) (now (readers .exit)) ⌝ }
+) -> Progress
+    ensures { λ r. ⌜ Runs (held (now (image .entry))) (now (contents .entry)) bit (after (reached (picks-left (now (picks .entry)) (now (used .entry))) s (now (list .entry))) (walk-at (now (image .entry)) (now (scope .entry)) depth n)) (reached (picks-left (now (picks .entry)) (now (used .exit))) r (now (list .exit))) (now (readers .entry)) (now (readers .exit)) ⌝ }
 {
     let mut left = depth;
     let mut at = n;
@@ -118,7 +118,18 @@ fn walk(
         let k = row.kind;
         match k {
             20..=28 => match k {
-                21 => return assign(image, contents, readers, bit, list, scope, less, r, at, row),
+                21 => return walk_assign(
+                    image,
+                    contents,
+                    readers,
+                    bit,
+                    list,
+                    scope,
+                    less,
+                    r,
+                    at,
+                    row,
+                ),
                 22 => {
                     r = walk(
                         image,
@@ -139,7 +150,7 @@ fn walk(
                     let x = engine_term::eval(image, contents, readers, bit, scope, less, row.a);
                     at = branch(x, row.b, row.c);
                 }
-                24 => return let_in(
+                24 => return walk_let(
                     image,
                     contents,
                     readers,
@@ -152,7 +163,7 @@ fn walk(
                     r,
                     row,
                 ),
-                25 => return each(
+                25 => return walk_forall(
                     image,
                     contents,
                     readers,
@@ -165,7 +176,7 @@ fn walk(
                     r,
                     row,
                 ),
-                26 => return import(
+                26 => return walk_import(
                     image,
                     contents,
                     readers,
@@ -179,8 +190,19 @@ fn walk(
                     at,
                     row,
                 ),
-                27 => return release(image, contents, readers, bit, list, scope, less, r, at, row),
-                28 => return choose(
+                27 => return walk_release(
+                    image,
+                    contents,
+                    readers,
+                    bit,
+                    list,
+                    scope,
+                    less,
+                    r,
+                    at,
+                    row,
+                ),
+                28 => return walk_choose(
                     image,
                     contents,
                     readers,
@@ -204,7 +226,7 @@ fn walk(
 }
 
 // The body c of a row that binds variable a, with a at x.
-fn within(
+fn walk_body(
     image: &Image,
     contents: &[Value],
     readers: &mut [u64],
@@ -214,14 +236,14 @@ fn within(
     used: &mut [usize; 1],
     scope: &[Value; 9],
     depth: usize,
-    s: Pace,
-    row: Row,
+    s: Progress,
+    row: StoredNode,
     x: Value,
-) -> Pace
-    ensures { λ r. ⌜ Runs (held (now (image .entry))) (now (contents .entry)) bit (after (reached (left-of (now (picks .entry)) (now (used .entry))) s (now (list .entry))) (body-at (now (image .entry)) (now (scope .entry)) depth (row .c) (row .a) x)) (reached (left-of (now (picks .entry)) (now (used .exit))) r (now (list .exit))) (now (readers .entry)) (now (readers .exit)) ⌝ }
+) -> Progress
+    ensures { λ r. ⌜ Runs (held (now (image .entry))) (now (contents .entry)) bit (after (reached (picks-left (now (picks .entry)) (now (used .entry))) s (now (list .entry))) (body-at (now (image .entry)) (now (scope .entry)) depth (row .c) (row .a) x)) (reached (picks-left (now (picks .entry)) (now (used .exit))) r (now (list .exit))) (now (readers .entry)) (now (readers .exit)) ⌝ }
 {
     let mut inner = *scope;
-    bind(&mut inner, row.a, x);
+    bind_variable(&mut inner, row.a, x);
     walk(
         image,
         contents,
@@ -238,7 +260,7 @@ fn within(
 }
 
 // Rule 24: the body c with variable a at the value of term b.
-fn let_in(
+fn walk_let(
     image: &Image,
     contents: &[Value],
     readers: &mut [u64],
@@ -248,14 +270,14 @@ fn let_in(
     used: &mut [usize; 1],
     scope: &[Value; 9],
     depth: usize,
-    s: Pace,
-    row: Row,
-) -> Pace
+    s: Progress,
+    row: StoredNode,
+) -> Progress
     requires { ⌜ s .refused ≡ 0 ⌝ }
-    ensures { λ r. ⌜ Runs (held (now (image .entry))) (now (contents .entry)) bit (walk (held (now (image .entry))) (agent-of (now (scope .entry))) (bind (row .a) (term-at (node-at (held (now (image .entry)))) depth (row .b)) (rule-from (node-at (held (now (image .entry)))) depth (row .c))) (variables-of (now (scope .entry))) (walk-from (left-of (now (picks .entry)) (now (used .entry))) s (now (list .entry)))) (reached (left-of (now (picks .entry)) (now (used .exit))) r (now (list .exit))) (now (readers .entry)) (now (readers .exit)) ⌝ }
+    ensures { λ r. ⌜ Runs (held (now (image .entry))) (now (contents .entry)) bit (walk (held (now (image .entry))) (agent-of (now (scope .entry))) (bind (row .a) (term-at (node-at (held (now (image .entry)))) depth (row .b)) (rule-from (node-at (held (now (image .entry)))) depth (row .c))) (variables-of (now (scope .entry))) (walk-from (picks-left (now (picks .entry)) (now (used .entry))) s (now (list .entry)))) (reached (picks-left (now (picks .entry)) (now (used .exit))) r (now (list .exit))) (now (readers .entry)) (now (readers .exit)) ⌝ }
 {
     let x = engine_term::eval(image, contents, readers, bit, scope, depth, row.b);
-    within(
+    walk_body(
         image,
         contents,
         readers,
@@ -272,7 +294,7 @@ fn let_in(
 }
 
 // Rule 25: the body c with variable a at each member of the universe b, ascending.
-fn each(
+fn walk_forall(
     image: &Image,
     contents: &[Value],
     readers: &mut [u64],
@@ -282,19 +304,19 @@ fn each(
     used: &mut [usize; 1],
     scope: &[Value; 9],
     depth: usize,
-    s: Pace,
-    row: Row,
-) -> Pace
+    s: Progress,
+    row: StoredNode,
+) -> Progress
     requires { ⌜ s .refused ≡ 0 ⌝ }
-    ensures { λ r. ⌜ Runs (held (now (image .entry))) (now (contents .entry)) bit (walk (held (now (image .entry))) (agent-of (now (scope .entry))) (for-all (row .a) (row .b) (rule-from (node-at (held (now (image .entry)))) depth (row .c))) (variables-of (now (scope .entry))) (walk-from (left-of (now (picks .entry)) (now (used .entry))) s (now (list .entry)))) (reached (left-of (now (picks .entry)) (now (used .exit))) r (now (list .exit))) (now (readers .entry)) (now (readers .exit)) ⌝ }
+    ensures { λ r. ⌜ Runs (held (now (image .entry))) (now (contents .entry)) bit (walk (held (now (image .entry))) (agent-of (now (scope .entry))) (for-all (row .a) (row .b) (rule-from (node-at (held (now (image .entry)))) depth (row .c))) (variables-of (now (scope .entry))) (walk-from (picks-left (now (picks .entry)) (now (used .entry))) s (now (list .entry)))) (reached (picks-left (now (picks .entry)) (now (used .exit))) r (now (list .exit))) (now (readers .entry)) (now (readers .exit)) ⌝ }
 {
-    engine_reads::universe(image, readers, bit, row.b);
+    engine_reads::mark_universe(image, readers, bit, row.b);
     let e = book_image::elements(image);
     let f = book_image::function_at(image, row.b as u32);
     let mut r = s;
     let mut y = engine_reads::next_member(contents, f, e, 0);
     while y < e {
-        r = within(
+        r = walk_body(
             image,
             contents,
             readers,
@@ -317,7 +339,7 @@ fn each(
 }
 
 // Rule 26: the lowest label of the roll enters the universe b; the body c with variable a at it.
-fn import(
+fn walk_import(
     image: &Image,
     contents: &[Value],
     readers: &mut [u64],
@@ -327,16 +349,16 @@ fn import(
     used: &mut [usize; 1],
     scope: &[Value; 9],
     depth: usize,
-    s: Pace,
+    s: Progress,
     n: u16,
-    row: Row,
-) -> Pace
+    row: StoredNode,
+) -> Progress
     requires { ⌜ s .refused ≡ 0 ⌝ }
-    ensures { λ r. ⌜ Runs (held (now (image .entry))) (now (contents .entry)) bit (walk (held (now (image .entry))) (agent-of (now (scope .entry))) (import n (row .a) (row .b) (rule-from (node-at (held (now (image .entry)))) depth (row .c))) (variables-of (now (scope .entry))) (walk-from (left-of (now (picks .entry)) (now (used .entry))) s (now (list .entry)))) (reached (left-of (now (picks .entry)) (now (used .exit))) r (now (list .exit))) (now (readers .entry)) (now (readers .exit)) ⌝ }
+    ensures { λ r. ⌜ Runs (held (now (image .entry))) (now (contents .entry)) bit (walk (held (now (image .entry))) (agent-of (now (scope .entry))) (import n (row .a) (row .b) (rule-from (node-at (held (now (image .entry)))) depth (row .c))) (variables-of (now (scope .entry))) (walk-from (picks-left (now (picks .entry)) (now (used .entry))) s (now (list .entry)))) (reached (picks-left (now (picks .entry)) (now (used .exit))) r (now (list .exit))) (now (readers .entry)) (now (readers .exit)) ⌝ }
 {
-    let x = engine_reads::lowest(image, contents, readers, bit, s.label);
-    let t = engine_emit::enroll(image, list, s, n, row.b, x);
-    within(
+    let x = engine_reads::lowest_label(image, contents, readers, bit, s.label);
+    let t = engine_emit::import_label(image, list, s, n, row.b, x);
+    walk_body(
         image,
         contents,
         readers,
@@ -353,7 +375,7 @@ fn import(
 }
 
 // Rule 28: the move's next pick, a member of the universe b; the body c with variable a at it.
-fn choose(
+fn walk_choose(
     image: &Image,
     contents: &[Value],
     readers: &mut [u64],
@@ -363,17 +385,17 @@ fn choose(
     used: &mut [usize; 1],
     scope: &[Value; 9],
     depth: usize,
-    s: Pace,
+    s: Progress,
     n: u16,
-    row: Row,
-) -> Pace
+    row: StoredNode,
+) -> Progress
     requires { ⌜ s .refused ≡ 0 ⌝ }
-    ensures { λ r. ⌜ Runs (held (now (image .entry))) (now (contents .entry)) bit (walk (held (now (image .entry))) (agent-of (now (scope .entry))) (choose n (row .a) (row .b) (rule-from (node-at (held (now (image .entry)))) depth (row .c))) (variables-of (now (scope .entry))) (walk-from (left-of (now (picks .entry)) (now (used .entry))) s (now (list .entry)))) (reached (left-of (now (picks .entry)) (now (used .exit))) r (now (list .exit))) (now (readers .entry)) (now (readers .exit)) ⌝ }
+    ensures { λ r. ⌜ Runs (held (now (image .entry))) (now (contents .entry)) bit (walk (held (now (image .entry))) (agent-of (now (scope .entry))) (choose n (row .a) (row .b) (rule-from (node-at (held (now (image .entry)))) depth (row .c))) (variables-of (now (scope .entry))) (walk-from (picks-left (now (picks .entry)) (now (used .entry))) s (now (list .entry)))) (reached (picks-left (now (picks .entry)) (now (used .exit))) r (now (list .exit))) (now (readers .entry)) (now (readers .exit)) ⌝ }
 {
     let x = engine_emit::next_pick(image, picks, used);
     let v = engine_reads::read_universe(image, contents, readers, bit, row.b, x);
-    let t = engine_emit::pick(picks, used, s, n, v);
-    within(
+    let t = engine_emit::take_pick(picks, used, s, n, v);
+    walk_body(
         image,
         contents,
         readers,
@@ -390,19 +412,19 @@ fn choose(
 }
 
 // Takes a refused move's bit, and the higher ones, out of all marks; the moves before it have lower bits.
-pub fn clear(readers: &mut [u64], bit: u64)
-    ensures { λ _. ⌜ now (readers .exit) ≡ cleared bit (now (readers .entry)) ⌝ }
+pub fn clear_marks(readers: &mut [u64], bit: u64)
+    ensures { λ _. ⌜ now (readers .exit) ≡ bits-cleared bit (now (readers .entry)) ⌝ }
 {
     if bit != 0 {
-        engine_reads::keep(readers, bit - 1);
+        engine_reads::mask_marks(readers, bit - 1);
     }
 }
 
 // Where a walk with that list ended, as others see it.
-fn ended(s: Pace, list: &[u64]) -> State
+fn walk_end(s: Progress, list: &[u64]) -> WalkEnd
     ensures { λ r. ⌜ outcome r (now (list .entry)) ≡ reached [] s (now (list .entry)) ⌝ }
 {
-    State {
+    WalkEnd {
         len: s.len as usize,
         label: s.label,
         refused: s.refused as u32,
@@ -411,7 +433,7 @@ fn ended(s: Pace, list: &[u64]) -> State
 }
 
 // The walk of an agent's rule with the move's picks, and its marks; a refused one leaves none. The list keeps its length.
-pub fn gather(
+pub fn walk_move(
     image: &Image,
     contents: &[Value],
     readers: &mut [u64],
@@ -419,13 +441,13 @@ pub fn gather(
     list: &mut [u64; 256],
     agent: u32,
     picks: &[Pick],
-) -> State
-    ensures { λ r. ⌜ Gathered (held (now (image .entry))) (now (contents .entry)) bit (input agent (now (picks .entry))) (outcome r (now (list .exit))) (now (readers .entry)) (now (readers .exit)) ⌝ }
+) -> WalkEnd
+    ensures { λ r. ⌜ WalkMarked (held (now (image .entry))) (now (contents .entry)) bit (input agent (now (picks .entry))) (outcome r (now (list .exit))) (now (readers .entry)) (now (readers .exit)) ⌝ }
     ensures { λ _. ⌜ length (now (list .exit)) ≡ most-instructions ⌝ }
 {
     let who = book_image::agent_at(image, agent);
     let root = text::low(who.root);
-    let s = Pace {
+    let s = Progress {
         len: 0,
         label: book_parts::permanent(image),
         refused: 0,
@@ -448,8 +470,8 @@ pub fn gather(
     );
     let r = engine_emit::all_used(picks, &used, w, root);
     if r.refused == 0 {
-        return ended(r, list);
+        return walk_end(r, list);
     }
-    clear(readers, bit);
-    ended(r, list)
+    clear_marks(readers, bit);
+    walk_end(r, list)
 }

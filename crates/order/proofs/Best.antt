@@ -5,7 +5,7 @@ use mathlib.Core.Bool.{Bool, true}
 use Prim.Native.Nat.{ℕ, _+_, _≤_, _<_}
 use native.Mathlib.Omega.{arith}
 use native.Mathlib.Decide.{ℕ-discrete, decLt}
-use Rattle.order.specs.Pairs.{no-two, two, least-two}
+use Rattle.order.specs.Pairs.{no-pair, a-pair, least-pair}
 use Rattle.order.proofs.Pairs.{Passing, two-none, two-least}
 
 -- of the pairs whose second move is below k the least is a, b; a is 64 for none
@@ -54,10 +54,10 @@ module _ (f : ℕ → ℕ → Bool) where
                 older : a ≡ x → b ≤ y
                 older w = dite (decLt a 64) (λ (u : a < 64). omega (arith, s .hit u .1, q)) (λ (u : ¬ (a < 64)). absurd (omega (arith, p .0, q, lim)))
 
-  pub best-found : (m a b : ℕ) → Best f m a b → a < 64 → least-two f m ≡ two a b
+  pub best-found : (m a b : ℕ) → Best f m a b → a < 64 → least-pair f m ≡ a-pair a b
   best-found m a b s h = two-least f m a b .1 (record { holds = s .hit h; least = s .low })
 
-  pub best-none : (m a b : ℕ) → m ≤ 64 → Best f m a b → 64 ≤ a → least-two f m ≡ no-two
+  pub best-none : (m a b : ℕ) → m ≤ 64 → Best f m a b → 64 ≤ a → least-pair f m ≡ no-pair
   best-none m a b small s h = two-none f m .1 none
     where
       none : (i j : ℕ) → ¬ Passing f m i j

@@ -13,15 +13,15 @@ use Rattle.book.specs.Check.{check-book}
 use Rattle.book.specs.Sound.{Lawful, Sound}
 use Rattle.book.proofs.Claims.{accepted-book}
 use Rattle.engine.specs.Move.{Fired, fires, move}
-use Rattle.engine.specs.Single.{over}
+use Rattle.engine.specs.Single.{over-first}
 use Rattle.engine.proofs.Moves.{fired-length}
-use Rattle.order.specs.Pairs.{rows, ordered-by, TwoFound, no-two, two, least-two}
+use Rattle.order.specs.Pairs.{predecessors, ordered-by, PairFound, no-pair, a-pair, least-pair}
 use Rattle.order.specs.declared.Lengths.{Lengths}
 use Rattle.order.specs.Log.{Log, move-at, check-log}
-use Rattle.order.specs.Run.{Run, Ran, ran, halted, run, touch, fired-at, unordered-touching, LogAnswer, order-checked, finish, run-from, run-log}
-use Rattle.order.specs.Call.{Tables, lengths, check-lent, check-all, left-in, log-answer, log-call}
+use Rattle.order.specs.Run.{Run, RunOutcome, ran, halted, run, touch, fired-at, unordered-touching, LogAnswer, order-checked, finish, run-from, run-log}
+use Rattle.order.specs.Call.{Tables, lengths, check-lent, check-all, left-past, log-answer, log-call}
 use Rattle.order.specs.Orders.{Moves, listed, one, more, from, Keeps, Agrees, LeastPair}
-use Rattle.order.specs.Demand.{PairOf, moves-of, count, Ordered, Does, AllFire, UnorderedTouch, Passes, Demand3}
+use Rattle.order.specs.Demand.{PairOf, moves-of, count, OrderedByPairs, Does, AllFire, UnorderedTouch, Passes, Demand3}
 use Rattle.order.proofs.Listed.{agrees}
 use Rattle.order.proofs.Rows.{rows-set}
 use Rattle.order.proofs.Pairs.{Passing, two-none, two-least}
@@ -49,13 +49,13 @@ module _ (B : Program) (g : Log) (c : List ℕ) where
     up : (a b : ℕ) → PairOf (g .pairs) a b → a < b
     up a b p = ok .up a b p .0
 
-    before-up : {a b : ℕ} → Ordered g a b → a < b
+    before-up : {a b : ℕ} → OrderedByPairs g a b → a < b
     before-up (one {a} {b} p) = up a b p
     before-up (more {a} {b} {c} f p) = omega (arith, before-up f, up b c p)
 
     -- what 17 looks for
     abbrev test : Run → ℕ → ℕ → Bool
-    test s = unordered-touching (rows (g .pairs) m) (L B) (s .fired)
+    test s = unordered-touching (predecessors (g .pairs) m) (L B) (s .fired)
 
     module _ (s : Run) (k : Left B g c m s) where
       all-fire : AllFire B g c m
@@ -71,13 +71,13 @@ module _ (B : Program) (g : Log) (c : List ℕ) where
           let f = fired-at (s .fired) i in
           fired-length B d (move-at g i) f (act-fires (move B d (move-at g i)) f (k .fired i h))
 
-      unordered-iff : (i j : ℕ) → j < m → (not (ordered-by (rows (g .pairs) m) i j) ≡ true) ↔ ¬ Ordered g i j
-      unordered-iff i j h = (λ e f. true≢false (sym e ∙ rw (r .1 f)), λ n. go (ordered-by (rows (g .pairs) m) i j) refl n)
+      unordered-iff : (i j : ℕ) → j < m → (not (ordered-by (predecessors (g .pairs) m) i j) ≡ true) ↔ ¬ OrderedByPairs g i j
+      unordered-iff i j h = (λ e f. true≢false (sym e ∙ rw (r .1 f)), λ n. go (ordered-by (predecessors (g .pairs) m) i j) refl n)
         where
-          r : (ordered-by (rows (g .pairs) m) i j ≡ true) ↔ Ordered g i j
+          r : (ordered-by (predecessors (g .pairs) m) i j ≡ true) ↔ OrderedByPairs g i j
           r = rows-set (g .pairs) up m j i h
 
-          go : (b : Bool) → ordered-by (rows (g .pairs) m) i j ≡ b → ¬ Ordered g i j → not b ≡ true
+          go : (b : Bool) → ordered-by (predecessors (g .pairs) m) i j ≡ b → ¬ OrderedByPairs g i j → not b ≡ true
           go true e n = absurd (n (r .0 e))
           go false e n = refl
 
@@ -89,7 +89,7 @@ module _ (B : Program) (g : Log) (c : List ℕ) where
               let h : i < m = omega arith in
               let x = fired-at (s .fired) i in
               let y = fired-at (s .fired) j in
-              let p = and-cases (not (ordered-by (rows (g .pairs) m) i j)) (touch (L B) x y) e in
+              let p = and-cases (not (ordered-by (predecessors (g .pairs) m) i j)) (touch (L B) x y) e in
               (a, b, unordered-iff i j b .0 (p .0), (λ f. omega (arith, before-up f)), (x, y, k .fired i h, k .fired j b, touch-iff B g (L B) x y (long i h) (long j b) .0 (p .1)))
 
           from : UnorderedTouch B g c i j → Passing (test s) m i j
@@ -108,22 +108,22 @@ module _ (B : Program) (g : Log) (c : List ℕ) where
 
     -- ---- what the run answers
 
-    abbrev found : Run → TwoFound
-    found s = least-two (test s) m
+    abbrev found : Run → PairFound
+    found s = least-pair (test s) m
 
     accepted-to : run-from B g c .answer .number ≡ 0
         → AllFire B g c m × ((i j : ℕ) → ¬ UnorderedTouch B g c i j) × (run-from B g c .contents ≡ listed S c m)
     unfolding run-from finish
     accepted-to e = go (run B g c m) refl e
       where
-        on-two : (s : Run) → run B g c m ≡ ran s → (o : TwoFound) → found s ≡ o → order-checked B s o .answer .number ≡ 0
+        on-two : (s : Run) → run B g c m ≡ ran s → (o : PairFound) → found s ≡ o → order-checked B s o .answer .number ≡ 0
             → AllFire B g c m × ((i j : ℕ) → ¬ UnorderedTouch B g c i j) × (order-checked B s o .contents ≡ listed S c m)
-        on-two s q (two a b) p f = absurd (omega arith)
-        on-two s q no-two p f =
+        on-two s q (a-pair a b) p f = absurd (omega arith)
+        on-two s q no-pair p f =
             let k = run-left B g c m s q in
             (all-fire s k, (λ i j t. two-none (test s) m .0 p i j (unordered-touch-iff s k i j .1 t)), k .contents)
 
-        go : (o : Ran) → run B g c m ≡ o → finish B g o .answer .number ≡ 0
+        go : (o : RunOutcome) → run B g c m ≡ o → finish B g o .answer .number ≡ 0
             → AllFire B g c m × ((i j : ℕ) → ¬ UnorderedTouch B g c i j) × (finish B g o .contents ≡ listed S c m)
         go (halted a b d s) q f = absurd (omega (arith, halted-number B g c m a b d s q .0))
         go (ran s) q f = on-two s q (found s) refl f
@@ -139,14 +139,14 @@ module _ (B : Program) (g : Log) (c : List ℕ) where
     unfolding run-from finish
     refused-to i j e = go (run B g c m) refl e
       where
-        on-two : (s : Run) → run B g c m ≡ ran s → (o : TwoFound) → found s ≡ o → Is17 (order-checked B s o) i j
+        on-two : (s : Run) → run B g c m ≡ ran s → (o : PairFound) → found s ≡ o → Is17 (order-checked B s o) i j
             → AllFire B g c m × LeastPair (UnorderedTouch B g c) i j
-        on-two s q no-two p f = absurd (omega (arith, f .0))
-        on-two s q (two a b) p f =
+        on-two s q no-pair p f = absurd (omega (arith, f .0))
+        on-two s q (a-pair a b) p f =
             let k = run-left B g c m s q in
-            (all-fire s k, least-iff s k i j .0 (two-least (test s) m i j .0 (p ∙ ap₂ two (f .1) (f .2))))
+            (all-fire s k, least-iff s k i j .0 (two-least (test s) m i j .0 (p ∙ ap₂ a-pair (f .1) (f .2))))
 
-        go : (o : Ran) → run B g c m ≡ o → Is17 (finish B g o) i j → AllFire B g c m × LeastPair (UnorderedTouch B g c) i j
+        go : (o : RunOutcome) → run B g c m ≡ o → Is17 (finish B g o) i j → AllFire B g c m × LeastPair (UnorderedTouch B g c) i j
         go (halted a b d s) q f = absurd (halted-number B g c m a b d s q .0 .3 (f .0))
         go (ran s) q f = on-two s q (found s) refl f
 
@@ -165,9 +165,9 @@ module _ (B : Program) (g : Log) (c : List ℕ) where
         let k = run-left B g c m (t .0) (t .1) in
         rw (t .1) (go (t .0) (unordered-touch-iff (t .0) k i j .1 n) (found (t .0)) refl)
       where
-        go : (s : Run) → Passing (test s) m i j → (o : TwoFound) → found s ≡ o → order-checked B s o .answer .number ≡ 17
-        go s p no-two q = absurd (two-none (test s) m .0 q i j p)
-        go s p (two a b) q = refl
+        go : (s : Run) → Passing (test s) m i j → (o : PairFound) → found s ≡ o → order-checked B s o .answer .number ≡ 17
+        go s p no-pair q = absurd (two-none (test s) m .0 q i j p)
+        go s p (a-pair a b) q = refl
 
     -- ---- every order
 
@@ -210,7 +210,7 @@ module _ (book log : List ℕ) (t : Tables) (n : ℕ) where
       go (refused a p r) q (off f) e = absurd (far a (f .0, f .1) h e)
 
   -- and its answer is the run's
-  as-run : (b : Book) (g : Log) → checks ≡ good (b, g) → log-call book log t n ≡ left-in t (run-log b g)
+  as-run : (b : Book) (g : Log) → checks ≡ good (b, g) → log-call book log t n ≡ left-past t (run-log b g)
   unfolding log-call
   as-run b g e = rw e
 
@@ -240,7 +240,7 @@ module _ (book log : List ℕ) (t : Tables) (n : ℕ) where
         let r = all-passed book log (lengths t n) b g p in
         let z : run-log b g .answer .number ≡ 0 = rw (as-run b g p) at e in
         let a = all-orders (b .program) g (start b) (r .0) (r .1) (r .2) z is k in
-        (a, ap (λ (x : LogAnswer). x .contents) (as-run b g p) ∙ ap (λ (d : List ℕ). over d (t .contents)) (accepted-to (b .program) g (start b) (r .0) (r .1) (r .2) z .2 ∙ sym (a .ends)));
+        (a, ap (λ (x : LogAnswer). x .contents) (as-run b g p) ∙ ap (λ (d : List ℕ). over-first d (t .contents)) (accepted-to (b .program) g (start b) (r .0) (r .1) (r .2) z .2 ∙ sym (a .ends)));
   }
     where
       accept : (b : Book) (g : Log) → checks ≡ good (b, g) → run-log b g .answer .number ≡ 0

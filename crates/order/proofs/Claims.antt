@@ -10,7 +10,7 @@ use lib.ListN.{length}
 use Rattle.book.specs.Book.{Program, L}
 use Rattle.engine.specs.Move.{Fired}
 use Rattle.order.specs.Log.{Log}
-use Rattle.order.specs.Run.{Run, Ran, ran, halted, run, reads-at, writes-at, fired-at}
+use Rattle.order.specs.Run.{Run, RunOutcome, ran, halted, run, reads-at, writes-at, fired-at}
 use Rattle.order.specs.Orders.{Reads, Writes, listed}
 use Rattle.order.specs.Demand.{moves-of}
 use Rattle.order.specs.Claims.{OrdersAgree, MovesSwap, TakingTouches, RowsAreOrder, Did, Marked, RunsLeave, RunsAnswer, PicksAreElements}
@@ -65,7 +65,7 @@ module _ (B : Program) (g : Log) (c : List ℕ) (n : ℕ) (s : Run) (k : Left B 
 pub runs-leave : RunsLeave
 runs-leave B g c n = go (run B g c n) refl
   where
-    go : (o : Ran) → run B g c n ≡ o → claims.Left B g c n o
+    go : (o : RunOutcome) → run B g c n ≡ o → claims.Left B g c n o
     go (ran s) e = marked B g c n s (run-left B g c n s e)
     go (halted a p q s) e =
         let r = run-halted B g c n a p q s e in

@@ -9,7 +9,7 @@ use Prim.Native.Nat.{ℕ}
 use lib.Dec.{eqb}
 use borrow.Author.Tests.{eqb-true, eq-eqb, ne-eqb}
 use Rattle.text.specs.Words.{has}
-use Rattle.order.specs.Orders.{Moves, Laws, put, Touch, left, step, run, Before, Keeps}
+use Rattle.order.specs.Orders.{Moves, Laws, value-after, Touch, contents-after, step, run-in-order, Before, Keeps}
 use Rattle.order.proofs.Order.{has-here, has-at, has-right, has-left, has-split, Upward, Up, upward-drop, upward-before, upward, left-same}
 
 -- ---- what a move does in a run
@@ -39,9 +39,9 @@ pub record Same (S : Moves) (start : S .Con) (log is : List ℕ) : Type 0 where
   -- each move does what it does in the listed order: it fires, with the same act
   pub acts : (i : ℕ) → act S start is i ≡ act S start log i
   -- the end is the listed order's
-  pub ends : run S start is ≡ run S start log
+  pub ends : run-in-order S start is ≡ run-in-order S start log
   -- at the start and after each move the contents are good
-  pub good : (p q : List ℕ) → is ≡ p ++ q → S .Good (run S start p)
+  pub good : (p q : List ℕ) → is ≡ p ++ q → S .Good (run-in-order S start p)
 
 -- ---- a run in which each move does what f says
 
@@ -51,7 +51,7 @@ module _ (S : Moves) (f : ℕ → Option (S .Act)) where
   Runs c [] d = c ≡ d
   Runs c (i ∷ is) d = (a : S .Act) × (f i ≡ some a) × (S .does i c ≡ some a) × Runs (S .after c a) is d
 
-  runs-end : (is : List ℕ) (c d : S .Con) → Runs c is d → run S c is ≡ d
+  runs-end : (is : List ℕ) (c d : S .Con) → Runs c is d → run-in-order S c is ≡ d
   runs-end [] c d r = r
   runs-end (i ∷ is) c d r = rw (r .2) (runs-end is (S .after c (r .0)) d (r .3))
 
@@ -66,13 +66,13 @@ module _ (S : Moves) (f : ℕ → Option (S .Act)) where
 
   runs-from : (pair : ℕ → ℕ → Type 0) (is : List ℕ) (c : S .Con) → Upward (Up pair) is
       → ((i : ℕ) → has is i ≡ true → (a : S .Act) × (act S c is i ≡ some a))
-      → ((i : ℕ) → has is i ≡ true → f i ≡ act S c is i) → Runs c is (run S c is)
+      → ((i : ℕ) → has is i ≡ true → f i ≡ act S c is i) → Runs c is (run-in-order S c is)
   runs-from pair [] c u fires g = refl
   runs-from pair (i ∷ is) c u fires g = (
     fires i (has-here i is) .0,
     g i (has-here i is) ∙ fires i (has-here i is) .1,
     first,
-    subst (λ (x : S .Con). Runs x is (run S (step S c i) is)) (ap (λ o. left S c o) first)
+    subst (λ (x : S .Con). Runs x is (run-in-order S (step S c i) is)) (ap (λ o. contents-after S c o) first)
         (runs-from pair is (step S c i) (u .1)
         (λ j h. (fires j (has-right (i ∷ []) is j h) .0, sym (rest j h) ∙ fires j (has-right (i ∷ []) is j h) .1))
         (λ j h. g j (has-right (i ∷ []) is j h) ∙ rest j h)),
@@ -93,12 +93,12 @@ act-none S (j ∷ is) c i h = go (eqb j i) h (act-none S is (step S c j) i)
     go false h k = k h
 
 -- what a move does in a run is what it does in its turn
-act-turn : (S : Moves) (c : S .Con) (p : List ℕ) (i : ℕ) (q : List ℕ) → has p i ≡ false → act S c (p ++ i ∷ q) i ≡ S .does i (run S c p)
+act-turn : (S : Moves) (c : S .Con) (p : List ℕ) (i : ℕ) (q : List ℕ) → has p i ≡ false → act S c (p ++ i ∷ q) i ≡ S .does i (run-in-order S c p)
 act-turn S c [] i q h = rw (eq-eqb i i refl)
 act-turn S c (j ∷ p) i q h = go (eqb j i) h (act-turn S (step S c j) p i q)
   where
-    go : (b : Bool) → (b || has p i) ≡ false → (has p i ≡ false → act S (step S c j) (p ++ i ∷ q) i ≡ S .does i (run S (step S c j) p))
-        → choose S b (S .does j c) (act S (step S c j) (p ++ i ∷ q) i) ≡ S .does i (run S (step S c j) p)
+    go : (b : Bool) → (b || has p i) ≡ false → (has p i ≡ false → act S (step S c j) (p ++ i ∷ q) i ≡ S .does i (run-in-order S (step S c j) p))
+        → choose S b (S .does j c) (act S (step S c j) (p ++ i ∷ q) i) ≡ S .does i (run-in-order S (step S c j) p)
     go true h k = absurd (false≢true (sym h))
     go false h k = k h
 
@@ -116,7 +116,7 @@ module _ (S : Moves) (law : Laws S) where
       (λ l. rw (law .frame j (S .after c a) b l ga db, law .frame i (S .after c b) a l gb (s .1), law .frame i c a l g da, law .frame j c b l g (s .0))
       (go l (S .gives a l) (S .gives b l) refl refl))
     where
-      go : (l : ℕ) (x y : Option ℕ) → S .gives a l ≡ x → S .gives b l ≡ y → put y (put x (S .at c l)) ≡ put x (put y (S .at c l))
+      go : (l : ℕ) (x y : Option ℕ) → S .gives a l ≡ x → S .gives b l ≡ y → value-after y (value-after x (S .at c l)) ≡ value-after x (value-after y (S .at c l))
       go l none none ex ey = refl
       go l none (some w) ex ey = refl
       go l (some v) none ex ey = refl
@@ -156,15 +156,15 @@ module _ (S : Moves) (law : Laws S) where
             let b = bring p i q c d g free (rw s at r) in
             (b .0, b .1, b .2, next (p ++ q) (S .after c (b .0)) d (law .keep i c (b .0) g (b .2)) (ui .1) (upward-drop (Up pair) p i q u) same (b .3))
 
-    runs-good : (p q : List ℕ) (c d : S .Con) → S .Good c → Runs S f c (p ++ q) d → S .Good (run S c p)
+    runs-good : (p q : List ℕ) (c d : S .Con) → S .Good c → Runs S f c (p ++ q) d → S .Good (run-in-order S c p)
     runs-good [] q c d g r = g
     runs-good (i ∷ p) q c d g (a, fa, da, r) = rw da (runs-good p q (S .after c a) d (law .keep i c a g da) r)
 
 -- ---- the theorem
 
 module _ (S : Moves) (law : Laws S) (start : S .Con) (log : List ℕ) (pair : ℕ → ℕ → Type 0) (acc : Accepted S start log pair) where
-  ordered : (is : List ℕ) → Keeps log pair is → Runs S (act S start log) start is (run S start log)
-  ordered is k = reorder S law (act S start log) pair (λ i j n x y a b ea eb. acc .apart i j a b n ea eb x y) is log start (run S start log)
+  ordered : (is : List ℕ) → Keeps log pair is → Runs S (act S start log) start is (run-in-order S start log)
+  ordered is k = reorder S law (act S start log) pair (λ i j n x y a b ea eb. acc .apart i j a b n ea eb x y) is log start (run-in-order S start log)
       (acc .good) (upward k) (upward (acc .keeps)) (k .all)
       (runs-from S (act S start log) pair log start (upward (acc .keeps)) (acc .fires) (λ i h. refl))
 
@@ -172,17 +172,17 @@ module _ (S : Moves) (law : Laws S) (start : S .Con) (log : List ℕ) (pair : �
   pub free : (is : List ℕ) → Keeps log pair is → Same S start log is
   free is k = record {
     acts = λ i. go i (has is i) refl;
-    ends = runs-end S (act S start log) is start (run S start log) (ordered is k);
-    good = λ p q e. runs-good S law (act S start log) p q start (run S start log) (acc .good) (rw e at (ordered is k));
+    ends = runs-end S (act S start log) is start (run-in-order S start log) (ordered is k);
+    good = λ p q e. runs-good S law (act S start log) p q start (run-in-order S start log) (acc .good) (rw e at (ordered is k));
   }
     where
       go : (i : ℕ) (b : Bool) → has is i ≡ b → act S start is i ≡ act S start log i
-      go i true h = runs-act S (act S start log) is start (run S start log) (ordered is k) i h
+      go i true h = runs-act S (act S start log) is start (run-in-order S start log) (ordered is k) i h
       go i false h = act-none S is start i h ∙ sym (act-none S log start i (sym (k .all i) ∙ h))
 
   -- No move is refused in its turn, and each does there what it does in the listed run.
   pub in-turn : (is : List ℕ) → Keeps log pair is → (p : List ℕ) (i : ℕ) (q : List ℕ) → is ≡ p ++ i ∷ q
-      → (a : S .Act) × (S .does i (run S start p) ≡ some a) × (act S start log i ≡ some a)
+      → (a : S .Act) × (S .does i (run-in-order S start p) ≡ some a) × (act S start log i ≡ some a)
   in-turn is k p i q e =
       let f = acc .fires i (sym (k .all i) ∙ rw e (has-at p i q)) in
       (f .0, sym (act-turn S start p i q (k .once p i q e)) ∙ (ap (λ (x : List ℕ). act S start x i) (sym e) ∙ free is k .acts i) ∙ f .1, f .1)

@@ -13,7 +13,7 @@ use borrow.Author.Tests.{eqb-true, eqb-false}
 use Rattle.text.specs.Words.{has}
 use Rattle.text.proofs.Words.{refuted}
 use Rattle.order.specs.Claims.{Listing}
-use Rattle.order.specs.Orders.{Moves, Laws, Touch, run, listed, Before, from, Keeps, Agrees}
+use Rattle.order.specs.Orders.{Moves, Laws, Touch, run-in-order, listed, Before, from, Keeps, Agrees}
 use Rattle.order.proofs.Order.{has-head}
 use Rattle.order.proofs.Free.{choose, act, act-none, Accepted, free, in-turn}
 
@@ -61,7 +61,7 @@ keeps-upto m pair up = record {
 
 -- ---- the run as listed
 
-run-listed : (S : Moves) (c : S .Con) (n k : ℕ) → run S (listed S c k) (from k n) ≡ listed S c (k + n)
+run-listed : (S : Moves) (c : S .Con) (n k : ℕ) → run-in-order S (listed S c k) (from k n) ≡ listed S c (k + n)
 run-listed S c zero k = let e : k ≡ k + zero = omega arith in ap (λ (x : ℕ). listed S c x) e
 run-listed S c (suc n) k = let e : suc k + n ≡ k + suc n = omega arith in run-listed S c n (suc k) ∙ ap (λ (x : ℕ). listed S c x) e
 
@@ -74,7 +74,7 @@ act-listed S c (suc n) k i a b = go (eqb k i) refl (act-listed S c n (suc k) i)
     go true e r = ap (λ (x : ℕ). S .does x (listed S c x)) (eqb-true k i e)
     go false e r = r (omega (arith, eqb-false k i e)) (omega arith)
 
-run-upto : (S : Moves) (start : S .Con) (m : ℕ) → run S start (from 0 m) ≡ listed S start m
+run-upto : (S : Moves) (start : S .Con) (m : ℕ) → run-in-order S start (from 0 m) ≡ listed S start m
 run-upto S start m = let e : 0 + m ≡ m = omega arith in run-listed S start m 0 ∙ ap (λ (x : ℕ). listed S start x) e
 
 upto-act : (S : Moves) (start : S .Con) (m i : ℕ) → i < m → act S start (from 0 m) i ≡ S .does i (listed S start i)

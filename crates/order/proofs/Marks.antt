@@ -13,12 +13,12 @@ use lib.Seq.{getD-at}
 use borrow.Author.Tests.{eqb-true, eq-eqb}
 use Rattle.text.specs.Words.{if_then_else_}
 use Rattle.book.specs.Book.{Program}
-use Rattle.engine.specs.Move.{Fired, Moved, fires, stopped, move, fire}
+use Rattle.engine.specs.Move.{Fired, Moved, fires, move-refused, move, fire}
 use Rattle.engine.specs.Claims.{Inside}
 use Rattle.engine.proofs.Numbers.{last-place, move-number}
 use Rattle.order.specs.Sets.{bit, with-move}
 use Rattle.order.specs.Log.{Log, move-at}
-use Rattle.order.specs.Run.{Run, Ran, ran, halted, moved, next, run, moves-that, reads-at, writes-at, readers, writers, no-fired, fired-at}
+use Rattle.order.specs.Run.{Run, RunOutcome, ran, halted, moved, next-move, run, moves-that, reads-at, writes-at, readers, writers, no-fired, fired-at}
 use Rattle.order.specs.Orders.{Moves, listed}
 use Rattle.order.specs.Demand.{act-of, moves-of}
 use Rattle.text.proofs.Words.{or-cases, getD-table}
@@ -113,9 +113,9 @@ module _ (B : Program) (g : Log) (c : List ℕ) where
     where
       one : (t : Run) → Left n t → (o : Moved) → move B (t .contents) (move-at g n) ≡ o → moved n t o ≡ ran s → Left (suc n) s
       one t k (fires f) q e = let z : record { contents = fire (f .updates) (t .contents); fired = t .fired ++ (f ∷ []) } ≡ s = cc in rw (← z) (left-more n t f k q)
-      one t k (stopped m q) p e = let z : _≡_ {A = ℕ} 0 1 = cc in absurd (omega arith)
+      one t k (move-refused m q) p e = let z : _≡_ {A = ℕ} 0 1 = cc in absurd (omega arith)
 
-      go : (o : Ran) → run B g c n ≡ o → next B n (move-at g n) o ≡ ran s → ((t : Run) → run B g c n ≡ ran t → Left n t) → Left (suc n) s
+      go : (o : RunOutcome) → run B g c n ≡ o → next-move B n (move-at g n) o ≡ ran s → ((t : Run) → run B g c n ≡ ran t → Left n t) → Left (suc n) s
       go (ran t) q e k = one t (k t q) (move B (t .contents) (move-at g n)) refl e
       go (halted a b d t) q e k = let z : _≡_ {A = ℕ} 0 1 = cc in absurd (omega arith)
 
@@ -127,29 +127,29 @@ module _ (B : Program) (g : Log) (c : List ℕ) where
     where
       one : (t : Run) (o : Moved) (x : Fired) → act-of o ≡ some x → (s : Run) × (moved n t o ≡ ran s)
       one t (fires y) x e = (record { contents = fire (y .updates) (t .contents); fired = t .fired ++ (y ∷ []) }, refl)
-      one t (stopped m q) x e = let z : _≡_ {A = ℕ} 0 1 = cc in absurd (omega arith)
+      one t (move-refused m q) x e = let z : _≡_ {A = ℕ} 0 1 = cc in absurd (omega arith)
 
-      go : ((t : Run) × (run B g c n ≡ ran t)) → (s : Run) × (next B n (move-at g n) (run B g c n) ≡ ran s)
+      go : ((t : Run) × (run B g c n ≡ ran t)) → (s : Run) × (next-move B n (move-at g n) (run B g c n) ≡ ran s)
       go (t, q) = let k = f n (omega arith) in rw q (one t (move B (t .contents) (move-at g n)) (k .0) (rw (run-left n t q .contents) (k .1)))
 
   -- A run that is refused has all moves before the refused one, which is refused there, and leaves what they left.
-  pub run-halted : (n a p q : ℕ) (s : Run) → run B g c n ≡ halted a p q s → (p < n) × Left p s × (move B (listed S c p) (move-at g p) ≡ stopped a q)
+  pub run-halted : (n a p q : ℕ) (s : Run) → run B g c n ≡ halted a p q s → (p < n) × Left p s × (move B (listed S c p) (move-at g p) ≡ move-refused a q)
   unfolding run
   run-halted zero a p q s e = let z : _≡_ {A = ℕ} 0 1 = cc in absurd (omega arith)
   run-halted (suc n) a p q s e = go (run B g c n) refl e (run-halted n a p q s)
     where
       one : (t : Run) → Left n t → (o : Moved) → move B (t .contents) (move-at g n) ≡ o → moved n t o ≡ halted a p q s
-          → (p < suc n) × Left p s × (move B (listed S c p) (move-at g p) ≡ stopped a q)
+          → (p < suc n) × Left p s × (move B (listed S c p) (move-at g p) ≡ move-refused a q)
       one t k (fires f) m e = let z : _≡_ {A = ℕ} 0 1 = cc in absurd (omega arith)
-      one t k (stopped b d) m e =
+      one t k (move-refused b d) m e =
           let x : n ≡ p = cc in
           let y : t ≡ s = cc in
-          let u : stopped b d ≡ stopped a q = cc in
+          let u : move-refused b d ≡ move-refused a q = cc in
           rw (← x, ← y) (omega arith, k, rw (← (k .contents)) (m ∙ u))
 
-      go : (o : Ran) → run B g c n ≡ o → next B n (move-at g n) o ≡ halted a p q s
-          → (run B g c n ≡ halted a p q s → (p < n) × Left p s × (move B (listed S c p) (move-at g p) ≡ stopped a q))
-          → (p < suc n) × Left p s × (move B (listed S c p) (move-at g p) ≡ stopped a q)
+      go : (o : RunOutcome) → run B g c n ≡ o → next-move B n (move-at g n) o ≡ halted a p q s
+          → (run B g c n ≡ halted a p q s → (p < n) × Left p s × (move B (listed S c p) (move-at g p) ≡ move-refused a q))
+          → (p < suc n) × Left p s × (move B (listed S c p) (move-at g p) ≡ move-refused a q)
       go (ran t) k e r = one t (run-left n t k) (move B (t .contents) (move-at g n)) refl e
       go (halted b x d t) k e r = let h = r (k ∙ e) in (omega (arith, h .0), h .1, h .2)
 

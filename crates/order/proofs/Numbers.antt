@@ -14,10 +14,10 @@ pub use Rattle.text.proofs.Checks.{on, off}
 use Rattle.text.proofs.Checks.{Ends, Any, also, bind-ends, then-ends, none-ends, must-ends, Before, Small}
 use Rattle.book.specs.Book.{Program, Book, L, start}
 use Rattle.book.proofs.Refusals.{Fits, book-before}
-use Rattle.order.specs.Pairs.{TwoFound, no-two, two, least-two, none-two}
+use Rattle.order.specs.Pairs.{PairFound, no-pair, a-pair, least-pair, no-pair-at}
 use Rattle.order.specs.declared.Lengths.{Lengths}
 use Rattle.order.specs.Log.{Log, move-at, log-lines, log-of, check-agents, check-log-header, check-log-text, check-log-lines, read-log, check-log}
-use Rattle.order.specs.Run.{Run, Ran, ran, halted, run, touching, order-checked, finish, run-from}
+use Rattle.order.specs.Run.{Run, RunOutcome, ran, halted, run, touching, order-checked, finish, run-from}
 use Rattle.order.specs.Call.{Tables, lengths, check-lengths, check-lent, check-all, log-answer, log-call}
 use Rattle.order.specs.Demand.{count}
 use Rattle.order.proofs.Pairs.{two-least}
@@ -25,7 +25,7 @@ use Rattle.order.proofs.Marks.{run-halted, halted-number}
 use Rattle.order.proofs.Log.{header-few, input-at}
 
 -- a pair of moves that is found is of the m moves
-found-pair : (f : ℕ → ℕ → Bool) (m i j : ℕ) → least-two f m ≡ two i j → (i < m) × (j < m)
+found-pair : (f : ℕ → ℕ → Bool) (m i j : ℕ) → least-pair f m ≡ a-pair i j → (i < m) × (j < m)
 found-pair f m i j e = let r = two-least f m i j .0 e .holds in (omega (arith, r .0, r .1), r .1)
 
 -- ---- the log
@@ -52,15 +52,15 @@ log-lines-ends A E h text b =
     (none-ends Before 9 (1 + h .a + h .b) 0 _ (h .c) (λ p k. omega arith)))
 
 agents-ends : (g : Log) → count g ≤ 64 → Ends Any Before (check-agents g)
-unfolding check-agents none-two
+unfolding check-agents no-pair-at
 agents-ends g few = go _ (count g) few
   where
-    go : (f : ℕ → ℕ → Bool) (m : ℕ) → m ≤ 64 → Ends Any Before (none-two 10 (least-two f m))
-    go f m k = one (least-two f m) refl
+    go : (f : ℕ → ℕ → Bool) (m : ℕ) → m ≤ 64 → Ends Any Before (no-pair-at 10 (least-pair f m))
+    go f m k = one (least-pair f m) refl
       where
-        one : (o : TwoFound) → least-two f m ≡ o → Ends Any Before (none-two 10 o)
-        one no-two e = on tt
-        one (two i j) e = let r : Before 10 i j = omega (arith, found-pair f m i j e) in off r
+        one : (o : PairFound) → least-pair f m ≡ o → Ends Any Before (no-pair-at 10 o)
+        one no-pair e = on tt
+        one (a-pair i j) e = let r : Before 10 i j = omega (arith, found-pair f m i j e) in off r
 
 pub read-ends : (A E : ℕ) (text : List ℕ) → Ends (λ g. count g ≤ 64) Before (read-log A E text)
 unfolding read-log log-of
@@ -95,11 +95,11 @@ run-small : (B : Program) (g : Log) (c : List ℕ) → Fits B → count g ≤ 64
 unfolding run-from finish
 run-small B g c fits few = go (run B g c (count g)) refl
   where
-    two-way : (s : Run) (o : TwoFound) → ((i j : ℕ) → o ≡ two i j → (i < count g) × (j < count g)) → Small (order-checked B s o .answer)
-    two-way s no-two h = record { number = omega arith; not-16 = λ e. omega (arith, e); p = omega arith; q = omega arith }
-    two-way s (two i j) h = let r = h i j refl in record { number = omega arith; not-16 = λ e. omega (arith, e); p = omega (arith, r .0); q = omega (arith, r .1) }
+    two-way : (s : Run) (o : PairFound) → ((i j : ℕ) → o ≡ a-pair i j → (i < count g) × (j < count g)) → Small (order-checked B s o .answer)
+    two-way s no-pair h = record { number = omega arith; not-16 = λ e. omega (arith, e); p = omega arith; q = omega arith }
+    two-way s (a-pair i j) h = let r = h i j refl in record { number = omega arith; not-16 = λ e. omega (arith, e); p = omega (arith, r .0); q = omega (arith, r .1) }
 
-    go : (o : Ran) → run B g c (count g) ≡ o → Small (finish B g o .answer)
+    go : (o : RunOutcome) → run B g c (count g) ≡ o → Small (finish B g o .answer)
     go (ran s) e = two-way s (touching B g (s .fired)) (found-pair _ (count g))
     go (halted a p q s) e =
         let m = halted-number B g c (count g) a p q s e in

@@ -12,30 +12,30 @@ use lib.Seq.{ext-getD}
 use Rattle.text.specs.Words.{has}
 use Rattle.book.specs.Book.{Program, L, true-element, dynamic-at}
 use Rattle.book.specs.Sound.{Lawful, OnRoll, Sound, at}
-use Rattle.engine.specs.Move.{Fired, Moved, fires, stopped, move, fire, released, values-at, new-value, writes, is-some}
+use Rattle.engine.specs.Move.{Fired, Moved, fires, move-refused, move, fire, released, values-at, new-value, writes, is-some}
 use Rattle.engine.specs.Claims.{SameHolders}
 use Rattle.engine.proofs.Moves.{fired-frame, fired-static, fired-keep, held-inside, fired-label, fired-returns, fired-clears, fired-takes}
 use Rattle.engine.proofs.Same.{same-fired}
 use Rattle.text.proofs.Words.{refuted}
 use Rattle.order.specs.Log.{Log, move-at}
-use Rattle.order.specs.Orders.{Moves, Laws, put, Touch}
-use Rattle.order.specs.Demand.{act-of, value-of, moves-of}
+use Rattle.order.specs.Orders.{Moves, Laws, value-after, Touch}
+use Rattle.order.specs.Demand.{act-of, value-given, moves-of}
 
 -- ---- acts
 
 pub act-fires : (o : Moved) (f : Fired) → act-of o ≡ some f → o ≡ fires f
 act-fires (fires e) f q = cc
-act-fires (stopped n p) f q = let z : _≡_ {A = ℕ} 0 1 = cc in absurd (omega arith)
+act-fires (move-refused n p) f q = let z : _≡_ {A = ℕ} 0 1 = cc in absurd (omega arith)
 
-some-value : (vs : List ℕ) → (is-some vs ≡ true) ↔ ((v : ℕ) × (value-of vs ≡ some v))
+some-value : (vs : List ℕ) → (is-some vs ≡ true) ↔ ((v : ℕ) × (value-given vs ≡ some v))
 some-value [] = (λ e. absurd (false≢true e), λ w. let z : _≡_ {A = ℕ} 0 1 = cc (w .1) in absurd (omega arith))
 some-value (v ∷ vs) = (λ e. (v, refl), λ w. refl)
 
 -- updates write where they give a value
-pub writes-value : (us : List (List ℕ)) (l : ℕ) → (writes us l ≡ true) ↔ ((v : ℕ) × (value-of (values-at us l) ≡ some v))
+pub writes-value : (us : List (List ℕ)) (l : ℕ) → (writes us l ≡ true) ↔ ((v : ℕ) × (value-given (values-at us l) ≡ some v))
 writes-value us l = some-value (values-at us l)
 
-put-new : (vs : List ℕ) (v : ℕ) → new-value v vs ≡ put (value-of vs) v
+put-new : (vs : List ℕ) (v : ℕ) → new-value v vs ≡ value-after (value-given vs) v
 put-new [] v = refl
 put-new (w ∷ vs) v = refl
 
@@ -90,7 +90,7 @@ module _ (B : Program) (lawful : Lawful B) (g : Log) where
     sa : Sound B (fire (a .updates) c)
     sa = fired-keep B lawful c s (move-at g i) a ma
 
-    w : (f : Fired) (l : ℕ) → writes (f .updates) l ≡ true → (v : ℕ) × (value-of (values-at (f .updates) l) ≡ some v)
+    w : (f : Fired) (l : ℕ) → writes (f .updates) l ≡ true → (v : ℕ) × (value-given (values-at (f .updates) l) ≡ some v)
     w f l = writes-value (f .updates) l .0
 
     -- neither writes what the other reads or writes

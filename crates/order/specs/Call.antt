@@ -8,7 +8,7 @@ use Rattle.text.specs.Refusals.{lent-short, contents-table, readers-table, writ
 use Rattle.book.specs.Book.{Program, Book, L}
 use Rattle.book.specs.Check.{check-book}
 use Rattle.engine.specs.Rule.{most-instructions}
-use Rattle.engine.specs.Single.{over}
+use Rattle.engine.specs.Single.{over-first}
 use Rattle.order.specs.declared.Lengths.{Lengths}
 use Rattle.order.specs.Log.{Log, check-log}
 use Rattle.order.specs.Run.{LogAnswer, run-log}
@@ -42,20 +42,20 @@ abbrev pub lengths : Tables → ℕ → Lengths
 lengths t n = record { contents = length (t .contents); readers = length (t .readers); writers = length (t .writers); instructions = n }
 
 -- records past the length needed stay as they were
-abbrev pub left-in : Tables → LogAnswer → LogAnswer
-left-in t a =
+abbrev pub left-past : Tables → LogAnswer → LogAnswer
+left-past t a =
     record {
       answer = a .answer;
-      contents = over (a .contents) (t .contents);
-      readers = over (a .readers) (t .readers);
-      writers = over (a .writers) (t .writers);
+      contents = over-first (a .contents) (t .contents);
+      readers = over-first (a .readers) (t .readers);
+      writers = over-first (a .writers) (t .writers);
     }
 
 -- 1 to 10 write nothing
 abbrev pub log-answer : Tables → Checked (Book × Log) → LogAnswer
 log-answer t (refused n p q) =
     record { answer = record { number = n; p = p; q = q }; contents = t .contents; readers = t .readers; writers = t .writers }
-log-answer t (good x) = left-in t (run-log (x .0) (x .1))
+log-answer t (good x) = left-past t (run-log (x .0) (x .1))
 
 -- n is how many instruction records are lent
 unfoldable pub log-call : List ℕ → List ℕ → Tables → ℕ → LogAnswer

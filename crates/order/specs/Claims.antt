@@ -9,12 +9,12 @@ use lib.ListN.{getD}
 use Rattle.text.specs.Words.{has, good}
 use Rattle.book.specs.Book.{Program, L}
 use Rattle.book.specs.Sound.{Lawful, at, Sound}
-use Rattle.engine.specs.Move.{Fired, stopped, move, fire, released}
+use Rattle.engine.specs.Move.{Fired, move-refused, move, fire, released}
 use Rattle.engine.specs.Claims.{Inside}
 use Rattle.order.specs.Sets.{bit}
-use Rattle.order.specs.Pairs.{Pair, rows}
+use Rattle.order.specs.Pairs.{Pair, predecessors}
 use Rattle.order.specs.Log.{Log, move-at, check-log}
-use Rattle.order.specs.Run.{Run, Ran, ran, halted, run, readers, writers}
+use Rattle.order.specs.Run.{Run, RunOutcome, ran, halted, run, readers, writers}
 use Rattle.order.specs.Orders.{Moves, Laws, Touch, Reads, Writes, listed, Before, from, Keeps, Agrees}
 use Rattle.order.specs.Call.{Tables, log-call}
 use Rattle.order.specs.Demand.{PairOf, moves-of}
@@ -47,7 +47,7 @@ TakingTouches = (B : Program) → Lawful B → (g : Log) (i j : ℕ) (c d : List
 
 abbrev pub RowsAreOrder : Type 0
 RowsAreOrder = (ps : List Pair) → ((a b : ℕ) → PairOf ps a b → a < b) → (m j i : ℕ) → j < m
-    → (bit (getD (rows ps m) j 0) i ≡ true) ↔ Before (PairOf ps) i j
+    → (bit (getD (predecessors ps m) j 0) i ≡ true) ↔ Before (PairOf ps) i j
 
 -- ---- marks are exactly the reads and writes of the moves that fired, in the contents that each got
 
@@ -63,9 +63,9 @@ module _ (B : Program) (g : Log) (c : List ℕ) where
     pub writers : (l i : ℕ) → l < L B → (bit (getD (writers (L B) (s .fired)) l 0) i ≡ true) ↔ Did n i (λ f. Writes (moves-of B g) f l)
 
   -- a run that was not refused, and one that was: at move p, with 11 to 15, 18 or 19, with the contents and the marks of the moves before it
-  abbrev pub Left : ℕ → Ran → Type 0
+  abbrev pub Left : ℕ → RunOutcome → Type 0
   Left n (ran s) = Marked n s
-  Left n (halted a p q s) = (p < n) × Marked p s × (move B (listed (moves-of B g) c p) (move-at g p) ≡ stopped a q) × Inside a
+  Left n (halted a p q s) = (p < n) × Marked p s × (move B (listed (moves-of B g) c p) (move-at g p) ≡ move-refused a q) × Inside a
 
 abbrev pub RunsLeave : Type 0
 RunsLeave = (B : Program) (g : Log) (c : List ℕ) (n : ℕ) → Left B g c n (run B g c n)

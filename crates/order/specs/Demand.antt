@@ -8,13 +8,13 @@ use lib.ListN.{length}
 use Rattle.text.specs.Words.{has, good}
 use Rattle.book.specs.Book.{Program, Book, start}
 use Rattle.book.specs.Sound.{at, Sound}
-use Rattle.engine.specs.Move.{Fired, Moved, fires, stopped, move, fire, values-at}
-use Rattle.engine.specs.Single.{over}
+use Rattle.engine.specs.Move.{Fired, Moved, fires, move-refused, move, fire, values-at}
+use Rattle.engine.specs.Single.{over-first}
 use Rattle.order.specs.Pairs.{Pair}
 use Rattle.order.specs.Log.{Log, move-at}
 use Rattle.order.specs.Run.{LogAnswer}
 use Rattle.order.specs.Call.{Tables, lengths, check-all, log-call}
-use Rattle.order.specs.Orders.{Moves, Touch, run, listed, Before, from, Keeps, Agrees, LeastPair}
+use Rattle.order.specs.Orders.{Moves, Touch, run-in-order, listed, Before, from, Keeps, Agrees, LeastPair}
 
 -- ---- the moves of a log over a book
 
@@ -26,11 +26,11 @@ PairOf (p ∷ ps) a b = ((p .earlier ≡ a) × (p .later ≡ b)) ⊎ PairOf ps a
 -- what a move does, none if it is refused
 abbrev pub act-of : Moved → Option Fired
 act-of (fires f) = some f
-act-of (stopped n q) = none
+act-of (move-refused n q) = none
 
-abbrev pub value-of : List ℕ → Option ℕ
-value-of [] = none
-value-of (v ∷ vs) = some v
+abbrev pub value-given : List ℕ → Option ℕ
+value-given [] = none
+value-given (v ∷ vs) = some v
 
 -- move i is made with its agent and its own picks, in whatever order
 abbrev pub moves-of : Program → Log → Moves
@@ -41,7 +41,7 @@ moves-of B g = record {
   does = λ i c. act-of (move B c (move-at g i));
   after = λ c f. fire (f .updates) c;
   reads = λ f l. has (f .reads) l;
-  gives = λ f l. value-of (values-at (f .updates) l);
+  gives = λ f l. value-given (values-at (f .updates) l);
   Good = Sound B;
 }
 
@@ -49,8 +49,8 @@ moves-of B g = record {
 abbrev pub count : Log → ℕ
 count g = length (g .moves)
 
-abbrev pub Ordered : Log → ℕ → ℕ → Type 0
-Ordered g i j = Before (PairOf (g .pairs)) i j
+abbrev pub OrderedByPairs : Log → ℕ → ℕ → Type 0
+OrderedByPairs g i j = Before (PairOf (g .pairs)) i j
 
 -- ---- in the listed order, from the contents c
 
@@ -65,14 +65,14 @@ AllFire B g c n = (i : ℕ) → i < n → (f : Fired) × Does B g c i f
 -- moves i and j, the first before the second in the listing, are unordered and touch
 abbrev pub UnorderedTouch : Program → Log → List ℕ → ℕ → ℕ → Type 0
 UnorderedTouch B g c i j =
-    (i < j) × (j < count g) × ¬ Ordered g i j × ¬ Ordered g j i
+    (i < j) × (j < count g) × ¬ OrderedByPairs g i j × ¬ OrderedByPairs g j i
     × ((e : Fired) × (f : Fired) × Does B g c i e × Does B g c j f × Touch (moves-of B g) e f)
 
 -- ---- the claim: for a book's text, a log's text, the tables t and n instruction records
 
 module _ (book log : List ℕ) (t : Tables) (n : ℕ) where
-  abbrev pub answered : LogAnswer
-  answered = log-call book log t n
+  abbrev pub call-answer : LogAnswer
+  call-answer = log-call book log t n
 
   -- none of 1 to 10 is named, and all moves fire in the listed order
   abbrev pub Passes : Book → Log → Type 0
@@ -80,14 +80,14 @@ module _ (book log : List ℕ) (t : Tables) (n : ℕ) where
 
   pub record Demand3 : Type 0 where
     -- accepted exactly when the order of refusals names none
-    pub accepted : (answered .answer .number ≡ 0) ↔ ((b : Book) × (g : Log) × Passes b g × ((i j : ℕ) → ¬ UnorderedTouch (b .program) g (start b) i j))
+    pub accepted : (call-answer .answer .number ≡ 0) ↔ ((b : Book) × (g : Log) × Passes b g × ((i j : ℕ) → ¬ UnorderedTouch (b .program) g (start b) i j))
     -- 17 exactly when nothing earlier is named, all moves fire as listed, and some two unordered ones touch
-    pub seventeen : (answered .answer .number ≡ 17) ↔ ((b : Book) × (g : Log) × Passes b g × ((i : ℕ) × (j : ℕ) × UnorderedTouch (b .program) g (start b) i j))
+    pub seventeen : (call-answer .answer .number ≡ 17) ↔ ((b : Book) × (g : Log) × Passes b g × ((i : ℕ) × (j : ℕ) × UnorderedTouch (b .program) g (start b) i j))
     -- its place is the least such pair
     pub refused : (i j : ℕ)
-        → ((answered .answer .number ≡ 17) × (answered .answer .p ≡ i) × (answered .answer .q ≡ j)) ↔ ((b : Book) × (g : Log) × Passes b g × LeastPair (UnorderedTouch (b .program) g (start b)) i j)
+        → ((call-answer .answer .number ≡ 17) × (call-answer .answer .p ≡ i) × (call-answer .answer .q ≡ j)) ↔ ((b : Book) × (g : Log) × Passes b g × LeastPair (UnorderedTouch (b .program) g (start b)) i j)
     -- In every order that keeps the pairs of an accepted log no move is refused, each does what it does in the listed order, the end is the answer's
     -- contents, and the contents are sound, the roll rule with it, at the start and after each move.
-    pub orders : answered .answer .number ≡ 0 → (b : Book) (g : Log) → check-all book log (lengths t n) ≡ good (b, g)
+    pub orders : call-answer .answer .number ≡ 0 → (b : Book) (g : Log) → check-all book log (lengths t n) ≡ good (b, g)
         → (is : List ℕ) → Keeps (from 0 (count g)) (PairOf (g .pairs)) is
-        → Agrees (moves-of (b .program) g) (start b) (count g) is × (answered .contents ≡ over (run (moves-of (b .program) g) (start b) is) (t .contents))
+        → Agrees (moves-of (b .program) g) (start b) (count g) is × (call-answer .contents ≡ over-first (run-in-order (moves-of (b .program) g) (start b) is) (t .contents))

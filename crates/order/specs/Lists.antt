@@ -7,11 +7,11 @@ use Rattle.book.specs.Book.{Program, Book, start}
 use Rattle.engine.specs.declared.Instruction.{Instruction}
 use Rattle.engine.specs.Move.{walked, made-by}
 use Rattle.order.specs.Log.{Log, move-at}
-use Rattle.order.specs.Run.{Ran, ran, halted, run}
+use Rattle.order.specs.Run.{RunOutcome, ran, halted, run}
 use Rattle.order.specs.Call.{Tables, lengths, check-all}
 
 -- move i is walked unless a move before it was refused
-abbrev pub lists-after : Program → Log → ℕ → List (List Instruction) → Ran → List (List Instruction)
+abbrev pub lists-after : Program → Log → ℕ → List (List Instruction) → RunOutcome → List (List Instruction)
 lists-after B g i rest (ran s) = made-by (walked B (s .contents) (move-at g i)) ∷ rest
 lists-after B g i rest (halted n p q s) = []
 

@@ -10,7 +10,7 @@ use Rattle.text.specs.Refusals.{ill-formed, log-text, log-line, agent-unordered
 use Rattle.text.specs.Text.{line-length, bad-line, line}
 use Rattle.book.specs.Book.{Program}
 use Rattle.engine.specs.Move.{Input, input}
-use Rattle.order.specs.Pairs.{Pair, rows, ordered-by, least-two, none-two}
+use Rattle.order.specs.Pairs.{Pair, predecessors, ordered-by, least-pair, no-pair-at}
 
 -- the moves in the order listed, and the pairs
 pub record Log : Type 0 where
@@ -101,7 +101,7 @@ loose rs g i j = eqb (move-at g i .agent) (move-at g j .agent) && not (ordered-b
 unfoldable pub check-agents : Log → Checked (Unit {0})
 check-agents g =
     let m = length (g .moves) in
-    none-two agent-unordered (least-two (loose (rows (g .pairs) m) g) m)
+    no-pair-at agent-unordered (least-pair (loose (predecessors (g .pairs) m) g) m)
 
 -- ---- the log's checks, in order
 

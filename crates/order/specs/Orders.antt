@@ -28,9 +28,9 @@ pub record Moves : Type 1 where
   pub Good : Con → Type 0
 
 -- a location's value once it is given another, or none
-abbrev pub put : Option ℕ → ℕ → ℕ
-put none v = v
-put (some w) v = w
+abbrev pub value-after : Option ℕ → ℕ → ℕ
+value-after none v = v
+value-after (some w) v = w
 
 module _ (S : Moves) where
   abbrev pub Reads : S .Act → ℕ → Type 0
@@ -49,7 +49,7 @@ module _ (S : Moves) where
 -- What the engine has to supply.
 pub record Laws (S : Moves) : Type 0 where
   -- the updates are all that changes
-  pub frame : (i : ℕ) (c : S .Con) (a : S .Act) (l : ℕ) → S .Good c → S .does i c ≡ some a → S .at (S .after c a) l ≡ put (S .gives a l) (S .at c l)
+  pub frame : (i : ℕ) (c : S .Con) (a : S .Act) (l : ℕ) → S .Good c → S .does i c ≡ some a → S .at (S .after c a) l ≡ value-after (S .gives a l) (S .at c l)
   -- a move that fires keeps what all contents have
   pub keep : (i : ℕ) (c : S .Con) (a : S .Act) → S .Good c → S .does i c ≡ some a → S .Good (S .after c a)
   -- two moves that fire one after the other and do not touch do the same the other way round
@@ -61,18 +61,18 @@ pub record Laws (S : Moves) : Type 0 where
 -- ---- runs
 
 module _ (S : Moves) where
-  abbrev pub left : S .Con → Option (S .Act) → S .Con
-  left c none = c
-  left c (some a) = S .after c a
+  abbrev pub contents-after : S .Con → Option (S .Act) → S .Con
+  contents-after c none = c
+  contents-after c (some a) = S .after c a
 
   -- what a move leaves: the contents as they were, if it is refused
   abbrev pub step : S .Con → ℕ → S .Con
-  step c i = left c (S .does i c)
+  step c i = contents-after c (S .does i c)
 
   -- the contents after these moves, in this order
-  abbrev pub run : S .Con → List ℕ → S .Con
-  run c [] = c
-  run c (i ∷ is) = run (step c i) is
+  abbrev pub run-in-order : S .Con → List ℕ → S .Con
+  run-in-order c [] = c
+  run-in-order c (i ∷ is) = run-in-order (step c i) is
 
   -- the contents that move i gets in the listed order
   abbrev pub listed : S .Con → ℕ → S .Con
@@ -104,11 +104,11 @@ pub record Keeps (log : List ℕ) (pair : ℕ → ℕ → Type 0) (is : List ℕ
 pub record Agrees (S : Moves) (start : S .Con) (m : ℕ) (is : List ℕ) : Type 0 where
   -- no move is refused, and each does what it does in the listed order: the same instructions, updates and reads
   pub fires : (p : List ℕ) (i : ℕ) (q : List ℕ) → is ≡ p ++ i ∷ q
-      → (a : S .Act) × (S .does i (run S start p) ≡ some a) × (S .does i (listed S start i) ≡ some a)
+      → (a : S .Act) × (S .does i (run-in-order S start p) ≡ some a) × (S .does i (listed S start i) ≡ some a)
   -- the end is the listed order's
-  pub ends : run S start is ≡ listed S start m
+  pub ends : run-in-order S start is ≡ listed S start m
   -- at the start and after each move the contents have what all contents have
-  pub good : (p q : List ℕ) → is ≡ p ++ q → S .Good (run S start p)
+  pub good : (p q : List ℕ) → is ≡ p ++ q → S .Good (run-in-order S start p)
 
 -- ---- the least pair, first move and then second
 

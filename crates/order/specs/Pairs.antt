@@ -18,16 +18,16 @@ pub record Pair : Type 0 where
 -- ---- chaining
 
 -- the set of the moves before move j: each pair's earlier one, and those before that one, which stand in rows already
-unfoldable pub before : List ℕ → ℕ → List Pair → ℕ
-before rows j [] = 0
-before rows j (p ∷ ps) =
-    let r = before rows j ps in
-    if eqb (p .later) j then bitOr (with-move (getD rows (p .earlier) 0) (p .earlier)) r else r
+unfoldable pub predecessors-of : List ℕ → ℕ → List Pair → ℕ
+predecessors-of predecessors j [] = 0
+predecessors-of predecessors j (p ∷ ps) =
+    let r = predecessors-of predecessors j ps in
+    if eqb (p .later) j then bitOr (with-move (getD predecessors (p .earlier) 0) (p .earlier)) r else r
 
 -- the rows of the first n moves; a pair's earlier move has the lower number
-unfoldable pub rows : List Pair → ℕ → List ℕ
-rows ps zero = []
-rows ps (suc n) = let r = rows ps n in r ++ (before r n ps ∷ [])
+unfoldable pub predecessors : List Pair → ℕ → List ℕ
+predecessors ps zero = []
+predecessors ps (suc n) = let r = predecessors ps n in r ++ (predecessors-of r n ps ∷ [])
 
 -- of m moves, i comes before j
 abbrev pub ordered-by : List ℕ → ℕ → ℕ → Bool
@@ -35,23 +35,23 @@ ordered-by rs i j = bit (getD rs j 0) i
 
 -- ---- a pair of moves i < j < m that passes a test: the least, by its first move and then its second
 
-pub data TwoFound : Type 0 where
-  no-two : TwoFound
-  two : ℕ → ℕ → TwoFound
+pub data PairFound : Type 0 where
+  no-pair : PairFound
+  a-pair : ℕ → ℕ → PairFound
 
-abbrev pub or-else : ℕ → Found → TwoFound → TwoFound
+abbrev pub or-else : ℕ → Found → PairFound → PairFound
 or-else i Nowhere r = r
-or-else i (Here j) r = two i j
+or-else i (Here j) r = a-pair i j
 
 -- the first moves are the n from i on
-unfoldable pub least-two-from : (ℕ → ℕ → Bool) → ℕ → ℕ → TwoFound
-least-two-from f i zero = no-two
-least-two-from f i (suc n) = let r = least-two-from f (suc i) n in or-else i (least-from (f i) n (suc i)) r
+unfoldable pub least-pair-from : (ℕ → ℕ → Bool) → ℕ → ℕ → PairFound
+least-pair-from f i zero = no-pair
+least-pair-from f i (suc n) = let r = least-pair-from f (suc i) n in or-else i (least-from (f i) n (suc i)) r
 
-abbrev pub least-two : (ℕ → ℕ → Bool) → ℕ → TwoFound
-least-two f m = least-two-from f 0 m
+abbrev pub least-pair : (ℕ → ℕ → Bool) → ℕ → PairFound
+least-pair f m = least-pair-from f 0 m
 
 -- refused with the number n at the pair found
-unfoldable pub none-two : ℕ → TwoFound → Checked (Unit {0})
-none-two n no-two = good tt
-none-two n (two i j) = refused n i j
+unfoldable pub no-pair-at : ℕ → PairFound → Checked (Unit {0})
+no-pair-at n no-pair = good tt
+no-pair-at n (a-pair i j) = refused n i j

@@ -7,9 +7,9 @@ use Rattle.text.specs.Words.{if_then_else_, has, table, some-below}
 use Rattle.text.specs.Refusals.{unordered-touch}
 use Rattle.text.specs.declared.Answer.{Answer}
 use Rattle.book.specs.Book.{Program, Book, L, start}
-use Rattle.engine.specs.Move.{Input, Fired, Moved, fires, stopped, move, fire, writes}
+use Rattle.engine.specs.Move.{Input, Fired, Moved, fires, move-refused, move, fire, writes}
 use Rattle.order.specs.Sets.{with-move}
-use Rattle.order.specs.Pairs.{rows, ordered-by, TwoFound, no-two, two, least-two}
+use Rattle.order.specs.Pairs.{predecessors, ordered-by, PairFound, no-pair, a-pair, least-pair}
 use Rattle.order.specs.Log.{Log, move-at}
 
 -- ---- the moves in turn
@@ -20,22 +20,22 @@ pub record Run : Type 0 where
   pub fired : List Fired
 
 -- all moves so far have fired, or one was refused: its number and place, and what the moves before it left
-pub data Ran : Type 0 where
-  ran : Run → Ran
-  halted : ℕ → ℕ → ℕ → Run → Ran
+pub data RunOutcome : Type 0 where
+  ran : Run → RunOutcome
+  halted : ℕ → ℕ → ℕ → Run → RunOutcome
 
-abbrev pub moved : ℕ → Run → Moved → Ran
+abbrev pub moved : ℕ → Run → Moved → RunOutcome
 moved i s (fires f) = ran (record { contents = fire (f .updates) (s .contents); fired = s .fired ++ (f ∷ []) })
-moved i s (stopped n q) = halted n i q s
+moved i s (move-refused n q) = halted n i q s
 
-abbrev pub next : Program → ℕ → Input → Ran → Ran
-next B i m (ran s) = moved i s (move B (s .contents) m)
-next B i m (halted n p q s) = halted n p q s
+abbrev pub next-move : Program → ℕ → Input → RunOutcome → RunOutcome
+next-move B i m (ran s) = moved i s (move B (s .contents) m)
+next-move B i m (halted n p q s) = halted n p q s
 
 -- the first n moves, from the contents c
-unfoldable pub run : Program → Log → List ℕ → ℕ → Ran
+unfoldable pub run : Program → Log → List ℕ → ℕ → RunOutcome
 run B g c zero = ran (record { contents = c; fired = [] })
-run B g c (suc n) = next B n (move-at g n) (run B g c n)
+run B g c (suc n) = next-move B n (move-at g n) (run B g c n)
 
 -- ---- marks
 
@@ -77,10 +77,10 @@ fired-at fs i = getD fs i no-fired
 abbrev pub unordered-touching : List ℕ → ℕ → List Fired → ℕ → ℕ → Bool
 unordered-touching rs n fs i j = not (ordered-by rs i j) && touch n (fired-at fs i) (fired-at fs j)
 
-abbrev pub touching : Program → Log → List Fired → TwoFound
+abbrev pub touching : Program → Log → List Fired → PairFound
 touching B g fs =
     let m = length (g .moves) in
-    least-two (unordered-touching (rows (g .pairs) m) (L B) fs) m
+    least-pair (unordered-touching (predecessors (g .pairs) m) (L B) fs) m
 
 -- ---- what a log's run answers: number and place, 0 0 0 when accepted, with contents and marks
 
@@ -99,11 +99,11 @@ left-by B s n p q =
       writers = writers (L B) (s .fired);
     }
 
-abbrev pub order-checked : Program → Run → TwoFound → LogAnswer
-order-checked B s no-two = left-by B s 0 0 0
-order-checked B s (two i j) = left-by B s unordered-touch i j
+abbrev pub order-checked : Program → Run → PairFound → LogAnswer
+order-checked B s no-pair = left-by B s 0 0 0
+order-checked B s (a-pair i j) = left-by B s unordered-touch i j
 
-unfoldable pub finish : Program → Log → Ran → LogAnswer
+unfoldable pub finish : Program → Log → RunOutcome → LogAnswer
 finish B g (halted n p q s) = left-by B s n p q
 finish B g (ran s) = order-checked B s (touching B g (s .fired))
 

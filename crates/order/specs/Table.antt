@@ -5,12 +5,12 @@ use mathlib.Core.List.{List}
 use Prim.Native.Nat.{ℕ, _+_, _-_, _<_}
 use lib.ListN.{length, getD, take, drop}
 use Rattle.engine.specs.Move.{Input, input}
-use Rattle.order.specs.Pairs.{rows}
+use Rattle.order.specs.Pairs.{predecessors}
 use Rattle.order.specs.Log.{Log, most-moves, move-at}
 
 -- the set of the moves before move j
-abbrev pub row-in : List ℕ → ℕ → ℕ
-row-in t j = getD t j 0
+abbrev pub predecessors-in : List ℕ → ℕ → ℕ
+predecessors-in t j = getD t j 0
 
 -- the agent of move i
 abbrev pub agent-in : List ℕ → ℕ → ℕ
@@ -32,7 +32,7 @@ abbrev pub input-in : List ℕ → ℕ → Input
 input-in t i = input (agent-in t i) (picks-in t i)
 
 -- the table t is that of the log g
-pub record Ordered (g : Log) (t : List ℕ) : Type 0 where
-  pub rows : (j : ℕ) → j < length (g .moves) → row-in t j ≡ getD (rows (g .pairs) (length (g .moves))) j 0
+pub record OrderTable (g : Log) (t : List ℕ) : Type 0 where
+  pub rows : (j : ℕ) → j < length (g .moves) → predecessors-in t j ≡ getD (predecessors (g .pairs) (length (g .moves))) j 0
   pub agents : (i : ℕ) → i < length (g .moves) → agent-in t i ≡ move-at g i .agent
   pub picks : (i : ℕ) → i < length (g .moves) → picks-in t i ≡ move-at g i .picks

@@ -11,11 +11,11 @@ use Rattle.engine.specs.declared.Instruction.{Instruction}
 use Rattle.order.specs.Run.{LogAnswer}
 use Rattle.order.specs.Log.{Log, check-log}
 use Rattle.order.specs.Call.{Tables, lengths, check-lengths, check-lent, check-all, log-answer, log-call}
-use Rattle.order_run.specs.declared.Turn.{Turn}
-use Rattle.order_run.specs.Laps.{Lap}
+use Rattle.order_run.specs.declared.RunState.{RunState}
+use Rattle.order_run.specs.Stages.{CallAt}
 
 -- a call that is so far with n records is so far with 256 of them
-pub lap-shorter : (t : Tables) (n : ℕ) (whole : LogAnswer) (m o : List ℕ) (rest : List (List Instruction)) (u : Turn) (c rs ws : List ℕ) → Lap t n whole m o rest u c rs ws → Lap t (min n 256) whole m o rest u c rs ws
+pub lap-shorter : (t : Tables) (n : ℕ) (whole : LogAnswer) (m o : List ℕ) (rest : List (List Instruction)) (u : RunState) (c rs ws : List ℕ) → CallAt t n whole m o rest u c rs ws → CallAt t (min n 256) whole m o rest u c rs ws
 lap-shorter t n whole m o rest u c rs ws h = record {
   over = h .over;
   on = λ y.

@@ -1,2 +1,2 @@
 pub mod MovesMade
-pub mod Ran
+pub mod LogRun

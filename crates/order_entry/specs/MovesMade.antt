@@ -11,15 +11,15 @@ use Rattle.engine.specs.declared.Record.{Record}
 use Rattle.engine.specs.Rule.{most-instructions}
 use Rattle.order.specs.Log.{Log}
 use Rattle.order.specs.Run.{run-from}
-use Rattle.engine_list.specs.Written.{all-written}
-use Rattle.order_run.specs.declared.Turn.{Turn}
-use Rattle.order_run.specs.Turns.{answered}
-use Rattle.order_run.specs.Laps.{Stage}
+use Rattle.engine_list.specs.Written.{all-records-written}
+use Rattle.order_run.specs.declared.RunState.{RunState}
+use Rattle.order_run.specs.Runs.{answer-with}
+use Rattle.order_run.specs.Stages.{RunAt}
 
 -- from the turn t, on the tables d, rs, ws and the records ys: the answer r, and the tables and records afterwards
-pub record MovesMade (m o : List ℕ) (t : Turn) (d rs ws : List ℕ) (ys : List Record) (r : Answer) (d′ rs′ ws′ : List ℕ) (zs : List Record) : Type 0 where
+pub record MovesMade (m o : List ℕ) (t : RunState) (d rs ws : List ℕ) (ys : List Record) (r : Answer) (d′ rs′ ws′ : List ℕ) (zs : List Record) : Type 0 where
   -- no move is next: its answer stands, and nothing is written
-  pub none : t .more ≡ false → (answered r d′ rs′ ws′ ≡ answered (t .answer) d rs ws) × (zs ≡ ys)
+  pub none : t .more ≡ false → (answer-with r d′ rs′ ws′ ≡ answer-with (t .answer) d rs ws) × (zs ≡ ys)
   -- of a run that is so far: its answer and tables, and the records got each walked move's instructions in turn
-  pub run : (g : Log) (c : List ℕ) (rest : List (List Instruction)) → most-instructions ≤ length ys → Stage m o g c rest t d rs ws
-      → (answered r d′ rs′ ws′ ≡ run-from (held m) g c) × (zs ≡ all-written rest ys)
+  pub run : (g : Log) (c : List ℕ) (rest : List (List Instruction)) → most-instructions ≤ length ys → RunAt m o g c rest t d rs ws
+      → (answer-with r d′ rs′ ws′ ≡ run-from (held m) g c) × (zs ≡ all-records-written rest ys)

@@ -3,7 +3,7 @@
 use book::Image;
 use engine::Record;
 use order::Order;
-use order_run::Turn;
+use order_run::RunState;
 use text::Answer;
 use text::Value;
 ghost use mathlib.Core.Path.{_≡_};
@@ -12,11 +12,11 @@ ghost use lib.ListN.{length};
 ghost use Rattle.engine.specs.declared.Instruction.{Instruction};
 ghost use Rattle.order.specs.Run.{LogAnswer};
 ghost use Rattle.order.specs.Call.{Tables, log-call};
-ghost use Rattle.engine_list.specs.Written.{all-written};
-ghost use Rattle.order_run.specs.Turns.{answered, tables};
-ghost use Rattle.order_run.specs.Laps.{Lap};
+ghost use Rattle.engine_list.specs.Written.{all-records-written};
+ghost use Rattle.order_run.specs.Runs.{answer-with, tables};
+ghost use Rattle.order_run.specs.Stages.{CallAt};
 ghost use Rattle.order_entry.specs.MovesMade.{MovesMade};
-ghost use Rattle.order_entry.specs.Ran.{Ran};
+ghost use Rattle.order_entry.specs.LogRun.{LogRun};
 ghost use Rattle.order.specs.Demand.{Demand3};
 
 // The moves of a log from the one that is next, on tables of just the records needed: each is begun, its instructions are
@@ -28,17 +28,17 @@ fn make_moves(
     instructions: &mut [Record],
     image: &Image,
     order: &Order,
-    first: Turn,
+    first: RunState,
 ) -> Answer
     ensures { λ r. ⌜ MovesMade (now (image .entry)) (now (order .entry)) first (now (contents .entry)) (now (readers .entry)) (now (writers .entry)) (now (instructions .entry)) r (now (contents .exit)) (now (readers .exit)) (now (writers .exit)) (now (instructions .exit)) ⌝ }
 {
     let mut work = [0u64; 256];
     let mut t = first;
     while t.more {
-        let s = order_run::begin(contents, readers, image, order, &mut work, t);
+        let s = order_run::begin_next(contents, readers, image, order, &mut work, t);
         let count = s.count;
         engine_list::pass(instructions, &mut work, count);
-        t = order_run::finish(contents, readers, writers, image, order, &work, t, s);
+        t = order_run::finish_next(contents, readers, writers, image, order, &work, t, s);
     }
     t.answer
 }
@@ -51,9 +51,9 @@ pub fn run_from(
     instructions: &mut [Record],
     image: &Image,
     order: &Order,
-    first: Turn,
+    first: RunState,
 ) -> Answer
-    ensures { λ r. ⌜ ((lent : Tables) (whole : LogAnswer) (rest : List (List Instruction)) → Lap lent (length (now (instructions .entry))) whole (now (image .entry)) (now (order .entry)) rest first (now (contents .entry)) (now (readers .entry)) (now (writers .entry)) → (answered r (now (contents .exit)) (now (readers .exit)) (now (writers .exit)) ≡ whole) × (now (instructions .exit) ≡ all-written rest (now (instructions .entry)))) ⌝ }
+    ensures { λ r. ⌜ ((lent : Tables) (whole : LogAnswer) (rest : List (List Instruction)) → CallAt lent (length (now (instructions .entry))) whole (now (image .entry)) (now (order .entry)) rest first (now (contents .entry)) (now (readers .entry)) (now (writers .entry)) → (answer-with r (now (contents .exit)) (now (readers .exit)) (now (writers .exit)) ≡ whole) × (now (instructions .exit) ≡ all-records-written rest (now (instructions .entry)))) ⌝ }
 {
     let n = order_run::records_used(image, contents.len(), readers.len(), writers.len());
     make_moves(
@@ -76,7 +76,7 @@ pub fn run(
     writers: &mut [u64],
     instructions: &mut [Record],
 ) -> Answer
-    ensures { λ r. ⌜ Ran (now (book .entry)) (now (log .entry)) (tables (now (contents .entry)) (now (readers .entry)) (now (writers .entry))) (now (instructions .entry)) r (tables (now (contents .exit)) (now (readers .exit)) (now (writers .exit))) (now (instructions .exit)) ⌝ }
+    ensures { λ r. ⌜ LogRun (now (book .entry)) (now (log .entry)) (tables (now (contents .entry)) (now (readers .entry)) (now (writers .entry))) (now (instructions .entry)) r (tables (now (contents .exit)) (now (readers .exit)) (now (writers .exit))) (now (instructions .exit)) ⌝ }
 {
     let lent = instructions.len();
     let mut image = [0u32; 2248];
@@ -105,7 +105,7 @@ pub fn run_own_list(
     writers: &mut [u64],
     lent: usize,
 ) -> Answer
-    ensures { λ r. ⌜ (answered r (now (contents .exit)) (now (readers .exit)) (now (writers .exit)) ≡ log-call (now (book .entry)) (now (log .entry)) (tables (now (contents .entry)) (now (readers .entry)) (now (writers .entry))) lent) × Demand3 (now (book .entry)) (now (log .entry)) (tables (now (contents .entry)) (now (readers .entry)) (now (writers .entry))) lent ⌝ }
+    ensures { λ r. ⌜ (answer-with r (now (contents .exit)) (now (readers .exit)) (now (writers .exit)) ≡ log-call (now (book .entry)) (now (log .entry)) (tables (now (contents .entry)) (now (readers .entry)) (now (writers .entry))) lent) × Demand3 (now (book .entry)) (now (log .entry)) (tables (now (contents .entry)) (now (readers .entry)) (now (writers .entry))) lent ⌝ }
 {
     let none = engine_list::blank();
     let mut list = [none; 256];
@@ -121,9 +121,9 @@ pub fn run_from_own_list(
     lent: usize,
     image: &Image,
     order: &Order,
-    first: Turn,
+    first: RunState,
 ) -> Answer
-    ensures { λ r. ⌜ ((before : Tables) (whole : LogAnswer) (rest : List (List Instruction)) → Lap before lent whole (now (image .entry)) (now (order .entry)) rest first (now (contents .entry)) (now (readers .entry)) (now (writers .entry)) → answered r (now (contents .exit)) (now (readers .exit)) (now (writers .exit)) ≡ whole) ⌝ }
+    ensures { λ r. ⌜ ((before : Tables) (whole : LogAnswer) (rest : List (List Instruction)) → CallAt before lent whole (now (image .entry)) (now (order .entry)) rest first (now (contents .entry)) (now (readers .entry)) (now (writers .entry)) → answer-with r (now (contents .exit)) (now (readers .exit)) (now (writers .exit)) ≡ whole) ⌝ }
 {
     let none = engine_list::blank();
     let mut list = [none; 256];

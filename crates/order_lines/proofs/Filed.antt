@@ -18,7 +18,7 @@ use Rattle.order.specs.Log.{Choice, choice-at, picks-of, bad-choice-at}
 use Rattle.order.specs.Table.{first-in, end-in, picks-in}
 use Rattle.order.proofs.Log.{choice-low}
 use Rattle.order.proofs.Picks.{picks-run}
-use Rattle.order_lines.specs.Lines.{filed, filed-all}
+use Rattle.order_lines.specs.Lines.{pick-put, picks-put}
 
 -- ---- one choice
 
@@ -52,25 +52,25 @@ module _ (t : List ℕ) (k x y : ℕ) (long : length t ≡ 512) (few : x < 64) (
   end-long : length with-end ≡ 512
   end-long = length-set with-first (192 + x) (k + 1) ∙ first-long
 
-  filed-long : length (filed t k x y) ≡ 512
+  filed-long : length (pick-put t k x y) ≡ 512
   filed-long = length-set with-end (256 + k) y ∙ end-long
 
-  filed-other : (j : ℕ) → j ≢ 128 + x → j ≢ 192 + x → j ≢ 256 + k → getD (filed t k x y) j 0 ≡ getD t j 0
+  filed-other : (j : ℕ) → j ≢ 128 + x → j ≢ 192 + x → j ≢ 256 + k → getD (pick-put t k x y) j 0 ≡ getD t j 0
   filed-other j a b c =
       getD-set-other with-end (256 + k) j y 0 c ∙ getD-set-other with-first (192 + x) j (k + 1) 0 b ∙ put-other (eqb (end-in t x) 0) t (128 + x) k j a
 
-  filed-first : first-in (filed t k x y) x ≡ (if eqb (end-in t x) 0 then k else first-in t x)
+  filed-first : first-in (pick-put t k x y) x ≡ (if eqb (end-in t x) 0 then k else first-in t x)
   filed-first =
       getD-set-other with-end (256 + k) (128 + x) y 0 (λ (e : 128 + x ≡ 256 + k). absurd (omega arith))
       ∙ getD-set-other with-first (192 + x) (128 + x) (k + 1) 0 (λ (e : 128 + x ≡ 192 + x). absurd (omega arith))
       ∙ put-same (eqb (end-in t x) 0) t (128 + x) k (omega arith)
 
-  filed-end : end-in (filed t k x y) x ≡ k + 1
+  filed-end : end-in (pick-put t k x y) x ≡ k + 1
   filed-end =
       getD-set-other with-end (256 + k) (192 + x) y 0 (λ (e : 192 + x ≡ 256 + k). absurd (omega arith))
       ∙ getD-set-same with-first (192 + x) (k + 1) 0 (omega (arith, first-long))
 
-  filed-pick : getD (filed t k x y) (256 + k) 0 ≡ y
+  filed-pick : getD (pick-put t k x y) (256 + k) 0 ≡ y
   filed-pick = getD-set-same with-end (256 + k) y 0 (omega (arith, end-long))
 
 -- ---- the picks of one move
@@ -173,7 +173,7 @@ module _
       x = f k .move
 
       abbrev t′ : List ℕ
-      t′ = filed t k x (f k .element)
+      t′ = pick-put t k x (f k .element)
 
       lim : x < 64
       lim = omega (arith, low k h)
@@ -211,12 +211,12 @@ module _
             (λ (q : 256 + j ≡ 256 + k). e (omega arith)) ∙ w .elements j (omega arith));
       }
 
-    put-all : (r k : ℕ) (t : List ℕ) → k + r ≤ n → Put f m s k t → Put f m s (k + r) (filed-all (table-from f k r) k t)
-    unfolding filed-all table-from
+    put-all : (r k : ℕ) (t : List ℕ) → k + r ≤ n → Put f m s k t → Put f m s (k + r) (picks-put (table-from f k r) k t)
+    unfolding picks-put table-from
     put-all zero k t h w = let z : k + 0 ≡ k = omega arith in rw z w
     put-all (suc r) k t h w =
         let z : k + suc r ≡ suc k + r = omega arith in
-        rw z (put-all r (suc k) (filed t k (f k .move) (f k .element)) (omega arith) (put-turn k t (omega arith) w))
+        rw z (put-all r (suc k) (pick-put t k (f k .move) (f k .element)) (omega arith) (put-turn k t (omega arith) w))
 
     put-picks : (t : List ℕ) → Put f m s n t → (i : ℕ) → i < m → picks-in t i ≡ picks-of (table f n) i
     put-picks t w i h =
@@ -251,16 +251,16 @@ module _ (E m k : ℕ) (text : List ℕ) (n : ℕ) (none : least (bad-choice-at 
       (λ (e : j ≢ suc l). omega (arith, all-up j l (omega arith) (omega arith), next-up l q))
 
   module _ (few : m ≤ 64) (most : n ≤ 256) (s : List ℕ) (long : length s ≡ 512) (clear : (i : ℕ) → i < m → (first-in s i ≡ 0) × (end-in s i ≡ 0)) where
-    all-put : Put f m s n (filed-all (table f n) 0 s)
+    all-put : Put f m s n (picks-put (table f n) 0 s)
     all-put =
         let z : 0 + n ≡ n = omega arith in
         let low : (j : ℕ) → j < n → f j .move < m = λ j h. low-parts j h .0 in
         rw z at (put-all f m n few most low all-up s n 0 s (omega arith) (put-start f m n few most low all-up s long clear))
 
     -- each move has its picks
-    pub choices-picks : (i : ℕ) → i < m → picks-in (filed-all (table (choice-at k text) n) 0 s) i ≡ picks-of (table (choice-at k text) n) i
-    choices-picks = put-picks f m n few most (λ j h. low-parts j h .0) all-up s (filed-all (table f n) 0 s) all-put
+    pub choices-picks : (i : ℕ) → i < m → picks-in (picks-put (table (choice-at k text) n) 0 s) i ≡ picks-of (table (choice-at k text) n) i
+    choices-picks = put-picks f m n few most (λ j h. low-parts j h .0) all-up s (picks-put (table f n) 0 s) all-put
 
     -- rows and agents stay
-    pub choices-keep : (j : ℕ) → j < 128 → getD (filed-all (table (choice-at k text) n) 0 s) j 0 ≡ getD s j 0
+    pub choices-keep : (j : ℕ) → j < 128 → getD (picks-put (table (choice-at k text) n) 0 s) j 0 ≡ getD s j 0
     choices-keep = all-put .kept

@@ -11,12 +11,12 @@ use Rattle.text.specs.Words.{if_then_else_, least-from, least}
 use Rattle.text.specs.Text.{bad-line, parsed}
 use Rattle.text.proofs.Words.{least-first, least-rest}
 use Rattle.text.proofs.Fields.{parsed-ok}
-use Rattle.order_lines.specs.Lines.{first-of, shifted}
+use Rattle.order_lines.specs.Lines.{first-found, shifted}
 
-pub least-split : (bad : ℕ → Bool) (m n i : ℕ) → least-from bad (m + n) i ≡ first-of (least-from bad m i) (least-from bad n (i + m))
+pub least-split : (bad : ℕ → Bool) (m n i : ℕ) → least-from bad (m + n) i ≡ first-found (least-from bad m i) (least-from bad n (i + m))
 least-split bad m n i = go (least-from bad m i) refl
   where
-    go : (o : Found) → least-from bad m i ≡ o → least-from bad (m + n) i ≡ first-of o (least-from bad n (i + m))
+    go : (o : Found) → least-from bad m i ≡ o → least-from bad (m + n) i ≡ first-found o (least-from bad n (i + m))
     go Nowhere e = least-rest bad m n i e
     go (Here p) e = least-first bad m n i p e
 
@@ -39,23 +39,23 @@ module _ (bad : ℕ → Bool) (k n : ℕ) where
     part-end h p = let e : n - i ≡ 0 = omega arith in rw e at p
 
 -- one place more
-least-more : (bad : ℕ → Bool) (i : ℕ) → least bad (i + 1) ≡ first-of (least bad i) (if bad i then Here i else Nowhere)
+least-more : (bad : ℕ → Bool) (i : ℕ) → least bad (i + 1) ≡ first-found (least bad i) (if bad i then Here i else Nowhere)
 unfolding least-from
 least-more bad i = least-split bad i 1 0 ∙ (let e : 0 + i ≡ i = omega arith in rw e)
 
 shifted-more : (k i : ℕ) (o : Found) (b : Bool)
-    → first-of (shifted k o) (if b then Here (k + i) else Nowhere) ≡ shifted k (first-of o (if b then Here i else Nowhere))
+    → first-found (shifted k o) (if b then Here (k + i) else Nowhere) ≡ shifted k (first-found o (if b then Here i else Nowhere))
 shifted-more k i Nowhere true = refl
 shifted-more k i Nowhere false = refl
 shifted-more k i (Here p) b = refl
 
 -- the least fault so far, as the code keeps it
 pub fault-turn : (bad : ℕ → Bool) (k i : ℕ) (o r : Found) (b : Bool) → o ≡ shifted k (least bad i) → b ≡ bad i
-    → r ≡ first-of o (if b then Here (k + i) else Nowhere) → r ≡ shifted k (least bad (i + 1))
+    → r ≡ first-found o (if b then Here (k + i) else Nowhere) → r ≡ shifted k (least bad (i + 1))
 fault-turn bad k i o r b p q e = e ∙ rw (p, q) (shifted-more k i (least bad i) (bad i)) ∙ ap (shifted k) (sym (least-more bad i))
 
 -- it is none only if none was found before, nor here
-pub fault-none : (o r : Found) (b : Bool) (p : ℕ) → r ≡ first-of o (if b then Here p else Nowhere) → r ≡ Nowhere → (o ≡ Nowhere) × (b ≡ false)
+pub fault-none : (o r : Found) (b : Bool) (p : ℕ) → r ≡ first-found o (if b then Here p else Nowhere) → r ≡ Nowhere → (o ≡ Nowhere) × (b ≡ false)
 fault-none Nowhere r true p e z = let x : _≡_ {A = ℕ} 0 1 = cc in absurd (omega arith)
 fault-none Nowhere r false p e z = (refl, refl)
 fault-none (Here q) r b p e z = let x : _≡_ {A = ℕ} 0 1 = cc in absurd (omega arith)

@@ -19,7 +19,7 @@ use Rattle.text.proofs.Fields.{parsed-line}
 use Rattle.order.specs.Log.{Choice, bad-choice}
 use Rattle.order.specs.Table.{end-in}
 use Rattle.order.proofs.Log.{choice-low}
-use Rattle.order_lines.specs.Lines.{first-of, shifted, KindRead, begun, filed, filed-all}
+use Rattle.order_lines.specs.Lines.{first-found, shifted, KindRead, first-pick-put, pick-put, picks-put}
 use Rattle.order_lines.proofs.Places.{part-start, part-pass, part-stop, part-end, fault-turn, fault-none, found-some, line-bad, line-good}
 
 -- ---- lines of any kind
@@ -50,7 +50,7 @@ module _ (text : List ℕ) (k n : ℕ) (bad : Line → Line → ℕ → Bool) (r
 
       -- the first line has none before it; v is the table with line i put in
       pub turned-turn : ((j l : Line) → bad j l 0 ≡ bad (line text (k + 0)) l 0) → p .ok ≡ true → (b : Bool) → b ≡ bad last (p .line) i → (r : Found)
-          → r ≡ first-of found (if b then Here (1 + k + i) else Nowhere) → (u v : List ℕ) → u ≡ (if b then t else v)
+          → r ≡ first-found found (if b then Here (1 + k + i) else Nowhere) → (u v : List ℕ) → u ≡ (if b then t else v)
           → (p .line ≡ line text (1 + k + i) → rest (i + 1) v ≡ rest i t) → Turned (i + 1) u (p .line) r
       turned-turn first e b f r g u v q turn = record {
         ill = part-pass (bad-line text) (1 + k) n i h (line-good text (1 + k + i) p is e) (w .ill);
@@ -82,26 +82,26 @@ pub choice-within : (E m : ℕ) (k l : Line) (i : ℕ) (b : Bool) → m ≤ 64 �
 choice-within E m k l i b small e z = omega (arith, choice-low E m k l i (sym e ∙ z) .0)
 
 -- as the code puts it in
-pub begun-first : (t : List ℕ) (i a : ℕ) → end-in t a ≡ 0 → set t (128 + a) i ≡ begun t i a
+pub begun-first : (t : List ℕ) (i a : ℕ) → end-in t a ≡ 0 → set t (128 + a) i ≡ first-pick-put t i a
 begun-first t i a e = rw (eq-eqb (end-in t a) 0 e)
 
-pub begun-later : (t : List ℕ) (i a : ℕ) → end-in t a ≢ 0 → t ≡ begun t i a
+pub begun-later : (t : List ℕ) (i a : ℕ) → end-in t a ≢ 0 → t ≡ first-pick-put t i a
 begun-later t i a n = rw (ne-eqb (end-in t a) 0 n)
 
 -- the n choices of f from choice i on
 abbrev pub left : (ℕ → Choice) → ℕ → ℕ → List ℕ → List ℕ
-left f n i t = filed-all (table-from f i (n - i)) i t
+left f n i t = picks-put (table-from f i (n - i)) i t
 
 module _ (f : ℕ → Choice) (n : ℕ) where
-  pub left-all : (s : List ℕ) → left f n 0 s ≡ filed-all (table f n) 0 s
+  pub left-all : (s : List ℕ) → left f n 0 s ≡ picks-put (table f n) 0 s
   left-all s = let e : n - 0 ≡ n = omega arith in rw e
 
-  pub left-turn : (i : ℕ) (t : List ℕ) → i < n → left f n (i + 1) (filed t i (f i .move) (f i .element)) ≡ left f n i t
-  unfolding filed-all table-from
+  pub left-turn : (i : ℕ) (t : List ℕ) → i < n → left f n (i + 1) (pick-put t i (f i .move) (f i .element)) ≡ left f n i t
+  unfolding picks-put table-from
   left-turn i t h =
       let e : n - i ≡ suc (n - (i + 1)) = omega arith in
-      ap (λ (j : ℕ). filed-all (table-from f j (n - (i + 1))) j (filed t i (f i .move) (f i .element))) (add-one i) ∙ rw e
+      ap (λ (j : ℕ). picks-put (table-from f j (n - (i + 1))) j (pick-put t i (f i .move) (f i .element))) (add-one i) ∙ rw e
 
   pub left-end : (i : ℕ) (t : List ℕ) → n ≤ i → left f n i t ≡ t
-  unfolding filed-all table-from
+  unfolding picks-put table-from
   left-end i t h = let e : n - i ≡ 0 = omega arith in rw e

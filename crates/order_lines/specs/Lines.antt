@@ -11,14 +11,14 @@ use Rattle.text.specs.Words.{if_then_else_, table, least-from, least}
 use Rattle.text.specs.Text.{bad-line}
 use Rattle.order.specs.Log.{Choice, choice-at, bad-choice-at}
 use Rattle.order.specs.Table.{end-in}
-use Rattle.order_lines.specs.declared.Judged.{Judged}
+use Rattle.order_lines.specs.declared.LineFaults.{LineFaults}
 
 -- ---- places
 
 -- the first, if there is one, or else the second
-abbrev pub first-of : Found → Found → Found
-first-of Nowhere b = b
-first-of (Here p) b = Here p
+abbrev pub first-found : Found → Found → Found
+first-found Nowhere b = b
+first-found (Here p) b = Here p
 
 -- counted from k on
 abbrev pub shifted : ℕ → Found → Found
@@ -28,7 +28,7 @@ shifted k (Here p) = Here (k + p)
 -- ---- lines of one kind
 
 -- the n lines after line k are read, `bad` saying which of them are at fault: if none is, the table is u
-pub record KindRead (text : List ℕ) (k n : ℕ) (bad : ℕ → Bool) (u t : List ℕ) (r : Judged) : Type 0 where
+pub record KindRead (text : List ℕ) (k n : ℕ) (bad : ℕ → Bool) (u t : List ℕ) (r : LineFaults) : Type 0 where
   pub ill : r .ill ≡ least-from (bad-line text) n (1 + k)
   pub fault : r .ill ≡ Nowhere → r .fault ≡ shifted (1 + k) (least bad n)
   pub order : r .ill ≡ Nowhere → r .fault ≡ Nowhere → t ≡ u
@@ -36,18 +36,18 @@ pub record KindRead (text : List ℕ) (k n : ℕ) (bad : ℕ → Bool) (u t : Li
 -- ---- the choices
 
 -- pick i is of move a: it is the first, if the move has none yet
-abbrev pub begun : List ℕ → ℕ → ℕ → List ℕ
-begun t i a = if eqb (end-in t a) 0 then set t (128 + a) i else t
+abbrev pub first-pick-put : List ℕ → ℕ → ℕ → List ℕ
+first-pick-put t i a = if eqb (end-in t a) 0 then set t (128 + a) i else t
 
 -- pick i, the element y, of move a put in: it is the move's last so far
-abbrev pub filed : List ℕ → ℕ → ℕ → ℕ → List ℕ
-filed t i a y = set (set (begun t i a) (192 + a) (i + 1)) (256 + i) y
+abbrev pub pick-put : List ℕ → ℕ → ℕ → ℕ → List ℕ
+pick-put t i a y = set (set (first-pick-put t i a) (192 + a) (i + 1)) (256 + i) y
 
 -- one after the other, from pick i on
-unfoldable pub filed-all : List Choice → ℕ → List ℕ → List ℕ
-filed-all [] i t = t
-filed-all (x ∷ xs) i t = filed-all xs (suc i) (filed t i (x .move) (x .element))
+unfoldable pub picks-put : List Choice → ℕ → List ℕ → List ℕ
+picks-put [] i t = t
+picks-put (x ∷ xs) i t = picks-put xs (suc i) (pick-put t i (x .move) (x .element))
 
 -- the n choice lines of m moves, which begin after line k, are read, with E elements: if none is at fault they are put into the table s
-abbrev pub ChoiceLinesRead : ℕ → List ℕ → ℕ → ℕ → ℕ → List ℕ → List ℕ → Judged → Type 0
-ChoiceLinesRead E text m k n s t r = KindRead text k n (bad-choice-at E m k text) (filed-all (table (choice-at k text) n) 0 s) t r
+abbrev pub ChoiceLinesRead : ℕ → List ℕ → ℕ → ℕ → ℕ → List ℕ → List ℕ → LineFaults → Type 0
+ChoiceLinesRead E text m k n s t r = KindRead text k n (bad-choice-at E m k text) (picks-put (table (choice-at k text) n) 0 s) t r

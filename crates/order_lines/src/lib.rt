@@ -7,17 +7,17 @@ ghost use mathlib.Core.Bool.{false};
 ghost use Prim.Native.Nat.{_<_, _≤_, min};
 ghost use Rattle.text.specs.Words.{if_then_else_};
 ghost use Rattle.order.specs.Log.{bad-choice};
-ghost use Rattle.order_lines.specs.Lines.{first-of, filed, ChoiceLinesRead};
+ghost use Rattle.order_lines.specs.Lines.{first-found, pick-put, ChoiceLinesRead};
 
 // Of the lines of one kind the least that is out of form, and the least at fault.
-pub struct Judged {
+pub struct LineFaults {
     pub ill: Found,
     pub fault: Found,
 }
 
 // The first place, if there is one, or else the second.
-pub fn first_of(a: Found, b: Found) -> Found
-    ensures { λ r. ⌜ r ≡ first-of a b ⌝ }
+pub fn first_found(a: Found, b: Found) -> Found
+    ensures { λ r. ⌜ r ≡ first-found a b ⌝ }
 {
     match a {
         Found::Nowhere => b,
@@ -27,25 +27,25 @@ pub fn first_of(a: Found, b: Found) -> Found
 
 // The place found before, or else p if it is at fault.
 pub fn or_here(found: Found, bad: bool, p: u32) -> Found
-    ensures { λ r. ⌜ r ≡ first-of found (if bad then Found.Here p else Found.Nowhere) ⌝ }
+    ensures { λ r. ⌜ r ≡ first-found found (if bad then Found.Here p else Found.Nowhere) ⌝ }
 {
     if bad {
-        return first_of(found, Found::Here(p));
+        return first_found(found, Found::Here(p));
     }
-    first_of(found, Found::Nowhere)
+    first_found(found, Found::Nowhere)
 }
 
 // Choice line i, of m moves, is at fault in a book of so many elements; k is the line before it.
-fn choice_fault(elements: u32, m: u32, k: Line, l: Line, i: u32) -> bool
+fn bad_choice(elements: u32, m: u32, k: Line, l: Line, i: u32) -> bool
     ensures { λ r. ⌜ r ≡ bad-choice elements m k l i ⌝ }
 {
     !((l.a < m) & (l.b < elements) & ((i == 0) | (k.a <= l.a)) & (l.c == 0) & (l.d == 0))
 }
 
 // Pick i, of a line that is not at fault, put in: its element, and where its move's picks begin and end.
-fn file(order: &mut Order, l: Line, i: u32, bad: bool)
+fn put_pick(order: &mut Order, l: Line, i: u32, bad: bool)
     requires { ⌜ (i < 256) × (bad ≡ false → l .a < 64) ⌝ }
-    ensures { λ _. ⌜ now (order .exit) ≡ (if bad then now (order .entry) else filed (now (order .entry)) i (l .a) (l .b)) ⌝ }
+    ensures { λ _. ⌜ now (order .exit) ≡ (if bad then now (order .entry) else pick-put (now (order .entry)) i (l .a) (l .b)) ⌝ }
 {
     if !bad {
         let a = l.a as usize;
@@ -58,7 +58,7 @@ fn file(order: &mut Order, l: Line, i: u32, bad: bool)
 }
 
 // The n choice lines of m moves, which begin after line k. They ascend by their move, so that a move's picks are one part of the table.
-fn read_bounded(log: &[u8], elements: u32, m: u32, k: u32, n: u32, order: &mut Order) -> Judged
+fn read_bounded(log: &[u8], elements: u32, m: u32, k: u32, n: u32, order: &mut Order) -> LineFaults
     requires { ⌜ (m ≤ 64) × (k ≤ 2080) × (n ≤ 256) ⌝ }
     ensures { λ r. ⌜ ChoiceLinesRead elements (now (log .entry)) m k n (now (order .entry)) (now (order .exit)) r ⌝ }
 {
@@ -74,25 +74,32 @@ fn read_bounded(log: &[u8], elements: u32, m: u32, k: u32, n: u32, order: &mut O
         let read = text::parse(log, 1 + k + i);
         let l = read.line;
         if !read.ok {
-            return Judged {
+            return LineFaults {
                 ill: Found::Here(1 + k + i),
                 fault: fault,
             };
         }
-        let bad = choice_fault(elements, m, before, l, i);
+        let bad = bad_choice(elements, m, before, l, i);
         fault = or_here(fault, bad, 1 + k + i);
-        file(order, l, i, bad);
+        put_pick(order, l, i, bad);
         before = l;
         i += 1;
     }
-    Judged {
+    LineFaults {
         ill: Found::Nowhere,
         fault: fault,
     }
 }
 
 // The same of a log within its bounds: of a longer one no more lines and moves than that.
-pub fn read_choices(log: &[u8], elements: u32, m: u32, k: u32, n: u32, order: &mut Order) -> Judged
+pub fn read_choices(
+    log: &[u8],
+    elements: u32,
+    m: u32,
+    k: u32,
+    n: u32,
+    order: &mut Order,
+) -> LineFaults
     ensures { λ r. ⌜ ChoiceLinesRead elements (now (log .entry)) (min m 64) (min k 2080) (min n 256) (now (order .entry)) (now (order .exit)) r ⌝ }
 {
     let moves = text::smaller(m as usize, 64) as u32;

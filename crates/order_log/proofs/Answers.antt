@@ -19,10 +19,10 @@ use Rattle.text.proofs.Words.{bind-good, then-good, none-good, found-good, test
 use Rattle.text.proofs.Fields.{parsed-ok, parsed-line}
 use Rattle.text.proofs.Checks.{Numbered, bind-stops, then-stops, then-goes-on}
 use Rattle.order.specs.Log.{Log, log-header-ok, log-lines, log-of, check-log-header, check-log-text, check-log-lines, read-log}
-use Rattle.order.specs.Table.{Ordered}
-use Rattle.order_lines.specs.declared.Judged.{Judged}
+use Rattle.order.specs.Table.{OrderTable}
+use Rattle.order_lines.specs.declared.LineFaults.{LineFaults}
 use Rattle.order_lines.proofs.Places.{least-split}
-use Rattle.order_log.specs.Read.{header-judged, judged, LinesRead, LogReads}
+use Rattle.order_log.specs.Read.{header-checked, lines-checked, LinesRead, LogIsRead}
 use Rattle.order_log.proofs.Lines.{how-many}
 
 -- ---- checks one after the other
@@ -70,8 +70,8 @@ module _ (text : List ℕ) where
   first-line = refl
 
   module _ (p : Parsed) (is : p ≡ parsed text 0) where
-    header-as : check-log-header text ≡ (header-judged p >> good (p .line))
-    unfolding check-log-header header-judged _>>_ none-at must
+    header-as : check-log-header text ≡ (header-checked p >> good (p .line))
+    unfolding check-log-header header-checked _>>_ none-at must
     header-as = rw (first-line, ← parsed-ok text 0 p is) (go (p .ok) refl)
       where
         go : (b : Bool) → p .ok ≡ b
@@ -80,10 +80,10 @@ module _ (text : List ℕ) where
         go true e = rw (parsed-line text 0 p is e)
         go false e = refl
 
-    module _ (a : Answer) (e : a ≡ answer-of (header-judged p)) where
+    module _ (a : Answer) (e : a ≡ answer-of (header-checked p)) where
       -- the header passes
       pub header-ok : a .number ≡ 0 → (p .ok ≡ true) × (log-header-ok (p .line) ≡ true)
-      unfolding header-judged
+      unfolding header-checked
       header-ok z = both-pass (p .ok) (log-header-ok (p .line)) (ap (λ (x : Answer). x .number) (sym e) ∙ z)
 
       module _ (A E : ℕ) where
@@ -91,16 +91,16 @@ module _ (text : List ℕ) where
         at-header : a .number ≢ 0 → a ≡ answer-of (read-log A E text)
         unfolding read-log
         at-header n =
-            let f : answer-of (check-log-header text) ≡ a = ap answer-of header-as ∙ then-gives (header-judged p) (p .line) ∙ sym e in
+            let f : answer-of (check-log-header text) ≡ a = ap answer-of header-as ∙ then-gives (header-checked p) (p .line) ∙ sym e in
             sym (bind-stops (check-log-header text) _ (rw f n) ∙ f)
 
-        pub header-refused : a .number ≢ 0 → (t : List ℕ) (m : ℕ) → LogReads A E text t (record { answer = a; moves = m })
+        pub header-refused : a .number ≢ 0 → (t : List ℕ) (m : ℕ) → LogIsRead A E text t (record { answer = a; moves = m })
         header-refused n t m =
             let never : (g : Log) → read-log A E text ≡ good g → ⊥ = λ g q. n (ap (λ (x : Answer). x .number) (at-header n ∙ ap answer-of q)) in
             record { answer = at-header n; moves = λ g q. absurd (never g q); order = λ g q. absurd (never g q) }
 
         pub past-header : a .number ≡ 0 → read-log A E text ≡ (check-log-text (p .line) text >> (check-log-lines A E (p .line) text >> good (log-of (p .line) text)))
-        unfolding read-log header-judged _>>=_ _>>_ must
+        unfolding read-log header-checked _>>=_ _>>_ must
         past-header z = let o = header-ok z in let f : check-log-header text ≡ good (p .line) = header-as ∙ rw (o .0, o .1) in rw f
 
 -- ---- the lines
@@ -109,7 +109,7 @@ module _ (text : List ℕ) where
 module _
     (A E : ℕ) (text : List ℕ) (h : Line) (formed : well-formed (line-bytes text 0) ≡ true)
     (past : read-log A E text ≡ (check-log-text h text >> (check-log-lines A E h text >> good (log-of h text))))
-    (t : List ℕ) (found : Judged) (w : LinesRead A E text h t found)
+    (t : List ℕ) (found : LineFaults) (w : LinesRead A E text h t found)
   where
     all-ill : least (bad-line text) (log-lines h) ≡ found .ill
     all-ill =
@@ -117,8 +117,8 @@ module _
         let first : least (bad-line text) 1 ≡ Nowhere = first-line text ∙ rw formed in
         rw z (least-split (bad-line text) 1 (h .a + h .b + h .c) 0 ∙ rw (first, w .ill))
 
-    lines-answer : answer-of (judged (length text) (log-lines h) (found .ill) (found .fault)) ≡ answer-of (read-log A E text)
-    unfolding judged check-log-text
+    lines-answer : answer-of (lines-checked (length text) (log-lines h) (found .ill) (found .fault)) ≡ answer-of (read-log A E text)
+    unfolding lines-checked check-log-text
     lines-answer =
         let long = must (leb (length text) (line-length * log-lines h)) ill-formed (log-lines h) log-text in
         sym (ap answer-of past
@@ -135,12 +135,12 @@ module _
         let l = then-good (check-log-lines A E h text) (good (log-of h text)) g (c .2) in
         (good-same (log-of h text) g (l .2), form, none-good log-line 0 0 (found .fault) (l .0) (sym (w .fault form) ∙ l .1))
 
-    pub lines-read : (a : Answer) → a ≡ answer-of (judged (length text) (log-lines h) (found .ill) (found .fault))
-        → LogReads A E text t (record { answer = a; moves = h .a })
+    pub lines-read : (a : Answer) → a ≡ answer-of (lines-checked (length text) (log-lines h) (found .ill) (found .fault))
+        → LogIsRead A E text t (record { answer = a; moves = h .a })
     lines-read a e = record {
       answer = e ∙ lines-answer;
       moves = λ g q. sym (how-many h text) ∙ ap (λ (x : Log). length (x .moves)) (clean g q .0);
-      order = λ g q. let c = clean g q in subst (λ (x : Log). Ordered x t) (c .0) (w .order (c .1) (c .2));
+      order = λ g q. let c = clean g q in subst (λ (x : Log). OrderTable x t) (c .0) (w .order (c .1) (c .2));
     }
 
 -- ---- for callers

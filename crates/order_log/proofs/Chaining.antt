@@ -13,13 +13,13 @@ use lib.Seq.{getD-set-same, getD-set-other}
 use borrow.Author.Tests.{eqb-true, eq-eqb}
 use Rattle.text.proofs.Words.{or-cases}
 use Rattle.order.specs.Sets.{bit, with-move}
-use Rattle.order.specs.Pairs.{Pair, rows}
+use Rattle.order.specs.Pairs.{Pair, predecessors}
 use Rattle.order.specs.Orders.{Before, one, more}
 use Rattle.order.specs.Demand.{PairOf}
 use Rattle.order.proofs.Sets.{bit-or, bit-with, bit-empty}
 use Rattle.order.proofs.Rows.{rows-set}
 use Rattle.order.proofs.Masks.{both-ways, bit-ext}
-use Rattle.order_log.specs.Read.{join, close}
+use Rattle.order_log.specs.Read.{pair-put, pairs-put}
 
 -- each goes upwards, below m, and their earlier moves ascend
 abbrev pub Up : ℕ → ℕ → List Pair → Type 0
@@ -67,17 +67,17 @@ module _ (q : ℕ → ℕ → Type 0) (a b : ℕ) (h : a < b) (low : (c d : ℕ)
   from-new (inr (e, inr f)) = more (before-map (λ c d. inl) f) (inr (refl, e))
 
   module _ (m : ℕ) (r : List ℕ) (w : Says m q r) (lim : b < m) where
-    bit-join : (i : ℕ) → bit (getD (join r a b) b 0) i ≡ (bit (getD r b 0) i || (bit (getD r a 0) i || eqb a i))
+    bit-join : (i : ℕ) → bit (getD (pair-put r a b) b 0) i ≡ (bit (getD r b 0) i || (bit (getD r a 0) i || eqb a i))
     bit-join i = rw (
       getD-set-same r b (bitOr (getD r b 0) (with-move (getD r a 0) a)) 0 (omega (arith, w .size)),
       bit-or (getD r b 0) (with-move (getD r a 0) a) i,
       bit-with (getD r a 0) a i,
     )
 
-    same-row : (j : ℕ) → j ≢ b → getD (join r a b) j 0 ≡ getD r j 0
+    same-row : (j : ℕ) → j ≢ b → getD (pair-put r a b) j 0 ≡ getD r j 0
     same-row j n = getD-set-other r b j (bitOr (getD r b 0) (with-move (getD r a 0) a)) 0 n
 
-    to-row : (i : ℕ) → bit (getD (join r a b) b 0) i ≡ true → New q a b i b
+    to-row : (i : ℕ) → bit (getD (pair-put r a b) b 0) i ≡ true → New q a b i b
     to-row i e = go (or-cases _ _ (sym (bit-join i) ∙ e))
       where
         then : (bit (getD r a 0) i ≡ true) ⊎ (eqb a i ≡ true) → New q a b i b
@@ -88,22 +88,22 @@ module _ (q : ℕ → ℕ → Type 0) (a b : ℕ) (h : a < b) (low : (c d : ℕ)
         go (inl e) = inl (w .set i b lim .0 e)
         go (inr e) = then (or-cases _ _ e)
 
-    from-row : (i : ℕ) → New q a b i b → bit (getD (join r a b) b 0) i ≡ true
+    from-row : (i : ℕ) → New q a b i b → bit (getD (pair-put r a b) b 0) i ≡ true
     from-row i (inl f) = bit-join i ∙ rw (w .set i b lim .1 f)
     from-row i (inr (e, inl e′)) = bit-join i ∙ rw (eq-eqb a i e′, or-true (bit (getD r a 0) i)) (or-true (bit (getD r b 0) i))
     from-row i (inr (e, inr f)) = bit-join i ∙ rw (w .set i a (omega arith) .1 f) (or-true (bit (getD r b 0) i))
 
-    to-before : (i j : ℕ) → j < m → bit (getD (join r a b) j 0) i ≡ true → New q a b i j
+    to-before : (i j : ℕ) → j < m → bit (getD (pair-put r a b) j 0) i ≡ true → New q a b i j
     to-before i j h e = dite (ℕ-discrete j b) (λ (y : j ≡ b). rw y (to-row i (rw y at e))) (λ n. inl (w .set i j h .0 (rw (same-row j n) at e)))
 
-    from-before : (i j : ℕ) → j < m → New q a b i j → bit (getD (join r a b) j 0) i ≡ true
+    from-before : (i j : ℕ) → j < m → New q a b i j → bit (getD (pair-put r a b) j 0) i ≡ true
     from-before i j h f = dite (ℕ-discrete j b) (λ (y : j ≡ b). rw y (from-row i (rw y at f))) (λ n. rw (same-row j n) (old n f))
       where
         old : j ≢ b → New q a b i j → bit (getD r j 0) i ≡ true
         old n (inl f) = w .set i j h .1 f
         old n (inr (e, f)) = absurd (n (sym e))
 
-    says-join : Says m (With q a b) (join r a b)
+    says-join : Says m (With q a b) (pair-put r a b)
     says-join = record {
       size = omega (arith, w .size, length-set r b (bitOr (getD r b 0) (with-move (getD r a 0) a)));
       set = λ i j h. (λ e. from-new (to-before i j h e), λ f. from-before i j h (to-new f));
@@ -116,15 +116,15 @@ says-iff e w = record {
 }
 
 close-says : (m : ℕ) (q : ℕ → ℕ → Type 0) (lo : ℕ) (ps : List Pair) (r : List ℕ) → ((c d : ℕ) → q c d → c ≤ lo) → Up m lo ps → Says m q r
-    → Says m (λ c d. q c d ⊎ PairOf ps c d) (close ps r)
-unfolding close
+    → Says m (λ c d. q c d ⊎ PairOf ps c d) (pairs-put ps r)
+unfolding pairs-put
 close-says m q lo [] r low up w = says-iff (λ a b. (inl, back a b)) w
   where
     back : (a b : ℕ) → q a b ⊎ ⊥ → q a b
     back a b (inl h) = h
     back a b (inr h) = absurd h
 close-says m q lo (p ∷ ps) r low up w =
-    says-iff (λ c d. (to c d, from c d)) (close-says m (With q (p .earlier) (p .later)) (p .earlier) ps (join r (p .earlier) (p .later)) low′ (up .3)
+    says-iff (λ c d. (to c d, from c d)) (close-says m (With q (p .earlier) (p .later)) (p .earlier) ps (pair-put r (p .earlier) (p .later)) low′ (up .3)
     (says-join q (p .earlier) (p .later) (up .1) (λ c d h. omega (arith, low c d h, up .0)) m r w (up .2)))
   where
     low′ : (c d : ℕ) → With q (p .earlier) (p .later) c d → c ≤ p .earlier
@@ -143,7 +143,7 @@ close-says m q lo (p ∷ ps) r low up w =
 
 -- into a table of m empty sets, and maybe more
 module _ (ps : List Pair) (m : ℕ) (r : List ℕ) (size : m ≤ length r) (clear : (j : ℕ) → j < m → getD r j 0 ≡ 0) (up : Up m 0 ps) where
-  closed : Says m (PairOf ps) (close ps r)
+  closed : Says m (PairOf ps) (pairs-put ps r)
   closed = says-iff (λ a b. (back a b, inr)) (close-says m (λ c d. ⊥) 0 ps r (λ c d h. absurd h) up none)
     where
       back : (a b : ℕ) → ⊥ ⊎ PairOf ps a b → PairOf ps a b
@@ -160,25 +160,25 @@ module _ (ps : List Pair) (m : ℕ) (r : List ℕ) (size : m ≤ length r) (clea
         set = λ i j k. (λ h. absurd (true≢false (sym (rw (clear j k) at h) ∙ bit-empty i)), λ f. absurd (nothing f));
       }
 
-  pub closed-rows : (j : ℕ) → j < m → getD (close ps r) j 0 ≡ getD (rows ps m) j 0
-  closed-rows j h = bit-ext (getD (close ps r) j 0) (getD (rows ps m) j 0) (λ i.
+  pub closed-rows : (j : ℕ) → j < m → getD (pairs-put ps r) j 0 ≡ getD (predecessors ps m) j 0
+  closed-rows j h = bit-ext (getD (pairs-put ps r) j 0) (getD (predecessors ps m) j 0) (λ i.
       let said = closed .set i j h in
       let told = rows-set ps (λ a b p. pair-up m 0 ps up a b p .0) m j i h in
       both-ways _ _ (λ e. told .1 (said .0 e)) (λ e. said .1 (told .0 e)))
 
 -- what stands behind the m sets stays
-pub close-past : (m lo : ℕ) (ps : List Pair) (r : List ℕ) → Up m lo ps → (k : ℕ) → m ≤ k → getD (close ps r) k 0 ≡ getD r k 0
-unfolding close
+pub close-past : (m lo : ℕ) (ps : List Pair) (r : List ℕ) → Up m lo ps → (k : ℕ) → m ≤ k → getD (pairs-put ps r) k 0 ≡ getD r k 0
+unfolding pairs-put
 close-past m lo [] r u k h = refl
 close-past m lo (p ∷ ps) r u k h =
-    close-past m (p .earlier) ps (join r (p .earlier) (p .later)) (u .3) k h
+    close-past m (p .earlier) ps (pair-put r (p .earlier) (p .later)) (u .3) k h
     ∙ getD-set-other r (p .later) k (bitOr (getD r (p .later) 0) (with-move (getD r (p .earlier) 0) (p .earlier))) 0
     (λ (e : k ≡ p .later). let l : p .later < m = u .2 in absurd (omega arith))
 
 -- and so does its length
-pub close-long : (ps : List Pair) (r : List ℕ) → length (close ps r) ≡ length r
-unfolding close
+pub close-long : (ps : List Pair) (r : List ℕ) → length (pairs-put ps r) ≡ length r
+unfolding pairs-put
 close-long [] r = refl
 close-long (p ∷ ps) r =
-    close-long ps (join r (p .earlier) (p .later))
+    close-long ps (pair-put r (p .earlier) (p .later))
     ∙ length-set r (p .later) (bitOr (getD r (p .later) 0) (with-move (getD r (p .earlier) 0) (p .earlier)))

@@ -17,20 +17,20 @@ use Rattle.text.specs.Text.{bad-line}
 use Rattle.text.proofs.Words.{and-cases, getD-table, length-table-from}
 use Rattle.engine.specs.Move.{Input}
 use Rattle.order.specs.Log.{no-input, move-at, log-header-ok, choice-at, choices-of, log-of, bad-move-at, bad-pair-at, bad-choice-at, check-log-lines}
-use Rattle.order.specs.Pairs.{rows}
-use Rattle.order.specs.Table.{agent-in, first-in, end-in, picks-in, Ordered}
+use Rattle.order.specs.Pairs.{predecessors}
+use Rattle.order.specs.Table.{agent-in, first-in, end-in, picks-in, OrderTable}
 use Rattle.order.proofs.Log.{input-at}
-use Rattle.order_lines.specs.declared.Judged.{Judged}
-use Rattle.order_lines.specs.Lines.{first-of, shifted, filed-all, ChoiceLinesRead}
+use Rattle.order_lines.specs.declared.LineFaults.{LineFaults}
+use Rattle.order_lines.specs.Lines.{first-found, shifted, picks-put, ChoiceLinesRead}
 use Rattle.order_lines.proofs.Places.{least-split}
 use Rattle.order_lines.proofs.Filed.{choices-picks, choices-keep}
-use Rattle.order_log.specs.Read.{pair-at, close, MovesRead, PairsRead, both, LinesRead}
+use Rattle.order_log.specs.Read.{pair-at, pairs-put, MovesRead, PairsRead, both, LinesRead}
 use Rattle.order_log.proofs.Chaining.{closed-rows, close-past, close-long}
 use Rattle.order_log.proofs.Parts.{up}
 
 -- ---- places
 
-first-none : (a b : Found) → first-of a b ≡ Nowhere → (a ≡ Nowhere) × (b ≡ Nowhere)
+first-none : (a b : Found) → first-found a b ≡ Nowhere → (a ≡ Nowhere) × (b ≡ Nowhere)
 first-none Nowhere b e = (refl, e)
 first-none (Here p) b e = let x : _≡_ {A = ℕ} 0 1 = cc in absurd (omega arith)
 
@@ -39,7 +39,7 @@ shifted-none k Nowhere e = refl
 shifted-none k (Here p) e = let x : _≡_ {A = ℕ} 0 1 = cc in absurd (omega arith)
 
 -- searches one after the other are one
-two-searches : (n j : ℕ) (a b : Found) → (none-at n j 0 a >> none-at n 0 0 b) ≡ none-at n 0 0 (first-of (shifted j a) b)
+two-searches : (n j : ℕ) (a b : Found) → (none-at n j 0 a >> none-at n 0 0 b) ≡ none-at n 0 0 (first-found (shifted j a) b)
 unfolding _>>_ none-at
 two-searches n j Nowhere b = refl
 two-searches n j (Here p) b = rw (zero-add (j + p))
@@ -49,7 +49,7 @@ unfolding none-at
 one-search n j Nowhere = refl
 one-search n j (Here p) = rw (zero-add (j + p))
 
-first-group : (a b c : Found) → first-of a (first-of b c) ≡ first-of (first-of a b) c
+first-group : (a b c : Found) → first-found a (first-found b c) ≡ first-found (first-found a b) c
 first-group Nowhere b c = refl
 first-group (Here p) b c = refl
 
@@ -77,13 +77,13 @@ module _ (h : Line) (text : List ℕ) where
 
 -- the code read the lines of each kind, and left the tables s, t and u
 module _
-    (A E : ℕ) (text : List ℕ) (h : Line) (fits : log-header-ok h ≡ true) (s t u : List ℕ) (size : length s ≡ 512) (mv pr ch : Judged)
+    (A E : ℕ) (text : List ℕ) (h : Line) (fits : log-header-ok h ≡ true) (s t u : List ℕ) (size : length s ≡ 512) (mv pr ch : LineFaults)
     (ms : MovesRead A text (h .a) s mv) (ps : PairsRead text (h .a) (h .b) s t pr) (cs : ChoiceLinesRead E text (h .a) (h .a + h .b) (h .c) t u ch)
   where
     abbrev k : ℕ
     k = h .a + h .b
 
-    abbrev all : Judged
+    abbrev all : LineFaults
     all = both (both mv pr) ch
 
     all-ill : all .ill ≡ least-from (bad-line text) (h .a + h .b + h .c) 1
@@ -92,7 +92,7 @@ module _
     module _ (form : all .ill ≡ Nowhere) where
       forms : (mv .ill ≡ Nowhere) × (pr .ill ≡ Nowhere) × (ch .ill ≡ Nowhere)
       forms =
-          let two = first-none (first-of (mv .ill) (pr .ill)) (ch .ill) form in
+          let two = first-none (first-found (mv .ill) (pr .ill)) (ch .ill) form in
           let one = first-none (mv .ill) (pr .ill) (two .0) in
           (one .0, one .1, two .1)
 
@@ -107,7 +107,7 @@ module _
             z,
             one-search log-line (1 + k) c,
             two-searches log-line (1 + h .a) b (shifted (1 + k) c),
-            two-searches log-line 1 a (first-of (shifted (1 + h .a) b) (shifted (1 + k) c)),
+            two-searches log-line 1 a (first-found (shifted (1 + h .a) b) (shifted (1 + k) c)),
             first-group (shifted 1 a) (shifted (1 + h .a) b) (shifted (1 + k) c),
             ms .fault (forms .0),
             ps .fault (forms .1),
@@ -117,7 +117,7 @@ module _
       module _ (none : all .fault ≡ Nowhere) where
         faults : (pr .fault ≡ Nowhere) × (ch .fault ≡ Nowhere)
         faults =
-            let two = first-none (first-of (mv .fault) (pr .fault)) (ch .fault) none in
+            let two = first-none (first-found (mv .fault) (pr .fault)) (ch .fault) none in
             (first-none (mv .fault) (pr .fault) (two .0) .1, two .1)
 
         no-pair : least (bad-pair-at (h .a) text) (h .b) ≡ Nowhere
@@ -132,10 +132,10 @@ module _
         most : h .c ≤ 256
         most = header-small h fits .2
 
-        closed : t ≡ close (table (pair-at (h .a) text) (h .b)) s
+        closed : t ≡ pairs-put (table (pair-at (h .a) text) (h .b)) s
         closed = ps .order (forms .1) (faults .0)
 
-        filed-in : u ≡ filed-all (table (choice-at k text) (h .c)) 0 t
+        filed-in : u ≡ picks-put (table (choice-at k text) (h .c)) 0 t
         filed-in = cs .order (forms .2) (faults .1)
 
         -- pairs keep what stands behind the rows
@@ -154,7 +154,7 @@ module _
         kept : (j : ℕ) → j < 128 → getD u j 0 ≡ getD t j 0
         kept j l = ap (λ (x : List ℕ). getD x j 0) filed-in ∙ choices-keep E (h .a) k text (h .c) no-choice few most t long clear j l
 
-        row-is : (j : ℕ) → j < h .a → getD u j 0 ≡ getD (rows (log-of h text .pairs) (h .a)) j 0
+        row-is : (j : ℕ) → j < h .a → getD u j 0 ≡ getD (predecessors (log-of h text .pairs) (h .a)) j 0
         unfolding log-of
         row-is j l =
             kept j (omega (arith, few)) ∙ ap (λ (x : List ℕ). getD x j 0) closed
@@ -171,7 +171,7 @@ module _
             ap (λ (x : List ℕ). picks-in x i) filed-in ∙ choices-picks E (h .a) k text (h .c) no-choice few most t long clear i l
             ∙ ap (λ (x : Input). x .picks) (input-said h text i l)
 
-        ordered : Ordered (log-of h text) u
+        ordered : OrderTable (log-of h text) u
         ordered =
             let m = how-many h text in
             record { rows = λ j l. rw m (row-is j (omega arith)); agents = λ i l. agent-is i (omega arith); picks = λ i l. picks-are i (omega arith) }

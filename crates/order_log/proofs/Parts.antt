@@ -19,9 +19,9 @@ use Rattle.text.specs.Text.{line}
 use Rattle.text.proofs.Words.{and-cases, or-cases, least-none}
 use Rattle.order.specs.Pairs.{Pair}
 use Rattle.order.specs.Log.{ascends, bad-pair, bad-pair-at}
-use Rattle.order.specs.Table.{row-in, agent-in, first-in, end-in}
+use Rattle.order.specs.Table.{predecessors-in, agent-in, first-in, end-in}
 use Rattle.order.proofs.Masks.{shl-one}
-use Rattle.order_log.specs.Read.{pair-at, join, close}
+use Rattle.order_log.specs.Read.{pair-at, pair-put, pairs-put}
 use Rattle.order_log.proofs.Chaining.{Up}
 
 -- ---- the moves
@@ -29,7 +29,7 @@ use Rattle.order_log.proofs.Chaining.{Up}
 -- the first n moves have an empty row, their agents, and no picks
 pub record Filled (f : ℕ → ℕ) (n : ℕ) (t : List ℕ) : Type 0 where
   pub long : length t ≡ 512
-  pub rows : (j : ℕ) → j < n → row-in t j ≡ 0
+  pub rows : (j : ℕ) → j < n → predecessors-in t j ≡ 0
   pub agents : (i : ℕ) → i < n → agent-in t i ≡ f i
   pub picks : (i : ℕ) → i < n → (first-in t i ≡ 0) × (end-in t i ≡ 0)
 
@@ -63,7 +63,7 @@ module _ (t : List ℕ) (i v : ℕ) (h : i < 64) (long : length t ≡ 512) where
   filled-other j a b c d =
       getD-set-other three (192 + i) j 0 0 d ∙ getD-set-other two (128 + i) j 0 0 c ∙ getD-set-other one (64 + i) j v 0 b ∙ getD-set-other t i j 0 0 a
 
-  row-filled : row-in (filled t i v) i ≡ 0
+  row-filled : predecessors-in (filled t i v) i ≡ 0
   row-filled =
       getD-set-other three (192 + i) i 0 0 (λ e. absurd (omega arith)) ∙ getD-set-other two (128 + i) i 0 0 (λ e. absurd (omega arith))
       ∙ getD-set-other one (64 + i) i v 0 (λ e. absurd (omega arith)) ∙ getD-set-same t i 0 0 (omega arith)
@@ -81,7 +81,7 @@ module _ (t : List ℕ) (i v : ℕ) (h : i < 64) (long : length t ≡ 512) where
 
   -- the words of another move stay
   module _ (j : ℕ) (l : j < 64) (n : j ≢ i) where
-    row-other : row-in (filled t i v) j ≡ row-in t j
+    row-other : predecessors-in (filled t i v) j ≡ predecessors-in t j
     row-other = filled-other j n (λ e. absurd (omega arith)) (λ e. absurd (omega arith)) (λ e. absurd (omega arith))
 
     agent-other : agent-in (filled t i v) j ≡ agent-in t j
@@ -170,23 +170,23 @@ module _ (m : ℕ) (text : List ℕ) (n : ℕ) (e : least (bad-pair-at m text) n
           (least-none (bad-pair-at m text) n e (suc j) (omega arith)) (λ (q : suc j ≡ 0). absurd (omega arith)))
 
 -- one pair more, as the code puts it in
-pub joined : (t : List ℕ) (a b : ℕ) → a < 64 → set t b (bitOr (getD t b 0) (bitOr (getD t a 0) ((1 * 2 ^ a) % 2 ^ 64))) ≡ join t a b
+pub joined : (t : List ℕ) (a b : ℕ) → a < 64 → set t b (bitOr (getD t b 0) (bitOr (getD t a 0) ((1 * 2 ^ a) % 2 ^ 64))) ≡ pair-put t a b
 joined t a b h = rw (shl-one a h)
 
 -- the n pairs of f from pair i on
 abbrev pub left : (ℕ → Pair) → ℕ → ℕ → List ℕ → List ℕ
-left f n i t = close (table-from f i (n - i)) t
+left f n i t = pairs-put (table-from f i (n - i)) t
 
 module _ (f : ℕ → Pair) (n : ℕ) where
-  pub left-all : (s : List ℕ) → left f n 0 s ≡ close (table f n) s
+  pub left-all : (s : List ℕ) → left f n 0 s ≡ pairs-put (table f n) s
   left-all s = let e : n - 0 ≡ n = omega arith in rw e
 
-  pub left-turn : (i : ℕ) (t : List ℕ) → i < n → left f n (i + 1) (join t (f i .earlier) (f i .later)) ≡ left f n i t
-  unfolding close table-from
+  pub left-turn : (i : ℕ) (t : List ℕ) → i < n → left f n (i + 1) (pair-put t (f i .earlier) (f i .later)) ≡ left f n i t
+  unfolding pairs-put table-from
   left-turn i t h = let e : n - i ≡ suc (n - (i + 1)) = omega arith in rw (e, add-one i)
 
   pub left-end : (i : ℕ) (t : List ℕ) → n ≤ i → left f n i t ≡ t
-  unfolding close table-from
+  unfolding pairs-put table-from
   left-end i t h = let e : n - i ≡ 0 = omega arith in rw e
 
 -- a pair that is not at fault is of the 64 moves

@@ -13,7 +13,7 @@ use Rattle.text.specs.Words.{if_then_else_, least-from, least}
 use Rattle.text.specs.Text.{bad-line, line, parsed}
 use Rattle.text.proofs.Fields.{parsed-line}
 use Rattle.order.specs.Log.{bad-move, bad-move-at}
-use Rattle.order_lines.specs.Lines.{first-of, shifted}
+use Rattle.order_lines.specs.Lines.{first-found, shifted}
 use Rattle.order_lines.proofs.Places.{part-start, part-pass, part-stop, part-end, fault-turn, found-some, line-bad, line-good}
 use Rattle.order_log.specs.Read.{MovesRead}
 use Rattle.order_log.proofs.Parts.{Filled, filled, filled-start, filled-turn}
@@ -39,7 +39,7 @@ module _ (A : ℕ) (text : List ℕ) (m : ℕ) where
         picks = λ z. found-some z;
       }
 
-      pub moved-turn : m ≤ 64 → p .ok ≡ true → (b : Bool) → b ≡ bad-move A (p .line) → (r : Found) → r ≡ first-of found (if b then Here (1 + i) else Nowhere)
+      pub moved-turn : m ≤ 64 → p .ok ≡ true → (b : Bool) → b ≡ bad-move A (p .line) → (r : Found) → r ≡ first-found found (if b then Here (1 + i) else Nowhere)
           → Moved (i + 1) (filled t i (p .line .a)) r
       moved-turn small e b f r g =
           let l = parsed-line text (1 + i) p is e in

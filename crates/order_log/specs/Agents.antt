@@ -7,7 +7,7 @@ use lib.Dec.{eqb}
 use Rattle.text.specs.Words.{Checked}
 use Rattle.text.specs.Refusals.{agent-unordered}
 use Rattle.order.specs.Sets.{bit}
-use Rattle.order.specs.Pairs.{ordered-by, least-two, none-two}
+use Rattle.order.specs.Pairs.{ordered-by, least-pair, no-pair-at}
 use Rattle.order.specs.Log.{most-moves}
 use Rattle.order.specs.Table.{agent-in}
 
@@ -15,18 +15,18 @@ abbrev pub most-agents : ℕ
 most-agents = 16
 
 -- the agent of move i, as far as a table of so many tells agents apart
-abbrev pub agent-of : List ℕ → ℕ → ℕ
-agent-of t i = agent-in t i % most-agents
+abbrev pub agent-told : List ℕ → ℕ → ℕ
+agent-told t i = agent-in t i % most-agents
 
 -- moves i and j are of one agent, and the table leaves them unordered
 abbrev pub loose-in : List ℕ → ℕ → ℕ → Bool
-loose-in t i j = eqb (agent-of t i) (agent-of t j) && not (ordered-by t i j)
+loose-in t i j = eqb (agent-told t i) (agent-told t j) && not (ordered-by t i j)
 
 -- of the first m moves
 unfoldable pub check-agents-in : List ℕ → ℕ → Checked (Unit {0})
-check-agents-in t m = none-two agent-unordered (least-two (loose-in t) (min m most-moves))
+check-agents-in t m = no-pair-at agent-unordered (least-pair (loose-in t) (min m most-moves))
 
 -- r is the least move that is in the set `own` and not in `row`; 64 for none
-pub record Nearest (own row r : ℕ) : Type 0 where
+pub record LeastUnordered (own row r : ℕ) : Type 0 where
   pub hit : r < 64 → (bit own r && not (bit row r)) ≡ true
   pub low : (i : ℕ) → i < 64 → (bit own i && not (bit row i)) ≡ true → r ≤ i

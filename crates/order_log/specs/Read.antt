@@ -15,26 +15,26 @@ use Rattle.text.specs.Text.{line-length, bad-line, line}
 use Rattle.order.specs.Sets.{with-move}
 use Rattle.order.specs.Pairs.{Pair}
 use Rattle.order.specs.Log.{Log, log-header-ok, pair-of, log-of, bad-move-at, bad-pair-at, check-log-lines, read-log}
-use Rattle.order.specs.Table.{row-in, agent-in, first-in, end-in, Ordered}
-use Rattle.order_lines.specs.declared.Judged.{Judged}
-use Rattle.order_lines.specs.Lines.{first-of, shifted, KindRead}
+use Rattle.order.specs.Table.{predecessors-in, agent-in, first-in, end-in, OrderTable}
+use Rattle.order_lines.specs.declared.LineFaults.{LineFaults}
+use Rattle.order_lines.specs.Lines.{first-found, shifted, KindRead}
 use Rattle.order_log.specs.declared.LogRead.{LogRead}
 
 -- ---- the header
 
 -- 1 then 9 on the first line as it is read
-unfoldable pub header-judged : Parsed → Checked (Unit {0})
-header-judged p = do
+unfoldable pub header-checked : Parsed → Checked (Unit {0})
+header-checked p = do
   must (p .ok) ill-formed 0 log-text
   must (log-header-ok (p .line)) log-line 0 0
 
 -- ---- the lines after it
 
 -- the m move lines are read: in the table t each move has its agent, an empty row and no picks
-pub record MovesRead (A : ℕ) (text : List ℕ) (m : ℕ) (t : List ℕ) (r : Judged) : Type 0 where
+pub record MovesRead (A : ℕ) (text : List ℕ) (m : ℕ) (t : List ℕ) (r : LineFaults) : Type 0 where
   pub ill : r .ill ≡ least-from (bad-line text) m 1
   pub fault : r .ill ≡ Nowhere → r .fault ≡ shifted 1 (least (bad-move-at A text) m)
-  pub rows : r .ill ≡ Nowhere → (j : ℕ) → j < m → row-in t j ≡ 0
+  pub rows : r .ill ≡ Nowhere → (j : ℕ) → j < m → predecessors-in t j ≡ 0
   pub agents : r .ill ≡ Nowhere → (i : ℕ) → i < m → agent-in t i ≡ line text (1 + i) .a
   pub picks : r .ill ≡ Nowhere → (i : ℕ) → i < m → (first-in t i ≡ 0) × (end-in t i ≡ 0)
 
@@ -43,31 +43,31 @@ abbrev pub pair-at : ℕ → List ℕ → ℕ → Pair
 pair-at m text i = pair-of (line text (1 + m + i))
 
 -- one pair put in: to the moves before b come those before a, and a
-abbrev pub join : List ℕ → ℕ → ℕ → List ℕ
-join t a b = set t b (bitOr (getD t b 0) (with-move (getD t a 0) a))
+abbrev pub pair-put : List ℕ → ℕ → ℕ → List ℕ
+pair-put t a b = set t b (bitOr (getD t b 0) (with-move (getD t a 0) a))
 
 -- one after the other
-unfoldable pub close : List Pair → List ℕ → List ℕ
-close [] t = t
-close (p ∷ ps) t = close ps (join t (p .earlier) (p .later))
+unfoldable pub pairs-put : List Pair → List ℕ → List ℕ
+pairs-put [] t = t
+pairs-put (p ∷ ps) t = pairs-put ps (pair-put t (p .earlier) (p .later))
 
 -- the n pair lines of m moves are read: if none is at fault they are put into the table s
-abbrev pub PairsRead : List ℕ → ℕ → ℕ → List ℕ → List ℕ → Judged → Type 0
-PairsRead text m n s t r = KindRead text m n (bad-pair-at m text) (close (table (pair-at m text) n) s) t r
+abbrev pub PairsRead : List ℕ → ℕ → ℕ → List ℕ → List ℕ → LineFaults → Type 0
+PairsRead text m n s t r = KindRead text m n (bad-pair-at m text) (pairs-put (table (pair-at m text) n) s) t r
 
 -- of two kinds of lines, one after the other
-abbrev pub both : Judged → Judged → Judged
-both a b = record { ill = first-of (a .ill) (b .ill); fault = first-of (a .fault) (b .fault) }
+abbrev pub both : LineFaults → LineFaults → LineFaults
+both a b = record { ill = first-found (a .ill) (b .ill); fault = first-found (a .fault) (b .fault) }
 
 -- the lines after the header h are read: 1 on them, and 9; if they pass, the table t is that of the log
-pub record LinesRead (A E : ℕ) (text : List ℕ) (h : Line) (t : List ℕ) (r : Judged) : Type 0 where
+pub record LinesRead (A E : ℕ) (text : List ℕ) (h : Line) (t : List ℕ) (r : LineFaults) : Type 0 where
   pub ill : r .ill ≡ least-from (bad-line text) (h .a + h .b + h .c) 1
   pub fault : r .ill ≡ Nowhere → check-log-lines A E h text ≡ none-at log-line 0 0 (r .fault)
-  pub order : r .ill ≡ Nowhere → r .fault ≡ Nowhere → Ordered (log-of h text) t
+  pub order : r .ill ≡ Nowhere → r .fault ≡ Nowhere → OrderTable (log-of h text) t
 
 -- 1 and 9 on a log of so many bytes and n lines
-unfoldable pub judged : ℕ → ℕ → Found → Found → Checked (Unit {0})
-judged size n ill fault = do
+unfoldable pub lines-checked : ℕ → ℕ → Found → Found → Checked (Unit {0})
+lines-checked size n ill fault = do
   none-at ill-formed 0 log-text ill
   must (leb size (line-length * n)) ill-formed n log-text
   none-at log-line 0 0 fault
@@ -75,7 +75,7 @@ judged size n ill fault = do
 -- ---- the log
 
 -- the answer; of a log that passes how many moves it has, and its order and picks in the table t
-pub record LogReads (A E : ℕ) (text t : List ℕ) (r : LogRead) : Type 0 where
+pub record LogIsRead (A E : ℕ) (text t : List ℕ) (r : LogRead) : Type 0 where
   pub answer : r .answer ≡ answer-of (read-log A E text)
   pub moves : (g : Log) → read-log A E text ≡ good g → r .moves ≡ length (g .moves)
-  pub order : (g : Log) → read-log A E text ≡ good g → Ordered g t
+  pub order : (g : Log) → read-log A E text ≡ good g → OrderTable g t

@@ -1,6 +1,6 @@
 // The log: its text read once into the table of its order, with 1 and 9, and 10 by sets of moves.
 use order::Order;
-use order_lines::Judged;
+use order_lines::LineFaults;
 use text::Answer;
 use text::Found;
 use text::Line;
@@ -12,8 +12,8 @@ ghost use lib.ListN.{length, getD, take, drop};
 ghost use Rattle.text.specs.Words.{if_then_else_, answer-of};
 ghost use Rattle.order.specs.Log.{log-header-ok, bad-move, bad-pair};
 ghost use Rattle.order.specs.Table.{agent-in, picks-in};
-ghost use Rattle.order_log.specs.Read.{header-judged, judged, join, MovesRead, PairsRead, both, LinesRead, LogReads};
-ghost use Rattle.order_log.specs.Agents.{Nearest, check-agents-in};
+ghost use Rattle.order_log.specs.Read.{header-checked, lines-checked, pair-put, MovesRead, PairsRead, both, LinesRead, LogIsRead};
+ghost use Rattle.order_log.specs.Agents.{LeastUnordered, check-agents-in};
 
 // Bounds of the header's m, k and c, and how many agents there may be.
 pub const MOST_MOVES: u32 = 64;
@@ -41,14 +41,14 @@ fn header_fits(h: Line) -> bool
 }
 
 // A move line is at fault.
-fn move_fault(l: Line, agents: u32) -> bool
+fn bad_move(l: Line, agents: u32) -> bool
     ensures { λ r. ⌜ r ≡ bad-move agents l ⌝ }
 {
     !((l.a < agents) & (l.b == 0) & (l.c == 0) & (l.d == 0))
 }
 
 // Pair line i, of m moves, is at fault; k is the line before it.
-fn pair_fault(m: u32, k: Line, l: Line, i: u32) -> bool
+fn bad_pair(m: u32, k: Line, l: Line, i: u32) -> bool
     ensures { λ r. ⌜ r ≡ bad-pair m k l i ⌝ }
 {
     let ascends = (k.a < l.a) | ((k.a == l.a) & (k.b < l.b));
@@ -56,7 +56,7 @@ fn pair_fault(m: u32, k: Line, l: Line, i: u32) -> bool
 }
 
 // The m move lines. Each move's row is cleared and its agent stored, and it has no picks yet.
-fn read_moves(log: &[u8], agents: u32, m: u32, order: &mut [u64]) -> Judged
+fn read_moves(log: &[u8], agents: u32, m: u32, order: &mut [u64]) -> LineFaults
     requires { ⌜ (m ≤ 64) × (length (now order) ≡ 512) ⌝ }
     ensures { λ r. ⌜ MovesRead agents (now (log .entry)) m (now (order .exit)) r ⌝ }
 {
@@ -66,28 +66,28 @@ fn read_moves(log: &[u8], agents: u32, m: u32, order: &mut [u64]) -> Judged
         let read = text::parse(log, 1 + i);
         let l = read.line;
         if !read.ok {
-            return Judged {
+            return LineFaults {
                 ill: Found::Here(1 + i),
                 fault: fault,
             };
         }
-        fault = order_lines::or_here(fault, move_fault(l, agents), 1 + i);
+        fault = order_lines::or_here(fault, bad_move(l, agents), 1 + i);
         order[i as usize] = 0;
         order[64 + i as usize] = l.a as u64;
         order[128 + i as usize] = 0;
         order[192 + i as usize] = 0;
         i += 1;
     }
-    Judged {
+    LineFaults {
         ill: Found::Nowhere,
         fault: fault,
     }
 }
 
 // A pair that is not at fault put in: to the moves before its later one come those before its earlier one, and that one.
-fn chain(order: &mut Order, l: Line, bad: bool)
+fn put_pair(order: &mut Order, l: Line, bad: bool)
     requires { ⌜ (bad ≡ false → (l .a < 64) × (l .b < 64)) ⌝ }
-    ensures { λ _. ⌜ now (order .exit) ≡ (if bad then now (order .entry) else join (now (order .entry)) (l .a) (l .b)) ⌝ }
+    ensures { λ _. ⌜ now (order .exit) ≡ (if bad then now (order .entry) else pair-put (now (order .entry)) (l .a) (l .b)) ⌝ }
 {
     if !bad {
         let a = l.a as usize;
@@ -99,7 +99,7 @@ fn chain(order: &mut Order, l: Line, bad: bool)
 
 // The n pair lines of m moves. They ascend by their earlier move, so that its row is complete when it is used: one pass is
 // enough.
-fn read_pairs(log: &[u8], m: u32, n: u32, order: &mut Order) -> Judged
+fn read_pairs(log: &[u8], m: u32, n: u32, order: &mut Order) -> LineFaults
     requires { ⌜ (m ≤ 64) × (n ≤ 2016) ⌝ }
     ensures { λ r. ⌜ PairsRead (now (log .entry)) m n (now (order .entry)) (now (order .exit)) r ⌝ }
 {
@@ -115,41 +115,41 @@ fn read_pairs(log: &[u8], m: u32, n: u32, order: &mut Order) -> Judged
         let read = text::parse(log, 1 + m + i);
         let l = read.line;
         if !read.ok {
-            return Judged {
+            return LineFaults {
                 ill: Found::Here(1 + m + i),
                 fault: fault,
             };
         }
-        let bad = pair_fault(m, before, l, i);
+        let bad = bad_pair(m, before, l, i);
         fault = order_lines::or_here(fault, bad, 1 + m + i);
-        chain(order, l, bad);
+        put_pair(order, l, bad);
         before = l;
         i += 1;
     }
-    Judged {
+    LineFaults {
         ill: Found::Nowhere,
         fault: fault,
     }
 }
 
 // Of two kinds of lines, one after the other.
-fn both(a: Judged, b: Judged) -> Judged
+fn both(a: LineFaults, b: LineFaults) -> LineFaults
     ensures { λ r. ⌜ r ≡ both a b ⌝ }
 {
     let ill = a.ill;
     let later_ill = b.ill;
     let fault = a.fault;
     let later_fault = b.fault;
-    let first_ill = order_lines::first_of(ill, later_ill);
-    let first_fault = order_lines::first_of(fault, later_fault);
-    Judged {
+    let first_ill = order_lines::first_found(ill, later_ill);
+    let first_fault = order_lines::first_found(fault, later_fault);
+    LineFaults {
         ill: first_ill,
         fault: first_fault,
     }
 }
 
 // The lines after the header h, which is within its bounds.
-fn read_lines(log: &[u8], agents: u32, elements: u32, h: Line, order: &mut Order) -> Judged
+fn read_lines(log: &[u8], agents: u32, elements: u32, h: Line, order: &mut Order) -> LineFaults
     requires { ⌜ log-header-ok h ≡ true ⌝ }
     ensures { λ r. ⌜ LinesRead agents elements (now (log .entry)) h (now (order .exit)) r ⌝ }
 {
@@ -161,7 +161,7 @@ fn read_lines(log: &[u8], agents: u32, elements: u32, h: Line, order: &mut Order
 
 // 1 then 9 on the header.
 fn check_header(head: Parsed) -> Answer
-    ensures { λ r. ⌜ r ≡ answer-of (header-judged head) ⌝ }
+    ensures { λ r. ⌜ r ≡ answer-of (header-checked head) ⌝ }
 {
     let form = text::must(head.ok, text::ILL_FORMED, 0, LOG_TEXT);
     if form.number != 0 {
@@ -172,8 +172,8 @@ fn check_header(head: Parsed) -> Answer
 }
 
 // 1 and 9 on a log of so many bytes and lines.
-fn judge(size: usize, lines: u32, ill: Found, fault: Found) -> Answer
-    ensures { λ r. ⌜ r ≡ answer-of (judged size lines ill fault) ⌝ }
+fn check_lines(size: usize, lines: u32, ill: Found, fault: Found) -> Answer
+    ensures { λ r. ⌜ r ≡ answer-of (lines-checked size lines ill fault) ⌝ }
 {
     let form = text::none_at(text::ILL_FORMED, LOG_TEXT, ill);
     if form.number != 0 {
@@ -189,7 +189,7 @@ fn judge(size: usize, lines: u32, ill: Found, fault: Found) -> Answer
 
 // 1 and 9, for a book of so many agents and elements: the log's order and picks are left in the table. Each line is read once.
 pub fn read_log(log: &[u8], agents: u32, elements: u32, order: &mut Order) -> LogRead
-    ensures { λ r. ⌜ LogReads agents elements (now (log .entry)) (now (order .exit)) r ⌝ }
+    ensures { λ r. ⌜ LogIsRead agents elements (now (log .entry)) (now (order .exit)) r ⌝ }
 {
     let head = text::parse(log, 0);
     let first = check_header(head);
@@ -203,7 +203,7 @@ pub fn read_log(log: &[u8], agents: u32, elements: u32, order: &mut Order) -> Lo
     let found = read_lines(log, agents, elements, h, order);
     let ill = found.ill;
     let fault = found.fault;
-    let answer = judge(log.len(), 1 + h.a + h.b + h.c, ill, fault);
+    let answer = check_lines(log.len(), 1 + h.a + h.b + h.c, ill, fault);
     LogRead {
         answer: answer,
         moves: h.a,
@@ -211,8 +211,8 @@ pub fn read_log(log: &[u8], agents: u32, elements: u32, order: &mut Order) -> Lo
 }
 
 // The least move of the set `own` that is not in `row`; 64 for none.
-fn nearest(own: u64, row: u64) -> u32
-    ensures { λ r. ⌜ Nearest own row r ⌝ }
+fn least_unordered(own: u64, row: u64) -> u32
+    ensures { λ r. ⌜ LeastUnordered own row r ⌝ }
 {
     u64::trailing_zeros(own & !row)
 }
@@ -228,7 +228,7 @@ pub fn check_agents(order: &Order, moves: u32) -> Answer
     let mut j: usize = 0;
     while j < m {
         let a = (order[64 + j] % MOST_AGENTS) as usize;
-        let i = nearest(own[a], order[j]);
+        let i = least_unordered(own[a], order[j]);
         if i < first {
             first = i;
             second = j;
@@ -240,40 +240,40 @@ pub fn check_agents(order: &Order, moves: u32) -> Answer
 }
 
 // The number at an index, 0 past the end.
-fn fetch(s: &[u64], i: usize) -> u64
+fn number_at(s: &[u64], i: usize) -> u64
     ensures { λ r. ⌜ r ≡ getD (now (s .entry)) i 0 ⌝ }
 {
     if i < s.len() { s[i] } else { 0 }
 }
 
 // The agent of move i, 0 past the table.
-pub fn agent_at(order: &Order, i: u32) -> u32
+pub fn agent_of_move(order: &Order, i: u32) -> u32
     ensures { λ r. ⌜ r ≡ agent-in (now (order .entry)) i % 2 ^ 32 ⌝ }
 {
-    (fetch(order, 64 + i as usize) % 4294967296) as u32
+    (number_at(order, 64 + i as usize) % 4294967296) as u32
 }
 
 // A part of the table.
-pub struct Part {
+pub struct PickPart {
     pub first: usize,
     pub end: usize,
 }
 
 // The part of the table that has the picks of move i.
-pub fn picks_at(order: &Order, i: u32) -> Part
+pub fn picks_of_move(order: &Order, i: u32) -> PickPart
     ensures { λ r. ⌜ (r .first ≤ r .end) × (r .end ≤ 512) × (take (r .end - r .first) (drop (r .first) (now (order .entry))) ≡ picks-in (now (order .entry)) i) ⌝ }
 {
-    let a = fetch(order, 128 + i as usize);
-    let b = fetch(order, 192 + i as usize);
+    let a = number_at(order, 128 + i as usize);
+    let b = number_at(order, 192 + i as usize);
     let first = text::smaller(a as usize, 256);
     let end = text::smaller(b as usize, 256);
     if first < end {
-        return Part {
+        return PickPart {
             first: 256 + first,
             end: 256 + end,
         };
     }
-    Part {
+    PickPart {
         first: 256,
         end: 256,
     }

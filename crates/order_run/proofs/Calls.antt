@@ -11,14 +11,14 @@ use Rattle.book.specs.Book.{L}
 use Rattle.book.specs.Image.{word, held}
 use Rattle.engine.specs.declared.Instruction.{Instruction}
 use Rattle.engine.specs.Rule.{most-instructions}
-use Rattle.engine.specs.Single.{over}
+use Rattle.engine.specs.Single.{over-first}
 use Rattle.order.specs.Log.{Log}
 use Rattle.order.specs.Run.{LogAnswer, run-from}
-use Rattle.order.specs.Call.{Tables, left-in}
-use Rattle.order_run.specs.declared.Turn.{Turn}
-use Rattle.order_run.specs.Turns.{answered}
-use Rattle.order_run.specs.Laps.{Next, Stage, Kept, Lap}
-use Rattle.order_run.proofs.Laps.{over-with}
+use Rattle.order.specs.Call.{Tables, left-past}
+use Rattle.order_run.specs.declared.RunState.{RunState}
+use Rattle.order_run.specs.Runs.{answer-with}
+use Rattle.order_run.specs.Stages.{MoveNext, RunAt, RestKept, CallAt}
+use Rattle.order_run.proofs.Stages.{over-with}
 
 -- ---- tables whose first k records are d
 
@@ -28,7 +28,7 @@ first-of d y k e = subst (λ (j : ℕ). take j (d ++ y) ≡ d) e (take-append-se
 past-of : (d y : List ℕ) (k : ℕ) → length d ≡ k → drop k (d ++ y) ≡ y
 past-of d y k e = subst (λ (j : ℕ). drop j (d ++ y) ≡ y) e (drop-append-seam d y)
 
-put-back : (d f c y : List ℕ) (k : ℕ) → d ≡ f → length d ≡ k → y ≡ drop k c → d ++ y ≡ over f c
+put-back : (d f c y : List ℕ) (k : ℕ) → d ≡ f → length d ≡ k → y ≡ drop k c → d ++ y ≡ over-first f c
 put-back d f c y k q e p = ap (λ (z : List ℕ). d ++ z) (p ∙ ap (λ (j : ℕ). drop j c) (sym e)) ∙ ap (λ (z : List ℕ). z ++ drop (length z) c) q
 
 -- the table C, of which the first k were lent and came back as d
@@ -50,7 +50,7 @@ same-past i n y z e q = subst (λ (v : ℕ). drop v y ≡ drop v z) (sym e) q
 -- ---- the first k records of the three tables were lent to a stage, and came back as d, rs and ws
 
 module _
-    (lent : Tables) (n : ℕ) (whole : LogAnswer) (m o : List ℕ) (g : Log) (c C R W : List ℕ) (kept : Kept lent n whole m g c C R W) (k : ℕ) (ek : k ≡ L (held m))
+    (lent : Tables) (n : ℕ) (whole : LogAnswer) (m o : List ℕ) (g : Log) (c C R W : List ℕ) (kept : RestKept lent n whole m g c C R W) (k : ℕ) (ek : k ≡ L (held m))
     (d rs ws : List ℕ) (ld : length d ≡ length (take k C)) (lr : length rs ≡ length (take k R)) (lw : length ws ≡ length (take k W))
   where
     hc : k ≤ length C
@@ -71,7 +71,7 @@ module _
     pw : drop k W ≡ drop k (lent .writers)
     pw = same-past k (L (held m)) W (lent .writers) ek (kept .writers .1)
 
-    kept-on : Kept lent n whole m g c (d ++ drop k C) (rs ++ drop k R) (ws ++ drop k W)
+    kept-on : RestKept lent n whole m g c (d ++ drop k C) (rs ++ drop k R) (ws ++ drop k W)
     kept-on = record {
       records = kept .records;
       locations = kept .locations;
@@ -82,16 +82,16 @@ module _
     }
 
     -- a stage on them is one of the call
-    pub lap-at : (rest : List (List Instruction)) (t : Turn) → Stage m o g c rest t d rs ws → Lap lent n whole m o rest t (d ++ drop k C) (rs ++ drop k R) (ws ++ drop k W)
+    pub lap-at : (rest : List (List Instruction)) (t : RunState) → RunAt m o g c rest t d rs ws → CallAt lent n whole m o rest t (d ++ drop k C) (rs ++ drop k R) (ws ++ drop k W)
     lap-at rest t s = record {
       over = λ y.
           let q = s .over y in
           let f = run-from (held m) g c in
-          let ec : d ++ drop k C ≡ over (f .contents) (lent .contents) = put-back d (f .contents) (lent .contents) (drop k C) k (ap (λ (v : LogAnswer). v .contents) (q .1)) (cut-long k C (lent .contents) d hc pc ld) pc in
-          let er : rs ++ drop k R ≡ over (f .readers) (lent .readers) = put-back rs (f .readers) (lent .readers) (drop k R) k (ap (λ (v : LogAnswer). v .readers) (q .1)) (cut-long k R (lent .readers) rs hr pr lr) pr in
-          let ew : ws ++ drop k W ≡ over (f .writers) (lent .writers) = put-back ws (f .writers) (lent .writers) (drop k W) k (ap (λ (v : LogAnswer). v .writers) (q .1)) (cut-long k W (lent .writers) ws hw pw lw) pw in
+          let ec : d ++ drop k C ≡ over-first (f .contents) (lent .contents) = put-back d (f .contents) (lent .contents) (drop k C) k (ap (λ (v : LogAnswer). v .contents) (q .1)) (cut-long k C (lent .contents) d hc pc ld) pc in
+          let er : rs ++ drop k R ≡ over-first (f .readers) (lent .readers) = put-back rs (f .readers) (lent .readers) (drop k R) k (ap (λ (v : LogAnswer). v .readers) (q .1)) (cut-long k R (lent .readers) rs hr pr lr) pr in
+          let ew : ws ++ drop k W ≡ over-first (f .writers) (lent .writers) = put-back ws (f .writers) (lent .writers) (drop k W) k (ap (λ (v : LogAnswer). v .writers) (q .1)) (cut-long k W (lent .writers) ws hw pw lw) pw in
           let ea : t .answer ≡ f .answer = ap (λ (v : LogAnswer). v .answer) (q .1) in
-          let all : answered (t .answer) (d ++ drop k C) (rs ++ drop k R) (ws ++ drop k W) ≡ left-in lent f = rw (ec, er, ew, ea) in
+          let all : answer-with (t .answer) (d ++ drop k C) (rs ++ drop k R) (ws ++ drop k W) ≡ left-past lent f = rw (ec, er, ew, ea) in
           (q .0, all ∙ kept .call);
       on = λ y. record {
         g = g;
@@ -109,16 +109,16 @@ module _
 -- ---- the moves that are left
 
 -- they are made on the first k records: what they leave there, and the others, is what the call leaves
-pub ends-call : (lent : Tables) (n : ℕ) (whole : LogAnswer) (m o : List ℕ) (rest : List (List Instruction)) (t : Turn) (C R W : List ℕ) → Lap lent n whole m o rest t C R W → t .more ≡ true
+pub ends-call : (lent : Tables) (n : ℕ) (whole : LogAnswer) (m o : List ℕ) (rest : List (List Instruction)) (t : RunState) (C R W : List ℕ) → CallAt lent n whole m o rest t C R W → t .more ≡ true
     → (k : ℕ) → k ≡ min (word m 6) (min (length C) (min (length R) (length W)))
     → (a : Answer) (d rs ws : List ℕ) → length d ≡ length (take k C) → length rs ≡ length (take k R) → length ws ≡ length (take k W)
-    → (P : Type 0) → ((g : Log) (c : List ℕ) → most-instructions ≤ n → Stage m o g c rest t (take k C) (take k R) (take k W) → (answered a d rs ws ≡ run-from (held m) g c) × P)
-    → (answered a (d ++ drop k C) (rs ++ drop k R) (ws ++ drop k W) ≡ whole) × P
+    → (P : Type 0) → ((g : Log) (c : List ℕ) → most-instructions ≤ n → RunAt m o g c rest t (take k C) (take k R) (take k W) → (answer-with a d rs ws ≡ run-from (held m) g c) × P)
+    → (answer-with a (d ++ drop k C) (rs ++ drop k R) (ws ++ drop k W) ≡ whole) × P
 ends-call lent n whole m o rest t C R W h y k ek a d rs ws ld lr lw P does =
     let on = h .on y in
     let K = on .kept in
     let j : k ≡ L (held m) = omega (arith, ek, K .locations, K .contents .0, K .readers .0, K .writers .0) in
-    let next = subst (λ (q : ℕ). Next m o (on .g) (on .c) t (take q C) (take q R) (take q W)) (sym j) (on .next) in
+    let next = subst (λ (q : ℕ). MoveNext m o (on .g) (on .c) t (take q C) (take q R) (take q W)) (sym j) (on .next) in
     let left = does (on .g) (on .c) (K .records) (record { over = λ z. absurd (false≢true (sym z ∙ y)); next = λ _. next; lists = λ _. on .lists }) in
     let lap = lap-at lent n whole m o (on .g) (on .c) C R W K k j d rs ws ld lr lw [] (over-with a) (record { over = λ _. (refl, left .0); next = λ z. absurd (false≢true z); lists = λ z. absurd (false≢true z) }) in
     (lap .over refl .1, left .1)

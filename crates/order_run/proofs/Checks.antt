@@ -16,22 +16,22 @@ use Rattle.book.proofs.Claims.{accepted-book}
 use Rattle.book.proofs.Held.{held-agents-most}
 use Rattle.order.specs.declared.Lengths.{Lengths}
 use Rattle.order.specs.Log.{Log, check-agents, read-log, check-log}
-use Rattle.order.specs.Call.{Tables, lengths, check-lengths, check-lent, check-all, left-in, log-answer, log-call}
+use Rattle.order.specs.Call.{Tables, lengths, check-lengths, check-lent, check-all, left-past, log-answer, log-call}
 use Rattle.order.specs.Run.{run-log}
 use Rattle.order.specs.Lists.{lists-of, call-lists}
-use Rattle.order.specs.Table.{Ordered}
+use Rattle.order.specs.Table.{OrderTable}
 use Rattle.order.proofs.Log.{log-read, passed}
 use Rattle.order.proofs.Numbers.{Early, off, all-early}
 use Rattle.order_log.specs.declared.LogRead.{LogRead}
-use Rattle.order_log.specs.Read.{LogReads}
+use Rattle.order_log.specs.Read.{LogIsRead}
 use Rattle.order_log.specs.Agents.{check-agents-in}
 use Rattle.order_log.proofs.Agents.{log-checked}
-use Rattle.order_run.proofs.Ends.{Enough, lengths-good}
-use Rattle.book_check.specs.Opened as image
+use Rattle.order_run.proofs.RunTables.{Enough, lengths-good}
+use Rattle.book_check.specs.ImageOf as image
 use Rattle.book_check.proofs.Fits.{held-is}
-use Rattle.order_run.specs.declared.Opening.{Opening}
-use Rattle.order_run.specs.Turns.{Runnable, answered}
-use Rattle.order_run.specs.Checked.{Opened, run-lists}
+use Rattle.order_run.specs.declared.CheckedCall.{CheckedCall}
+use Rattle.order_run.specs.Runs.{Runnable, answer-with}
+use Rattle.order_run.specs.Checked.{CallChecked, run-lists}
 
 -- ---- the checks, one after the other
 
@@ -125,7 +125,7 @@ module _ (book log : List ℕ) (n : Lengths) where
         go (refused m p q) w z = absurd (not-zero p q (after-book B is ∙ rw (w, z)))
 
     -- 10, by the table t of the log g, which passed 1 and 9
-    module _ (g : Log) (says : read-log A E log ≡ good g) (t : List ℕ) (ordered : Ordered g t) (few : A ≤ 16) where
+    module _ (g : Log) (says : read-log A E log ≡ good g) (t : List ℕ) (ordered : OrderTable g t) (few : A ≤ 16) where
       abbrev ten : Checked (Unit {0})
       ten = check-agents-in t (length (g .moves))
 
@@ -156,18 +156,18 @@ module _ (book log : List ℕ) (n : Lengths) where
   -- ---- what the code leaves
 
   -- refused
-  opened-off : (r : Opening) (m o : List ℕ) → image.Opened m (check-book book) → r .answer ≡ answer-of all → answer-of all .number ≢ 0 → Opened book log n r m o
+  opened-off : (r : CheckedCall) (m o : List ℕ) → image.ImageOf m (check-book book) → r .answer ≡ answer-of all → answer-of all .number ≢ 0 → CallChecked book log n r m o
   opened-off r m o i e z = record { answer = e; held = λ b g f. absurd (z (good-zero (b, g) f)); image = i }
 
-  module _ (m : List ℕ) (a : Answer) (ea : a ≡ answer-of (check-book book)) (opened : image.Opened m (check-book book)) where
-    pub off-book : (r : Opening) (o : List ℕ) → r .answer ≡ a → a .number ≢ 0 → Opened book log n r m o
+  module _ (m : List ℕ) (a : Answer) (ea : a ≡ answer-of (check-book book)) (opened : image.ImageOf m (check-book book)) where
+    pub off-book : (r : CheckedCall) (o : List ℕ) → r .answer ≡ a → a .number ≢ 0 → CallChecked book log n r m o
     off-book r o e z =
         let y : answer-of (check-book book) .number ≢ 0 = λ q. z (ap (λ (x : Answer). x .number) ea ∙ q) in
         let s = book-stops y in
         opened-off r m o opened (e ∙ ea ∙ s) (λ q. y (ap (λ (x : Answer). x .number) s ∙ q))
 
     module _ (z : a .number ≡ 0) (agents elements : ℕ) (ek : agents ≡ length (held m .agents)) (ee : elements ≡ held m .E) (o : List ℕ) (c : LogRead)
-        (read : LogReads agents elements log o c)
+        (read : LogIsRead agents elements log o c)
       where
         book-is : (B : Book) × (check-book book ≡ good B)
         book-is = book-good (ap (λ (x : Answer). x .number) (sym ea) ∙ z)
@@ -178,10 +178,10 @@ module _ (book log : List ℕ) (n : Lengths) where
         agents-same : (b : Book) → check-book book ≡ good b → agents ≡ length (b .program .agents)
         agents-same b e = ek ∙ ap (λ (y : Program). length (y .agents)) (held-is book m opened b e)
 
-        reads : (b : Book) → check-book book ≡ good b → LogReads (length (b .program .agents)) (b .program .E) log o c
+        reads : (b : Book) → check-book book ≡ good b → LogIsRead (length (b .program .agents)) (b .program .E) log o c
         reads b e =
-            subst (λ (k : ℕ). LogReads (length (b .program .agents)) k log o c) (ee ∙ ap (λ (y : Program). y .E) (held-is book m opened b e))
-            (subst (λ (k : ℕ). LogReads k elements log o c) (agents-same b e) read)
+            subst (λ (k : ℕ). LogIsRead (length (b .program .agents)) k log o c) (ee ∙ ap (λ (y : Program). y .E) (held-is book m opened b e))
+            (subst (λ (k : ℕ). LogIsRead k elements log o c) (agents-same b e) read)
 
         few : (b : Book) → check-book book ≡ good b → length (b .program .agents) ≤ 16
         few b e = omega (arith, ek, agents-same b e, held-agents-most m)
@@ -189,7 +189,7 @@ module _ (book log : List ℕ) (n : Lengths) where
         answers : c .answer ≡ answer-of (read-log (length (B .program .agents)) (B .program .E) log)
         answers = reads B (book-is .1) .answer
 
-        pub off-log : (r : Opening) → r .answer ≡ c .answer → c .answer .number ≢ 0 → Opened book log n r m o
+        pub off-log : (r : CheckedCall) → r .answer ≡ c .answer → c .answer .number ≢ 0 → CallChecked book log n r m o
         off-log r e y =
             let w : answer-of (read-log (length (B .program .agents)) (B .program .E) log) .number ≢ 0 = λ q. y (ap (λ (x : Answer). x .number) answers ∙ q) in
             let s = read-stops B (book-is .1) w in
@@ -202,13 +202,13 @@ module _ (book log : List ℕ) (n : Lengths) where
           abbrev g : Log
           g = log-is .0
 
-          ordered : Ordered g o
+          ordered : OrderTable g o
           ordered = reads B (book-is .1) .order g (log-is .1)
 
           told : ten ≡ answer-of (check-agents-in o (length (g .moves)))
           told = et ∙ ap (λ (k : ℕ). answer-of (check-agents-in o k)) (reads B (book-is .1) .moves g (log-is .1))
 
-          pub off-agents : (r : Opening) → r .answer ≡ ten → ten .number ≢ 0 → Opened book log n r m o
+          pub off-agents : (r : CheckedCall) → r .answer ≡ ten → ten .number ≢ 0 → CallChecked book log n r m o
           off-agents r e x =
               let w : answer-of (check-agents-in o (length (g .moves))) .number ≢ 0 = λ q. x (ap (λ (a : Answer). a .number) told ∙ q) in
               let s = ten-stops B (book-is .1) g (log-is .1) o ordered (few B (book-is .1)) w in
@@ -216,7 +216,7 @@ module _ (book log : List ℕ) (n : Lengths) where
 
           -- all have answered
           pub opened-last : ten .number ≡ 0 → (locations : ℕ) → locations ≡ word m 6 → (short : Answer) → short ≡ answer-of (check-lengths locations n)
-              → Opened book log n (record { answer = short; moves = c .moves; locations = locations }) m o
+              → CallChecked book log n (record { answer = short; moves = c .moves; locations = locations }) m o
           opened-last x locations el short lent =
               let says = ten-good B (book-is .1) g (log-is .1) o ordered (few B (book-is .1)) (ap (λ (a : Answer). a .number) (sym told) ∙ x) in
               record {
@@ -235,16 +235,16 @@ module _ (book log : List ℕ) (n : Lengths) where
 module _ (book log : List ℕ) (t : Tables) (n : ℕ) where
   -- refused before its first move
   pub call-off : (a : Answer) → a ≡ answer-of (check-all book log (lengths t n)) → a .number ≢ 0
-      → (call-lists book log t n ≡ []) × (answered a (t .contents) (t .readers) (t .writers) ≡ log-call book log t n)
+      → (call-lists book log t n ≡ []) × (answer-with a (t .contents) (t .readers) (t .writers) ≡ log-call book log t n)
   unfolding log-call call-lists
   call-off a e z = go (check-all book log (lengths t n)) e
     where
-      go : (o : Checked (Book × Log)) → a ≡ answer-of o → (lists-of o ≡ []) × (answered a (t .contents) (t .readers) (t .writers) ≡ log-answer t o)
+      go : (o : Checked (Book × Log)) → a ≡ answer-of o → (lists-of o ≡ []) × (answer-with a (t .contents) (t .readers) (t .writers) ≡ log-answer t o)
       go (good x) e = absurd (z (ap (λ (y : Answer). y .number) e))
       go (refused m p q) e = (refl, rw e)
 
   module _ (b : Book) (g : Log) (e : check-all book log (lengths t n) ≡ good (b, g)) where
-    pub call-on : left-in t (run-log b g) ≡ log-call book log t n
+    pub call-on : left-past t (run-log b g) ≡ log-call book log t n
     unfolding log-call
     call-on = rw e
 
@@ -258,7 +258,7 @@ module _ (book log : List ℕ) (lent : Lengths) (b : Book) (g : Log) (e : check-
   pub enough : Enough lent (L (b .program))
   enough = lengths-good lent (L (b .program)) tt (all-parts book log lent b g e .2)
 
-  pub runnable : (m o : List ℕ) → held m ≡ b .program → Ordered g o → Runnable m o g (start b)
+  pub runnable : (m o : List ℕ) → held m ≡ b .program → OrderTable g o → Runnable m o g (start b)
   runnable m o is ordered =
       let p = all-parts book log lent b g e in
       let ok = accepted-book book b (p .0) in

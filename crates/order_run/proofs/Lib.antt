@@ -1,7 +1,7 @@
 pub mod Marks
-pub mod Ends
-pub mod Turns
-pub mod Laps
+pub mod RunTables
+pub mod Runs
+pub mod Stages
 pub mod Calls
 pub mod Checks
 pub mod Opens

@@ -14,41 +14,41 @@ use Rattle.book.specs.Image.{word, held}
 use Rattle.engine.specs.declared.Instruction.{Instruction}
 use Rattle.order.specs.Log.{Log}
 use Rattle.order.specs.Run.{run-from, run-log, LogAnswer}
-use Rattle.order.specs.Call.{Tables, lengths, check-all, left-in, log-call}
+use Rattle.order.specs.Call.{Tables, lengths, check-all, left-past, log-call}
 use Rattle.order.specs.Lists.{lists-from, call-lists}
-use Rattle.order_run.specs.declared.Turn.{Turn}
-use Rattle.order_run.specs.declared.Opening.{Opening}
-use Rattle.order_run.specs.Turns.{Startable, answered}
-use Rattle.order_run.specs.Laps.{Stage, Kept, Lap}
-use Rattle.order_run.specs.Checked.{Opened, Passed, run-lists}
-use Rattle.order_run.proofs.Laps.{over-with}
+use Rattle.order_run.specs.declared.RunState.{RunState}
+use Rattle.order_run.specs.declared.CheckedCall.{CheckedCall}
+use Rattle.order_run.specs.Runs.{Startable, answer-with}
+use Rattle.order_run.specs.Stages.{RunAt, RestKept, CallAt}
+use Rattle.order_run.specs.Checked.{CallChecked, CallPassed, run-lists}
+use Rattle.order_run.proofs.Stages.{over-with}
 use Rattle.order_run.proofs.Calls.{lap-at}
 use Rattle.order_run.proofs.Checks.{all-parts, all-good, call-off, call-on, lists-all, enough, runnable}
 
 -- ---- the start, on the first k records of the tables
 
-module _ (book : List ℕ) (b : Book) (g : Log) (r : Opening) (m o : List ℕ) (t : Tables) (n : ℕ) (p : Passed book b g r m o t n) where
+module _ (book : List ℕ) (b : Book) (g : Log) (r : CheckedCall) (m o : List ℕ) (t : Tables) (n : ℕ) (p : CallPassed book b g r m o t n) where
   same : L (b .program) ≡ L (held m)
   same = sym (ap L (p .holds .image))
 
   abbrev whole : LogAnswer
-  whole = left-in t (run-log b g)
+  whole = left-past t (run-log b g)
 
-  kept : Kept t n whole m g (start b) (t .contents) (t .readers) (t .writers)
+  kept : RestKept t n whole m g (start b) (t .contents) (t .readers) (t .writers)
   kept = record {
     records = p .records;
     locations = p .holds .locations .1 ∙ same;
     contents = (omega (arith, same, p .contents), refl);
     readers = (omega (arith, same, p .readers), refl);
     writers = (omega (arith, same, p .writers), refl);
-    call = ap (λ (B : Program). left-in t (run-from B g (start b))) (p .holds .image);
+    call = ap (λ (B : Program). left-past t (run-from B g (start b))) (p .holds .image);
   }
 
-  pub starts : (k : ℕ) → k ≡ min (word m 6) (min (length (t .contents)) (min (length (t .readers)) (length (t .writers)))) → (u : Turn) (d rs ws : List ℕ)
+  pub starts : (k : ℕ) → k ≡ min (word m 6) (min (length (t .contents)) (min (length (t .readers)) (length (t .writers)))) → (u : RunState) (d rs ws : List ℕ)
       → length d ≡ length (take k (t .contents)) → length rs ≡ length (take k (t .readers)) → length ws ≡ length (take k (t .writers))
       → ((b : Book) (g : Log) → Startable book m o b g (r .moves) (take k (t .contents)) (take k (t .readers)) (take k (t .writers))
-      → Stage m o g (start b) (lists-from (held m) g (start b) (r .moves) 0) u d rs ws)
-      → Lap t n whole m o (run-lists b g) u (d ++ drop k (t .contents)) (rs ++ drop k (t .readers)) (ws ++ drop k (t .writers))
+      → RunAt m o g (start b) (lists-from (held m) g (start b) (r .moves) 0) u d rs ws)
+      → CallAt t n whole m o (run-lists b g) u (d ++ drop k (t .contents)) (rs ++ drop k (t .readers)) (ws ++ drop k (t .writers))
   starts k ek u d rs ws ld lr lw does =
       let j : k ≡ L (held m) = omega (arith, ek, kept .locations, same, p .contents, p .readers, p .writers) in
       let s = does b g (record {
@@ -65,25 +65,25 @@ module _ (book : List ℕ) (b : Book) (g : Log) (r : Opening) (m o : List ℕ) (
       let lists : lists-from (held m) g (start b) (r .moves) 0 ≡ run-lists b g =
       ap (λ (B : Program). lists-from B g (start b) (r .moves) 0) (p .holds .image) ∙ ap (λ (i : ℕ). lists-from (b .program) g (start b) i 0) (p .holds .moves) in
       lap-at t n whole m o g (start b) (t .contents) (t .readers) (t .writers) kept k j d rs ws ld lr lw (run-lists b g) u
-      (subst (λ (q : List (List Instruction)). Stage m o g (start b) q u d rs ws) lists s)
+      (subst (λ (q : List (List Instruction)). RunAt m o g (start b) q u d rs ws) lists s)
 
 -- ---- the checks and the start
 
-module _ (book log : List ℕ) (t : Tables) (n : ℕ) (m o : List ℕ) (r : Opening) (opened : Opened book log (lengths t n) r m o) where
+module _ (book log : List ℕ) (t : Tables) (n : ℕ) (m o : List ℕ) (r : CheckedCall) (opened : CallChecked book log (lengths t n) r m o) where
   -- refused
-  pub off : (u : Turn) → u ≡ over-with (r .answer) → r .answer .number ≢ 0
-      → Lap t n (log-call book log t n) m o (call-lists book log t n) u (t .contents) (t .readers) (t .writers)
+  pub off : (u : RunState) → u ≡ over-with (r .answer) → r .answer .number ≢ 0
+      → CallAt t n (log-call book log t n) m o (call-lists book log t n) u (t .contents) (t .readers) (t .writers)
   off u e z =
       let s = call-off book log t n (r .answer) (opened .answer) z in
       record {
-        over = λ _. (s .0, ap (λ (x : Turn). answered (x .answer) (t .contents) (t .readers) (t .writers)) e ∙ s .1);
-        on = λ y. absurd (false≢true (sym (ap (λ (x : Turn). x .more) e) ∙ y));
+        over = λ _. (s .0, ap (λ (x : RunState). answer-with (x .answer) (t .contents) (t .readers) (t .writers)) e ∙ s .1);
+        on = λ y. absurd (false≢true (sym (ap (λ (x : RunState). x .more) e) ∙ y));
       }
 
   -- begun
-  pub opens : r .answer .number ≡ 0 → (u : Turn) (d rs ws : List ℕ)
-      → ((b : Book) (g : Log) (n : ℕ) → Passed book b g r m o t n → Lap t n (left-in t (run-log b g)) m o (run-lists b g) u d rs ws)
-      → Lap t n (log-call book log t n) m o (call-lists book log t n) u d rs ws
+  pub opens : r .answer .number ≡ 0 → (u : RunState) (d rs ws : List ℕ)
+      → ((b : Book) (g : Log) (n : ℕ) → CallPassed book b g r m o t n → CallAt t n (left-past t (run-log b g)) m o (run-lists b g) u d rs ws)
+      → CallAt t n (log-call book log t n) m o (call-lists book log t n) u d rs ws
   opens z u d rs ws does =
       let both = all-good book log (lengths t n) (ap (λ (x : Answer). x .number) (sym (opened .answer)) ∙ z) in
       let b = both .0 .0 in

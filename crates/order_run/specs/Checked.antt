@@ -13,33 +13,33 @@ use Rattle.engine.specs.declared.Instruction.{Instruction}
 use Rattle.engine.specs.Rule.{most-instructions}
 use Rattle.order.specs.Call.{Tables, check-all}
 use Rattle.order.specs.Lists.{lists-from}
-use Rattle.order.specs.Table.{Ordered}
-use Rattle.book_check.specs.Opened as image
-use Rattle.order_run.specs.declared.Opening.{Opening}
+use Rattle.order.specs.Table.{OrderTable}
+use Rattle.book_check.specs.ImageOf as image
+use Rattle.order_run.specs.declared.CheckedCall.{CheckedCall}
 
 -- of the book b and the log g, which passed
-pub record Holds (b : Book) (g : Log) (r : Opening) (m o : List ℕ) : Type 0 where
+pub record CallHolds (b : Book) (g : Log) (r : CheckedCall) (m o : List ℕ) : Type 0 where
   pub image : held m ≡ b .program
   pub program : program-in m ≡ b .program
   pub entries : word m 5 ≡ length (b .entries)
   pub locations : (r .locations ≡ word m 6) × (word m 6 ≡ L (b .program))
   pub moves : r .moves ≡ length (g .moves)
-  pub order : Ordered g o
+  pub order : OrderTable g o
 
 -- of a refused call the image and the table may hold anything
-pub record Opened (book log : List ℕ) (lent : Lengths) (r : Opening) (m o : List ℕ) : Type 0 where
+pub record CallChecked (book log : List ℕ) (lent : Lengths) (r : CheckedCall) (m o : List ℕ) : Type 0 where
   pub answer : r .answer ≡ answer-of (check-all book log lent)
-  pub held : (b : Book) (g : Log) → check-all book log lent ≡ good (b, g) → Holds b g r m o
-  pub image : image.Opened m (check-book book)
+  pub held : (b : Book) (g : Log) → check-all book log lent ≡ good (b, g) → CallHolds b g r m o
+  pub image : image.ImageOf m (check-book book)
 
 -- ---- a call that passed
 
 -- it may start on these tables, which have the records it needs, and with n instruction records
-pub record Passed (book : List ℕ) (b : Book) (g : Log) (r : Opening) (m o : List ℕ) (t : Tables) (n : ℕ) : Type 0 where
+pub record CallPassed (book : List ℕ) (b : Book) (g : Log) (r : CheckedCall) (m o : List ℕ) (t : Tables) (n : ℕ) : Type 0 where
   pub log : List ℕ
   pub lent : Lengths
   pub checks : check-all book log lent ≡ good (b, g)
-  pub holds : Holds b g r m o
+  pub holds : CallHolds b g r m o
   pub contents : L (b .program) ≤ length (t .contents)
   pub readers : L (b .program) ≤ length (t .readers)
   pub writers : L (b .program) ≤ length (t .writers)

@@ -1,4 +1,4 @@
-pub mod Ends
-pub mod Turns
-pub mod Laps
+pub mod RunTables
+pub mod Runs
+pub mod Stages
 pub mod Checked

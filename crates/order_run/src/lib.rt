@@ -8,11 +8,11 @@ use text::Value;
 ghost use mathlib.Core.Path.{_≡_};
 ghost use lib.ListN.{length, replicate, take, drop};
 ghost use Rattle.text.specs.Words.{answer-of};
-ghost use Rattle.order.specs.Pairs.{least-two};
-ghost use Rattle.order.specs.Call.{check-lengths, left-in, log-call};
+ghost use Rattle.order.specs.Pairs.{least-pair};
+ghost use Rattle.order.specs.Call.{check-lengths, left-past, log-call};
 ghost use Rattle.contents_start.specs.Written.{started};
 ghost use Rattle.order_touch.specs.Marked.{unordered-marked, clipped};
-ghost use Rattle.order_run.specs.Ends.{touch-answer};
+ghost use Rattle.order_run.specs.RunTables.{touch-answer};
 ghost use mathlib.Core.Bool.{false};
 ghost use mathlib.Core.List.{List};
 ghost use Prim.Native.Nat.{ℕ, _+_, _-_, _^_, _<_, _≤_, min};
@@ -20,14 +20,14 @@ ghost use Rattle.book.specs.Book.{Book, start};
 ghost use Rattle.book.specs.Image.{word, held};
 ghost use Rattle.engine.specs.Move.{input};
 ghost use Rattle.engine_walk.specs.Walk.{outcome};
-ghost use Rattle.engine_walk.specs.Gather.{Gathered};
-ghost use Rattle.engine_fire.specs.Count.{given-of};
+ghost use Rattle.engine_walk.specs.WalkMarks.{WalkMarked};
+ghost use Rattle.engine_fire.specs.Count.{instructions-given};
 ghost use Rattle.order.specs.Log.{Log};
 ghost use Rattle.order.specs.Run.{run-log};
 ghost use Rattle.order.specs.Lists.{lists-from, call-lists};
-ghost use Rattle.order_run.specs.Turns.{tables, Startable};
-ghost use Rattle.order_run.specs.Laps.{turns-left, Before, Next, Stage, Walked, Lap};
-ghost use Rattle.order_run.specs.Checked.{Opened, Passed, run-lists};
+ghost use Rattle.order_run.specs.Runs.{tables, Startable};
+ghost use Rattle.order_run.specs.Stages.{moves-left, FiredSoFar, MoveNext, RunAt, MoveBegun, CallAt};
+ghost use Rattle.order_run.specs.Checked.{CallChecked, CallPassed, run-lists};
 
 // The least number of instruction records lent.
 const MOST_INSTRUCTIONS: usize = 256;
@@ -68,7 +68,7 @@ pub fn check_lent(locations: u32, lent: Lengths) -> Answer
 }
 
 // No location has a mark.
-fn clear(marks: &mut [u64])
+fn no_marks(marks: &mut [u64])
     ensures { λ _. ⌜ now (marks .exit) ≡ replicate (length (now (marks .entry))) 0 ⌝ }
 {
     let mut i: usize = 0;
@@ -79,7 +79,7 @@ fn clear(marks: &mut [u64])
 }
 
 // The start of a run, with no marks.
-pub fn write_start(
+pub fn start_tables(
     book: &[u8],
     image: &Image,
     contents: &mut [Value],
@@ -90,15 +90,15 @@ pub fn write_start(
     ensures { λ _. ⌜ (now (readers .exit) ≡ replicate (length (now (readers .entry))) 0) × (now (writers .exit) ≡ replicate (length (now (writers .entry))) 0) ⌝ }
 {
     contents_start::write_start(book, image, contents);
-    clear(readers);
-    clear(writers);
+    no_marks(readers);
+    no_marks(writers);
 }
 
 // 17: of so many moves, by the order's table and the marks.
 pub fn check_order(readers: &[u64], writers: &[u64], order: &Order, moves: u32) -> Answer
-    ensures { λ r. ⌜ r ≡ touch-answer (least-two (unordered-marked (now (order .entry)) (now (readers .entry)) (now (writers .entry)) (clipped (now (readers .entry)) (now (writers .entry)) (length (now (readers .entry))))) moves) ⌝ }
+    ensures { λ r. ⌜ r ≡ touch-answer (least-pair (unordered-marked (now (order .entry)) (now (readers .entry)) (now (writers .entry)) (clipped (now (readers .entry)) (now (writers .entry)) (length (now (readers .entry))))) moves) ⌝ }
 {
-    let pair = order_touch::touching(readers, writers, order, moves, readers.len());
+    let pair = order_touch::least_touching_pair(readers, writers, order, moves, readers.len());
     if !pair.found {
         return triple(0, 0, 0);
     }
@@ -111,7 +111,7 @@ pub fn check_order(readers: &[u64], writers: &[u64], order: &Order, moves: u32) 
 const MOST_MOVES: usize = 64;
 
 // How far a run is: move `at` of so many is next, or all is over, with its answer.
-pub struct Turn {
+pub struct RunState {
     pub more: bool,
     pub at: u32,
     pub moves: u32,
@@ -119,7 +119,7 @@ pub struct Turn {
 }
 
 // The answer of the checks before the first move; when they pass, how many moves and locations there are.
-pub struct Opening {
+pub struct CheckedCall {
     pub answer: Answer,
     pub moves: u32,
     pub locations: u32,
@@ -127,10 +127,10 @@ pub struct Opening {
 
 // ---- the checks
 
-fn refused(answer: Answer) -> Opening
+fn refused_checks(answer: Answer) -> CheckedCall
     ensures { λ r. ⌜ r .answer ≡ answer ⌝ }
 {
-    Opening {
+    CheckedCall {
         answer: answer,
         moves: 0,
         locations: 0,
@@ -144,12 +144,12 @@ pub fn check_all(
     lent: Lengths,
     image: &mut Image,
     order: &mut Order,
-) -> Opening
-    ensures { λ r. ⌜ Opened (now (book .entry)) (now (log .entry)) lent r (now (image .exit)) (now (order .exit)) ⌝ }
+) -> CheckedCall
+    ensures { λ r. ⌜ CallChecked (now (book .entry)) (now (log .entry)) lent r (now (image .exit)) (now (order .exit)) ⌝ }
 {
     let opened = book_check::check_into(book, image);
     if opened.number != 0 {
-        return refused(opened);
+        return refused_checks(opened);
     }
     let read = order_log::read_log(
         log,
@@ -159,15 +159,15 @@ pub fn check_all(
     );
     let listed = read.answer;
     if listed.number != 0 {
-        return refused(listed);
+        return refused_checks(listed);
     }
     let unordered = order_log::check_agents(order, read.moves);
     if unordered.number != 0 {
-        return refused(unordered);
+        return refused_checks(unordered);
     }
     let locations = book_image::locations(image);
     let short = check_lent(locations, lent);
-    Opening {
+    CheckedCall {
         answer: short,
         moves: read.moves,
         locations: locations,
@@ -176,10 +176,10 @@ pub fn check_all(
 
 // ---- turns
 
-fn ended(answer: Answer) -> Turn
+fn run_over(answer: Answer) -> RunState
     ensures { λ r. ⌜ r ≡ record { more = false; at = 0; moves = 0; answer = answer } ⌝ }
 {
-    Turn {
+    RunState {
         more: false,
         at: 0,
         moves: 0,
@@ -198,7 +198,7 @@ fn bit_of(i: u32) -> u64
 }
 
 // The number after i; of a move that no log has, one that no log has.
-fn following(i: u32) -> u32
+fn number_after(i: u32) -> u32
     ensures { λ r. ⌜ (i < 64 → r ≡ i + 1) × (65 - r ≤ 64 - i) ⌝ }
 {
     if i < 64 {
@@ -208,24 +208,24 @@ fn following(i: u32) -> u32
 }
 
 // Move i is next if there is one; else the order is checked.
-fn turn_to(readers: &[u64], writers: &[u64], order: &Order, moves: u32, i: u32) -> Turn
-    ensures { λ r. ⌜ ((m c d : List ℕ) (g : Log) → moves ≡ length (g .moves) → Before m (now (order .entry)) g c i d (now (readers .entry)) (now (writers .entry)) → Stage m (now (order .entry)) g c (lists-from (held m) g c (moves - i) i) r d (now (readers .entry)) (now (writers .entry))) ⌝ }
-    ensures { λ r. ⌜ turns-left r ≤ 65 - i ⌝ }
+fn next_move(readers: &[u64], writers: &[u64], order: &Order, moves: u32, i: u32) -> RunState
+    ensures { λ r. ⌜ ((m c d : List ℕ) (g : Log) → moves ≡ length (g .moves) → FiredSoFar m (now (order .entry)) g c i d (now (readers .entry)) (now (writers .entry)) → RunAt m (now (order .entry)) g c (lists-from (held m) g c (moves - i) i) r d (now (readers .entry)) (now (writers .entry))) ⌝ }
+    ensures { λ r. ⌜ moves-left r ≤ 65 - i ⌝ }
 {
     if (i as usize) < text::smaller(moves as usize, MOST_MOVES) {
         let none = triple(0, 0, 0);
-        return Turn {
+        return RunState {
             more: true,
             at: i,
             moves: moves,
             answer: none,
         };
     }
-    ended(check_order(readers, writers, order, moves))
+    run_over(check_order(readers, writers, order, moves))
 }
 
 // The start is written, and move 0 is next; on tables of just the records needed.
-fn start_on(
+fn start_on_part(
     book: &[u8],
     image: &Image,
     order: &Order,
@@ -233,11 +233,11 @@ fn start_on(
     readers: &mut [u64],
     writers: &mut [u64],
     moves: u32,
-) -> Turn
-    ensures { λ r. ⌜ ((b : Book) (g : Log) → Startable (now (book .entry)) (now (image .entry)) (now (order .entry)) b g moves (now (contents .entry)) (now (readers .entry)) (now (writers .entry)) → Stage (now (image .entry)) (now (order .entry)) g (start b) (lists-from (held (now (image .entry))) g (start b) moves 0) r (now (contents .exit)) (now (readers .exit)) (now (writers .exit))) ⌝ }
+) -> RunState
+    ensures { λ r. ⌜ ((b : Book) (g : Log) → Startable (now (book .entry)) (now (image .entry)) (now (order .entry)) b g moves (now (contents .entry)) (now (readers .entry)) (now (writers .entry)) → RunAt (now (image .entry)) (now (order .entry)) g (start b) (lists-from (held (now (image .entry))) g (start b) moves 0) r (now (contents .exit)) (now (readers .exit)) (now (writers .exit))) ⌝ }
 {
-    write_start(book, image, contents, readers, writers);
-    turn_to(readers, writers, order, moves, 0)
+    start_tables(book, image, contents, readers, writers);
+    next_move(readers, writers, order, moves, 0)
 }
 
 // An agent's move is begun with the picks that stand in the table from `first` to `end`.
@@ -253,10 +253,10 @@ fn begin_with(
     end: usize,
 ) -> Begun
     requires { ⌜ (first ≤ end) × (end ≤ length (now table)) ⌝ }
-    ensures { λ r. ⌜ Gathered (held (now (image .entry))) (now (contents .entry)) bit (input agent (take (end - first) (drop first (now (table .entry))))) (outcome (r .walk) (now (list .exit))) (now (readers .entry)) (now (readers .exit)) ⌝ }
-    ensures { λ r. ⌜ (r .count ≡ given-of (r .walk)) × (length (now (list .exit)) ≡ 256) ⌝ }
+    ensures { λ r. ⌜ WalkMarked (held (now (image .entry))) (now (contents .entry)) bit (input agent (take (end - first) (drop first (now (table .entry))))) (outcome (r .walk) (now (list .exit))) (now (readers .entry)) (now (readers .exit)) ⌝ }
+    ensures { λ r. ⌜ (r .count ≡ instructions-given (r .walk)) × (length (now (list .exit)) ≡ 256) ⌝ }
 {
-    engine_fire::begin(
+    engine_fire::begin_move(
         image,
         contents,
         readers,
@@ -268,20 +268,20 @@ fn begin_with(
 }
 
 // The move that is next is begun, on tables of just the records needed.
-pub fn begin(
+pub fn begin_next(
     contents: &[Value],
     readers: &mut [u64],
     image: &Image,
     order: &Order,
     list: &mut [u64; 256],
-    t: Turn,
+    t: RunState,
 ) -> Begun
-    ensures { λ r. ⌜ ((g : Log) (c ws : List ℕ) → Next (now (image .entry)) (now (order .entry)) g c t (now (contents .entry)) (now (readers .entry)) ws → Walked (now (image .entry)) (now (order .entry)) g c t r (now (list .exit)) (now (contents .entry)) (now (readers .exit)) ws) ⌝ }
+    ensures { λ r. ⌜ ((g : Log) (c ws : List ℕ) → MoveNext (now (image .entry)) (now (order .entry)) g c t (now (contents .entry)) (now (readers .entry)) ws → MoveBegun (now (image .entry)) (now (order .entry)) g c t r (now (list .exit)) (now (contents .entry)) (now (readers .exit)) ws) ⌝ }
 {
     let i = t.at;
     let bit = bit_of(i);
-    let agent = order_log::agent_at(order, i);
-    let own = order_log::picks_at(order, i);
+    let agent = order_log::agent_of_move(order, i);
+    let own = order_log::picks_of_move(order, i);
     begin_with(
         image,
         contents,
@@ -296,27 +296,27 @@ pub fn begin(
 }
 
 // The move that is begun is finished, on tables of just the records needed; then the next one's turn.
-pub fn finish(
+pub fn finish_next(
     contents: &mut [Value],
     readers: &mut [u64],
     writers: &mut [u64],
     image: &Image,
     order: &Order,
     list: &[u64; 256],
-    t: Turn,
+    t: RunState,
     s: Begun,
-) -> Turn
-    ensures { λ r. ⌜ ((g : Log) (c : List ℕ) → Walked (now (image .entry)) (now (order .entry)) g c t s (now (list .entry)) (now (contents .entry)) (now (readers .entry)) (now (writers .entry)) → Stage (now (image .entry)) (now (order .entry)) g c (lists-from (held (now (image .entry))) g c (t .moves - (t .at + 1)) (t .at + 1)) r (now (contents .exit)) (now (readers .exit)) (now (writers .exit))) × (turns-left r ≤ 64 - t .at) ⌝ }
+) -> RunState
+    ensures { λ r. ⌜ ((g : Log) (c : List ℕ) → MoveBegun (now (image .entry)) (now (order .entry)) g c t s (now (list .entry)) (now (contents .entry)) (now (readers .entry)) (now (writers .entry)) → RunAt (now (image .entry)) (now (order .entry)) g c (lists-from (held (now (image .entry))) g c (t .moves - (t .at + 1)) (t .at + 1)) r (now (contents .exit)) (now (readers .exit)) (now (writers .exit))) × (moves-left r ≤ 64 - t .at) ⌝ }
 {
     let i = t.at;
     let bit = bit_of(i);
     let walk = s.walk;
-    let answer = engine_fire::finish(image, contents, readers, writers, bit, list, walk, i);
+    let answer = engine_fire::finish_move(image, contents, readers, writers, bit, list, walk, i);
     if answer.number != 0 {
-        return ended(answer);
+        return run_over(answer);
     }
-    let next = following(i);
-    turn_to(readers, writers, order, t.moves, next)
+    let next = number_after(i);
+    next_move(readers, writers, order, t.moves, next)
 }
 
 // ---- a call, on tables of any length
@@ -331,19 +331,19 @@ pub fn records_used(image: &Image, contents: usize, readers: usize, writers: usi
 }
 
 // The start of a call that passed its checks: its contents written and its marks cleared; move 0 is next.
-pub fn start(
+pub fn start_run(
     book: &[u8],
     contents: &mut [Value],
     readers: &mut [u64],
     writers: &mut [u64],
     image: &Image,
     order: &Order,
-    checked: Opening,
-) -> Turn
-    ensures { λ r. ⌜ ((b : Book) (g : Log) (n : ℕ) → Passed (now (book .entry)) b g checked (now (image .entry)) (now (order .entry)) (tables (now (contents .entry)) (now (readers .entry)) (now (writers .entry))) n → Lap (tables (now (contents .entry)) (now (readers .entry)) (now (writers .entry))) n (left-in (tables (now (contents .entry)) (now (readers .entry)) (now (writers .entry))) (run-log b g)) (now (image .entry)) (now (order .entry)) (run-lists b g) r (now (contents .exit)) (now (readers .exit)) (now (writers .exit))) ⌝ }
+    checked: CheckedCall,
+) -> RunState
+    ensures { λ r. ⌜ ((b : Book) (g : Log) (n : ℕ) → CallPassed (now (book .entry)) b g checked (now (image .entry)) (now (order .entry)) (tables (now (contents .entry)) (now (readers .entry)) (now (writers .entry))) n → CallAt (tables (now (contents .entry)) (now (readers .entry)) (now (writers .entry))) n (left-past (tables (now (contents .entry)) (now (readers .entry)) (now (writers .entry))) (run-log b g)) (now (image .entry)) (now (order .entry)) (run-lists b g) r (now (contents .exit)) (now (readers .exit)) (now (writers .exit))) ⌝ }
 {
     let n = records_used(image, contents.len(), readers.len(), writers.len());
-    start_on(
+    start_on_part(
         book,
         image,
         order,
@@ -364,8 +364,8 @@ pub fn prepare(
     lent: usize,
     image: &mut Image,
     order: &mut Order,
-) -> Turn
-    ensures { λ r. ⌜ Lap (tables (now (contents .entry)) (now (readers .entry)) (now (writers .entry))) lent (log-call (now (book .entry)) (now (log .entry)) (tables (now (contents .entry)) (now (readers .entry)) (now (writers .entry))) lent) (now (image .exit)) (now (order .exit)) (call-lists (now (book .entry)) (now (log .entry)) (tables (now (contents .entry)) (now (readers .entry)) (now (writers .entry))) lent) r (now (contents .exit)) (now (readers .exit)) (now (writers .exit)) ⌝ }
+) -> RunState
+    ensures { λ r. ⌜ CallAt (tables (now (contents .entry)) (now (readers .entry)) (now (writers .entry))) lent (log-call (now (book .entry)) (now (log .entry)) (tables (now (contents .entry)) (now (readers .entry)) (now (writers .entry))) lent) (now (image .exit)) (now (order .exit)) (call-lists (now (book .entry)) (now (log .entry)) (tables (now (contents .entry)) (now (readers .entry)) (now (writers .entry))) lent) r (now (contents .exit)) (now (readers .exit)) (now (writers .exit)) ⌝ }
 {
     let lengths = Lengths {
         contents: contents.len(),
@@ -376,7 +376,7 @@ pub fn prepare(
     let checked = check_all(book, log, lengths, image, order);
     let answer = checked.answer;
     if answer.number != 0 {
-        return ended(answer);
+        return run_over(answer);
     }
-    start(book, contents, readers, writers, image, order, checked)
+    start_run(book, contents, readers, writers, image, order, checked)
 }

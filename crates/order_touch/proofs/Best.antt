@@ -12,13 +12,13 @@ use lib.Pow.{pow-pos}
 use lib.ListN.{getD, List·getD-eq-default}
 use Rattle.text.proofs.Words.{and-cases}
 use Rattle.order.specs.Sets.{bit}
-use Rattle.order.specs.Pairs.{least-two, ordered-by}
+use Rattle.order.specs.Pairs.{least-pair, ordered-by}
 use Rattle.order.proofs.Sets.{bit-empty}
 use Rattle.order.proofs.Masks.{shl-one, bit-and, bit-not, bit-below, below-bit, least-below, least-in}
 use Rattle.order.proofs.Best.{Best, best-found, best-none}
 use Rattle.order.proofs.Search.{two-alike}
-use Rattle.order_touch.specs.declared.Two.{Two}
-use Rattle.order_touch.specs.Marked.{unordered-marked, clipped, two-of, AllMet, Nearest}
+use Rattle.order_touch.specs.declared.MovePair.{MovePair}
+use Rattle.order_touch.specs.Marked.{unordered-marked, clipped, pair-of, TouchSets, LeastTouching}
 
 -- ---- the nearest first move
 
@@ -47,21 +47,21 @@ module _ (met row j : ℕ) (fit : met < 2 ^ 64) (row-fit : row < 2 ^ 64) (small 
       dite (decLt i (trailingZeros 64 near)) (λ (y : i < trailingZeros 64 near). absurd (true≢false (sym b ∙ least-below 64 near i y)))
       (λ (n : ¬ (i < trailingZeros 64 near)). omega arith)
 
-  pub near-is : Nearest met row j (trailingZeros 64 (bitAnd (bitAnd met ((2 ^ 64 - 1) - row)) ((1 * 2 ^ j) % 2 ^ 64 - 1)))
+  pub near-is : LeastTouching met row j (trailingZeros 64 (bitAnd (bitAnd met ((2 ^ 64 - 1) - row)) ((1 * 2 ^ j) % 2 ^ 64 - 1)))
   near-is = rw (shl-one j small) (record { hit = near-hit; low = near-low })
 
 -- ---- the least pair, as the code gives it
 
 module _ (f : ℕ → ℕ → Bool) where
-  pub pair-found : (m a b : ℕ) → Best f m a b → a < 64 → _≡_ {A = Two} (record { found = true; first = a; second = b }) (two-of (least-two f m))
+  pub pair-found : (m a b : ℕ) → Best f m a b → a < 64 → _≡_ {A = MovePair} (record { found = true; first = a; second = b }) (pair-of (least-pair f m))
   pair-found m a b s h = let e = best-found f m a b s h in rw e
 
-  pub pair-none : (m a b : ℕ) → m ≤ 64 → Best f m a b → 64 ≤ a → _≡_ {A = Two} (record { found = false; first = 0; second = 0 }) (two-of (least-two f m))
+  pub pair-none : (m a b : ℕ) → m ≤ 64 → Best f m a b → 64 ≤ a → _≡_ {A = MovePair} (record { found = false; first = 0; second = 0 }) (pair-of (least-pair f m))
   pair-none m a b small s h = let e = best-none f m a b small s h in rw e
 
 -- ---- the marks' pairs
 
-module _ (order rs ws u : List ℕ) (n : ℕ) (a : AllMet rs ws n u) where
+module _ (order rs ws u : List ℕ) (n : ℕ) (a : TouchSets rs ws n u) where
   abbrev gathered : ℕ → ℕ → Bool
   gathered i j = not (ordered-by order i j) && bit (getD u j 0) i
 
@@ -75,15 +75,15 @@ module _ (order rs ws u : List ℕ) (n : ℕ) (a : AllMet rs ws n u) where
       dite (decLt j 64) (λ h. h)
       (λ (h : ¬ (j < 64)). let z : getD u j 0 ≡ 0 = List·getD-eq-default u 0 {n = j} (omega (arith, a .long)) in absurd (true≢false (sym p ∙ rw z (bit-empty i))))
 
-  pub gathered-two : (m : ℕ) → least-two gathered (min m 64) ≡ least-two (unordered-marked order rs ws n) m
+  pub gathered-two : (m : ℕ) → least-pair gathered (min m 64) ≡ least-pair (unordered-marked order rs ws n) m
   gathered-two m = two-alike gathered (unordered-marked order rs ws n) (min m 64) m
       (λ i j p. let h : j < min m 64 = p .1 in (p .0, omega arith, sym (same i j) ∙ p .2))
       (λ i j p. let e : gathered i j ≡ true = same i j ∙ p .2 in (p .0, omega (arith, p .1, second-small i j e), e))
 
 -- what the code finds is the least pair of the marks: the locations clipped to the tables, and the moves to 64
-pub all-found : (order rs ws u : List ℕ) (n k x m : ℕ) (r : Two) → n ≡ clipped rs ws k → AllMet rs ws n u → x ≡ min m 64
-    → r ≡ two-of (least-two (λ i j. not (ordered-by order i j) && bit (getD u j 0) i) x)
-    → r ≡ two-of (least-two (unordered-marked order rs ws (clipped rs ws k)) m)
+pub all-found : (order rs ws u : List ℕ) (n k x m : ℕ) (r : MovePair) → n ≡ clipped rs ws k → TouchSets rs ws n u → x ≡ min m 64
+    → r ≡ pair-of (least-pair (λ i j. not (ordered-by order i j) && bit (getD u j 0) i) x)
+    → r ≡ pair-of (least-pair (unordered-marked order rs ws (clipped rs ws k)) m)
 all-found order rs ws u n k x m r e a f g =
-    g ∙ ap (λ (y : ℕ). two-of (least-two (λ i j. not (ordered-by order i j) && bit (getD u j 0) i) y)) f
-    ∙ ap two-of (gathered-two order rs ws u n a m) ∙ ap (λ (y : ℕ). two-of (least-two (unordered-marked order rs ws y) m)) e
+    g ∙ ap (λ (y : ℕ). pair-of (least-pair (λ i j. not (ordered-by order i j) && bit (getD u j 0) i) y)) f
+    ∙ ap pair-of (gathered-two order rs ws u n a m) ∙ ap (λ (y : ℕ). pair-of (least-pair (unordered-marked order rs ws y) m)) e

@@ -10,11 +10,11 @@ use lib.ListN.{length, getD, List·getD-eq-default}
 use Rattle.text.specs.Words.{some-below}
 use Rattle.engine.specs.Move.{Fired}
 use Rattle.order.specs.Sets.{bit}
-use Rattle.order.specs.Pairs.{rows, least-two}
+use Rattle.order.specs.Pairs.{predecessors, least-pair}
 use Rattle.text.proofs.Words.{length-table-from}
 use Rattle.book.specs.Book.{Program, L}
 use Rattle.order.specs.Log.{Log}
-use Rattle.order.specs.Table.{Ordered}
+use Rattle.order.specs.Table.{OrderTable}
 use Rattle.order.specs.Run.{moves-that, readers, writers, reads-at, writes-at, touch-at, no-fired, fired-at, unordered-touching, touching}
 use Rattle.order.proofs.Marks.{readers-bit, writers-bit}
 use Rattle.order.proofs.Masks.{both-ways}
@@ -43,33 +43,33 @@ module _ (n : ℕ) (fs : List Fired) where
 
   -- tables that have these marks, and maybe more records, and rows that are those of the order of the first m moves
   module _
-      (m : ℕ) (order rs R W : List ℕ) (rows : (j : ℕ) → j < m → getD order j 0 ≡ getD rs j 0)
+      (m : ℕ) (order rs R W : List ℕ) (predecessors : (j : ℕ) → j < m → getD order j 0 ≡ getD rs j 0)
       (read : (l : ℕ) → l < n → getD R l 0 ≡ getD (readers n fs) l 0) (written : (l : ℕ) → l < n → getD W l 0 ≡ getD (writers n fs) l 0)
     where
       touch-same : (i j l : ℕ) → l < n → touch-by (getD R l 0) (getD W l 0) i j ≡ touch-at (fired-at fs i) (fired-at fs j) l
       touch-same i j l h = rw (read l h, written l h, read-bit l i h, read-bit l j h, write-bit l i h, write-bit l j h)
 
-      marked-fired : least-two (unordered-marked order R W n) m ≡ least-two (unordered-touching rs n fs) m
+      marked-fired : least-pair (unordered-marked order R W n) m ≡ least-pair (unordered-touching rs n fs) m
       marked-fired = two-same (unordered-marked order R W n) (unordered-touching rs n fs) m
-          (λ i j a b. rw (rows j b, some-same (λ l. touch-by (getD R l 0) (getD W l 0) i j) (touch-at (fired-at fs i) (fired-at fs j)) n (touch-same i j)))
+          (λ i j a b. rw (predecessors j b, some-same (λ l. touch-by (getD R l 0) (getD W l 0) i j) (touch-at (fired-at fs i) (fired-at fs j)) n (touch-same i j)))
 
       -- as the code has it, of tables that are long enough
-      pub touching-fired : n ≤ length R → n ≤ length W → least-two (unordered-marked order R W (clipped R W n)) m ≡ least-two (unordered-touching rs n fs) m
+      pub touching-fired : n ≤ length R → n ≤ length W → least-pair (unordered-marked order R W (clipped R W n)) m ≡ least-pair (unordered-touching rs n fs) m
       touching-fired h k = let e : clipped R W n ≡ n = omega arith in rw e marked-fired
 
 -- of just these marks and rows
 pub touching-marks : (n : ℕ) (fs : List Fired) (rs : List ℕ) (m : ℕ)
-    → least-two (unordered-marked rs (readers n fs) (writers n fs) (clipped (readers n fs) (writers n fs) n)) m ≡ least-two (unordered-touching rs n fs) m
+    → least-pair (unordered-marked rs (readers n fs) (writers n fs) (clipped (readers n fs) (writers n fs) n)) m ≡ least-pair (unordered-touching rs n fs) m
 unfolding readers writers
 touching-marks n fs rs m = touching-fired n fs m rs rs (readers n fs) (writers n fs) (λ j h. refl) (λ l h. refl) (λ l h. refl)
     (omega (arith, length-table-from (λ l. moves-that (reads-at l) 0 fs) 0 n)) (omega (arith, length-table-from (λ l. moves-that (writes-at l) 0 fs) 0 n))
 
 -- of the order of a log as the code holds it, and of just these marks
-pub touching-ordered : (B : Program) (g : Log) (t : List ℕ) (fs : List Fired) → Ordered g t
-    → least-two (unordered-marked t (readers (L B) fs) (writers (L B) fs) (clipped (readers (L B) fs) (writers (L B) fs) (L B))) (length (g .moves)) ≡ touching B g fs
+pub touching-ordered : (B : Program) (g : Log) (t : List ℕ) (fs : List Fired) → OrderTable g t
+    → least-pair (unordered-marked t (readers (L B) fs) (writers (L B) fs) (clipped (readers (L B) fs) (writers (L B) fs) (L B))) (length (g .moves)) ≡ touching B g fs
 unfolding readers writers
 touching-ordered B g t fs o =
     let n = L B in
     let m = length (g .moves) in
-    touching-fired n fs m t (rows (g .pairs) m) (readers n fs) (writers n fs) (o .rows) (λ l h. refl) (λ l h. refl)
+    touching-fired n fs m t (predecessors (g .pairs) m) (readers n fs) (writers n fs) (o .rows) (λ l h. refl) (λ l h. refl)
     (omega (arith, length-table-from (λ l. moves-that (reads-at l) 0 fs) 0 n)) (omega (arith, length-table-from (λ l. moves-that (writes-at l) 0 fs) 0 n))

@@ -1,3 +1,3 @@
-pub mod Gather
+pub mod Sets
 pub mod Best
 pub mod Fired

@@ -7,8 +7,8 @@ use Prim.Native.Nat.{ℕ, _<_, _≤_, min}
 use lib.ListN.{length, getD}
 use Rattle.text.specs.Words.{some-below}
 use Rattle.order.specs.Sets.{bit}
-use Rattle.order.specs.Pairs.{ordered-by, TwoFound, no-two, two}
-use Rattle.order_touch.specs.declared.Two.{Two}
+use Rattle.order.specs.Pairs.{ordered-by, PairFound, no-pair, a-pair}
+use Rattle.order_touch.specs.declared.MovePair.{MovePair}
 
 -- at a location with the marks r and w one of moves i and j writes what the other reads or writes
 abbrev pub touch-by : ℕ → ℕ → ℕ → ℕ → Bool
@@ -27,23 +27,23 @@ abbrev pub clipped : List ℕ → List ℕ → ℕ → ℕ
 clipped rs ws n = min n (min (length rs) (length ws))
 
 -- the pair found, as the code gives it
-abbrev pub two-of : TwoFound → Two
-two-of no-two = record { found = false; first = 0; second = 0 }
-two-of (two i j) = record { found = true; first = i; second = j }
+abbrev pub pair-of : PairFound → MovePair
+pair-of no-pair = record { found = false; first = 0; second = 0 }
+pair-of (a-pair i j) = record { found = true; first = i; second = j }
 
 -- ---- what the code holds on the way
 
 -- the table t with the marks r and w of one location put in, u: row j has the moves that touch j
-pub record Met (r w : ℕ) (t u : List ℕ) : Type 0 where
+pub record TouchAdded (r w : ℕ) (t u : List ℕ) : Type 0 where
   pub long : length u ≡ length t
   pub bits : (j i : ℕ) → bit (getD u j 0) i ≡ (bit (getD t j 0) i || touch-by r w i j)
 
 -- the table of the first n locations
-pub record AllMet (rs ws : List ℕ) (n : ℕ) (u : List ℕ) : Type 0 where
+pub record TouchSets (rs ws : List ℕ) (n : ℕ) (u : List ℕ) : Type 0 where
   pub long : length u ≡ 64
   pub bits : (j i : ℕ) → bit (getD u j 0) i ≡ marked-touch rs ws n i j
 
 -- r is the least move below j that is in the set `met` and not in `row`; 64 for none
-pub record Nearest (met row j r : ℕ) : Type 0 where
+pub record LeastTouching (met row j r : ℕ) : Type 0 where
   pub hit : r < 64 → (r < j) × ((not (bit row r) && bit met r) ≡ true)
   pub low : (i : ℕ) → i < j → (not (bit row i) && bit met i) ≡ true → r ≤ i

@@ -5,14 +5,14 @@ ghost use mathlib.Core.Bool.{_&&_, not};
 ghost use Prim.Native.Nat.{ℕ, _<_, _≤_};
 ghost use lib.ListN.{length, getD};
 ghost use Rattle.order.specs.Sets.{bit};
-ghost use Rattle.order.specs.Pairs.{ordered-by, least-two};
-ghost use Rattle.order_touch.specs.Marked.{unordered-marked, clipped, two-of, Met, AllMet, Nearest};
+ghost use Rattle.order.specs.Pairs.{ordered-by, least-pair};
+ghost use Rattle.order_touch.specs.Marked.{unordered-marked, clipped, pair-of, TouchAdded, TouchSets, LeastTouching};
 
 // How many locations are passed over at once.
 const BLOCK: usize = 64;
 
 // A pair of moves, if there is one: 0 0 if not.
-pub struct Two {
+pub struct MovePair {
     pub found: bool,
     pub first: u32,
     pub second: u32,
@@ -20,9 +20,9 @@ pub struct Two {
 
 // To the moves that touch each of 64 come those that do so at a location with these marks: all its
 // users if the move writes it, its writers if it only reads it.
-fn meet(readers: u64, writers: u64, met: &mut [u64; 64])
+fn add_touching(readers: u64, writers: u64, met: &mut [u64; 64])
     requires { ⌜ length (now met) ≡ 64 ⌝ }
-    ensures { λ _. ⌜ Met readers writers (now (met .entry)) (now (met .exit)) ⌝ }
+    ensures { λ _. ⌜ TouchAdded readers writers (now (met .entry)) (now (met .exit)) ⌝ }
 {
     let users = readers | writers;
     let mut left = users;
@@ -40,17 +40,17 @@ fn meet(readers: u64, writers: u64, met: &mut [u64; 64])
 }
 
 // The same, passing over a location that no move writes: nothing touches there.
-fn meet_written(readers: u64, writers: u64, met: &mut [u64; 64])
+fn add_if_written(readers: u64, writers: u64, met: &mut [u64; 64])
     requires { ⌜ length (now met) ≡ 64 ⌝ }
-    ensures { λ _. ⌜ Met readers writers (now (met .entry)) (now (met .exit)) ⌝ }
+    ensures { λ _. ⌜ TouchAdded readers writers (now (met .entry)) (now (met .exit)) ⌝ }
 {
     if writers != 0 {
-        meet(readers, writers, met);
+        add_touching(readers, writers, met);
     }
 }
 
 // All marks of a part together: 0 only if each is.
-fn joined(part: &[u64]) -> u64
+fn all_marks(part: &[u64]) -> u64
     ensures { λ r. ⌜ (r ≡ 0 → (k : ℕ) → getD (now (part .entry)) k 0 ≡ 0) ⌝ }
 {
     let mut all: u64 = 0;
@@ -63,28 +63,28 @@ fn joined(part: &[u64]) -> u64
 }
 
 // From the first a locations to the first b.
-fn meet_part(readers: &[u64], writers: &[u64], a: usize, b: usize, met: &mut [u64; 64])
-    requires { ⌜ (a ≤ b) × (b ≤ length (now readers)) × (b ≤ length (now writers)) × AllMet (now readers) (now writers) a (now met) ⌝ }
-    ensures { λ _. ⌜ AllMet (now (readers .entry)) (now (writers .entry)) b (now (met .exit)) ⌝ }
+fn add_part(readers: &[u64], writers: &[u64], a: usize, b: usize, met: &mut [u64; 64])
+    requires { ⌜ (a ≤ b) × (b ≤ length (now readers)) × (b ≤ length (now writers)) × TouchSets (now readers) (now writers) a (now met) ⌝ }
+    ensures { λ _. ⌜ TouchSets (now (readers .entry)) (now (writers .entry)) b (now (met .exit)) ⌝ }
 {
     let mut l = a;
     while l < b {
-        meet_written(readers[l], writers[l], met);
+        add_if_written(readers[l], writers[l], met);
         l += 1;
     }
 }
 
 // For each move those that touch it at one of the first n locations. Blocks that no move writes are passed over.
-fn met_of(readers: &[u64], writers: &[u64], n: usize) -> [u64; 64]
+fn touching_sets(readers: &[u64], writers: &[u64], n: usize) -> [u64; 64]
     requires { ⌜ (n ≤ length (now readers)) × (n ≤ length (now writers)) ⌝ }
-    ensures { λ r. ⌜ AllMet (now (readers .entry)) (now (writers .entry)) n r ⌝ }
+    ensures { λ r. ⌜ TouchSets (now (readers .entry)) (now (writers .entry)) n r ⌝ }
 {
     let mut met: [u64; 64] = [0; 64];
     let mut a: usize = 0;
     while a < n {
         let b = a + text::smaller(n - a, BLOCK);
-        if joined(&writers[a..b]) != 0 {
-            meet_part(readers, writers, a, b, &mut met);
+        if all_marks(&writers[a..b]) != 0 {
+            add_part(readers, writers, a, b, &mut met);
         }
         a = b;
     }
@@ -92,24 +92,24 @@ fn met_of(readers: &[u64], writers: &[u64], n: usize) -> [u64; 64]
 }
 
 // The least move before j that touches it and is not ordered with it; 64 for none.
-fn nearest(met: u64, row: u64, j: usize) -> u32
+fn least_touching(met: u64, row: u64, j: usize) -> u32
     requires { ⌜ j < 64 ⌝ }
-    ensures { λ r. ⌜ Nearest met row j r ⌝ }
+    ensures { λ r. ⌜ LeastTouching met row j r ⌝ }
 {
     let earlier = (1u64 << j) - 1;
     u64::trailing_zeros(met & !row & earlier)
 }
 
 // The least pair of the first m moves, by its first move and then its second.
-fn least_pair(met: &[u64; 64], order: &Order, m: usize) -> Two
+fn least_pair(met: &[u64; 64], order: &Order, m: usize) -> MovePair
     requires { ⌜ m ≤ 64 ⌝ }
-    ensures { λ r. ⌜ r ≡ two-of (least-two (λ i j. not (ordered-by (now (order .entry)) i j) && bit (getD (now (met .entry)) j 0) i) m) ⌝ }
+    ensures { λ r. ⌜ r ≡ pair-of (least-pair (λ i j. not (ordered-by (now (order .entry)) i j) && bit (getD (now (met .entry)) j 0) i) m) ⌝ }
 {
     let mut first: u32 = 64;
     let mut second: usize = 0;
     let mut j: usize = 0;
     while j < m {
-        let i = nearest(met[j], order[j], j);
+        let i = least_touching(met[j], order[j], j);
         if i < first {
             first = i;
             second = j;
@@ -117,13 +117,13 @@ fn least_pair(met: &[u64; 64], order: &Order, m: usize) -> Two
         j += 1;
     }
     if first < 64 {
-        Two {
+        MovePair {
             found: true,
             first: first,
             second: second as u32,
         }
     } else {
-        Two {
+        MovePair {
             found: false,
             first: 0,
             second: 0,
@@ -133,16 +133,16 @@ fn least_pair(met: &[u64; 64], order: &Order, m: usize) -> Two
 
 // 17: the least pair of the first `moves` moves that the order leaves unordered and that touch at one
 // of the first `locations` locations.
-pub fn touching(
+pub fn least_touching_pair(
     readers: &[u64],
     writers: &[u64],
     order: &Order,
     moves: u32,
     locations: usize,
-) -> Two
-    ensures { λ r. ⌜ r ≡ two-of (least-two (unordered-marked (now (order .entry)) (now (readers .entry)) (now (writers .entry)) (clipped (now (readers .entry)) (now (writers .entry)) locations)) moves) ⌝ }
+) -> MovePair
+    ensures { λ r. ⌜ r ≡ pair-of (least-pair (unordered-marked (now (order .entry)) (now (readers .entry)) (now (writers .entry)) (clipped (now (readers .entry)) (now (writers .entry)) locations)) moves) ⌝ }
 {
     let n = text::smaller(locations, text::smaller(readers.len(), writers.len()));
-    let met = met_of(readers, writers, n);
+    let met = touching_sets(readers, writers, n);
     least_pair(&met, order, text::smaller(moves as usize, 64))
 }

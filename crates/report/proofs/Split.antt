@@ -12,7 +12,7 @@ use Rattle.text.proofs.Words.{least-same, table-ext}
 use Rattle.text.proofs.Fields.{part-of-front}
 use Rattle.book.specs.declared.Header.{Header}
 use Rattle.book.specs.Book.{Book}
-use Rattle.book.specs.Lines.{first-node, first-agent, first-entry, line-count, program-of, entries-of, node-of, agent-of, entry-of, bad-function, bad-agent}
+use Rattle.book.specs.Lines.{first-node, first-agent, first-entry, line-count, program-of, entries-of, node-of, line-agent, entry-of, bad-function, bad-agent}
 use Rattle.book.specs.Check.{check-header, check-present, check-surplus, check-program, check-lines, check-book}
 use Rattle.order.specs.Log.{Log, check-log}
 use Rattle.order.specs.declared.Lengths.{Lengths}
@@ -65,8 +65,8 @@ module _ (text : List ℕ) (h : Header) where
         table-ext (λ i. line book-part (2 + i)) (λ i. line text (2 + i)) (h .functions) (λ i l. at (2 + i) (omega arith)),
         table-ext (λ i. node-of (line book-part (first-node h + i))) (λ i. node-of (line text (first-node h + i))) (h .nodes)
             (λ i l. ap node-of (at (first-node h + i) (omega arith))),
-        table-ext (λ i. agent-of (line book-part (first-agent h + i))) (λ i. agent-of (line text (first-agent h + i))) (h .agents)
-            (λ i l. ap agent-of (at (first-agent h + i) (omega arith))),
+        table-ext (λ i. line-agent (line book-part (first-agent h + i))) (λ i. line-agent (line text (first-agent h + i))) (h .agents)
+            (λ i l. ap line-agent (at (first-agent h + i) (omega arith))),
       )
 
   entries-same : entries-of h book-part ≡ entries-of h text

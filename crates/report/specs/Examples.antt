@@ -10,7 +10,7 @@ use Rattle.text.specs.declared.Line.{Line}
 use Rattle.text.specs.Words.{table}
 use Rattle.text.specs.Text.{line-length}
 use Rattle.text.specs.Quoted.{bytes, padded, Case, case, all-right, each-right}
-use Rattle.report.specs.Report.{all-written, rental}
+use Rattle.report.specs.Report.{lines-written, rental}
 use Rattle.report.specs.Open.{everything}
 use Rattle.report.specs.Cases.{book}
 
@@ -31,7 +31,7 @@ four a b c d = record { a = a; b = b; c = c; d = d }
 
 -- a universe of 16 elements, a rule that sets a binary function at each pair of them, and a log of one move: 256 instructions
 abbrev pub sixteen : List ℕ
-sixteen = all-written (table (λ i. four 1 i 0 2) 16)
+sixteen = lines-written (table (λ i. four 1 i 0 2) 16)
 
 unfoldable pub squares : List ℕ
 squares =
@@ -46,14 +46,14 @@ squares-and-one =
     ++ (sixteen ++ padded "1 0 0 0 / 0 0 0 0")
 
 abbrev pub squares-end : List ℕ
-squares-end = all-written (four 0 0 0 272 ∷ (table (λ i. four 1 i 0 2) 16 ++ table (λ i. four 2 (i / 16) (i % 16) 3) 256))
+squares-end = lines-written (four 0 0 0 272 ∷ (table (λ i. four 1 i 0 2) 16 ++ table (λ i. four 2 (i / 16) (i % 16) 3) 256))
 
 -- a counter, and n moves that add one to it, each after the one before
 unfoldable pub counted : ℕ → List ℕ
 counted n =
     padded "80 80 2 5 / 1 1 0 0 / 1 3 0 0 / 0 2 0 0 / 4 1 0 0 / 4 1 0 0 / 1 4 0 0 / 11 1 2 0 / 21 0 3 0 / 4 3 0 0 / 1 0 0 3"
-    ++ (all-written (four (suc n) n 0 0 ∷ [])
-    ++ (all-written (replicate (suc n) (four 0 0 0 0)) ++ all-written (table (λ i. four i (suc i) 0 0) n)))
+    ++ (lines-written (four (suc n) n 0 0 ∷ [])
+    ++ (lines-written (replicate (suc n) (four 0 0 0 0)) ++ lines-written (table (λ i. four i (suc i) 0 0) n)))
 
 unfoldable pub examples : List (Case (List ℕ))
 examples =
@@ -90,10 +90,10 @@ examples =
     (padded "8 6 2 6 / 1 0 0 0 / 1 3 0 0 / 1 3 0 0 / 20 0 0 0 / 25 0 1 0 / 25 1 1 1 / 25 2 1 2 / 20 0 0 0 / 22 3 4 0 / 5 3 0 0 / 0 0 0 0")
     (padded "6 1 0 0")
     ∷ case
-    (padded "8 6 1 33 / 1 0 0 0 / 1 3 0 0 / 1 0 0 0" ++ (all-written (table (λ i. four 8 i 0 0) 31) ++ padded "27 31 0 0 / 32 3 0 0 / 0 0 0 0"))
+    (padded "8 6 1 33 / 1 0 0 0 / 1 3 0 0 / 1 0 0 0" ++ (lines-written (table (λ i. four 8 i 0 0) 31) ++ padded "27 31 0 0 / 32 3 0 0 / 0 0 0 0"))
     (padded "6 0 0 0")
     ∷ case
-    (padded "8 6 1 32 / 1 0 0 0 / 1 3 0 0 / 1 0 0 0" ++ (all-written (table (λ i. four 8 i 0 0) 30) ++ padded "27 30 0 0 / 31 3 0 0 / 0 0 0 0"))
+    (padded "8 6 1 32 / 1 0 0 0 / 1 3 0 0 / 1 0 0 0" ++ (lines-written (table (λ i. four 8 i 0 0) 30) ++ padded "27 30 0 0 / 31 3 0 0 / 0 0 0 0"))
     (padded "0 0 0 0")
     -- 7: a label as element; elements that do not ascend
     ∷ case (book-with 19 "12 6 0 0") (padded "7 1 0 0")
@@ -224,10 +224,10 @@ choices =
     ∷ case (beside-three ++ padded "2 0 1 0 / 1 0 0 0 / 0 0 0 0 / 1 3 0 0") (padded "18 1 3 0")
     -- it counts for depth: 33, where 32 fits
     ∷ case
-    (padded "8 6 2 33 / 1 0 0 0 / 1 3 0 0 / 1 3 0 0 / 1 0 0 0" ++ (all-written (table (λ i. four 8 i 0 0) 30) ++ padded "27 30 0 0 / 28 0 1 31 / 32 3 0 0 / 0 0 0 0"))
+    (padded "8 6 2 33 / 1 0 0 0 / 1 3 0 0 / 1 3 0 0 / 1 0 0 0" ++ (lines-written (table (λ i. four 8 i 0 0) 30) ++ padded "27 30 0 0 / 28 0 1 31 / 32 3 0 0 / 0 0 0 0"))
     (padded "6 0 0 0")
     ∷ case
-    (padded "8 6 2 32 / 1 0 0 0 / 1 3 0 0 / 1 3 0 0 / 1 0 0 0" ++ (all-written (table (λ i. four 8 i 0 0) 29) ++ padded "27 29 0 0 / 28 0 1 30 / 31 3 0 0 / 0 0 0 0"))
+    (padded "8 6 2 32 / 1 0 0 0 / 1 3 0 0 / 1 3 0 0 / 1 0 0 0" ++ (lines-written (table (λ i. four 8 i 0 0) 29) ++ padded "27 29 0 0 / 28 0 1 30 / 31 3 0 0 / 0 0 0 0"))
     (padded "0 0 0 0")
     ∷ []
 
@@ -254,7 +254,7 @@ label-put =
 abbrev pub both-released : ℕ → List ℕ
 both-released C =
     padded "8 6 4 4"
-    ++ (all-written (four 2 C 0 0 ∷ []) ++ padded "1 3 0 0 / 0 2 0 0 / 0 2 0 0 / 1 2 0 0 / 4 1 0 0 / 27 0 0 0 / 4 2 0 0 / 27 2 0 0 / 1 3 0 0 / 3 4 0 0")
+    ++ (lines-written (four 2 C 0 0 ∷ []) ++ padded "1 3 0 0 / 0 2 0 0 / 0 2 0 0 / 1 2 0 0 / 4 1 0 0 / 27 0 0 0 / 4 2 0 0 / 27 2 0 0 / 1 3 0 0 / 3 4 0 0")
 
 unfoldable pub retirements : List (Case (List ℕ))
 retirements =

@@ -61,9 +61,9 @@ contents-lines B c = lines-from B c 0 (length (B .functions))
 
 -- ---- the printed bytes
 
-unfoldable pub all-written : List Line → List ℕ
-all-written [] = []
-all-written (l ∷ ls) = written l ++ all-written ls
+unfoldable pub lines-written : List Line → List ℕ
+lines-written [] = []
+lines-written (l ∷ ls) = written l ++ lines-written ls
 
 -- the first line, `number p q count`
 abbrev pub first-line : Answer → ℕ → Line
@@ -72,7 +72,7 @@ first-line a count = record { a = a .number; b = a .p; c = a .q; d = count }
 unfoldable pub print-answer : Program → LogAnswer → List ℕ
 print-answer B r =
     let ls = if eqb (r .answer .number) 0 then contents-lines B (r .contents) else [] in
-    written (first-line (r .answer) (length ls)) ++ all-written ls
+    written (first-line (r .answer) (length ls)) ++ lines-written ls
 
 abbrev pub print-checked : Checked (Book × Log) → List ℕ
 print-checked (refused n p q) = written (first-line (record { number = n; p = p; q = q }) 0)

@@ -18,42 +18,42 @@ use Rattle.book.specs.Book.{Program, L, total, size, default, function-at, no-f
 use Rattle.book.specs.Image.{program-in}
 use Rattle.book.proofs.Image.{elements-most, size-most}
 use Rattle.order.specs.Run.{LogAnswer}
-use Rattle.report.specs.Report.{contents-line, part-lines, lines-from, contents-lines, all-written, first-line, print-answer}
+use Rattle.report.specs.Report.{contents-line, part-lines, lines-from, contents-lines, lines-written, first-line, print-answer}
 use Rattle.text_write.specs.Bytes.{put-bytes}
 use Rattle.text_write.proofs.Bytes.{put-none, put-then, put-apart, put-front, length-written}
-use Rattle.report_print.specs.Print.{line-for, shown, lines-put, printed, most-output, Prints}
+use Rattle.report_print.specs.Print.{line-for, location-lines, lines-printed, answer-printed, most-output, Prints}
 
 -- ---- written lines
 
-written-append : (ls ms : List Line) → all-written (ls ++ ms) ≡ all-written ls ++ all-written ms
-unfolding all-written
+written-append : (ls ms : List Line) → lines-written (ls ++ ms) ≡ lines-written ls ++ lines-written ms
+unfolding lines-written
 written-append [] ms = refl
-written-append (l ∷ ls) ms = rw (written-append ls ms) (sym (append-assoc (written l) (all-written ls) (all-written ms)))
+written-append (l ∷ ls) ms = rw (written-append ls ms) (sym (append-assoc (written l) (lines-written ls) (lines-written ms)))
 
-length-all-written : (ls : List Line) → length (all-written ls) ≡ 25 * length ls
-unfolding all-written
+length-all-written : (ls : List Line) → length (lines-written ls) ≡ 25 * length ls
+unfolding lines-written
 length-all-written [] = refl
-length-all-written (l ∷ ls) = length-append (written l) (all-written ls) ∙ omega (arith, length-written l, length-all-written ls)
+length-all-written (l ∷ ls) = length-append (written l) (lines-written ls) ∙ omega (arith, length-written l, length-all-written ls)
 
-written-one : (l : Line) → all-written (l ∷ []) ≡ written l
-unfolding all-written
+written-one : (l : Line) → lines-written (l ∷ []) ≡ written l
+unfolding lines-written
 written-one l = append-nil (written l)
 
-put-none-left : (n : ℕ) (m : List ℕ) → lines-put n [] m ≡ m
-unfolding lines-put all-written
+put-none-left : (n : ℕ) (m : List ℕ) → lines-printed n [] m ≡ m
+unfolding lines-printed lines-written
 put-none-left n m = put-none (25 + 25 * n) m
 
-put-more : (n : ℕ) (ls ms : List Line) (m : List ℕ) → lines-put n (ls ++ ms) m ≡ lines-put (n + length ls) ms (lines-put n ls m)
-unfolding lines-put
+put-more : (n : ℕ) (ls ms : List Line) (m : List ℕ) → lines-printed n (ls ++ ms) m ≡ lines-printed (n + length ls) ms (lines-printed n ls m)
+unfolding lines-printed
 put-more n ls ms m =
     rw (written-append ls ms)
-    (put-then (25 + 25 * n) (25 + 25 * (n + length ls)) (all-written ls) (all-written ms) m (omega (arith, length-all-written ls)))
+    (put-then (25 + 25 * n) (25 + 25 * (n + length ls)) (lines-written ls) (lines-written ms) m (omega (arith, length-all-written ls)))
 
 -- ---- what a loop that prints has left to do gives the whole
 
 pub record Left (n₀ : ℕ) (all : List Line) (m₀ : List ℕ) (n : ℕ) (left : List Line) (m : List ℕ) : Type 0 where
   pub counted : n + length left ≡ n₀ + length all
-  pub same : lines-put n left m ≡ lines-put n₀ all m₀
+  pub same : lines-printed n left m ≡ lines-printed n₀ all m₀
 
 module _ (n₀ : ℕ) (all : List Line) (m₀ : List ℕ) where
   pub left-all : (left : List Line) → left ≡ all → Left n₀ all m₀ n₀ left m₀
@@ -61,14 +61,14 @@ module _ (n₀ : ℕ) (all : List Line) (m₀ : List ℕ) where
 
   pub left-step :
       (n n′ : ℕ) (left one rest : List Line) (m m′ : List ℕ) → left ≡ one ++ rest → Left n₀ all m₀ n left m → n′ ≡ n + length one →
-      m′ ≡ lines-put n one m → Left n₀ all m₀ n′ rest m′
+      m′ ≡ lines-printed n one m → Left n₀ all m₀ n′ rest m′
   left-step n n′ left one rest m m′ e r p q =
       record {
         counted = let c : length left ≡ length one + length rest = ap length e ∙ length-append one rest in omega (arith, r .counted);
         same = rw (q, p, ← put-more n one rest m, ← e) (r .same);
       }
 
-  pub left-none : (n : ℕ) (left : List Line) (m : List ℕ) → left ≡ [] → Left n₀ all m₀ n left m → (n ≡ n₀ + length all) × (m ≡ lines-put n₀ all m₀)
+  pub left-none : (n : ℕ) (left : List Line) (m : List ℕ) → left ≡ [] → Left n₀ all m₀ n left m → (n ≡ n₀ + length all) × (m ≡ lines-printed n₀ all m₀)
   left-none n left m e r =
       let c : length left ≡ 0 = ap length e in
       (omega (arith, r .counted), sym (rw e (put-none-left n m)) ∙ r .same)
@@ -76,16 +76,16 @@ module _ (n₀ : ℕ) (all : List Line) (m₀ : List ℕ) where
 -- ---- one location
 
 module _ (E : ℕ) (f : Function) (k i v : ℕ) where
-  pub shown-none : v ≡ default f → shown E f k i v ≡ []
-  unfolding shown
+  pub shown-none : v ≡ default f → location-lines E f k i v ≡ []
+  unfolding location-lines
   shown-none e = rw (eq-eqb v (default f) e)
 
-  pub shown-one : (v ≡ default f → ⊥) → shown E f k i v ≡ line-for E f k i v ∷ []
-  unfolding shown
+  pub shown-one : (v ≡ default f → ⊥) → location-lines E f k i v ≡ line-for E f k i v ∷ []
+  unfolding location-lines
   shown-one e = rw (ne-eqb v (default f) e)
 
-  pub shown-most : length (shown E f k i v) ≤ 1
-  unfolding shown
+  pub shown-most : length (location-lines E f k i v) ≤ 1
+  unfolding location-lines
   shown-most = go (eqb v (default f))
     where
       go : (b : Bool) → length (if b then [] else line-for E f k i v ∷ []) ≤ 1
@@ -102,16 +102,16 @@ module _ (E : ℕ) (f : Function) (k i v : ℕ) where
       go zero h = absurd (omega arith)
       go (suc e) h = omega arith
 
-put-shown : (n : ℕ) (l : Line) (m : List ℕ) → put-bytes (25 + 25 * n) (written l) m ≡ lines-put n (l ∷ []) m
-unfolding lines-put
+put-shown : (n : ℕ) (l : Line) (m : List ℕ) → put-bytes (25 + 25 * n) (written l) m ≡ lines-printed n (l ∷ []) m
+unfolding lines-printed
 put-shown n l m = rw (written-one l)
 
 -- no line is put
-pub put-nothing : (n : ℕ) (ls : List Line) (m : List ℕ) → ls ≡ [] → (n ≡ n + length ls) × (m ≡ lines-put n ls m)
+pub put-nothing : (n : ℕ) (ls : List Line) (m : List ℕ) → ls ≡ [] → (n ≡ n + length ls) × (m ≡ lines-printed n ls m)
 put-nothing n ls m e = (rw e (omega arith), rw e (sym (put-none-left n m)))
 
 -- one is
-pub put-single : (n : ℕ) (ls : List Line) (l : Line) (m : List ℕ) → ls ≡ l ∷ [] → (n + 1 ≡ n + length ls) × (put-bytes (25 + 25 * n) (written l) m ≡ lines-put n ls m)
+pub put-single : (n : ℕ) (ls : List Line) (l : Line) (m : List ℕ) → ls ≡ l ∷ [] → (n + 1 ≡ n + length ls) × (put-bytes (25 + 25 * n) (written l) m ≡ lines-printed n ls m)
 put-single n ls l m e = (rw e (omega arith), rw e (put-shown n l m))
 
 -- ---- the loops
@@ -126,8 +126,8 @@ size-same e E f g n p q r = rw (← q, ← r) p
 module _ (B : Program) (c : List ℕ) where
   part-step :
       (k n i : ℕ) → i < n →
-      part-lines B c k i (n - i) ≡ shown (B .E) (function-at B k) k i (getD c (function-at B k .first + i) 0) ++ part-lines B c k (i + 1) (n - (i + 1))
-  unfolding part-lines shown
+      part-lines B c k i (n - i) ≡ location-lines (B .E) (function-at B k) k i (getD c (function-at B k .first + i) 0) ++ part-lines B c k (i + 1) (n - (i + 1))
+  unfolding part-lines location-lines
   part-step k n i h =
       let e : n - i ≡ suc (n - suc i) = omega arith in
       rw (add-one i, e) (go (eqb (getD c (function-at B k .first + i) 0) (default (function-at B k))) (contents-line B k i (getD c (function-at B k .first + i) 0)) (part-lines B c k (suc i) (n - suc i)))
@@ -139,7 +139,7 @@ module _ (B : Program) (c : List ℕ) where
   -- the same by what the code holds
   pub part-next :
       (k n i e : ℕ) (f : Function) (v : ℕ) → i < n → e ≡ B .E → f ≡ function-at B k → v ≡ getD c (f .first + i) 0 →
-      part-lines B c k i (n - i) ≡ shown e f k i v ++ part-lines B c k (i + 1) (n - (i + 1))
+      part-lines B c k i (n - i) ≡ location-lines e f k i v ++ part-lines B c k (i + 1) (n - (i + 1))
   part-next k n i e f v h p q r = rw (r, q, p) (part-step k n i h)
 
   pub part-end : (k n i : ℕ) → n ≤ i → part-lines B c k i (n - i) ≡ []
@@ -189,64 +189,64 @@ module _ (B : Program) (c : List ℕ) where
 -- ---- the whole text
 
 -- marks are not printed
-pub print-same : (B : Program) (r : LogAnswer) → print-answer B r ≡ printed B (r .answer) (r .contents)
+pub print-same : (B : Program) (r : LogAnswer) → print-answer B r ≡ answer-printed B (r .answer) (r .contents)
 unfolding print-answer
 print-same B r = refl
 
 module _ (B : Program) (a : Answer) (c : List ℕ) where
-  text-accepted : a .number ≡ 0 → printed B a c ≡ written (first-line a (length (contents-lines B c))) ++ all-written (contents-lines B c)
+  text-accepted : a .number ≡ 0 → answer-printed B a c ≡ written (first-line a (length (contents-lines B c))) ++ lines-written (contents-lines B c)
   unfolding print-answer
   text-accepted e = rw (eq-eqb (a .number) 0 e)
 
-  text-refused : (a .number ≡ 0 → ⊥) → printed B a c ≡ written (first-line a 0)
-  unfolding print-answer all-written
+  text-refused : (a .number ≡ 0 → ⊥) → answer-printed B a c ≡ written (first-line a 0)
+  unfolding print-answer lines-written
   text-refused e = rw (ne-eqb (a .number) 0 e) (append-nil (written (first-line a 0)))
 
-  length-accepted : a .number ≡ 0 → length (printed B a c) ≡ 25 + 25 * length (contents-lines B c)
+  length-accepted : a .number ≡ 0 → length (answer-printed B a c) ≡ 25 + 25 * length (contents-lines B c)
   length-accepted e =
       let ls = contents-lines B c in
       ap length (text-accepted e)
-      ∙ (length-append (written (first-line a (length ls))) (all-written ls) ∙ omega (arith, length-written (first-line a (length ls)), length-all-written ls))
+      ∙ (length-append (written (first-line a (length ls))) (lines-written ls) ∙ omega (arith, length-written (first-line a (length ls)), length-all-written ls))
 
-  length-refused : (a .number ≡ 0 → ⊥) → length (printed B a c) ≡ 25
+  length-refused : (a .number ≡ 0 → ⊥) → length (answer-printed B a c) ≡ 25
   length-refused e = ap length (text-refused e) ∙ length-written (first-line a 0)
 
   -- the contents' lines, then the first line
   put-accepted :
       a .number ≡ 0 → (m : List ℕ) →
-      put-bytes 0 (written (first-line a (length (contents-lines B c)))) (lines-put 0 (contents-lines B c) m) ≡ put-bytes 0 (printed B a c) m
-  unfolding lines-put
+      put-bytes 0 (written (first-line a (length (contents-lines B c)))) (lines-printed 0 (contents-lines B c) m) ≡ put-bytes 0 (answer-printed B a c) m
+  unfolding lines-printed
   put-accepted e m =
       let ls = contents-lines B c in
       let w = written (first-line a (length ls)) in
       let l = length-written (first-line a (length ls)) in
       rw (text-accepted e)
-      (put-apart 25 0 (all-written ls) w m (omega (arith, l)) ∙ sym (put-then 0 25 w (all-written ls) m (omega (arith, l))))
+      (put-apart 25 0 (lines-written ls) w m (omega (arith, l)) ∙ sym (put-then 0 25 w (lines-written ls) m (omega (arith, l))))
 
-  put-refused : (a .number ≡ 0 → ⊥) → (m : List ℕ) → put-bytes 0 (written (first-line a 0)) m ≡ put-bytes 0 (printed B a c) m
+  put-refused : (a .number ≡ 0 → ⊥) → (m : List ℕ) → put-bytes 0 (written (first-line a 0)) m ≡ put-bytes 0 (answer-printed B a c) m
   put-refused e m = rw (text-refused e)
 
-  text-most : L B ≤ 2048 → length (printed B a c) ≤ most-output
+  text-most : L B ≤ 2048 → length (answer-printed B a c) ≤ most-output
   text-most h = go (eqb (a .number) 0) refl
     where
-      go : (b : Bool) → eqb (a .number) 0 ≡ b → length (printed B a c) ≤ most-output
+      go : (b : Bool) → eqb (a .number) 0 ≡ b → length (answer-printed B a c) ≤ most-output
       go true e = omega (arith, length-accepted (eqb-true (a .number) 0 e), contents-most B c)
       go false e = omega (arith, length-refused (eqb-false (a .number) 0 e))
 
   -- it stands whole in front of what was there
-  text-fits : (m after : List ℕ) → after ≡ put-bytes 0 (printed B a c) m → L B ≤ 2048 → most-output ≤ length m → after ≡ printed B a c ++ drop (length (printed B a c)) m
-  text-fits m after e h l = e ∙ put-front (printed B a c) m (omega (arith, text-most h))
+  text-fits : (m after : List ℕ) → after ≡ put-bytes 0 (answer-printed B a c) m → L B ≤ 2048 → most-output ≤ length m → after ≡ answer-printed B a c ++ drop (length (answer-printed B a c)) m
+  text-fits m after e h l = e ∙ put-front (answer-printed B a c) m (omega (arith, text-most h))
 
   -- ---- the two ways to print
 
   pub prints-accepted :
-      (m with-lines after : List ℕ) (n : ℕ) → a .number ≡ 0 → n ≡ length (contents-lines B c) → with-lines ≡ lines-put 0 (contents-lines B c) m →
+      (m with-lines after : List ℕ) (n : ℕ) → a .number ≡ 0 → n ≡ length (contents-lines B c) → with-lines ≡ lines-printed 0 (contents-lines B c) m →
       after ≡ put-bytes 0 (written (first-line a n)) with-lines → Prints B a c m (25 + 25 * n) after
   prints-accepted m with-lines after n e p q r =
-      let put : after ≡ put-bytes 0 (printed B a c) m = rw (r, q, p) (put-accepted e m) in
+      let put : after ≡ put-bytes 0 (answer-printed B a c) m = rw (r, q, p) (put-accepted e m) in
       record { long = rw p (sym (length-accepted e)); put = put; whole = text-fits m after put }
 
   pub prints-refused : (m after : List ℕ) → (a .number ≡ 0 → ⊥) → after ≡ put-bytes 0 (written (first-line a 0)) m → Prints B a c m 25 after
   prints-refused m after e r =
-      let put : after ≡ put-bytes 0 (printed B a c) m = r ∙ put-refused e m in
+      let put : after ≡ put-bytes 0 (answer-printed B a c) m = r ∙ put-refused e m in
       record { long = sym (length-refused e); put = put; whole = text-fits m after put }

@@ -16,31 +16,31 @@ use Rattle.book.specs.Book.{Program, Book, L, start}
 use Rattle.book.specs.Check.{check-header, check-book}
 use Rattle.book.specs.Image.{word, program-in}
 use Rattle.book.proofs.Claims.{accepted-book}
-use Rattle.engine.specs.Move.{Moved, fires, stopped, move}
-use Rattle.engine.specs.Single.{over}
+use Rattle.engine.specs.Move.{Moved, fires, move-refused, move}
+use Rattle.engine.specs.Single.{over-first}
 use Rattle.engine.proofs.Moves.{fire-length}
 use Rattle.order.specs.Log.{Log, move-at}
-use Rattle.order.specs.Pairs.{TwoFound, no-two, two}
-use Rattle.order.specs.Run.{Run, Ran, ran, halted, moved, next, run, touching, LogAnswer, order-checked, finish, run-from, run-log}
-use Rattle.order.specs.Call.{Tables, check-all, left-in}
-use Rattle.report.specs.Report.{most-input, own-tables, all-written, first-line, print-answer, print-checked, rental}
+use Rattle.order.specs.Pairs.{PairFound, no-pair, a-pair}
+use Rattle.order.specs.Run.{Run, RunOutcome, ran, halted, moved, next-move, run, touching, LogAnswer, order-checked, finish, run-from, run-log}
+use Rattle.order.specs.Call.{Tables, check-all, left-past}
+use Rattle.report.specs.Report.{most-input, own-tables, lines-written, first-line, print-answer, print-checked, rental}
 use Rattle.report.proofs.Split.{input-long}
 use Rattle.text_write.specs.Bytes.{put-bytes}
 use Rattle.text_write.proofs.Bytes.{put-front}
-use Rattle.report_print.specs.Print.{printed, most-output, Prints}
+use Rattle.report_print.specs.Print.{answer-printed, most-output, Prints}
 use Rattle.report_print.specs.Split.{called-for, book-length}
 use Rattle.report_print.proofs.Split.{split-checked}
 use Rattle.report_print.proofs.Lines.{print-same}
-use Rattle.order_run.specs.declared.Opening.{Opening}
-use Rattle.order_run.specs.Turns.{answered}
-use Rattle.order_run.specs.Checked.{Opened}
+use Rattle.order_run.specs.declared.CheckedCall.{CheckedCall}
+use Rattle.order_run.specs.Runs.{answer-with}
+use Rattle.order_run.specs.Checked.{CallChecked}
 use Rattle.order_run.proofs.Checks.{all-parts, all-good, enough}
 use Rattle.report_print.specs.Shown.{Shown}
 use Rattle.report_print.specs.Reported.{Reported, blank-tables}
 
 -- ---- a run leaves as many contents as there are locations
 
-ran-of : Ran → Run
+ran-of : RunOutcome → Run
 ran-of (ran s) = s
 ran-of (halted n p q s) = s
 
@@ -51,9 +51,9 @@ run-length B g c (suc n) = go (run B g c n) (run-length B g c n)
   where
     moves : (s : Run) (o : Moved) (i : ℕ) → length (s .contents) ≡ length c → length (ran-of (moved i s o) .contents) ≡ length c
     moves s (fires f) i e = fire-length (f .updates) (s .contents) ∙ e
-    moves s (stopped a q) i e = e
+    moves s (move-refused a q) i e = e
 
-    go : (o : Ran) → length (ran-of o .contents) ≡ length c → length (ran-of (next B n (move-at g n) o) .contents) ≡ length c
+    go : (o : RunOutcome) → length (ran-of o .contents) ≡ length c → length (ran-of (next-move B n (move-at g n) o) .contents) ≡ length c
     go (ran s) e = moves s (move B (s .contents) (move-at g n)) n e
     go (halted a p q s) e = e
 
@@ -61,15 +61,15 @@ log-length : (B : Program) (g : Log) (c : List ℕ) → length (run-from B g c .
 unfolding run-from finish ran-of
 log-length B g c = go (run B g c (length (g .moves))) (run-length B g c (length (g .moves)))
   where
-    two-way : (s : Run) (o : TwoFound) → order-checked B s o .contents ≡ s .contents
-    two-way s no-two = refl
-    two-way s (two i j) = refl
+    two-way : (s : Run) (o : PairFound) → order-checked B s o .contents ≡ s .contents
+    two-way s no-pair = refl
+    two-way s (a-pair i j) = refl
 
-    go : (o : Ran) → length (ran-of o .contents) ≡ length c → length (finish B g o .contents) ≡ length c
+    go : (o : RunOutcome) → length (ran-of o .contents) ≡ length c → length (finish B g o .contents) ≡ length c
     go (ran s) e = ap length (two-way s (touching B g (s .fired))) ∙ e
     go (halted a p q s) e = e
 
-contents-left : (book : List ℕ) (b : Book) (g : Log) → check-book book ≡ good b → (c : List ℕ) → take (L (b .program)) (over (run-log b g .contents) c) ≡ run-log b g .contents
+contents-left : (book : List ℕ) (b : Book) (g : Log) → check-book book ≡ good b → (c : List ℕ) → take (L (b .program)) (over-first (run-log b g .contents) c) ≡ run-log b g .contents
 contents-left book b g e c =
     let d = run-log b g .contents in
     let l : length d ≡ L (b .program) = log-length (b .program) g (start b) ∙ accepted-book book b e .1 .long in
@@ -81,14 +81,14 @@ module _ (a : Answer) (m after : List ℕ) where
   pub refusal-shown : after ≡ put-bytes 0 (written (first-line a 0)) m → most-output ≤ length m → Shown (written (first-line a 0)) m 25 after
   refusal-shown e h = (refl, e ∙ put-front (written (first-line a 0)) m (omega arith))
 
-refused-text : (B : Program) (a : Answer) (c : List ℕ) → a .number ≢ 0 → printed B a c ≡ written (first-line a 0)
-unfolding print-answer all-written
+refused-text : (B : Program) (a : Answer) (c : List ℕ) → a .number ≢ 0 → answer-printed B a c ≡ written (first-line a 0)
+unfolding print-answer lines-written
 refused-text B a c e = rw (ne-eqb (a .number) 0 e) (append-nil (written (first-line a 0)))
 
 -- ---- a call that passed its checks
 
-module _ (book : List ℕ) (b : Book) (g : Log) (r : Opening) (m o : List ℕ) (t : Tables) (p : Reported book b g r m o t) (a : Answer) (c rs ws : List ℕ)
-    (e : answered a c rs ws ≡ left-in t (run-log b g)) (out : List ℕ) (room : most-output ≤ length out) (k : ℕ) (after : List ℕ)
+module _ (book : List ℕ) (b : Book) (g : Log) (r : CheckedCall) (m o : List ℕ) (t : Tables) (p : Reported book b g r m o t) (a : Answer) (c rs ws : List ℕ)
+    (e : answer-with a c rs ws ≡ left-past t (run-log b g)) (out : List ℕ) (room : most-output ≤ length out) (k : ℕ) (after : List ℕ)
   where
     abbrev B : Program
     B = b .program
@@ -102,12 +102,12 @@ module _ (book : List ℕ) (b : Book) (g : Log) (r : Opening) (m o : List ℕ) (
     -- accepted
     pub run-shown : Prints (program-in m) a (take (min (word m 6) (length c)) c) out k after → Shown (print-answer B (run-log b g)) out k after
     run-shown s =
-        let left : c ≡ over (run-log b g .contents) (t .contents) = ap (λ (y : LogAnswer). y .contents) e in
+        let left : c ≡ over-first (run-log b g .contents) (t .contents) = ap (λ (y : LogAnswer). y .contents) e in
         let d = run-log b g .contents in
         let l : length d ≡ L B = log-length B g (start b) ∙ accepted-book book b accepted .1 .long in
         let long : L B ≤ length c = rw left (rw (length-append d (drop (length d) (t .contents))) (omega (arith, l))) in
         let n : min (word m 6) (length c) ≡ L B = omega (arith, p .passed .holds .locations .1, long) in
-        let x : printed (program-in m) a (take (min (word m 6) (length c)) c) ≡ print-answer B (run-log b g) =
+        let x : answer-printed (program-in m) a (take (min (word m 6) (length c)) c) ≡ print-answer B (run-log b g) =
         rw (p .program, n, left, contents-left book b g accepted (t .contents), same) (sym (print-same B (run-log b g))) in
         let y : L (program-in m) ≤ 2048 = rw (p .program) (p .few) in
         (s .long ∙ ap length x, subst (λ (z : List ℕ). after ≡ z ++ drop (length z) out) x (s .whole y room))
@@ -120,7 +120,7 @@ module _ (book : List ℕ) (b : Book) (g : Log) (r : Opening) (m o : List ℕ) (
 
 -- ---- a book and a log
 
-module _ (book log : List ℕ) (m o : List ℕ) (r : Opening) (opened : Opened book log own-tables r m o) where
+module _ (book log : List ℕ) (m o : List ℕ) (r : CheckedCall) (opened : CallChecked book log own-tables r m o) where
   -- passed: no more locations than the call's own tables have records
   pub parts-few : r .answer .number ≡ 0 → r .locations ≤ 2048
   parts-few z =
@@ -128,7 +128,7 @@ module _ (book log : List ℕ) (m o : List ℕ) (r : Opening) (opened : Opened b
       let h = opened .held (both .0 .0) (both .0 .1) (both .1) in
       omega (arith, h .locations .0, h .locations .1, enough book log own-tables (both .0 .0) (both .0 .1) (both .1) .contents)
 
-module _ (book log : List ℕ) (m o : List ℕ) (r : Opening) (opened : Opened book log own-tables r m o) (out : List ℕ) (k : ℕ) (after : List ℕ) where
+module _ (book log : List ℕ) (m o : List ℕ) (r : CheckedCall) (opened : CallChecked book log own-tables r m o) (out : List ℕ) (k : ℕ) (after : List ℕ) where
   abbrev checks : Checked (Book × Log)
   checks = check-all book log own-tables
 

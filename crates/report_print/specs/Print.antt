@@ -10,7 +10,7 @@ use Rattle.text.specs.Words.{if_then_else_}
 use Rattle.text.specs.Text.{line-length}
 use Rattle.book.specs.declared.Function.{Function}
 use Rattle.book.specs.Book.{Program, L, size, default, arguments, function-at}
-use Rattle.report.specs.Report.{part-lines, all-written, print-answer}
+use Rattle.report.specs.Report.{part-lines, lines-written, print-answer}
 use Rattle.text_write.specs.Bytes.{put-bytes}
 
 -- the line of location i of function k, which is f and holds v there
@@ -18,20 +18,20 @@ abbrev pub line-for : ℕ → Function → ℕ → ℕ → ℕ → Line
 line-for E f k i v = let xs = arguments E (f .arity) i in record { a = k; b = getD xs 0 0; c = getD xs 1 0; d = v }
 
 -- none, if v is the default
-unfoldable pub shown : ℕ → Function → ℕ → ℕ → ℕ → List Line
-shown E f k i v = if eqb v (default f) then [] else line-for E f k i v ∷ []
+unfoldable pub location-lines : ℕ → Function → ℕ → ℕ → ℕ → List Line
+location-lines E f k i v = if eqb v (default f) then [] else line-for E f k i v ∷ []
 
 -- those of all locations of function k
 abbrev pub function-lines : Program → List ℕ → ℕ → List Line
 function-lines B c k = part-lines B c k 0 (size (B .E) (function-at B k .arity))
 
 -- ls put after the first line and n others
-unfoldable pub lines-put : ℕ → List Line → List ℕ → List ℕ
-lines-put n ls m = put-bytes (line-length + line-length * n) (all-written ls) m
+unfoldable pub lines-printed : ℕ → List Line → List ℕ → List ℕ
+lines-printed n ls m = put-bytes (line-length + line-length * n) (lines-written ls) m
 
 -- the text of an answer a that leaves the contents c; marks are not printed
-abbrev pub printed : Program → Answer → List ℕ → List ℕ
-printed B a c = print-answer B (record { answer = a; contents = c; readers = []; writers = [] })
+abbrev pub answer-printed : Program → Answer → List ℕ → List ℕ
+answer-printed B a c = print-answer B (record { answer = a; contents = c; readers = []; writers = [] })
 
 -- the output's length: the first line, and one for each of 2,048 locations
 abbrev pub most-output : ℕ
@@ -39,6 +39,6 @@ most-output = 51225
 
 -- what a call that prints an answer gives, r, and leaves of the output m, after; the text stands in front where it fits
 pub record Prints (B : Program) (a : Answer) (c m : List ℕ) (r : ℕ) (after : List ℕ) : Type 0 where
-  pub long : r ≡ length (printed B a c)
-  pub put : after ≡ put-bytes 0 (printed B a c) m
-  pub whole : L B ≤ 2048 → most-output ≤ length m → after ≡ printed B a c ++ drop (length (printed B a c)) m
+  pub long : r ≡ length (answer-printed B a c)
+  pub put : after ≡ put-bytes 0 (answer-printed B a c) m
+  pub whole : L B ≤ 2048 → most-output ≤ length m → after ≡ answer-printed B a c ++ drop (length (answer-printed B a c)) m

@@ -3,7 +3,7 @@ use book::Function;
 use book::Image;
 use order::Lengths;
 use order::Order;
-use order_run::Opening;
+use order_run::CheckedCall;
 use text::Answer;
 use text::Line;
 use text::Value;
@@ -13,13 +13,13 @@ ghost use lib.ListN.{length, take};
 ghost use Rattle.book.specs.Book.{size, Book};
 ghost use Rattle.book.specs.Image.{program-in, word};
 ghost use Rattle.report.specs.Report.{contents-lines, own-tables, first-line, print-answer, print-checked, rental};
-ghost use Rattle.report_print.specs.Print.{line-for, shown, function-lines, lines-put, Prints, most-output};
+ghost use Rattle.report_print.specs.Print.{line-for, location-lines, function-lines, lines-printed, Prints, most-output};
 ghost use Rattle.report_print.specs.Split.{book-length};
 ghost use Rattle.text.specs.Text.{written};
 ghost use Rattle.order.specs.Log.{Log};
 ghost use Rattle.order.specs.Run.{run-log};
 ghost use Rattle.order.specs.Call.{check-all};
-ghost use Rattle.order_run.specs.Turns.{tables};
+ghost use Rattle.order_run.specs.Runs.{tables};
 ghost use Rattle.report_print.specs.Shown.{Shown, fitting};
 ghost use Rattle.report_print.specs.Reported.{Reported, blank-tables};
 
@@ -59,7 +59,7 @@ fn line_of(e: Value, f: Function, k: u32, i: u32, v: Value) -> Line
 // Prints that line after n others, unless v is the default. Says how many lines there are then.
 fn print_location(e: Value, f: Function, k: u32, i: u32, v: Value, n: u32, out: &mut [u8]) -> u32
     requires { ⌜ (i < size e (f .arity)) × (n < 4294967295) ⌝ }
-    ensures { λ r. ⌜ (r ≡ n + length (shown e f k i v)) × (now (out .exit) ≡ lines-put n (shown e f k i v) (now (out .entry))) ⌝ }
+    ensures { λ r. ⌜ (r ≡ n + length (location-lines e f k i v)) × (now (out .exit) ≡ lines-printed n (location-lines e f k i v) (now (out .entry))) ⌝ }
 {
     if v == book_parts::default_of(f) {
         return n;
@@ -72,7 +72,7 @@ fn print_location(e: Value, f: Function, k: u32, i: u32, v: Value, n: u32, out: 
 // Prints the contents of function k after n lines.
 fn print_function(image: &Image, contents: &[Value], k: u32, n: u32, out: &mut [u8]) -> u32
     requires { ⌜ n ≤ 3100000000 ⌝ }
-    ensures { λ r. ⌜ (r ≡ n + length (function-lines (program-in (now (image .entry))) (now (contents .entry)) k)) × (now (out .exit) ≡ lines-put n (function-lines (program-in (now (image .entry))) (now (contents .entry)) k) (now (out .entry))) × (r ≤ n + 100000000) ⌝ }
+    ensures { λ r. ⌜ (r ≡ n + length (function-lines (program-in (now (image .entry))) (now (contents .entry)) k)) × (now (out .exit) ≡ lines-printed n (function-lines (program-in (now (image .entry))) (now (contents .entry)) k) (now (out .entry))) × (r ≤ n + 100000000) ⌝ }
 {
     let f = book_image::function_at(image, k);
     let e = book_image::elements(image);
@@ -90,7 +90,7 @@ fn print_function(image: &Image, contents: &[Value], k: u32, n: u32, out: &mut [
 
 // Prints the non-default contents as lines of a book, from byte 25 on, as far as they fit. Says how many lines there are.
 fn print_contents(image: &Image, contents: &[Value], out: &mut [u8]) -> u32
-    ensures { λ r. ⌜ (r ≡ length (contents-lines (program-in (now (image .entry))) (now (contents .entry)))) × (now (out .exit) ≡ lines-put 0 (contents-lines (program-in (now (image .entry))) (now (contents .entry))) (now (out .entry))) ⌝ }
+    ensures { λ r. ⌜ (r ≡ length (contents-lines (program-in (now (image .entry))) (now (contents .entry)))) × (now (out .exit) ≡ lines-printed 0 (contents-lines (program-in (now (image .entry))) (now (contents .entry))) (now (out .entry))) ⌝ }
 {
     let all = book_image::functions(image) as u32;
     let mut lines: u32 = 0;
@@ -190,14 +190,14 @@ fn report_on(
     writers: &mut [u64],
     image: &Image,
     order: &Order,
-    checked: Opening,
+    checked: CheckedCall,
     output: &mut [u8],
 ) -> usize
     requires { ⌜ most-output ≤ length (now output) ⌝ }
     ensures { λ r. ⌜ ((b : Book) (g : Log) → Reported (now (book .entry)) b g checked (now (image .entry)) (now (order .entry)) (tables (now (contents .entry)) (now (readers .entry)) (now (writers .entry))) → Shown (print-answer (b .program) (run-log b g)) (now (output .entry)) r (now (output .exit))) ⌝ }
 {
-    let t = order_run::start(book, contents, readers, writers, image, order, checked);
-    let answer = order_entry::run_from_own_list(
+    let t = order_run::start_run(book, contents, readers, writers, image, order, checked);
+    let ended = order_entry::run_from_own_list(
         contents,
         readers,
         writers,
@@ -206,10 +206,10 @@ fn report_on(
         order,
         t,
     );
-    if answer.number == 0 {
-        return print_image(image, contents, answer, output);
+    if ended.number == 0 {
+        return print_image(image, contents, ended, output);
     }
-    print_refusal(answer, output)
+    print_refusal(ended, output)
 }
 
 // On tables of 256 records. Most books have few locations, and small tables are soon cleared.
@@ -217,7 +217,7 @@ fn report_small(
     book: &[u8],
     image: &Image,
     order: &Order,
-    checked: Opening,
+    checked: CheckedCall,
     output: &mut [u8],
 ) -> usize
     requires { ⌜ most-output ≤ length (now output) ⌝ }
@@ -243,7 +243,7 @@ fn report_large(
     book: &[u8],
     image: &Image,
     order: &Order,
-    checked: Opening,
+    checked: CheckedCall,
     output: &mut [u8],
 ) -> usize
     requires { ⌜ most-output ≤ length (now output) ⌝ }

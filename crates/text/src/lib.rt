@@ -121,7 +121,7 @@ pub enum Scan {
 }
 
 // The first column that may not be blank: a 0 stands alone.
-fn start(b: u8) -> Scan
+fn scan_first(b: u8) -> Scan
     ensures { λ r. ⌜ r ≡ step-of Scan.Blank b ⌝ }
 {
     match b {
@@ -133,7 +133,7 @@ fn start(b: u8) -> Scan
 }
 
 // A column after a digit.
-fn more(b: u8) -> Scan
+fn scan_next(b: u8) -> Scan
     ensures { λ r. ⌜ r ≡ step-of Scan.Digits b ⌝ }
 {
     match b {
@@ -143,19 +143,19 @@ fn more(b: u8) -> Scan
 }
 
 // One more column.
-fn step(s: Scan, b: u8) -> Scan
+fn scan_byte(s: Scan, b: u8) -> Scan
     ensures { λ r. ⌜ r ≡ step-of s b ⌝ }
 {
     match s {
-        Scan::Blank => start(b),
+        Scan::Blank => scan_first(b),
         Scan::Zero => Scan::Bad,
-        Scan::Digits => more(b),
+        Scan::Digits => scan_next(b),
         Scan::Bad => Scan::Bad,
     }
 }
 
 // The columns are a number.
-fn ends(s: Scan) -> bool
+fn scan_ends(s: Scan) -> bool
     ensures { λ r. ⌜ r ≡ ends-well s ⌝ }
 {
     match s {
@@ -174,10 +174,10 @@ fn scanned(text: &[u8], at: usize) -> bool
     let mut s = Scan::Blank;
     let mut k: usize = 0;
     while k < FIELD {
-        s = step(s, text[at + k]);
+        s = scan_byte(s, text[at + k]);
         k += 1;
     }
-    ends(s)
+    scan_ends(s)
 }
 
 // Four columns are blank. Side by side they are one number, which the machine loads and compares at once.
@@ -209,14 +209,14 @@ fn is_digit(b: u8) -> bool
 }
 
 // The first digit of several.
-fn leads(b: u8) -> bool
+fn is_leading_digit(b: u8) -> bool
     ensures { λ r. ⌜ r ≡ digit b && not (eqb b zero-digit) ⌝ }
 {
     (48 <= b) & (b <= 57) & !(b == 48)
 }
 
 // What the last column of a field says, the others being blank.
-fn one(f: u8) -> u32
+fn last_column(f: u8) -> u32
     ensures { λ r. ⌜ Read (f ∷ []) r ⌝ }
 {
     if is_digit(f) {
@@ -227,12 +227,12 @@ fn one(f: u8) -> u32
 }
 
 // What the last two say.
-fn two(e: u8, f: u8) -> u32
+fn last_two(e: u8, f: u8) -> u32
     ensures { λ r. ⌜ Read (e ∷ f ∷ []) r ⌝ }
 {
     if e == 32 {
-        one(f)
-    } else if leads(e) & is_digit(f) {
+        last_column(f)
+    } else if is_leading_digit(e) & is_digit(f) {
         e as u32 * 10 + f as u32 - 528
     } else {
         NO_NUMBER
@@ -240,12 +240,12 @@ fn two(e: u8, f: u8) -> u32
 }
 
 // What the last three say.
-fn three(d: u8, e: u8, f: u8) -> u32
+fn last_three(d: u8, e: u8, f: u8) -> u32
     ensures { λ r. ⌜ Read (d ∷ e ∷ f ∷ []) r ⌝ }
 {
     if d == 32 {
-        two(e, f)
-    } else if leads(d) & is_digit(e) & is_digit(f) {
+        last_two(e, f)
+    } else if is_leading_digit(d) & is_digit(e) & is_digit(f) {
         d as u32 * 100 + e as u32 * 10 + f as u32 - 5328
     } else {
         NO_NUMBER
@@ -253,7 +253,7 @@ fn three(d: u8, e: u8, f: u8) -> u32
 }
 
 // What the six columns from `at` on say, column by column.
-fn long(text: &[u8], at: usize) -> u32
+fn six_columns(text: &[u8], at: usize) -> u32
     requires { ⌜ (at + 6 ≤ length (now text)) × (at < 1000000000000) ⌝ }
     ensures { λ r. ⌜ Read (take 6 (drop at (now (text .entry)))) r ⌝ }
 {
@@ -270,11 +270,11 @@ fn field(text: &[u8], at: usize) -> u32
     ensures { λ r. ⌜ Read (take 6 (drop at (now (text .entry)))) r ⌝ }
 {
     if blanks(text, at) {
-        two(text[at + 4], text[at + 5])
+        last_two(text[at + 4], text[at + 5])
     } else if three_blank(text[at], text[at + 1], text[at + 2]) {
-        three(text[at + 3], text[at + 4], text[at + 5])
+        last_three(text[at + 3], text[at + 4], text[at + 5])
     } else {
-        long(text, at)
+        six_columns(text, at)
     }
 }
 
@@ -323,7 +323,7 @@ pub fn parse(text: &[u8], i: u32) -> Parsed
 }
 
 // Line i is whole and in form.
-fn sound(text: &[u8], i: u32) -> bool
+fn in_form(text: &[u8], i: u32) -> bool
     ensures { λ r. ⌜ r ≡ well-formed (line-bytes (now (text .entry)) i) ⌝ }
 {
     let l = parse(text, i);
@@ -336,7 +336,7 @@ pub fn bad_line_from(text: &[u8], first: u32, end: u32) -> Found
 {
     let mut i = first;
     while i < end {
-        if !sound(text, i) {
+        if !in_form(text, i) {
             return Found::Here(i);
         }
         i += 1;

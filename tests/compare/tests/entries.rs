@@ -38,8 +38,10 @@ fn each_is_called_by_the_one_before() {
     for Calls { entries, .. } in &CALLS {
         for two in entries.windows(2) {
             let (caller, _) = two[0].split_once("::").expect("crate::function");
+            let (called, function) = two[1].split_once("::").expect("crate::function");
             let source = text(&format!("crates/{caller}/src/lib.rt"));
-            assert!(source.contains(&format!("{}(", two[1])), "{caller} does not call {}", two[1]);
+            let call = if called == caller { format!("    {function}(") } else { format!("{}(", two[1]) };
+            assert!(source.contains(&call), "{caller} does not call {}", two[1]);
         }
     }
 }

@@ -1,7 +1,7 @@
 -- `check_into` meets its contract.
 use native.Mathlib.Omega.{arith}
 use Rattle.book_check.proofs.Chain.{answered, stops, goes-on, after, opened-refused, opened-same, of-line, of-bounds, header, book-chain, lines-sound, header-room, line-passed, bounds-passed}
-use Rattle.book_check.specs.Opened.{check-text}
+use Rattle.book_check.specs.ImageOf.{check-text}
 use Rattle.book.specs.Check.{check-book}
 use Rattle.book.specs.declared.Header.{Header}
 use Rattle.text.proofs.Fields.{parsed-ok, parsed-line}

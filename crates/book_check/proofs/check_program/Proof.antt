@@ -4,7 +4,7 @@ use lib.ListN.{length}
 use Rattle.book.specs.Image.{image-length}
 use native.Mathlib.Omega.{arith}
 use Rattle.book_check.proofs.Chain.{answered, stops, after, of-functions, of-locations, of-nodes, of-use, of-around, of-agents, program-held}
-use Rattle.book_load.specs.Rows.{laid}
+use Rattle.book_load.specs.Loaded.{functions-laid}
 use Rattle.text.proofs.Checks.{none-numbered, must-numbered}
 use Rattle.text.specs.Words.{answer-of}
 use Prim.Native.Nat.{ℕ}
@@ -23,19 +23,19 @@ whole c = omega (arith, c .lay-out .ensures .1)
 of1 : (c : tie.After-none-at) → c .none-at .result ≡ answer-of (of-functions (c .before .before .before .before .before .args .image .now))
 of1 c = answered 4 _ _ _ (c .none-at .ensures) (c .before .before .before .bad-functions .ensures)
 
-of2 : (c : tie.After-must) → c .must .result ≡ answer-of (of-locations (laid (c .before .before .before .before .before .before .before .before .before .before .args .image .now)))
+of2 : (c : tie.After-must) → c .must .result ≡ answer-of (of-locations (functions-laid (c .before .before .before .before .before .before .before .before .before .before .args .image .now)))
 of2 c = c .must .ensures ∙ rw (c .before .locations .ensures, c .before .before .before .before .before .before .lay-out .ensures .0)
 
-of3 : (c : tie.After-none-at2) → c .none-at2 .result ≡ answer-of (of-nodes (laid (c .before .before .before .before .before .before .before .before .before .before .before .before .before .before .before .args .image .now)))
+of3 : (c : tie.After-none-at2) → c .none-at2 .result ≡ answer-of (of-nodes (functions-laid (c .before .before .before .before .before .before .before .before .before .before .before .before .before .before .before .args .image .now)))
 of3 c = answered 5 _ _ _ (c .none-at2 .ensures) (c .before .bad-nodes .ensures) ∙ ap (λ (o : List ℕ). answer-of (of-nodes o)) (c .before .before .before .before .before .before .before .before .before .before .before .lay-out .ensures .0)
 
-of4 : (c : tie.After-none-at3) → c .none-at3 .result ≡ answer-of (of-use (laid (c .before .before .before .before .before .before .before .before .before .before .before .before .before .before .before .before .before .before .before .before .args .image .now)))
+of4 : (c : tie.After-none-at3) → c .none-at3 .result ≡ answer-of (of-use (functions-laid (c .before .before .before .before .before .before .before .before .before .before .before .before .before .before .before .before .before .before .before .before .args .image .now)))
 of4 c = answered 6 _ _ _ (c .none-at3 .ensures) (c .before .bad-use .ensures) ∙ ap (λ (o : List ℕ). answer-of (of-use o)) (c .before .before .before .before .before .before .before .before .before .before .before .before .before .before .before .before .lay-out .ensures .0)
 
-of5 : (c : tie.After-none-at4) → c .none-at4 .result ≡ answer-of (of-around (laid (c .before .before .before .before .before .before .before .before .before .before .before .before .before .before .before .before .before .before .before .before .before .before .before .before .before .args .image .now)))
-of5 c = answered 6 _ _ _ (c .none-at4 .ensures) (c .before .bad-around .ensures) ∙ ap (λ (o : List ℕ). answer-of (of-around o)) (c .before .before .before .before .before .before .before .before .before .before .before .before .before .before .before .before .before .before .before .before .before .lay-out .ensures .0)
+of5 : (c : tie.After-none-at4) → c .none-at4 .result ≡ answer-of (of-around (functions-laid (c .before .before .before .before .before .before .before .before .before .before .before .before .before .before .before .before .before .before .before .before .before .before .before .before .before .args .image .now)))
+of5 c = answered 6 _ _ _ (c .none-at4 .ensures) (c .before .bad-scope .ensures) ∙ ap (λ (o : List ℕ). answer-of (of-around o)) (c .before .before .before .before .before .before .before .before .before .before .before .before .before .before .before .before .before .before .before .before .before .lay-out .ensures .0)
 
-of6 : (c : tie.After-none-at5) → c .none-at5 .result ≡ answer-of (of-agents (laid (c .before .before .before .before .before .before .before .before .before .before .before .before .before .before .before .before .before .before .before .before .before .before .before .before .before .before .before .before .before .before .args .image .now)))
+of6 : (c : tie.After-none-at5) → c .none-at5 .result ≡ answer-of (of-agents (functions-laid (c .before .before .before .before .before .before .before .before .before .before .before .before .before .before .before .before .before .before .before .before .before .before .before .before .before .before .before .before .before .before .args .image .now)))
 of6 c = answered 7 _ _ _ (c .none-at5 .ensures) (c .before .bad-agents .ensures) ∙ ap (λ (o : List ℕ). answer-of (of-agents o)) (c .before .before .before .before .before .before .before .before .before .before .before .before .before .before .before .before .before .before .before .before .before .before .before .before .before .before .lay-out .ensures .0)
 
 bad-functions-requires : tie.Need-bad-functions-requires
@@ -77,8 +77,8 @@ none-at-requires-3 c κs = search needs
 returns-4 : tie.Need-returns-4
 returns-4 c = (c .before .before .before .before .before .before .before .before .before .before .before .before .before .before .before .before .before .before .lay-out .ensures .0, whole (c .before .before .before .before .before .before .before .before .before .before .before .before .before .before .before .before .before .before), λ h text room rows. (after _ _ _ _ (none-numbered _ _ _ _ (omega arith)) (of1 (c .before .before .before .before .before .before .before .before .before .before .before .before .before .before .before .before .before)) (c .before .before .before .before .before .before .before .before .before .before .before .before .before .before .before .if1 .left) (after _ _ _ _ (must-numbered _ _ _ _ (omega arith)) (of2 (c .before .before .before .before .before .before .before .before .before .before .before .before)) (c .before .before .before .before .before .before .before .before .before .before .if2 .left) (after _ _ _ _ (none-numbered _ _ _ _ (omega arith)) (of3 (c .before .before .before .before .before .before .before)) (c .before .before .before .before .before .if3 .left) (stops _ _ _ (of4 (c .before .before)) (c .if4 .taken))))) ∙ ap answer-of (program-held (c .before .before .before .before .before .before .before .before .before .before .before .before .before .before .before .before .before .before .before .before .before .before .args .image .now) h text room (whole (c .before .before .before .before .before .before .before .before .before .before .before .before .before .before .before .before .before .before)) rows))
 
-bad-around-requires : tie.Need-bad-around-requires
-bad-around-requires c κs = search needs
+bad-scope-requires : tie.Need-bad-scope-requires
+bad-scope-requires c κs = search needs
 
 none-at-requires-4 : tie.Need-none-at-requires-4
 none-at-requires-4 c κs = search needs
@@ -112,7 +112,7 @@ check-program-spec =
     bad-use-requires
     none-at-requires-3
     returns-4
-    bad-around-requires
+    bad-scope-requires
     none-at-requires-4
     returns-5
     bad-agents-requires

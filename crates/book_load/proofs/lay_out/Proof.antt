@@ -1,5 +1,5 @@
 -- `lay_out` meets its contract.
-use Rattle.book_load.specs.Rows.{laid}
+use Rattle.book_load.specs.Loaded.{functions-laid}
 use Rattle.book.proofs.Image.{elements-most, functions-most, functions-long, length-filled}
 use Rattle.book.specs.Image.{program-in}
 use mathlib.Core.Path.{sym, ap, _∙_}
@@ -31,7 +31,7 @@ store-requires : tie.Need-store-requires
 store-requires c κs = search needs
 
 returns : tie.Need-returns
-unfolding laid program-in
+unfolding functions-laid program-in
 returns c = let m = c .before .before .before .before .before .before .before .before .before .before .args .image .now in (c .store .ensures .0 ∙ rw (c .before .before .lay-functions .ensures .1, c .before .before .lay-functions .ensures .0, c .before .before .before .before .before .before .before .before .elements .ensures, c .before .before .before .before .before .before .functions .ensures, functions-long m), sym (length-filled _ 2 _ 0 m) ∙ ap length (sym (c .before .before .lay-functions .ensures .1)) ∙ c .store .ensures .1)
 
 pub lay-out-spec : {M : Type 1} → statement M

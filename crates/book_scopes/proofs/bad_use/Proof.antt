@@ -30,11 +30,11 @@ slice-aggregate-mark-roots c = search needs
 mark-roots-requires : tie.Need-mark-roots-requires
 mark-roots-requires c κs = search needs
 
-slice-aggregate-tally : tie.Need-slice-aggregate-tally
-slice-aggregate-tally c = search needs
+slice-aggregate-count-uses : tie.Need-slice-aggregate-count-uses
+slice-aggregate-count-uses c = search needs
 
-tally-requires : tie.Need-tally-requires
-tally-requires c κs = search needs
+count-uses-requires : tie.Need-count-uses-requires
+count-uses-requires c κs = search needs
 
 slice-aggregate-not-once : tie.Need-slice-aggregate-not-once
 slice-aggregate-not-once c = search needs
@@ -43,7 +43,7 @@ not-once-requires : tie.Need-not-once-requires
 not-once-requires c κs = search needs
 
 returns : tie.Need-returns
-returns c = let m = c .before .before .before .before .before .before .before .before .before .before .args .image .now in c .not-once .ensures ∙ rw (c .before .before .before .tally .ensures, c .before .before .before .before .before .before .mark-roots .ensures, c .before .before .before .before .before .before .before .before .nodes .ensures, c .before .before .before .before .before .before .before .before .before .agents .ensures) (least-same _ (bad-use (program-in m)) (length (program-in m .nodes)) (λ j l. used-once (program-in m) j (replicate 1024 0) (rw (length-replicate {A = ℕ} 1024 0) (omega (arith, nodes-most m))) (getD-replicate {A = ℕ} 1024 j 0 0 (omega (arith, nodes-most m)))))
+returns c = let m = c .before .before .before .before .before .before .before .before .before .before .args .image .now in c .not-once .ensures ∙ rw (c .before .before .before .count-uses .ensures, c .before .before .before .before .before .before .mark-roots .ensures, c .before .before .before .before .before .before .before .before .nodes .ensures, c .before .before .before .before .before .before .before .before .before .agents .ensures) (least-same _ (bad-use (program-in m)) (length (program-in m .nodes)) (λ j l. used-once (program-in m) j (replicate 1024 0) (rw (length-replicate {A = ℕ} 1024 0) (omega (arith, nodes-most m))) (getD-replicate {A = ℕ} 1024 j 0 0 (omega (arith, nodes-most m)))))
 
 pub bad-use-spec : {M : Type 1} → statement M
 bad-use-spec =
@@ -55,8 +55,8 @@ bad-use-spec =
     cast-n
     slice-aggregate-mark-roots
     mark-roots-requires
-    slice-aggregate-tally
-    tally-requires
+    slice-aggregate-count-uses
+    count-uses-requires
     slice-aggregate-not-once
     not-once-requires
     returns)

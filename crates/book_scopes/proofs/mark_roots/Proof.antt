@@ -1,6 +1,6 @@
 -- `mark_roots` meets its contract.
 use Rattle.book_scopes.proofs.Tables.{roots-step, roots-none}
-use Rattle.book_scopes.specs.Tables.{rooted}
+use Rattle.book_scopes.specs.Tables.{roots-marked}
 use Rattle.book.specs.Image.{program-in}
 use borrow.Author.Needs.{needs}
 use native.Mathlib.Omega.{arith}
@@ -12,7 +12,7 @@ use Rattle.book_scopes.proofs.mark_roots.Tie as tie
 
 abbrev Inv-loop : tie.InvT-loop
 Inv-loop image n s₀ i₀ s i =
-    (i ≤ n) × (length s ≡ length s₀) × (s ≡ rooted (program-in image) i s₀)
+    (i ≤ n) × (length s ≡ length s₀) × (s ≡ roots-marked (program-in image) i s₀)
 
 abbrev μ-loop : tie.MeasureT-loop
 μ-loop image n s₀ i₀ s i = n - i

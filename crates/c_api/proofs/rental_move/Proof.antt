@@ -13,8 +13,8 @@ use Rattle.c_api.proofs.rental_move.Tie as tie
 step-own-list-requires : tie.Need-step-own-list-requires
 step-own-list-requires c κs = search needs
 
-in-one-requires : tie.Need-in-one-requires
-in-one-requires c κs =
+packed-requires : tie.Need-packed-requires
+packed-requires c κs =
     let a = c .before .before .before .before .before .before .before .args in
     let s = c .before .before .step-own-list in
     omega (arith, ap (λ (x : Answer). x .number) (s .ensures .0), step-small (a .book .now) (a .contents .now) (input (a .agent) (a .picks .now)) (a .lent) .number)
@@ -27,8 +27,8 @@ returns c =
     let a = c .before .before .before .before .before .before .before .before .args in
     let s = c .before .before .before .step-own-list in
     let r = back _ (s .result) (step-call (a .book .now) (a .contents .now) (input (a .agent) (a .picks .now)) (a .lent) .answer)
-    (step-small (a .book .now) (a .contents .now) (input (a .agent) (a .picks .now)) (a .lent)) (c .in-one .ensures) (s .ensures .0) in
+    (step-small (a .book .now) (a .contents .now) (input (a .agent) (a .picks .now)) (a .lent)) (c .packed .ensures) (s .ensures .0) in
     (r .0, (r .1, s .ensures .1))
 
 pub rental-move-spec : {M : Type 1} → statement M
-rental-move-spec = tie.close (tie.spec step-own-list-requires in-one-requires same-length returns)
+rental-move-spec = tie.close (tie.spec step-own-list-requires packed-requires same-length returns)

@@ -15,20 +15,20 @@ Inv-loop contents e p f first end v l₀ l =
 abbrev μ-loop : tie.MeasureT-loop
 μ-loop contents e p f first end v l₀ l = end - l
 
-blameless-requires : tie.Need-blameless-requires Inv-loop μ-loop
-blameless-requires c κs = search needs
+faultless-value-requires : tie.Need-faultless-value-requires Inv-loop μ-loop
+faultless-value-requires c κs = search needs
 
-past-requires : tie.Need-past-requires Inv-loop μ-loop
-past-requires c κs = search needs
+skip-value-requires : tie.Need-skip-value-requires Inv-loop μ-loop
+skip-value-requires c κs = search needs
 
 loop-holds : tie.Need-loop-holds Inv-loop μ-loop
 loop-holds c =
     let a = c .before .before .before .args in
-    let v = c .before .blameless in
-    let h = c .past .ensures in (
+    let v = c .before .faultless-value in
+    let h = c .skip-value .ensures in (
       h .from,
       h .to,
-      λ B k. scan-skip B (a .contents .now) (a .e) (a .p) (a .f) (a .first) (a .end) k (a .first) (omega arith) (scan-start B (a .contents .now) (a .e) (a .p) (a .f) (a .first) (a .end) k) (v .result) (c .past .result) (v .ensures) h,
+      λ B k. scan-skip B (a .contents .now) (a .e) (a .p) (a .f) (a .first) (a .end) k (a .first) (omega arith) (scan-start B (a .contents .now) (a .e) (a .p) (a .f) (a .first) (a .end) k) (v .result) (c .skip-value .result) (v .ensures) h,
     )
 
 sub-is-bad : tie.Need-sub-is-bad Inv-loop μ-loop
@@ -48,25 +48,25 @@ returns c =
     let j = c .before .is-bad in
     scan-stop B (a .contents .now) (a .e) (a .p) (a .f) (a .first) (a .end) k (l .l) (l .inv .0) (l .inv .2 B k) (j .result) (c .before .before .loop-test .taken) (j .ensures B (k .elements) (k .permanent)) (c .if1 .taken)
 
-add-past : tie.Need-add-past Inv-loop μ-loop
-add-past c = search needs
+add-skip-value : tie.Need-add-skip-value Inv-loop μ-loop
+add-skip-value c = search needs
 
-past-requires-2 : tie.Need-past-requires-2 Inv-loop μ-loop
-past-requires-2 c κs = search needs
+skip-value-requires-2 : tie.Need-skip-value-requires-2 Inv-loop μ-loop
+skip-value-requires-2 c κs = search needs
 
 loop-less : tie.Need-loop-less Inv-loop μ-loop
-loop-less c = omega (arith, c .past2 .ensures .from, c .before .before .before .loop-test .taken)
+loop-less c = omega (arith, c .skip-value2 .ensures .from, c .before .before .before .loop-test .taken)
 
 loop-again : tie.Need-loop-again Inv-loop μ-loop
 loop-again c =
     let a = c .before .before .before .before .before .before .before .before .args in
     let l = c .before .before .before .before .loop in
     let j = c .before .before .is-bad in
-    let v = c .before .before .before .before .before .before .blameless in
-    let h = c .past2 .ensures in (
+    let v = c .before .before .before .before .before .before .faultless-value in
+    let h = c .skip-value2 .ensures in (
       omega (arith, l .inv .0, h .from),
       h .to,
-      λ B k. scan-skip B (a .contents .now) (a .e) (a .p) (a .f) (a .first) (a .end) k (l .l + 1) (omega (arith, l .inv .0)) (scan-pass B (a .contents .now) (a .e) (a .p) (a .f) (a .first) (a .end) k (l .l) (l .inv .0) (l .inv .2 B k) (j .result) (c .before .before .before .loop-test .taken) (j .ensures B (k .elements) (k .permanent)) (c .before .if1 .left)) (v .result) (c .past2 .result) (v .ensures) h,
+      λ B k. scan-skip B (a .contents .now) (a .e) (a .p) (a .f) (a .first) (a .end) k (l .l + 1) (omega (arith, l .inv .0)) (scan-pass B (a .contents .now) (a .e) (a .p) (a .f) (a .first) (a .end) k (l .l) (l .inv .0) (l .inv .2 B k) (j .result) (c .before .before .before .loop-test .taken) (j .ensures B (k .elements) (k .permanent)) (c .before .if1 .left)) (v .result) (c .skip-value2 .result) (v .ensures) h,
     )
 
 returns-2 : tie.Need-returns-2 Inv-loop μ-loop
@@ -82,15 +82,15 @@ bad-part-spec =
     (tie.spec
     Inv-loop
     μ-loop
-    blameless-requires
-    past-requires
+    faultless-value-requires
+    skip-value-requires
     loop-holds
     sub-is-bad
     is-bad-requires
     sub-t12
     returns
-    add-past
-    past-requires-2
+    add-skip-value
+    skip-value-requires-2
     loop-less
     loop-again
     returns-2)

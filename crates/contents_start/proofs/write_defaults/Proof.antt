@@ -29,8 +29,8 @@ part-from-requires c κs = search needs
 default-of-requires : tie.Need-default-of-requires Inv-loop μ-loop
 default-of-requires c κs = search needs
 
-fill-run-requires : tie.Need-fill-run-requires Inv-loop μ-loop
-fill-run-requires c κs =
+fill-function-requires : tie.Need-fill-function-requires Inv-loop μ-loop
+fill-function-requires c κs =
     let m = c .before .before .before .before .before .before .before .args .image .now in
     let l = c .before .before .before .before .loop in
     part-ordered (held m) (l .f) (l .first) _ (c .before .before .part-from .ensures)
@@ -55,7 +55,7 @@ loop-again c =
     let l = c .before .before .before .before .before .before .before .before .loop in
     let own = c .before .before .before .before .before .before .part-from in
     let more : l .f < length (held m .functions) = omega (arith, c .before .before .before .before .before .before .before .loop-test .taken, functions-held _ _ (c .before .before .before .before .before .before .before .before .before .functions .ensures) .0) in (
-      filled-function (held m) (a .contents .now) (l .first) (l .f) (l .contents) _ (l .inv .0) more (own .result) (own .ensures) (c .before .before .before .fill-run .ensures ∙ rw (c .before .before .before .before .before .default-of .ensures)),
+      filled-function (held m) (a .contents .now) (l .first) (l .f) (l .contents) _ (l .inv .0) more (own .result) (own .ensures) (c .before .before .before .fill-function .ensures ∙ rw (c .before .before .before .before .before .default-of .ensures)),
       omega (arith, c .before .before .before .before .before .before .before .loop-test .taken),
     )
 
@@ -79,7 +79,7 @@ write-defaults-spec =
     loop-holds
     part-from-requires
     default-of-requires
-    fill-run-requires
+    fill-function-requires
     cast-first
     add-f
     loop-less

@@ -7,7 +7,7 @@ use Rattle.text.specs.declared.Line.{Line}
 use Rattle.text.specs.Words.{table-from}
 use Rattle.text.specs.Text.{line}
 use Rattle.book.specs.Image.{first-entry-in, entry-count-in, held}
-use Rattle.contents_start.specs.Written.{line-put, lines-put, contents-lines}
+use Rattle.contents_start.specs.Written.{entry-put, entries-put, entry-lines}
 use Rattle.contents_start.proofs.Entries.{lines-first, lines-next, lines-last}
 use Rattle.contents_start.proofs.write_entries.Statement.{statement}
 use Rattle.contents_start.proofs.write_entries.Tie as tie
@@ -15,8 +15,8 @@ use Rattle.contents_start.proofs.write_entries.Tie as tie
 abbrev Inv-loop : tie.InvT-loop
 Inv-loop book image contents₀ first count i₀ contents i =
     (length contents ≡ length contents₀)
-    × (lines-put (held image) (table-from (λ k. line book (first-entry-in image + k)) i (count - i)) contents
-    ≡ lines-put (held image) (contents-lines image book) contents₀)
+    × (entries-put (held image) (table-from (λ k. line book (first-entry-in image + k)) i (count - i)) contents
+    ≡ entries-put (held image) (entry-lines image book) contents₀)
 
 abbrev μ-loop : tie.MeasureT-loop
 μ-loop book image contents₀ first count i₀ contents i = count - i
@@ -36,8 +36,8 @@ loop-holds c =
 read-line-requires : tie.Need-read-line-requires Inv-loop μ-loop
 read-line-requires c κs = search needs
 
-write-line-requires : tie.Need-write-line-requires Inv-loop μ-loop
-write-line-requires c κs = search needs
+write-entry-requires : tie.Need-write-entry-requires Inv-loop μ-loop
+write-entry-requires c κs = search needs
 
 add-i : tie.Need-add-i Inv-loop μ-loop
 add-i c = search needs
@@ -51,8 +51,8 @@ loop-again c =
     let m = a .image .now in
     let l = c .before .before .before .before .before .before .loop in
     let here : c .before .before .before .before .read-line .result ≡ line (a .book .now) (first-entry-in m + l .i) = c .before .before .before .before .read-line .ensures ∙ rw (c .before .before .before .before .before .before .before .before .first-entry .ensures) in
-    let e = c .before .before .write-line .ensures ∙ ap (λ (x : Line). line-put (held m) x (l .contents)) here in (
-      c .before .before .write-line .kept .1 .0 ∙ l .inv .0,
+    let e = c .before .before .write-entry .ensures ∙ ap (λ (x : Line). entry-put (held m) x (l .contents)) here in (
+      c .before .before .write-entry .kept .1 .0 ∙ l .inv .0,
       lines-next (held m) (λ k. line (a .book .now) (first-entry-in m + k)) (c .before .before .before .before .before .before .before .entries .result) (l .i) (l .contents) _ (c .before .before .before .before .before .loop-test .taken) e ∙ l .inv .1,
     )
 
@@ -76,7 +76,7 @@ write-entries-spec =
     entries-requires
     loop-holds
     read-line-requires
-    write-line-requires
+    write-entry-requires
     add-i
     loop-less
     loop-again

@@ -8,18 +8,18 @@ use Rattle.book.specs.Image.{held}
 use Rattle.engine_instruction.specs.Code.{items}
 use Rattle.engine_term.specs.Marks.{marked}
 use Rattle.engine_term.proofs.Marking.{marked-on}
-use Rattle.engine_release.specs.Steps.{clears, clears-reads}
+use Rattle.engine_release.specs.Steps.{all-cleared, all-reads}
 use Rattle.engine_fire.specs.Steps.{puts, put-marks, put-reads}
 use Rattle.engine_fire.proofs.Fires.{fired-is, marked-is}
 use borrow.Author.Needs.{needs}
 use Rattle.engine_fire.proofs.fire.Statement.{statement}
 use Rattle.engine_fire.proofs.fire.Tie as tie
 
-clear-all-requires : tie.Need-clear-all-requires
-clear-all-requires c κs = search needs
+clear-released-requires : tie.Need-clear-released-requires
+clear-released-requires c κs = search needs
 
-put-all-requires : tie.Need-put-all-requires
-put-all-requires c κs = search needs
+put-values-requires : tie.Need-put-values-requires
+put-values-requires c κs = search needs
 
 same-length : tie.Need-same-length
 same-length c = search needs
@@ -35,11 +35,11 @@ returns c =
     let a = c .before .before .before .before .before .before .before .before .before .before .before .before .before .before .before .before .before .before .before .before .before .before .before .before .args in
     let B = held (a .image .now) in
     let is = items (a .list .now) (a .len) in
-    let k = c .before .before .before .before .before .before .before .before .before .before .before .before .before .before .before .before .clear-all in
-    let r = c .before .before .before .before .before .before .put-all in (
+    let k = c .before .before .before .before .before .before .before .before .before .before .before .before .before .before .before .before .clear-released in
+    let r = c .before .before .before .before .before .before .put-values in (
       λ free. r .ensures .0 ∙ ap (puts (L B) is) (k .ensures .0) ∙ fired-is B is (a .contents .now) free,
       (
-        marked-on (a .bit) (clears-reads B is (a .contents .now)) (put-reads (B .P) (L B) is (clears B is (a .contents .now))) (a .readers .now) (k .last .1 .1 .0) (r .last .1 .1 .0)
+        marked-on (a .bit) (all-reads B is (a .contents .now)) (put-reads (B .P) (L B) is (all-cleared B is (a .contents .now))) (a .readers .now) (k .last .1 .1 .0) (r .last .1 .1 .0)
             (k .ensures .1 .1)
             (r .ensures .1 .0 ∙ ap (λ (C : List ℕ). marked (a .bit) (put-reads (B .P) (L B) is C) (k .last .1 .1 .0)) (k .ensures .0)),
         r .ensures .1 .1 ∙ ap₂ (λ (C W : List ℕ). put-marks (a .bit) (min (L B) (length C)) is W) (k .ensures .0) (k .ensures .1 .0)
@@ -49,4 +49,4 @@ returns c =
 
 pub fire-spec : {M : Type 1} → statement M
 fire-spec =
-    tie.close (tie.spec clear-all-requires put-all-requires same-length same-length-2 same-length-3 returns)
+    tie.close (tie.spec clear-released-requires put-values-requires same-length same-length-2 same-length-3 returns)

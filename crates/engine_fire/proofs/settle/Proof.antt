@@ -12,8 +12,8 @@ use Rattle.engine_fire.proofs.Judged.{clash-settled, fire-settled, clas
 use Rattle.engine_fire.proofs.settle.Statement.{statement}
 use Rattle.engine_fire.proofs.settle.Tie as tie
 
-first-clash-requires : tie.Need-first-clash-requires
-first-clash-requires c κs = search needs
+least-clash-requires : tie.Need-least-clash-requires
+least-clash-requires c κs = search needs
 
 is-location-requires : tie.Need-is-location-requires
 is-location-requires c κs = search needs
@@ -25,7 +25,7 @@ returns : tie.Need-returns
 returns c =
     let a = c .before .before .before .before .before .before .before .before .args in
     let m = a .image .now in
-    let r = c .before .before .first-clash in
+    let r = c .before .before .least-clash in
     let high : L (held m) ≤ 4294967295 = omega (arith, locations-fit m) in
     let h = ltb-true (r .result) (L (held m)) (sym (c .before .is-location .ensures) ∙ c .if1 .taken) in
     clash-settled m (a .list .now) (a .len) (a .bit) (tables (a .contents .now) (a .readers .now) (a .writers .now)) (r .result)
@@ -48,7 +48,7 @@ returns-2 c =
     let s = c .before .before .before .before .before .before .before .before .before .before in
     let a = s .before .before .before .before .before .before .before .before .args in
     let m = a .image .now in
-    let r = s .before .before .first-clash in
+    let r = s .before .before .least-clash in
     let f = c .before .before .before .before .before .before .fire in
     let high : L (held m) ≤ 4294967295 = omega (arith, locations-fit m) in
     let h = ltb-false (r .result) (L (held m)) (sym (s .before .is-location .ensures) ∙ s .if1 .left) in
@@ -60,7 +60,7 @@ pub settle-spec : {M : Type 1} → statement M
 settle-spec =
     tie.close
     (tie.spec
-    first-clash-requires
+    least-clash-requires
     is-location-requires
     same-length
     returns

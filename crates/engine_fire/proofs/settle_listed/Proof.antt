@@ -4,15 +4,15 @@ use borrow.Author.Needs.{needs}
 use Rattle.engine.specs.Move.{settle}
 use Rattle.engine_fire.specs.Outcome.{move-by}
 use Rattle.engine_fire.specs.Effect.{move-answer}
-use Rattle.engine_fire.specs.Close.{kept}
+use Rattle.engine_fire.specs.Close.{readers-kept}
 use Rattle.engine_fire.proofs.settle_listed.Statement.{statement}
 use Rattle.engine_fire.proofs.settle_listed.Tie as tie
 
 settle-requires : tie.Need-settle-requires
 settle-requires c κs = search needs
 
-close-requires : tie.Need-close-requires
-close-requires c κs = search needs
+answer-move-requires : tie.Need-answer-move-requires
+answer-move-requires c κs = search needs
 
 same-length : tie.Need-same-length
 same-length c = search needs
@@ -27,7 +27,7 @@ returns : tie.Need-returns
 unfolding settle
 returns c =
     let s = c .before .before .before .before .before .before .before .before .before .before .settle in
-    let e = c .before .before .close .ensures in
+    let e = c .before .before .answer-move .ensures in
     λ next.
     let a = c .before .before .before .before .before .before .before .before .before .before .before .before .before .before .before .before .before .before .args in
     let f = move-by (a .image .now) (a .contents .now) (a .list .now) (a .len) in
@@ -35,11 +35,11 @@ returns c =
     record {
       answer = λ ls. e .0 (f ls) ∙ ap (move-answer (a .at)) (sym (t .outcome ls));
       contents = t .contents;
-      readers = λ ls. e .1 (f ls) ∙ ap₂ (kept (a .bit)) (sym (t .outcome ls)) (t .readers ls);
+      readers = λ ls. e .1 (f ls) ∙ ap₂ (readers-kept (a .bit)) (sym (t .outcome ls)) (t .readers ls);
       writers = t .writers;
     }
 
 pub settle-listed-spec : {M : Type 1} → statement M
 settle-listed-spec =
     tie.close
-    (tie.spec settle-requires close-requires same-length same-length-2 same-length-3 returns)
+    (tie.spec settle-requires answer-move-requires same-length same-length-2 same-length-3 returns)

@@ -1,4 +1,4 @@
--- `engine_list::pass` meets its contract: a walk of its MIR, by hand. Both slices are opened once and closed once; between the two each is lent for a call and comes back, to `fill` and then to `load`, of which the proof knows only that they meet their contracts.
+-- `engine_list::pass` meets its contract: a walk of its MIR, by hand. Both slices are opened once and closed once; between the two each is lent for a call and comes back, to `write_records` and then to `read_records`, of which the proof knows only that they meet their contracts.
 -- Assumes nothing.
 use mathlib.Core.Path.{_≡_, refl, sym, _∙_, ap, subst}
 use Prim.Native.Nat.{ℕ, _<_, _^_, min}
@@ -44,17 +44,17 @@ use denote.Signature.{plain}
 use Rattle.engine.specs.declared.Record.{Record}
 use Rattle.engine.proofs.Record as T
 use Rattle.engine_instruction.specs.Code.{items}
-use Rattle.engine_list.specs.Written.{what-of, written, through}
+use Rattle.engine_list.specs.Written.{what-of, records-written, through}
 use Rattle.engine_list.proofs.Laws.{through-back}
 use Rattle.engine_list.proofs.Lending.{ref-at, LentMut, LentShr, lend-mut, lend-shr, mut-back, shr-back}
-use Rattle.engine_list.proofs.fill as fill
-use Rattle.engine_list.proofs.fill.Symbol as fill-def
-use Rattle.engine_list.proofs.fill.Symbol.{name as #engine-list·fill}
-use Rattle.engine_list.proofs.fill.Met as fill-thm
-use Rattle.engine_list.proofs.load as load′
-use Rattle.engine_list.proofs.load.Symbol as load-def
-use Rattle.engine_list.proofs.load.Symbol.{name as #engine-list·load}
-use Rattle.engine_list.proofs.load.Met as load-thm
+use Rattle.engine_list.proofs.write_records as fill
+use Rattle.engine_list.proofs.write_records.Symbol as fill-def
+use Rattle.engine_list.proofs.write_records.Symbol.{name as #engine-list·write-records}
+use Rattle.engine_list.proofs.write_records.Met as fill-thm
+use Rattle.engine_list.proofs.read_records as load′
+use Rattle.engine_list.proofs.read_records.Symbol as load-def
+use Rattle.engine_list.proofs.read_records.Symbol.{name as #engine-list·read-records}
+use Rattle.engine_list.proofs.read_records.Met as load-thm
 use Rattle.engine_list.proofs.pass.Key.{name as #engine-list·pass}
 use Rattle.engine_list.proofs.pass as pass
 use Rattle.engine_list.proofs.pass.Statement as stated
@@ -104,7 +104,7 @@ module _ {M : Type 1} (𝓤 : URA M) (H : Heap 𝓤) (A : Atoms 𝓤) (W : Given
   abbrev Post : Val → SProp 𝓤
   Post = walkOf 𝓤 H A pass.ended stayed (pass.clauses 𝓤 H A mem run) .post (((κ₀, (κ₁, tt)), (q₀, (q₁, tt)), tt, a, vals), tt)
 
-  exits : (zs : List Record) (us : List ℕ) → zs ≡ written (items xs n) ys → items us (through n zs xs) ≡ map what-of (take (through n zs xs) zs) → length zs ≡ length ys → length us ≡ length xs
+  exits : (zs : List Record) (us : List ℕ) → zs ≡ records-written (items xs n) ys → items us (through n zs xs) ≡ map what-of (take (through n zs xs) zs) → length zs ≡ length ys → length us ≡ length xs
       → ent 𝓤 (⋆ 𝓤 H A (‵ (fobs δ₁ (codedHoleys T.the-row .code (heres T.the-row zs))) ∷ ‵ (fbor κ₀ (Held T.the-row (length zs) b₁ o₁ δ₁)) ∷ ‵ (flft κ₀ q₀) ∷ ‵ (fobs δ₂ (codedHoleys u64 .code (heres u64 us))) ∷ ‵ (fbor κ₁ (Held u64 (length us) b₂ o₂ δ₂)) ∷ ‵ (flft κ₁ q₁) ∷ [])) (Post vunit)
   exits zs us e f l m =
       qed W (‵ (fobs δ₁ (codedHoleys T.the-row .code (heres T.the-row zs))) ∷ ‵ (fbor κ₀ (Held T.the-row (length zs) b₁ o₁ δ₁)) ∷ ‵ (flft κ₀ q₀) ∷ ‵ (fobs δ₂ (codedHoleys u64 .code (heres u64 us))) ∷ ‵ (fbor κ₁ (Held u64 (length us) b₂ o₂ δ₂)) ∷ ‵ (flft κ₁ q₁) ∷ []) ∵
@@ -136,7 +136,7 @@ module _ {M : Type 1} (𝓤 : URA M) (H : Heap 𝓤) (A : Atoms 𝓤) (W : Given
   asked-load : (zs : List Record) (κ κ′ : Lft) (γ γ′ : GName) → ent 𝓤 (onEntry 𝓤 H A load′.signature (κ, (κ′, tt)) (fullShare, (fullShare, tt)) (load-a zs γ γ′) vals) (Load 𝓤 H A mem run .pre (to-load zs κ κ′ γ γ′))
   asked-load zs κ κ′ γ γ′ = qed W ((‵ (flft κ fullShare) ⊛ ‵ (flft κ′ fullShare) ⊛ ‵ ftrue) ∷ ‵ (owns (ShrSlice (named 0) κ T.the-row ∷ MutSlice (named 1) κ′ u64 ∷ usize ∷ []) (load-a zs γ γ′) vals) ∷ []) ∵ join ! $ frame ! $ done !
 
-  module _ (C : Calls 𝓤 H) (Λ : Loops 𝓤 H) (fm : FmC 𝓤 H (W .laws) C) (known-fill : Triple 𝓤 (C #engine-list·fill) (Fill 𝓤 H A mem run)) (known-load : Triple 𝓤 (C #engine-list·load) (Load 𝓤 H A mem run)) where
+  module _ (C : Calls 𝓤 H) (Λ : Loops 𝓤 H) (fm : FmC 𝓤 H (W .laws) C) (known-fill : Triple 𝓤 (C #engine-list·write-records) (Fill 𝓤 H A mem run)) (known-load : Triple 𝓤 (C #engine-list·read-records) (Load 𝓤 H A mem run)) where
     walk : ent 𝓤 (onEntry 𝓤 H A pass.signature (κ₀, (κ₁, tt)) (q₀, (q₁, tt)) a vals) (WpFn 𝓤 H C Λ code.function (s₁ ∷ s₂ ∷ vint w64 n ∷ []) Post)
     walk =
         qed W ((‵ (flft κ₀ q₀) ⊛ ‵ (flft κ₁ q₁) ⊛ ‵ ftrue) ∷ ‵ (owns (MutSlice (named 0) κ₀ T.the-row ∷ MutSlice (named 1) κ₁ u64 ∷ usize ∷ []) a vals) ∷ []) ∵ enter ! C Λ code.function (s₁ ∷ s₂ ∷ vint w64 n ∷ []) _ $
@@ -150,14 +150,14 @@ module _ {M : Type 1} (𝓤 : URA M) (H : Heap 𝓤) (A : Atoms 𝓤) (W : Given
         assigns ! (agg ! (and-then ! (load ! (from ! (stop !)) (look ! 22 refl)) (and-then ! (load ! (from ! (fld ! refl (stop !))) (look-in ! 30 (sub ! 1 refl (whole !)))) (no-more !)))) (from ! (stop !)) (init ! 20 refl (tt, (tt, (record { fits = room₁ .0 }, tt)))) $
         assigns ! (addr ! (from ! (fld ! refl (hop ! (look-in ! 28 (sub ! 0 refl (whole !))) (stop !))))) (from ! (stop !)) (init ! 18 refl (tt, tt)) $
         assigns ! (agg ! (and-then ! (load ! (from ! (stop !)) (look ! 18 refl)) (and-then ! (load ! (from ! (fld ! refl (stop !))) (look-in ! 28 (sub ! 1 refl (whole !)))) (no-more !)))) (from ! (stop !)) (init ! 16 refl (tt, (tt, (record { fits = room₂ .0 }, tt)))) $
-        -- `fill`
+        -- `write_records`
         lft-new ! tt (λ ν₀. move ! (5 ∷ []) $ use1 W (later (some (λ (γ₀ : GName). ‵ (MutSlice (named 0) (ν₀ ∷ []) T.the-row .own (ref-at T.the-row b₁ o₁ γ₀ ys) (sliceVal (b₁, o₁) (length ys) ∷ [])) ⊛ ‵ (LentMut T.the-row b₁ o₁ (ν₀ ∷ []) (length ys) γ₀)))) (lend-mut T.the-row b₁ o₁ 𝓤 H A W (ν₀ ∷ []) ys (named 0) room₁) $ await ! tt $ pick ! (λ γ₀. split ! $
         lft-new ! tt (λ ν₁. move ! (4 ∷ []) $ use1 W (later (some (λ (γ₁ : GName). ‵ (ShrSlice (named 1) (ν₁ ∷ []) u64 .own (ref-at u64 b₂ o₂ γ₁ xs) (sliceVal (b₂, o₂) (length xs) ∷ [])) ⊛ ‵ (LentShr u64 b₂ o₂ (ν₁ ∷ []) xs)))) (lend-shr u64 b₂ o₂ 𝓤 H A W (ν₁ ∷ []) xs (named 1) room₂) $ await ! tt $ pick ! (λ γ₁. split ! $
         nothing ! $ move ! (3 ∷ 0 ∷ []) $ join ! $ move ! (5 ∷ 0 ∷ []) $ join ! $ nothing ! $ owned ! usize (Is usize) (uint-makes 𝓤 H A W w64) n _ (refl, n-fits) $ fjoin ! $ move ! (2 ∷ 0 ∷ []) $ fjoin ! $ move ! (3 ∷ 0 ∷ []) $ fjoin ! $
         move ! (1 ∷ 0 ∷ []) $ use2 W (raw (Fill 𝓤 H A mem run .pre (to-fill (ν₀ ∷ []) (ν₁ ∷ []) γ₀ γ₁))) (asked-fill (ν₀ ∷ []) (ν₁ ∷ []) γ₀ γ₁) $
         calls-at ! fm (Fill 𝓤 H A mem run) known-fill (to-fill (ν₀ ∷ []) (ν₁ ∷ []) γ₀ γ₁) (and-then ! (load ! (from ! (stop !)) (look ! 21 refl)) (and-then ! (load ! (from ! (stop !)) (look ! 17 refl)) (and-then ! (load ! (from ! (stop !)) (look ! 27 refl)) (no-more !)))) (λ w.
         use1 W (later (some (λ (u : Unit {0}). ((‵ (flft (ν₀ ∷ []) fullShare) ⊛ ‵ (flft (ν₁ ∷ []) fullShare) ⊛ ‵ ftrue) ⊛ ‵ (Nothing .own u (w ∷ []))) ⊛ raw (ensured 𝓤 H A fill.ended (fill.clauses 𝓤 H A mem run) ((ν₀ ∷ []), ((ν₁ ∷ []), tt)) (fill-a γ₀ γ₁) tt u)))) (id⊢ 𝓤 _) $ await ! tt $ pick ! (λ u. split ! $ move ! (1 ∷ []) $
-        use1 W (some (λ (zs : List Record × (Unit {0} × (Unit {0} × Unit {0}))). ‵ (lasts fill.ended ((ν₀ ∷ []), ((ν₁ ∷ []), tt)) (fill-a γ₀ γ₁) zs) ⊛ raw (fact 𝓤 (zs .0 ≡ written (items xs n) ys)))) (id⊢ 𝓤 _) $ pick ! (λ zs. split ! $ move ! (1 ∷ []) $ heard ! (zs .0 ≡ written (items xs n) ys) (λ e.
+        use1 W (some (λ (zs : List Record × (Unit {0} × (Unit {0} × Unit {0}))). ‵ (lasts fill.ended ((ν₀ ∷ []), ((ν₁ ∷ []), tt)) (fill-a γ₀ γ₁) zs) ⊛ raw (fact 𝓤 (zs .0 ≡ records-written (items xs n) ys)))) (id⊢ 𝓤 _) $ pick ! (λ zs. split ! $ move ! (1 ∷ []) $ heard ! (zs .0 ≡ records-written (items xs n) ys) (λ e.
         fsplit ! $ fsplit ! $ move ! (1 ∷ []) $ feqL ! (λ l. move ! (1 ∷ []) $ fsplit ! $ drop ! $ fsplit ! $ drop ! $ drop ! $
         move ! (1 ∷ []) $ split ! $ move ! (1 ∷ []) $ feqL ! (λ v. land ! (from ! (stop !)) (init ! 26 refl (is-unit w v)) $
         split ! $ move ! (1 ∷ []) $ split ! $ move ! (1 ∷ []) $ drop ! $ move ! (1 ∷ []) $ lft-end ! tt $ move ! (0 ∷ 4 ∷ 2 ∷ []) $ use3 W (later (‵ (row T.the-row fullShare (zs .0) b₁ o₁))) (mut-back T.the-row b₁ o₁ 𝓤 H A W (ν₀ ∷ []) (zs .0) (length ys) γ₀) $ await ! tt $
@@ -166,7 +166,7 @@ module _ {M : Type 1} (𝓤 : URA M) (H : Heap 𝓤) (A : Atoms 𝓤) (W : Given
         assigns ! (agg ! (and-then ! (load ! (from ! (stop !)) (look ! 14 refl)) (and-then ! (load ! (from ! (fld ! refl (stop !))) (look-in ! 30 (sub ! 1 refl (whole !)))) (no-more !)))) (from ! (stop !)) (init ! 12 refl (tt, (tt, (record { fits = room₁ .0 }, tt)))) $
         assigns ! (addr ! (from ! (fld ! refl (hop ! (look-in ! 28 (sub ! 0 refl (whole !))) (stop !))))) (from ! (stop !)) (init ! 10 refl (tt, tt)) $
         assigns ! (agg ! (and-then ! (load ! (from ! (stop !)) (look ! 10 refl)) (and-then ! (load ! (from ! (fld ! refl (stop !))) (look-in ! 28 (sub ! 1 refl (whole !)))) (no-more !)))) (from ! (stop !)) (init ! 8 refl (tt, (tt, (record { fits = room₂ .0 }, tt)))) $
-        -- `load`
+        -- `read_records`
         lft-new ! tt (λ ν₂. move ! (2 ∷ []) $ use1 W (later (some (λ (γ₂ : GName). ‵ (ShrSlice (named 0) (ν₂ ∷ []) T.the-row .own (ref-at T.the-row b₁ o₁ γ₂ (zs .0)) (sliceVal (b₁, o₁) (length (zs .0)) ∷ [])) ⊛ ‵ (LentShr T.the-row b₁ o₁ (ν₂ ∷ []) (zs .0))))) (lend-shr T.the-row b₁ o₁ 𝓤 H A W (ν₂ ∷ []) (zs .0) (named 0) (room-of ys (zs .0) room₁ l)) $ await ! tt $ pick ! (λ γ₂. split ! $
         rewrite ! 0 (λ (k : ℕ). ‵ (ShrSlice (named 0) (ν₂ ∷ []) T.the-row .own (ref-at T.the-row b₁ o₁ γ₂ (zs .0)) (sliceVal (b₁, o₁) k ∷ []))) l refl $
         lft-new ! tt (λ ν₃. move ! (4 ∷ []) $ use1 W (later (some (λ (γ₃ : GName). ‵ (MutSlice (named 1) (ν₃ ∷ []) u64 .own (ref-at u64 b₂ o₂ γ₃ xs) (sliceVal (b₂, o₂) (length xs) ∷ [])) ⊛ ‵ (LentMut u64 b₂ o₂ (ν₃ ∷ []) (length xs) γ₃)))) (lend-mut u64 b₂ o₂ 𝓤 H A W (ν₃ ∷ []) xs (named 1) room₂) $ await ! tt $ pick ! (λ γ₃. split ! $
@@ -188,13 +188,13 @@ module _ {M : Type 1} (𝓤 : URA M) (H : Heap 𝓤) (A : Atoms 𝓤) (W : Given
         keep ! (3 ∷ 4 ∷ 5 ∷ 0 ∷ 1 ∷ 2 ∷ []) $ by ! (exits (zs .0) (us .1 .0) e f l m))))))))))))))))))))))))))))))))))
 
 module _ {M : Type 1} (𝓤 : URA M) (H : Heap 𝓤) (A : Atoms 𝓤) (W : Given 𝓤 H A) (mem : Memory → SProp 𝓤) (run : Routine → Fun 𝓤) where
-  pass-walks : (C : Calls 𝓤 H) (Λ : Loops 𝓤 H) → FmC 𝓤 H (W .laws) C → Triple 𝓤 (C #engine-list·fill) (Fill 𝓤 H A mem run) → Triple 𝓤 (C #engine-list·load) (Load 𝓤 H A mem run) → Walks 𝓤 H A pass.ended stayed (WpFn 𝓤 H C Λ code.function) (pass.clauses 𝓤 H A mem run)
+  pass-walks : (C : Calls 𝓤 H) (Λ : Loops 𝓤 H) → FmC 𝓤 H (W .laws) C → Triple 𝓤 (C #engine-list·write-records) (Fill 𝓤 H A mem run) → Triple 𝓤 (C #engine-list·read-records) (Load 𝓤 H A mem run) → Walks 𝓤 H A pass.ended stayed (WpFn 𝓤 H C Λ code.function) (pass.clauses 𝓤 H A mem run)
   pass-walks C Λ fm known-fill known-load = walked 𝓤 H A pass.ended stayed (pass.clauses 𝓤 H A mem run) (WpFn 𝓤 H C Λ code.function)
       (λ κs. (slice-vals, (slice-vals, (uint-vals w64, tt)))) (λ κs. (mut-slice-tells (named 0) (κs .0) T.the-row, (mut-slice-tells (named 1) (κs .1 .0) u64, (uint-tells w64, tt))))
       (λ κs qs bounds a g are. via 𝓤 _ (fst∗ 𝓤 _ (emp 𝓤))
       (walk 𝓤 H A W mem run (κs .0) (κs .1 .0) (qs .0) (qs .1 .0) (a .0 .ptr .0) (a .0 .ptr .1) (a .1 .0 .ptr .0) (a .1 .0 .ptr .1) (a .0 .name) (a .1 .0 .name) (a .0 .now) (a .1 .0 .now) (a .1 .1 .0) (are .0 .0 .1) (are .1 .0 .0 .1) (are .1 .1 .0 .1) C Λ fm known-fill known-load))
 
-pass-meets : {M : Type 1} (𝓤 : URA M) (H : Heap 𝓤) (A : Atoms 𝓤) → Given 𝓤 H A → (mem : Memory → SProp 𝓤) (run : Routine → Fun 𝓤) (𝓣 : Tables 𝓤 H) → Triple 𝓤 (𝓣 .C #engine-list·fill) (Fill 𝓤 H A mem run) → Triple 𝓤 (𝓣 .C #engine-list·load) (Load 𝓤 H A mem run)
+pass-meets : {M : Type 1} (𝓤 : URA M) (H : Heap 𝓤) (A : Atoms 𝓤) → Given 𝓤 H A → (mem : Memory → SProp 𝓤) (run : Routine → Fun 𝓤) (𝓣 : Tables 𝓤 H) → Triple 𝓤 (𝓣 .C #engine-list·write-records) (Fill 𝓤 H A mem run) → Triple 𝓤 (𝓣 .C #engine-list·read-records) (Load 𝓤 H A mem run)
     → Meets 𝓤 H A pass.signature (WpFn 𝓤 H (𝓣 .C) (𝓣 .Λ) code.function) (pass.spec 𝓤 H A mem run)
 pass-meets 𝓤 H A W mem run 𝓣 known-fill known-load =
     walk-meets 𝓤 H A pass.ended stayed W (goes-slice 𝓤 H A W 2 0 tt (plain (λ _. T.the-row)), (goes-slice 𝓤 H A W 2 1 tt (plain (λ _. u64)), (goes-none 𝓤 H A W 2 (λ _. usize) yes (λ κs x f. refl), tt))) (pass.clauses 𝓤 H A mem run)
@@ -206,5 +206,5 @@ pass-spec 𝓤 H 𝓜 𝓖 𝓡 =
     entered 𝓤 H (tripleOf 𝓤 H (𝓖 .A) pass.signature (pass.spec 𝓤 H (𝓖 .A) (𝓜 .mem) (𝓡 .run)))
     (tables 𝓤 H 𝓜 𝓡 code.env .C) (tables 𝓤 H 𝓜 𝓡 code.env .Λ) #engine-list·pass code.function (code.unfolded 𝓤 H 𝓜 𝓡)
     (pass-meets 𝓤 H (𝓖 .A) (givenOf 𝓤 H 𝓜 𝓖) (𝓜 .mem) (𝓡 .run) (tablesOf 𝓤 H 𝓜 (tables 𝓤 H 𝓜 𝓡 code.env))
-    (cited 𝓤 H (Fill 𝓤 H (𝓖 .A) (𝓜 .mem) (𝓡 .run)) 𝓜 𝓡 code.env #engine-list·fill fill-def.routine code.calls-engine-list·fill (fill-thm.met 𝓤 H 𝓜 𝓖 𝓡))
-    (cited 𝓤 H (Load 𝓤 H (𝓖 .A) (𝓜 .mem) (𝓡 .run)) 𝓜 𝓡 code.env #engine-list·load load-def.routine code.calls-engine-list·load (load-thm.met 𝓤 H 𝓜 𝓖 𝓡)))
+    (cited 𝓤 H (Fill 𝓤 H (𝓖 .A) (𝓜 .mem) (𝓡 .run)) 𝓜 𝓡 code.env #engine-list·write-records fill-def.routine code.calls-engine-list·write-records (fill-thm.met 𝓤 H 𝓜 𝓖 𝓡))
+    (cited 𝓤 H (Load 𝓤 H (𝓖 .A) (𝓜 .mem) (𝓡 .run)) 𝓜 𝓡 code.env #engine-list·read-records load-def.routine code.calls-engine-list·read-records (load-thm.met 𝓤 H 𝓜 𝓖 𝓡)))

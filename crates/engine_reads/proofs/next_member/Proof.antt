@@ -5,7 +5,7 @@ use Prim.Native.Nat.{ℕ, _-_, _≤_}
 use native.Mathlib.Omega.{arith}
 use borrow.Author.Tests.{eq-eqb, ne-eqb}
 use Rattle.book.specs.Image.{low-function}
-use Rattle.engine_reads.specs.Marking.{member, next}
+use Rattle.engine_reads.specs.Marking.{member, next-passing}
 use Rattle.engine_reads.proofs.Members.{next-here, next-pass, next-end}
 use borrow.Author.Needs.{needs}
 use Rattle.engine_reads.proofs.next_member.Statement.{statement}
@@ -13,7 +13,7 @@ use Rattle.engine_reads.proofs.next_member.Tie as tie
 
 abbrev Inv-loop : tie.InvT-loop
 Inv-loop contents f e from y₀ y =
-    (from ≤ y) × (next (member contents (low-function f) e) from (e - from) ≡ next (member contents (low-function f) e) y (e - y))
+    (from ≤ y) × (next-passing (member contents (low-function f) e) from (e - from) ≡ next-passing (member contents (low-function f) e) y (e - y))
 
 abbrev μ-loop : tie.MeasureT-loop
 μ-loop contents f e from y₀ y = e - y

@@ -1,5 +1,5 @@
 -- `second_half` meets its contract.
-use Rattle.engine_step.proofs.Halves.{concluded-first}
+use Rattle.engine_step.proofs.Stages.{concluded-first}
 use mathlib.Core.Path.{refl, sym, ap, _∙_}
 use Prim.Native.Nat.{ℕ, min}
 use lib.ListN.{length}
@@ -21,26 +21,26 @@ cast-all c = search needs
 smaller-requires : tie.Need-smaller-requires
 smaller-requires c κs = search needs
 
-slice-relend-prefix-finish : tie.Need-slice-relend-prefix-finish
-slice-relend-prefix-finish c = search needs
+slice-relend-prefix-finish-move : tie.Need-slice-relend-prefix-finish-move
+slice-relend-prefix-finish-move c = search needs
 
-slice-aggregate-finish : tie.Need-slice-aggregate-finish
-slice-aggregate-finish c = sym (length-take-le (c .before .smaller .result) (c .before .before .before .before .before .before .before .before .before .args .contents .now) (omega (arith, c .before .smaller .ensures)))
+slice-aggregate-finish-move : tie.Need-slice-aggregate-finish-move
+slice-aggregate-finish-move c = sym (length-take-le (c .before .smaller .result) (c .before .before .before .before .before .before .before .before .before .args .contents .now) (omega (arith, c .before .smaller .ensures)))
 
 array-borrow-prefix-readers : tie.Need-array-borrow-prefix-readers
 array-borrow-prefix-readers c = search needs
 
-slice-aggregate-finish-2 : tie.Need-slice-aggregate-finish-2
-slice-aggregate-finish-2 c = search needs
+slice-aggregate-finish-move-2 : tie.Need-slice-aggregate-finish-move-2
+slice-aggregate-finish-move-2 c = search needs
 
 array-borrow-prefix-writers : tie.Need-array-borrow-prefix-writers
 array-borrow-prefix-writers c = search needs
 
-slice-aggregate-finish-3 : tie.Need-slice-aggregate-finish-3
-slice-aggregate-finish-3 c = search needs
+slice-aggregate-finish-move-3 : tie.Need-slice-aggregate-finish-move-3
+slice-aggregate-finish-move-3 c = search needs
 
-finish-requires : tie.Need-finish-requires
-finish-requires c κs = search needs
+finish-move-requires : tie.Need-finish-move-requires
+finish-move-requires c κs = search needs
 
 same-length : tie.Need-same-length
 same-length c = search needs
@@ -49,7 +49,7 @@ returns-2 : tie.Need-returns-2
 returns-2 c =
     let a = c .before .before .before .before .before .before .before .before .before .before .before .before .before .before .before .before .args in
     let n = c .before .before .before .before .before .before .before .before .smaller in
-    let m = c .before .before .before .before .finish in
+    let m = c .before .before .before .before .finish-move in
     concluded-first (a .image .now) (a .contents .now) (a .work .now) (a .p) (n .result) (n .ensures ∙ ap (λ (x : ℕ). min x (length (a .contents .now))) (c .before .before .before .before .before .before .before .before .before .locations .ensures)) (c .before .before .before .before .before .before .before .before .before .before .before .before .if1 .left) (m .result) (m .last .1 .0) (m .last .1 .1 .0) (m .last .1 .1 .1 .0) (m .ensures)
 
 pub finish-call-spec : {M : Type 1} → statement M
@@ -60,12 +60,12 @@ finish-call-spec =
     locations-requires
     cast-all
     smaller-requires
-    slice-relend-prefix-finish
-    slice-aggregate-finish
+    slice-relend-prefix-finish-move
+    slice-aggregate-finish-move
     array-borrow-prefix-readers
-    slice-aggregate-finish-2
+    slice-aggregate-finish-move-2
     array-borrow-prefix-writers
-    slice-aggregate-finish-3
-    finish-requires
+    slice-aggregate-finish-move-3
+    finish-move-requires
     same-length
     returns-2)

@@ -54,7 +54,7 @@ use Rattle.engine.specs.declared.Record.{Record}
 use Rattle.engine.proofs.Record as T
 use Rattle.engine.specs.Move.{Input, input}
 use Rattle.engine_instruction.specs.Code.{items}
-use Rattle.engine_list.specs.Written.{written, through}
+use Rattle.engine_list.specs.Written.{records-written, through}
 use Rattle.engine_list.proofs.Lending.{ref-at, LentMut, LentShr, lend-mut, lend-shr, mut-back, shr-back}
 use Rattle.engine_list.proofs.Arrays.{array-at, LentArray, fresh-typed, begins, over, parted, whole-again, lend-array, array-back, share-array}
 use Rattle.engine_list.proofs.Laws.{all-through}
@@ -64,11 +64,11 @@ use Rattle.engine_list.proofs.pass.Symbol.{name as #engine-list·pass}
 use Rattle.engine_list.proofs.pass.Met as pass-thm
 use Rattle.engine_fire.proofs.Begun as B
 use Rattle.engine_fire.proofs.Begun.Laws as B′
-use Rattle.engine_step.specs.declared.Paused.{Paused}
-use Rattle.engine_step.specs.Halves.{Halfway, Concluded}
-use Rattle.engine_step.proofs.Halves.{half-made, half-few, half-passed, half-concluded}
-use Rattle.engine_step.proofs.Paused as P
-use Rattle.engine_step.proofs.Paused.Laws as P′
+use Rattle.engine_step.specs.declared.BegunCall.{BegunCall}
+use Rattle.engine_step.specs.Stages.{CallBegun, CallFinished}
+use Rattle.engine_step.proofs.Stages.{half-made, half-few, half-passed, half-concluded}
+use Rattle.engine_step.proofs.BegunCall as P
+use Rattle.engine_step.proofs.BegunCall.Laws as P′
 use Rattle.engine_step.proofs.begin_call as first
 use Rattle.engine_step.proofs.begin_call.Symbol as first-def
 use Rattle.engine_step.proofs.begin_call.Symbol.{name as #engine-step·begin-call}
@@ -150,13 +150,13 @@ module _ {M : Type 1} (𝓤 : URA M) (H : Heap 𝓤) (A : Atoms 𝓤) (W : Given
   abbrev who : Input
   who = input k (xp .now)
 
-  module _ (p : Paused) (mi us us′ : List ℕ) (zs : List Record) (ds : List ℕ) (r : Answer) (w : Val) (is-r : Is N.the-row r (w ∷ []))
-      (e₁ : Halfway (xb .now) cs who n mi us p)
-      (e₂ : (zs ≡ written (items us (p .begun .count)) (xl .now)) × (p .begun .count ≤ n → p .begun .count ≤ length us → items us′ (p .begun .count) ≡ items us (p .begun .count)))
-      (e₃ : Concluded mi cs us′ p r ds)
+  module _ (p : BegunCall) (mi us us′ : List ℕ) (zs : List Record) (ds : List ℕ) (r : Answer) (w : Val) (is-r : Is N.the-row r (w ∷ []))
+      (e₁ : CallBegun (xb .now) cs who n mi us p)
+      (e₂ : (zs ≡ records-written (items us (p .begun .count)) (xl .now)) × (p .begun .count ≤ n → p .begun .count ≤ length us → items us′ (p .begun .count) ≡ items us (p .begun .count)))
+      (e₃ : CallFinished mi cs us′ p r ds)
       (l256 : length us ≡ 256) (lw : length us′ ≡ length us) (ll : length zs ≡ n) (lc : length ds ≡ length cs)
     where
-      passed : Halfway (xb .now) cs who n mi us′ p
+      passed : CallBegun (xb .now) cs who n mi us′ p
       passed =
           let few = half-few (xb .now) cs who n mi us p e₁ in
           half-passed (xb .now) cs who n mi us p e₁ us′ (lw ∙ l256) (e₂ .1 (few .1) (omega (arith, few .0, l256)))
@@ -165,7 +165,7 @@ module _ {M : Type 1} (𝓤 : URA M) (H : Heap 𝓤) (A : Atoms 𝓤) (W : Given
       exits =
           qed W (‵ (flft κ₀ q₀) ∷ ‵ (flft κ₁ q₁) ∷ ‵ (flft κ₂ q₂) ∷ ‵ (flft κ₃ q₃) ∷ ‵ Program ∷ ‵ Picks ∷ ‵ (fobs δc (codedHoleys u16 .code (heres u16 ds))) ∷ ‵ (fbor κ₁ (Held u16 (length ds) bc oc δc)) ∷ ‵ (finally T.the-row (xl .name) zs) ∷ []) ∵
           suffices ! _ (ends-at 𝓤 H A step.ended stayed (step.clauses 𝓤 H A mem run) W ((κs, qs, tt, a, vals), tt) w r (tt, (ds, (tt, (tt, (zs, tt))))) (tt, (lc, (tt, (tt, (ll, tt)))))) $
-          says ! (let f = half-concluded (xb .now) cs who n mi us′ p passed r ds e₃ in (f .answer, f .contents, e₂ .0 ∙ ap (λ (is : List Instruction). written is (xl .now)) (half-made (xb .now) cs who n mi us p e₁))) $
+          says ! (let f = half-concluded (xb .now) cs who n mi us′ p passed r ds e₃ in (f .answer, f .contents, e₂ .0 ∙ ap (λ (is : List Instruction). records-written is (xl .now)) (half-made (xb .now) cs who n mi us p e₁))) $
           nothing ! $ move ! (4 ∷ 0 ∷ []) $ join ! $ move ! (3 ∷ 0 ∷ []) $ join ! $ move ! (2 ∷ 0 ∷ []) $ join ! $ move ! (1 ∷ 0 ∷ []) $ join ! $ frame ! $
           -- [what book and picks own; obs; the borrow; the last list]
           move ! (2 ∷ 3 ∷ []) $ fjoin ! $ pureI ! (at-slice u16 (contents-at δc ds) (sc ∷ [])) (tt, (tt, tt)) (ap (λ (j : ℕ). sliceVal (bc, oc) j ∷ []) (sym lc), subst (Room u16) (sym lc) room-c) $ fjoin ! $
@@ -200,37 +200,37 @@ module _ {M : Type 1} (𝓤 : URA M) (H : Heap 𝓤) (A : Atoms 𝓤) (W : Given
   abbrev PassArg : Type 0
   PassArg = RefT (List Record) × (RefT (List ℕ) × (ℕ × Unit {0}))
 
-  abbrev pass-a : GName → ℕ → Paused → List ℕ → PassArg
+  abbrev pass-a : GName → ℕ → BegunCall → List ℕ → PassArg
   pass-a γ j p us = (xl, (ref-at u64 j 0 γ us, (p .begun .count, tt)))
 
-  abbrev pass-vals : ℕ → Paused → List Val × (List Val × (List Val × Unit {0}))
+  abbrev pass-vals : ℕ → BegunCall → List Val × (List Val × (List Val × Unit {0}))
   pass-vals j p = (sl ∷ [], (sliceVal (j, 0) 256 ∷ [], (vint w64 (p .begun .count) ∷ [], tt)))
 
-  abbrev to-pass : ℕ → GName → ℕ → Paused → List ℕ → Pass 𝓤 H A mem run .Ghost
+  abbrev to-pass : ℕ → GName → ℕ → BegunCall → List ℕ → Pass 𝓤 H A mem run .Ghost
   to-pass ν γ j p us = (((κ₃, ((ν ∷ []), tt)), (q₃, (fullShare, tt)), tt, pass-a γ j p us, pass-vals j p), tt)
 
-  asked-pass : (ν : ℕ) (γ : GName) (j : ℕ) (p : Paused) (us : List ℕ) → ent 𝓤 (onEntry 𝓤 H A pass.signature (κ₃, ((ν ∷ []), tt)) (q₃, (fullShare, tt)) (pass-a γ j p us) (pass-vals j p)) (Pass 𝓤 H A mem run .pre (to-pass ν γ j p us))
+  asked-pass : (ν : ℕ) (γ : GName) (j : ℕ) (p : BegunCall) (us : List ℕ) → ent 𝓤 (onEntry 𝓤 H A pass.signature (κ₃, ((ν ∷ []), tt)) (q₃, (fullShare, tt)) (pass-a γ j p us) (pass-vals j p)) (Pass 𝓤 H A mem run .pre (to-pass ν γ j p us))
   asked-pass ν γ j p us = qed W ((‵ (flft κ₃ q₃) ⊛ ‵ (flft (ν ∷ []) fullShare) ⊛ ‵ ftrue) ∷ ‵ (owns (MutSlice (named 0) κ₃ T.the-row ∷ MutSlice (named 1) (ν ∷ []) u64 ∷ usize ∷ []) (pass-a γ j p us) (pass-vals j p)) ∷ []) ∵ join ! $ frame ! $ done !
 
-  abbrev mach : Paused → Val
+  abbrev mach : BegunCall → Val
   mach p = LL.tuple-val P.the-type P′.the-laws (P.the-type .to p)
 
   abbrev SecondArg : Type 0
-  SecondArg = RefT (List ℕ) × (RefT (List ℕ) × (RefT (List ℕ) × (Paused × Unit {0})))
+  SecondArg = RefT (List ℕ) × (RefT (List ℕ) × (RefT (List ℕ) × (BegunCall × Unit {0})))
 
-  abbrev second-a : GName → GName → GName → ℕ → ℕ → List ℕ → List ℕ → Paused → SecondArg
+  abbrev second-a : GName → GName → GName → ℕ → ℕ → List ℕ → List ℕ → BegunCall → SecondArg
   second-a γ γ′ γ″ i j mi us p = (contents-at γ cs, (array-at w32 2248 i γ′ mi, (array-at w64 256 j γ″ us, (p, tt))))
 
-  abbrev second-vals : ℕ → ℕ → Paused → List Val × (List Val × (List Val × (List Val × Unit {0})))
+  abbrev second-vals : ℕ → ℕ → BegunCall → List Val × (List Val × (List Val × (List Val × Unit {0})))
   second-vals i j p = (sc ∷ [], (vptr i 0 ∷ [], (vptr j 0 ∷ [], (mach p ∷ [], tt))))
 
   abbrev second-lfts : ℕ → ℕ → ℕ → Lfts 3
   second-lfts ν ν′ ν″ = ((ν ∷ []), ((ν′ ∷ []), ((ν″ ∷ []), tt)))
 
-  abbrev to-second : ℕ → ℕ → ℕ → GName → GName → GName → ℕ → ℕ → List ℕ → List ℕ → Paused → Second 𝓤 H A mem run .Ghost
+  abbrev to-second : ℕ → ℕ → ℕ → GName → GName → GName → ℕ → ℕ → List ℕ → List ℕ → BegunCall → Second 𝓤 H A mem run .Ghost
   to-second ν ν′ ν″ γ γ′ γ″ i j mi us p = ((second-lfts ν ν′ ν″, (fullShare, (fullShare, (fullShare, tt))), tt, second-a γ γ′ γ″ i j mi us p, second-vals i j p), tt)
 
-  asked-second : (ν ν′ ν″ : ℕ) (γ γ′ γ″ : GName) (i j : ℕ) (mi us : List ℕ) (p : Paused)
+  asked-second : (ν ν′ ν″ : ℕ) (γ γ′ γ″ : GName) (i j : ℕ) (mi us : List ℕ) (p : BegunCall)
       → ent 𝓤 (onEntry 𝓤 H A second.signature (second-lfts ν ν′ ν″) (fullShare, (fullShare, (fullShare, tt))) (second-a γ γ′ γ″ i j mi us p) (second-vals i j p)) (Second 𝓤 H A mem run .pre (to-second ν ν′ ν″ γ γ′ γ″ i j mi us p))
   asked-second ν ν′ ν″ γ γ′ γ″ i j mi us p =
       qed W ((‵ (flft (ν ∷ []) fullShare) ⊛ ‵ (flft (ν′ ∷ []) fullShare) ⊛ ‵ (flft (ν″ ∷ []) fullShare) ⊛ ‵ ftrue)
@@ -266,8 +266,8 @@ module _ {M : Type 1} (𝓤 : URA M) (H : Heap 𝓤) (A : Atoms 𝓤) (W : Given
         nothing ! $ move ! (5 ∷ 0 ∷ []) $ join ! $ move ! (7 ∷ 0 ∷ []) $ join ! $ move ! (64 ∷ 0 ∷ []) $ join ! $ move ! (9 ∷ 0 ∷ []) $ join ! $ move ! (14 ∷ 0 ∷ []) $ join ! $ nothing ! $ move ! (4 ∷ 0 ∷ []) $ fjoin ! $ move ! (5 ∷ 0 ∷ []) $ fjoin ! $ owned ! usize (Is usize) (uint-makes 𝓤 H A W w64) n _ (refl, room-l .0) $ fjoin ! $ move ! (59 ∷ 0 ∷ []) $ fjoin ! $ owned ! usize (Is usize) (uint-makes 𝓤 H A W w64) k _ (refl, k-fits) $ fjoin ! $ move ! (6 ∷ 0 ∷ []) $ fjoin ! $ move ! (3 ∷ 0 ∷ []) $ fjoin ! $
         move ! (1 ∷ 0 ∷ []) $ use2 W (raw (First 𝓤 H A mem run .pre (to-first ν₁ ν₂ ν₃ γ₁ γ₂ γ₃ l₇ l₈))) (asked-first ν₁ ν₂ ν₃ γ₁ γ₂ γ₃ l₇ l₈) $
         calls-at ! fm (First 𝓤 H A mem run) known-first (to-first ν₁ ν₂ ν₃ γ₁ γ₂ γ₃ l₇ l₈) (and-then ! (load ! (from ! (stop !)) (look ! 52 refl)) (and-then ! (load ! (from ! (stop !)) (look ! 32 refl)) (and-then ! (load ! (from ! (stop !)) (look ! 48 refl)) (and-then ! (load ! (from ! (stop !)) (look ! 46 refl)) (and-then ! (load ! (from ! (stop !)) (look ! 42 refl)) (and-then ! (load ! (from ! (stop !)) (look ! 30 refl)) (and-then ! (load ! (from ! (stop !)) (look ! 28 refl)) (no-more !)))))))) (λ w₁.
-        use1 W (later (some (λ (p : Paused). ((‵ (flft κ₀ q₀) ⊛ ‵ (flft (ν₁ ∷ []) fullShare) ⊛ ‵ (flft κ₂ q₂) ⊛ ‵ (flft (ν₂ ∷ []) fullShare) ⊛ ‵ (flft (ν₃ ∷ []) fullShare) ⊛ ‵ ftrue) ⊛ ‵ (P.the-row .own p (w₁ ∷ []))) ⊛ raw (ensured 𝓤 H A first.ended (first.clauses 𝓤 H A mem run) (κ₀, ((ν₁ ∷ []), (κ₂, ((ν₂ ∷ []), ((ν₃ ∷ []), tt))))) (first-a γ₁ γ₂ γ₃ l₇ l₈) tt p)))) (id⊢ 𝓤 _) $ await ! tt $ pick ! (λ p. split ! $ move ! (1 ∷ []) $
-        use1 W (some (λ (zs : Unit {0} × (Unit {0} × (Unit {0} × (Unit {0} × (Unit {0} × (List ℕ × (List ℕ × Unit {0}))))))). ‵ (lasts first.ended (κ₀, ((ν₁ ∷ []), (κ₂, ((ν₂ ∷ []), ((ν₃ ∷ []), tt))))) (first-a γ₁ γ₂ γ₃ l₇ l₈) zs) ⊛ raw (fact 𝓤 (Halfway (xb .now) cs who n (zs .1 .1 .1 .1 .1 .0) (zs .1 .1 .1 .1 .1 .1 .0) p)))) (id⊢ 𝓤 _) $ pick ! (λ zs. split ! $ move ! (1 ∷ []) $ heard ! (Halfway (xb .now) cs who n (zs .1 .1 .1 .1 .1 .0) (zs .1 .1 .1 .1 .1 .1 .0) p) (λ e₁.
+        use1 W (later (some (λ (p : BegunCall). ((‵ (flft κ₀ q₀) ⊛ ‵ (flft (ν₁ ∷ []) fullShare) ⊛ ‵ (flft κ₂ q₂) ⊛ ‵ (flft (ν₂ ∷ []) fullShare) ⊛ ‵ (flft (ν₃ ∷ []) fullShare) ⊛ ‵ ftrue) ⊛ ‵ (P.the-row .own p (w₁ ∷ []))) ⊛ raw (ensured 𝓤 H A first.ended (first.clauses 𝓤 H A mem run) (κ₀, ((ν₁ ∷ []), (κ₂, ((ν₂ ∷ []), ((ν₃ ∷ []), tt))))) (first-a γ₁ γ₂ γ₃ l₇ l₈) tt p)))) (id⊢ 𝓤 _) $ await ! tt $ pick ! (λ p. split ! $ move ! (1 ∷ []) $
+        use1 W (some (λ (zs : Unit {0} × (Unit {0} × (Unit {0} × (Unit {0} × (Unit {0} × (List ℕ × (List ℕ × Unit {0}))))))). ‵ (lasts first.ended (κ₀, ((ν₁ ∷ []), (κ₂, ((ν₂ ∷ []), ((ν₃ ∷ []), tt))))) (first-a γ₁ γ₂ γ₃ l₇ l₈) zs) ⊛ raw (fact 𝓤 (CallBegun (xb .now) cs who n (zs .1 .1 .1 .1 .1 .0) (zs .1 .1 .1 .1 .1 .1 .0) p)))) (id⊢ 𝓤 _) $ pick ! (λ zs. split ! $ move ! (1 ∷ []) $ heard ! (CallBegun (xb .now) cs who n (zs .1 .1 .1 .1 .1 .0) (zs .1 .1 .1 .1 .1 .1 .0) p) (λ e₁.
         fsplit ! $ drop ! $ fsplit ! $ drop ! $ fsplit ! $ drop ! $ fsplit ! $ drop ! $ fsplit ! $ drop ! $ fsplit ! $ move ! (1 ∷ []) $ fsplit ! $ move ! (1 ∷ []) $ drop ! $
         move ! (2 ∷ []) $ split ! $ move ! (1 ∷ []) $ peeks ! P.the-row (Is P.the-row) (shows 𝓤 H A P.the-row) p (w₁ ∷ []) (λ is.
         let is-p = subst (λ (vs : List Val). Is P.the-row p vs) (LL.tells P.the-type P′.the-laws p _ is) is in
@@ -292,7 +292,7 @@ module _ {M : Type 1} (𝓤 : URA M) (H : Heap 𝓤) (A : Atoms 𝓤) (W : Given
         move ! (1 ∷ 0 ∷ []) $ use2 W (raw (Pass 𝓤 H A mem run .pre (to-pass ν₄ γ₄ l₈ p (zs .1 .1 .1 .1 .1 .1 .0)))) (asked-pass ν₄ γ₄ l₈ p (zs .1 .1 .1 .1 .1 .1 .0)) $
         calls-at ! fm (Pass 𝓤 H A mem run) known-pass (to-pass ν₄ γ₄ l₈ p (zs .1 .1 .1 .1 .1 .1 .0)) (and-then ! (load ! (from ! (stop !)) (look ! 21 refl)) (and-then ! (load ! (from ! (stop !)) (look ! 17 refl)) (and-then ! (load ! (from ! (stop !)) (look ! 35 refl)) (no-more !)))) (λ w₂.
         use1 W (later (some (λ (u₂ : Unit {0}). ((‵ (flft κ₃ q₃) ⊛ ‵ (flft (ν₄ ∷ []) fullShare) ⊛ ‵ ftrue) ⊛ ‵ (Nothing .own u₂ (w₂ ∷ []))) ⊛ raw (ensured 𝓤 H A pass.ended (pass.clauses 𝓤 H A mem run) (κ₃, ((ν₄ ∷ []), tt)) (pass-a γ₄ l₈ p (zs .1 .1 .1 .1 .1 .1 .0)) tt u₂)))) (id⊢ 𝓤 _) $ await ! tt $ pick ! (λ u₂. split ! $ move ! (1 ∷ []) $
-        use1 W (some (λ (ls : List Record × (List ℕ × (Unit {0} × Unit {0}))). ‵ (lasts pass.ended (κ₃, ((ν₄ ∷ []), tt)) (pass-a γ₄ l₈ p (zs .1 .1 .1 .1 .1 .1 .0)) ls) ⊛ raw (fact 𝓤 ((ls .0 ≡ written (items (zs .1 .1 .1 .1 .1 .1 .0) (p .begun .count)) (xl .now)) × (items (ls .1 .0) (through (p .begun .count) (xl .now) (zs .1 .1 .1 .1 .1 .1 .0)) ≡ items (zs .1 .1 .1 .1 .1 .1 .0) (through (p .begun .count) (xl .now) (zs .1 .1 .1 .1 .1 .1 .0))))))) (id⊢ 𝓤 _) $ pick ! (λ ls. split ! $ move ! (1 ∷ []) $ heard ! ((ls .0 ≡ written (items (zs .1 .1 .1 .1 .1 .1 .0) (p .begun .count)) (xl .now)) × (items (ls .1 .0) (through (p .begun .count) (xl .now) (zs .1 .1 .1 .1 .1 .1 .0)) ≡ items (zs .1 .1 .1 .1 .1 .1 .0) (through (p .begun .count) (xl .now) (zs .1 .1 .1 .1 .1 .1 .0)))) (λ e₂.
+        use1 W (some (λ (ls : List Record × (List ℕ × (Unit {0} × Unit {0}))). ‵ (lasts pass.ended (κ₃, ((ν₄ ∷ []), tt)) (pass-a γ₄ l₈ p (zs .1 .1 .1 .1 .1 .1 .0)) ls) ⊛ raw (fact 𝓤 ((ls .0 ≡ records-written (items (zs .1 .1 .1 .1 .1 .1 .0) (p .begun .count)) (xl .now)) × (items (ls .1 .0) (through (p .begun .count) (xl .now) (zs .1 .1 .1 .1 .1 .1 .0)) ≡ items (zs .1 .1 .1 .1 .1 .1 .0) (through (p .begun .count) (xl .now) (zs .1 .1 .1 .1 .1 .1 .0))))))) (id⊢ 𝓤 _) $ pick ! (λ ls. split ! $ move ! (1 ∷ []) $ heard ! ((ls .0 ≡ records-written (items (zs .1 .1 .1 .1 .1 .1 .0) (p .begun .count)) (xl .now)) × (items (ls .1 .0) (through (p .begun .count) (xl .now) (zs .1 .1 .1 .1 .1 .1 .0)) ≡ items (zs .1 .1 .1 .1 .1 .1 .0) (through (p .begun .count) (xl .now) (zs .1 .1 .1 .1 .1 .1 .0)))) (λ e₂.
         fsplit ! $ fsplit ! $ move ! (1 ∷ []) $ feqL ! (λ ll. move ! (1 ∷ []) $ fsplit ! $ fsplit ! $ move ! (1 ∷ []) $ feqL ! (λ lw. move ! (1 ∷ []) $ fsplit ! $ drop ! $ drop ! $
         move ! (2 ∷ []) $ split ! $ move ! (1 ∷ []) $ feqL ! (λ v₂. land ! (from ! (stop !)) (init ! 27 refl (is-unit w₂ v₂)) $
         split ! $ move ! (1 ∷ []) $ split ! $ move ! (1 ∷ []) $ drop ! $ lft-end ! tt $ move ! (0 ∷ 4 ∷ 2 ∷ []) $ use3 W (later (‵ (row u64 fullShare (ls .1 .0) l₈ 0))) (mut-back u64 l₈ 0 𝓤 H A W (ν₄ ∷ []) (ls .1 .0) (length (zs .1 .1 .1 .1 .1 .1 .0)) γ₄) $ await ! tt $
@@ -309,7 +309,7 @@ module _ {M : Type 1} (𝓤 : URA M) (H : Heap 𝓤) (A : Atoms 𝓤) (W : Given
         move ! (1 ∷ 0 ∷ []) $ use2 W (raw (Second 𝓤 H A mem run .pre (to-second ν₅ ν₆ ν₇ γ₅ γ₆ γ₇ l₇ l₈ (zs .1 .1 .1 .1 .1 .0) (ls .1 .0) p))) (asked-second ν₅ ν₆ ν₇ γ₅ γ₆ γ₇ l₇ l₈ (zs .1 .1 .1 .1 .1 .0) (ls .1 .0) p) $
         calls-at ! fm (Second 𝓤 H A mem run) known-second (to-second ν₅ ν₆ ν₇ γ₅ γ₆ γ₇ l₇ l₈ (zs .1 .1 .1 .1 .1 .0) (ls .1 .0) p) (and-then ! (load ! (from ! (stop !)) (look ! 15 refl)) (and-then ! (load ! (from ! (stop !)) (look ! 13 refl)) (and-then ! (load ! (from ! (stop !)) (look ! 11 refl)) (and-then ! (load ! (from ! (stop !)) (look ! 39 refl)) (no-more !))))) (λ w₃.
         use1 W (later (some (λ (r : Answer). ((‵ (flft (ν₅ ∷ []) fullShare) ⊛ ‵ (flft (ν₆ ∷ []) fullShare) ⊛ ‵ (flft (ν₇ ∷ []) fullShare) ⊛ ‵ ftrue) ⊛ ‵ (N.the-row .own r (w₃ ∷ []))) ⊛ raw (ensured 𝓤 H A second.ended (second.clauses 𝓤 H A mem run) ((ν₅ ∷ []), ((ν₆ ∷ []), ((ν₇ ∷ []), tt))) (second-a γ₅ γ₆ γ₇ l₇ l₈ (zs .1 .1 .1 .1 .1 .0) (ls .1 .0) p) tt r)))) (id⊢ 𝓤 _) $ await ! tt $ pick ! (λ r. split ! $ move ! (1 ∷ []) $
-        use1 W (some (λ (ds : List ℕ × (Unit {0} × (Unit {0} × (Unit {0} × Unit {0})))). ‵ (lasts second.ended ((ν₅ ∷ []), ((ν₆ ∷ []), ((ν₇ ∷ []), tt))) (second-a γ₅ γ₆ γ₇ l₇ l₈ (zs .1 .1 .1 .1 .1 .0) (ls .1 .0) p) ds) ⊛ raw (fact 𝓤 (Concluded (zs .1 .1 .1 .1 .1 .0) cs (ls .1 .0) p r (ds .0))))) (id⊢ 𝓤 _) $ pick ! (λ ds. split ! $ move ! (1 ∷ []) $ heard ! (Concluded (zs .1 .1 .1 .1 .1 .0) cs (ls .1 .0) p r (ds .0)) (λ e₃.
+        use1 W (some (λ (ds : List ℕ × (Unit {0} × (Unit {0} × (Unit {0} × Unit {0})))). ‵ (lasts second.ended ((ν₅ ∷ []), ((ν₆ ∷ []), ((ν₇ ∷ []), tt))) (second-a γ₅ γ₆ γ₇ l₇ l₈ (zs .1 .1 .1 .1 .1 .0) (ls .1 .0) p) ds) ⊛ raw (fact 𝓤 (CallFinished (zs .1 .1 .1 .1 .1 .0) cs (ls .1 .0) p r (ds .0))))) (id⊢ 𝓤 _) $ pick ! (λ ds. split ! $ move ! (1 ∷ []) $ heard ! (CallFinished (zs .1 .1 .1 .1 .1 .0) cs (ls .1 .0) p r (ds .0)) (λ e₃.
         fsplit ! $ fsplit ! $ move ! (1 ∷ []) $ feqL ! (λ lc. move ! (1 ∷ []) $ fsplit ! $ drop ! $ fsplit ! $ drop ! $ fsplit ! $ drop ! $ drop ! $
         move ! (1 ∷ []) $ split ! $ move ! (1 ∷ []) $ peeks ! N.the-row (Is N.the-row) (shows 𝓤 H A N.the-row) r (w₃ ∷ []) (λ is-r.
         land ! (from ! (stop !)) (init ! 57 refl (LL.lawful N.the-type N′.the-laws 𝓤 H A W .typed r _ is-r .0)) $

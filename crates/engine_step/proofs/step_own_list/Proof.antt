@@ -54,7 +54,7 @@ use Rattle.engine.proofs.Record as T
 use Rattle.engine.proofs.Record.Laws as T′
 use Rattle.engine.specs.Move.{Input, input}
 use Rattle.engine.specs.Single.{Stepped, step-call}
-use Rattle.engine_list.specs.Written.{written}
+use Rattle.engine_list.specs.Written.{records-written}
 use Rattle.engine_step.proofs.Longer.{step-longer}
 use Rattle.engine_list.proofs.Records.{is-number, first-ones, room-first, hides, falls}
 use Rattle.text.proofs.smaller as smaller
@@ -130,7 +130,7 @@ module _ {M : Type 1} (𝓤 : URA M) (H : Heap 𝓤) (A : Atoms 𝓤) (W : Given
 
   -- what `engine_step::step` says
   abbrev Said : List Record → Answer → List ℕ → List Record → Type 0
-  Said ys r cs zs = (r ≡ step-call (xb .now) (xc .now) who (length ys) .answer) × (cs ≡ step-call (xb .now) (xc .now) who (length ys) .contents) × (zs ≡ written (step-call (xb .now) (xc .now) who (length ys) .instructions) ys)
+  Said ys r cs zs = (r ≡ step-call (xb .now) (xc .now) who (length ys) .answer) × (cs ≡ step-call (xb .now) (xc .now) who (length ys) .contents) × (zs ≡ records-written (step-call (xb .now) (xc .now) who (length ys) .instructions) ys)
 
   exits : (ys : List Record) (r : Answer) (w : Val) → Is N.the-row r (w ∷ []) → (cs : List ℕ) (zs : List Record) → Said ys r cs zs → length ys ≡ min n 256 → length cs ≡ length (xc .now)
       → ent 𝓤 (⋆ 𝓤 H A (‵ (flft κ₀ q₀) ∷ ‵ (flft κ₁ q₁) ∷ ‵ (flft κ₂ q₂) ∷ ‵ Program ∷ ‵ Picks ∷ ‵ (finally u16 (xc .name) cs) ∷ [])) (Post w)

@@ -4,11 +4,11 @@ use mathlib.Core.Logic.{inl, inr}
 use Prim.Native.Nat.{ℕ, _-_, _<_}
 use native.Mathlib.Omega.{arith}
 use Rattle.book.specs.Book.{node-at, location}
-use Rattle.engine.specs.Look.{read, done, _>>=_}
+use Rattle.engine.specs.Reader.{read, done, _>>=_}
 use Rattle.engine.specs.Term.{eval as value, negate, apply}
 use Rattle.engine.proofs.Steps.{term-zero, term-element, term-variable, term-agent, term-none, term-one, term-two, term-not, term-join, no-term-at}
 use Rattle.engine_term.specs.Held.{agent-of, value-at}
-use Rattle.book_parts.specs.Rows.{node-row}
+use Rattle.book_parts.specs.StoredNodes.{stored-node}
 use Rattle.book.specs.Image.{held}
 use Rattle.engine_term.proofs.Values.{join-kind}
 use Rattle.engine_term.proofs.Marking.{runs-done, runs-gives, runs-bind}
@@ -97,7 +97,7 @@ eval-returns-2 : (t : ℕ) → eval-lts.Need-returns-2 (claims-eval t) (eval-at 
 unfolding value
 eval-returns-2 t c =
     let a = c .before .before .before .before .before .before .before .args in
-    let x = node-row (c .before .before .before .node .result) in
+    let x = stored-node (c .before .before .before .node .result) in
     rw (term-element (node-at (held (a .image .now))) (a .depth) (a .n) x (c .before .before .before .before .if1 .left) (c .before .before .before .node .ensures) (c .match .keys1))
     (runs-done (held (a .image .now)) (a .contents .now) (a .bit) (x .a) (a .readers .now))
 
@@ -105,7 +105,7 @@ eval-returns-3 : (t : ℕ) → eval-lts.Need-returns-3 (claims-eval t) (eval-at 
 unfolding value
 eval-returns-3 t c =
     let a = c .before .before .before .before .before .before .before .before .args in
-    let x = node-row (c .before .before .before .before .node .result) in
+    let x = stored-node (c .before .before .before .before .node .result) in
     rw (term-variable (node-at (held (a .image .now))) (a .depth) (a .n) x (c .before .before .before .before .before .if1 .left) (c .before .before .before .before .node .ensures) (c .before .match .keys2))
     (runs-gives (held (a .image .now)) (a .contents .now) (a .bit) _ _ (a .readers .now) (c .variable .ensures))
 
@@ -113,7 +113,7 @@ eval-returns-4 : (t : ℕ) → eval-lts.Need-returns-4 (claims-eval t) (eval-at 
 unfolding value
 eval-returns-4 t c =
     let a = c .before .before .before .before .before .before .before .before .args in
-    let x = node-row (c .before .before .before .before .node .result) in
+    let x = stored-node (c .before .before .before .before .node .result) in
     rw (term-agent (node-at (held (a .image .now))) (a .depth) (a .n) x (c .before .before .before .before .before .if1 .left) (c .before .before .before .before .node .ensures) (c .before .match .keys3))
     (runs-done (held (a .image .now)) (a .contents .now) (a .bit) (agent-of (a .scope .now)) (a .readers .now))
 
@@ -124,7 +124,7 @@ eval-returns-5 : (t : ℕ) → eval-lts.Need-returns-5 (claims-eval t) (eval-at 
 unfolding value
 eval-returns-5 t c =
     let a = c .before .before .before .before .before .before .before .before .before .before .before .args in
-    let x = node-row (c .before .before .before .before .before .before .before .node .result) in
+    let x = stored-node (c .before .before .before .before .before .before .before .node .result) in
     rw (term-none (node-at (held (a .image .now))) (a .depth) (a .n) x (c .before .before .before .before .before .before .before .before .if1 .left) (c .before .before .before .before .before .before .before .node .ensures) (c .before .before .before .before .match .keys4)) (c .before .before .read .ensures)
 
 eval-same-length-2 : (t : ℕ) → eval-lts.Need-same-length-2 (claims-eval t) (eval-at t) eval.Post
@@ -135,7 +135,7 @@ unfolding value
 eval-returns-6 t c =
     let a = c .before .before .before .before .before .before .before .before .before .before .before .before .before .before .before .args in
     let m = a .image .now in
-    let x = node-row (c .before .before .before .before .before .before .before .before .before .before .before .node .result) in
+    let x = stored-node (c .before .before .before .before .before .before .before .before .before .before .before .node .result) in
     rw (term-one (node-at (held m)) (a .depth) (a .n) x (c .before .before .before .before .before .before .before .before .before .before .before .before .if1 .left) (c .before .before .before .before .before .before .before .before .before .before .before .node .ensures) (c .before .before .before .before .before .before .before .before .match .keys5))
     (runs-bind (held m) (a .contents .now) (a .bit) (value-at m (a .scope .now) (a .depth - 1) (x .b)) (λ y. read (location (held m) (x .a) y 0)) _ _ _ _ _ (c .before .before .before .before .before .before .eval .ensures) (c .before .before .read2 .ensures))
 
@@ -147,7 +147,7 @@ unfolding value
 eval-returns-7 t c =
     let a = c .before .before .before .before .before .before .before .before .before .before .before .before .before .before .before .before .before .before .before .args in
     let m = a .image .now in
-    let x = node-row (c .before .before .before .before .before .before .before .before .before .before .before .before .before .before .before .node .result) in
+    let x = stored-node (c .before .before .before .before .before .before .before .before .before .before .before .before .before .before .before .node .result) in
     let s = a .scope .now in
     let d = a .depth - 1 in
     rw (term-two (node-at (held m)) (a .depth) (a .n) x (c .before .before .before .before .before .before .before .before .before .before .before .before .before .before .before .before .if1 .left) (c .before .before .before .before .before .before .before .before .before .before .before .before .before .before .before .node .ensures) (c .before .before .before .before .before .before .before .before .before .before .before .before .match .keys6))
@@ -162,7 +162,7 @@ unfolding value
 eval-returns-8 t c =
     let a = c .before .before .before .before .before .before .before .before .before .before .before .before .args in
     let m = a .image .now in
-    let x = node-row (c .before .before .before .before .before .before .before .before .node .result) in
+    let x = stored-node (c .before .before .before .before .before .before .before .before .node .result) in
     rw (term-not (node-at (held m)) (a .depth) (a .n) x (c .before .before .before .before .before .before .before .before .before .if1 .left) (c .before .before .before .before .before .before .before .before .node .ensures) (c .before .before .before .before .before .match .keys7))
     (runs-bind (held m) (a .contents .now) (a .bit) (value-at m (a .scope .now) (a .depth - 1) (x .a)) (λ y. done (negate y)) _ _ _ _ _ (c .before .before .before .eval4 .ensures)
     (runs-gives (held m) (a .contents .now) (a .bit) _ _ _ (c .not .ensures)))
@@ -175,7 +175,7 @@ unfolding value
 eval-returns-9 t c =
     let a = c .before .before .before .before .before .before .before .before .before .before .before .before .before .before .before .before .before .args in
     let m = a .image .now in
-    let x = node-row (c .before .before .before .before .before .before .before .before .before .before .before .before .before .node .result) in
+    let x = stored-node (c .before .before .before .before .before .before .before .before .before .before .before .before .before .node .result) in
     let s = a .scope .now in
     let d = a .depth - 1 in
     let r = c .before .before .before .before .before .before .before .before .before .before .match .rest in
@@ -190,14 +190,14 @@ eval-returns-10 : (t : ℕ) → eval-lts.Need-returns-10 (claims-eval t) (eval-a
 unfolding value
 eval-returns-10 t c =
     let a = c .before .before .before .before .before .args in
-    rw (no-term-at (node-at (held (a .image .now))) (a .depth) (a .n) (node-row (c .before .node .result)) (c .before .before .if1 .left) (c .before .node .ensures) (inl (c .if2 .taken)))
+    rw (no-term-at (node-at (held (a .image .now))) (a .depth) (a .n) (stored-node (c .before .node .result)) (c .before .before .if1 .left) (c .before .node .ensures) (inl (c .if2 .taken)))
     (runs-done (held (a .image .now)) (a .contents .now) (a .bit) 0 (a .readers .now))
 
 eval-returns-11 : (t : ℕ) → eval-lts.Need-returns-11 (claims-eval t) (eval-at t) eval.Post
 unfolding value
 eval-returns-11 t c =
     let a = c .before .before .before .before .before .before .args in
-    rw (no-term-at (node-at (held (a .image .now))) (a .depth) (a .n) (node-row (c .before .before .node .result)) (c .before .before .before .if1 .left) (c .before .before .node .ensures) (inr (c .if3 .left)))
+    rw (no-term-at (node-at (held (a .image .now))) (a .depth) (a .n) (stored-node (c .before .before .node .result)) (c .before .before .before .if1 .left) (c .before .before .node .ensures) (inr (c .if3 .left)))
     (runs-done (held (a .image .now)) (a .contents .now) (a .bit) 0 (a .readers .now))
 
 pub +eval-spec : {M : Type 1} → statement M

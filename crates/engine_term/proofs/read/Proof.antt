@@ -11,8 +11,8 @@ use Rattle.engine_term.proofs.read.Tie as tie
 location-requires : tie.Need-location-requires
 location-requires c κs = search needs
 
-note-requires : tie.Need-note-requires
-note-requires c κs = search needs
+mark-if-dynamic-requires : tie.Need-mark-if-dynamic-requires
+mark-if-dynamic-requires c κs = search needs
 
 cast-fetch : tie.Need-cast-fetch
 cast-fetch c = search needs
@@ -28,9 +28,9 @@ returns c =
     let a = c .before .before .before .before .before .before .before .before .args in
     let m = a .image .now in
     runs-read (held m) (a .contents .now) (a .bit) (location (held m) (a .f) (a .x) (a .y)) (c .fetch .result) _ _
-    (c .fetch .ensures ∙ rw (c .before .before .before .before .before .location .ensures)) (λ p. c .before .before .before .note .ensures ∙ rw (dynamic-placed (held m) (a .f) (a .x) (a .y) p, c .before .before .before .before .before .location .ensures))
+    (c .fetch .ensures ∙ rw (c .before .before .before .before .before .location .ensures)) (λ p. c .before .before .before .mark-if-dynamic .ensures ∙ rw (dynamic-placed (held m) (a .f) (a .x) (a .y) p, c .before .before .before .before .before .location .ensures))
 
 pub read-spec : {M : Type 1} → statement M
 read-spec =
     tie.close
-    (tie.spec location-requires note-requires cast-fetch fetch-requires same-length returns)
+    (tie.spec location-requires mark-if-dynamic-requires cast-fetch fetch-requires same-length returns)

@@ -63,27 +63,27 @@ use Rattle.engine_fire.proofs.Begun as B
 use Rattle.engine_fire.proofs.Begun.Laws as B′
 use Rattle.order.specs.Log.{Log}
 use Rattle.order.specs.Lists.{lists-from}
-use Rattle.engine_list.specs.Written.{written, all-written, through}
+use Rattle.engine_list.specs.Written.{records-written, all-records-written, through}
 use Rattle.engine_list.proofs.Lending.{ref-at, LentMut, LentShr, lend-mut, lend-shr, mut-back, shr-back}
 use Rattle.engine_list.proofs.Arrays.{array-at, LentArray, fresh-typed, begins, over, parted, whole-again, lend-array, array-back, share-array}
 use Rattle.engine_list.proofs.pass as pass
 use Rattle.engine_list.proofs.pass.Symbol as pass-def
 use Rattle.engine_list.proofs.pass.Symbol.{name as #engine-list·pass}
 use Rattle.engine_list.proofs.pass.Met as pass-thm
-use Rattle.order_run.specs.declared.Turn.{Turn}
-use Rattle.order_run.specs.Turns.{answered}
-use Rattle.order_run.specs.Laps.{turns-left, Next, Stage, Walked}
-use Rattle.order_run.proofs.Laps.{walked-lists, walked-few, walked-passed}
-use Rattle.order_run.proofs.Turn as G
-use Rattle.order_run.proofs.Turn.Laws as G′
-use Rattle.order_run.proofs.begin as begin
-use Rattle.order_run.proofs.begin.Symbol as begin-def
-use Rattle.order_run.proofs.begin.Symbol.{name as #order-run·begin}
-use Rattle.order_run.proofs.begin.Met as begin-thm
-use Rattle.order_run.proofs.finish as finish
-use Rattle.order_run.proofs.finish.Symbol as finish-def
-use Rattle.order_run.proofs.finish.Symbol.{name as #order-run·finish}
-use Rattle.order_run.proofs.finish.Met as finish-thm
+use Rattle.order_run.specs.declared.RunState.{RunState}
+use Rattle.order_run.specs.Runs.{answer-with}
+use Rattle.order_run.specs.Stages.{moves-left, MoveNext, RunAt, MoveBegun}
+use Rattle.order_run.proofs.Stages.{walked-lists, walked-few, walked-passed}
+use Rattle.order_run.proofs.RunState as G
+use Rattle.order_run.proofs.RunState.Laws as G′
+use Rattle.order_run.proofs.begin_next as begin
+use Rattle.order_run.proofs.begin_next.Symbol as begin-def
+use Rattle.order_run.proofs.begin_next.Symbol.{name as #order-run·begin-next}
+use Rattle.order_run.proofs.begin_next.Met as begin-thm
+use Rattle.order_run.proofs.finish_next as finish
+use Rattle.order_run.proofs.finish_next.Symbol as finish-def
+use Rattle.order_run.proofs.finish_next.Symbol.{name as #order-run·finish-next}
+use Rattle.order_run.proofs.finish_next.Met as finish-thm
 use Rattle.order_entry.specs.MovesMade.{MovesMade}
 use Rattle.order_entry.proofs.make_moves.Key.{name as #order-entry·make-moves}
 use Rattle.order_entry.proofs.make_moves as made
@@ -111,15 +111,15 @@ is-unit w e = subst (λ (y : Val). Holds (hasTy tyUnit y) × WT y) (sym (ap only
 room-of : (R : RattleType) (m k : ℕ) → Room R m → k ≡ m → Room R k
 room-of R m k room e = subst (Room R) (sym e) room
 
-none-left : (ys : List Record) → all-written [] ys ≡ ys
-unfolding all-written
+none-left : (ys : List Record) → all-records-written [] ys ≡ ys
+unfolding all-records-written
 none-left ys = refl
 
-one-less : (is : List Instruction) (rest : List (List Instruction)) (ys : List Record) → all-written rest (written is ys) ≡ all-written (is ∷ rest) ys
-unfolding all-written
+one-less : (is : List Instruction) (rest : List (List Instruction)) (ys : List Record) → all-records-written rest (records-written is ys) ≡ all-records-written (is ∷ rest) ys
+unfolding all-records-written
 one-less is rest ys = refl
 
-abbrev mach : Turn → Val
+abbrev mach : RunState → Val
 mach t = LL.tuple-val G.the-type G′.the-laws (G.the-type .to t)
 
 is-begun : (u : Begun) (w : Val) → Is B.the-row u (w ∷ []) → Is B.the-row u (LL.tuple-val B.the-type B′.the-laws (B.the-type .to u) ∷ [])
@@ -127,45 +127,45 @@ is-begun u w is = subst (λ (vs : List Val). Is B.the-row u vs) (LL.tells B.the-
 
 -- what changes in the loop: how far the call is, the tables, the numbers and the list
 record Now : Type 0 where
-  t : Turn
+  t : RunState
   cs : List ℕ
   rs : List ℕ
   ws : List ℕ
   us : List ℕ
   zs : List Record
 
-abbrev after-turn : Now → Turn → List ℕ → List ℕ → List ℕ → List ℕ → List Record → Now
+abbrev after-turn : Now → RunState → List ℕ → List ℕ → List ℕ → List ℕ → List Record → Now
 after-turn s t cs rs ws us zs = record { t = t; cs = cs; rs = rs; ws = ws; us = us; zs = zs }
 
 abbrev Passes : List Record → List ℕ → ℕ → List Record → List ℕ → Type 0
-Passes zs x count zs′ x′ = (zs′ ≡ written (items x count) zs) × (items x′ (through count zs x) ≡ items x (through count zs x))
+Passes zs x count zs′ x′ = (zs′ ≡ records-written (items x count) zs) × (items x′ (through count zs x) ≡ items x (through count zs x))
 
 -- what each callee says of the image m and the order o
 module _ (m o : List ℕ) where
-  abbrev Begins : Turn → List ℕ → List ℕ → Begun → List ℕ → List ℕ → Type 0
-  Begins t cs rs u x rs′ = (g : Log) (c ws : List ℕ) → Next m o g c t cs rs ws → Walked m o g c t u x cs rs′ ws
+  abbrev Begins : RunState → List ℕ → List ℕ → Begun → List ℕ → List ℕ → Type 0
+  Begins t cs rs u x rs′ = (g : Log) (c ws : List ℕ) → MoveNext m o g c t cs rs ws → MoveBegun m o g c t u x cs rs′ ws
 
   -- the lists of the moves after t
-  abbrev later-lists : Turn → Log → List ℕ → List (List Instruction)
+  abbrev later-lists : RunState → Log → List ℕ → List (List Instruction)
   later-lists t g c = lists-from (held m) g c (t .moves - (t .at + 1)) (t .at + 1)
 
-  abbrev Finishes : Turn → Begun → List ℕ → List ℕ → List ℕ → List ℕ → Turn → List ℕ → List ℕ → List ℕ → Type 0
+  abbrev Finishes : RunState → Begun → List ℕ → List ℕ → List ℕ → List ℕ → RunState → List ℕ → List ℕ → List ℕ → Type 0
   Finishes t u x cs rs ws t′ cs′ rs′ ws′ =
-      ((g : Log) (c : List ℕ) → Walked m o g c t u x cs rs ws → Stage m o g c (later-lists t g c) t′ cs′ rs′ ws′)
-      × (turns-left t′ ≤ 64 - t .at)
+      ((g : Log) (c : List ℕ) → MoveBegun m o g c t u x cs rs ws → RunAt m o g c (later-lists t g c) t′ cs′ rs′ ws′)
+      × (moves-left t′ ≤ 64 - t .at)
 
-module _ (m o : List ℕ) (t₀ : Turn) (C R D : List ℕ) (Y : List Record) where
+module _ (m o : List ℕ) (t₀ : RunState) (C R D : List ℕ) (Y : List Record) where
   abbrev n : ℕ
   n = length Y
 
   -- what is so far, if the run was so far when it was handed over with `rest` left to write
   abbrev So : Now → Type 0
-  So s = (g : Log) (c : List ℕ) (rest : List (List Instruction)) → most-instructions ≤ n → Stage m o g c rest t₀ C R D
-      → (left : List (List Instruction)) × Stage m o g c left (s .t) (s .cs) (s .rs) (s .ws) × (all-written left (s .zs) ≡ all-written rest Y)
+  So s = (g : Log) (c : List ℕ) (rest : List (List Instruction)) → most-instructions ≤ n → RunAt m o g c rest t₀ C R D
+      → (left : List (List Instruction)) × RunAt m o g c left (s .t) (s .cs) (s .rs) (s .ws) × (all-records-written left (s .zs) ≡ all-records-written rest Y)
 
   -- the invariant
   record Good (s : Now) : Type 0 where
-    none : t₀ .more ≡ false → (answered (s .t .answer) (s .cs) (s .rs) (s .ws) ≡ answered (t₀ .answer) C R D) × (s .zs ≡ Y) × (s .t .more ≡ false)
+    none : t₀ .more ≡ false → (answer-with (s .t .answer) (s .cs) (s .rs) (s .ws) ≡ answer-with (t₀ .answer) C R D) × (s .zs ≡ Y) × (s .t .more ≡ false)
     so : So s
     contents : length (s .cs) ≡ length C
     readers : length (s .rs) ≡ length R
@@ -174,9 +174,9 @@ module _ (m o : List ℕ) (t₀ : Turn) (C R D : List ℕ) (Y : List Record) whe
     numbers : length (s .us) ≡ 256
     is : Is G.the-row (s .t) (mach (s .t) ∷ [])
 
-  next-good : (s : Now) → Good s → s .t .more ≡ true → (t′ : Turn) (u : Begun) (x rs : List ℕ) (zs : List Record) (x′ cs′ rs′ ws′ : List ℕ)
+  next-good : (s : Now) → Good s → s .t .more ≡ true → (t′ : RunState) (u : Begun) (x rs : List ℕ) (zs : List Record) (x′ cs′ rs′ ws′ : List ℕ)
       → Begins m o (s .t) (s .cs) (s .rs) u x rs → Passes (s .zs) x (u .count) zs x′
-      → ((g : Log) (c : List ℕ) → Walked m o g c (s .t) u x′ (s .cs) rs (s .ws) → Stage m o g c (later-lists m o (s .t) g c) t′ cs′ rs′ ws′)
+      → ((g : Log) (c : List ℕ) → MoveBegun m o g c (s .t) u x′ (s .cs) rs (s .ws) → RunAt m o g c (later-lists m o (s .t) g c) t′ cs′ rs′ ws′)
       → length x ≡ 256 → length rs ≡ length (s .rs) → length zs ≡ length (s .zs) → length x′ ≡ length x → length cs′ ≡ length (s .cs) → length rs′ ≡ length rs → length ws′ ≡ length (s .ws) → Is G.the-row t′ (mach t′ ∷ [])
       → Good (after-turn s t′ cs′ rs′ ws′ x′ zs)
   next-good s good on t′ u x rs zs x′ cs′ rs′ ws′ b p f l256 lr₁ ll lx lc lr lw is = record {
@@ -191,9 +191,9 @@ module _ (m o : List ℕ) (t₀ : Turn) (C R D : List ℕ) (Y : List Record) whe
         let lists : q .0 ≡ items x (u .count) ∷ left = q .1 .lists on ∙ walked-lists m o g c (s .t) u x (s .cs) rs (s .ws) w in (
           left,
           f g c (walked-passed m o g c (s .t) u x (s .cs) rs (s .ws) w x′ (lx ∙ l256) same),
-          ap (all-written left) (p .0)
+          ap (all-records-written left) (p .0)
               ∙ one-less (items x (u .count)) left (s .zs)
-              ∙ ap (λ (y : List (List Instruction)). all-written y (s .zs)) (sym lists)
+              ∙ ap (λ (y : List (List Instruction)). all-records-written y (s .zs)) (sym lists)
               ∙ q .2,
         );
     contents = lc ∙ good .contents;
@@ -211,11 +211,11 @@ module _ (m o : List ℕ) (t₀ : Turn) (C R D : List ℕ) (Y : List Record) whe
     run = λ g c rest room h.
         let q = good .so g c rest room h in
         let e = q .1 .over off in
-        (e .1, sym (none-left (s .zs)) ∙ ap (λ (y : List (List Instruction)). all-written y (s .zs)) (sym (e .0)) ∙ q .2);
+        (e .1, sym (none-left (s .zs)) ∙ ap (λ (y : List (List Instruction)). all-records-written y (s .zs)) (sym (e .0)) ∙ q .2);
   }
 
 -- the contents C at (b₀, o₀), the marks R at (b₁, o₁) and D at (b₂, o₂), and the list Y at (b₃, o₃); the image, the order, and the first turn
-module _ {M : Type 1} (𝓤 : URA M) (H : Heap 𝓤) (A : Atoms 𝓤) (W : Given 𝓤 H A) (mem : Memory → SProp 𝓤) (run : Routine → Fun 𝓤) (κ₀ κ₁ κ₂ κ₃ κ₄ κ₅ : Lft) (q₀ q₁ q₂ q₃ q₄ q₅ : Share) (b₀ o₀ b₁ o₁ b₂ o₂ b₃ o₃ : ℕ) (δ₀ δ₁ δ₂ δ₃ : GName) (C R D : List ℕ) (Y : List Record) (xi xo : RefT (List ℕ)) (t₀ : Turn)
+module _ {M : Type 1} (𝓤 : URA M) (H : Heap 𝓤) (A : Atoms 𝓤) (W : Given 𝓤 H A) (mem : Memory → SProp 𝓤) (run : Routine → Fun 𝓤) (κ₀ κ₁ κ₂ κ₃ κ₄ κ₅ : Lft) (q₀ q₁ q₂ q₃ q₄ q₅ : Share) (b₀ o₀ b₁ o₁ b₂ o₂ b₃ o₃ : ℕ) (δ₀ δ₁ δ₂ δ₃ : GName) (C R D : List ℕ) (Y : List Record) (xi xo : RefT (List ℕ)) (t₀ : RunState)
     (room-c : Room u16 (length C)) (room-r : Room u64 (length R)) (room-w : Room u64 (length D)) (room-l : Room T.the-row (length Y)) (is₀ : Is G.the-row t₀ (mach t₀ ∷ [])) where
   abbrev κs : Lfts 6
   κs = (κ₀, (κ₁, (κ₂, (κ₃, (κ₄, (κ₅, tt))))))
@@ -242,7 +242,7 @@ module _ {M : Type 1} (𝓤 : URA M) (H : Heap 𝓤) (A : Atoms 𝓤) (W : Given
   so = vptr (xo .ptr .0) (xo .ptr .1)
 
   abbrev Arg : Type 0
-  Arg = RefT (List ℕ) × (RefT (List ℕ) × (RefT (List ℕ) × (RefT (List Record) × (RefT (List ℕ) × (RefT (List ℕ) × (Turn × Unit {0}))))))
+  Arg = RefT (List ℕ) × (RefT (List ℕ) × (RefT (List ℕ) × (RefT (List Record) × (RefT (List ℕ) × (RefT (List ℕ) × (RunState × Unit {0}))))))
 
   abbrev a : Arg
   a = (ref-at u16 b₀ o₀ δ₀ C, (ref-at u64 b₁ o₁ δ₁ R, (ref-at u64 b₂ o₂ δ₂ D, (ref-at T.the-row b₃ o₃ δ₃ Y, (xi, (xo, (t₀, tt)))))))
@@ -286,7 +286,7 @@ module _ {M : Type 1} (𝓤 : URA M) (H : Heap 𝓤) (A : Atoms 𝓤) (W : Given
 
   -- what each callee's triple binds outside, and that the caller has what it asks; the numbers lie at j
   abbrev BeginArg : Type 0
-  BeginArg = RefT (List ℕ) × (RefT (List ℕ) × (RefT (List ℕ) × (RefT (List ℕ) × (RefT (List ℕ) × (Turn × Unit {0})))))
+  BeginArg = RefT (List ℕ) × (RefT (List ℕ) × (RefT (List ℕ) × (RefT (List ℕ) × (RefT (List ℕ) × (RunState × Unit {0})))))
 
   abbrev begin-a : GName → GName → GName → ℕ → Now → BeginArg
   begin-a γ₀ γ₁ γ₂ j s = (ref-at u16 b₀ o₀ γ₀ (s .cs), (ref-at u64 b₁ o₁ γ₁ (s .rs), (xi, (xo, (array-at w64 256 j γ₂ (s .us), (s .t, tt))))))
@@ -327,7 +327,7 @@ module _ {M : Type 1} (𝓤 : URA M) (H : Heap 𝓤) (A : Atoms 𝓤) (W : Given
   asked-pass ν ν′ γ γ′ j s x u = qed W ((‵ (flft (ν ∷ []) fullShare) ⊛ ‵ (flft (ν′ ∷ []) fullShare) ⊛ ‵ ftrue) ∷ ‵ (owns (MutSlice (named 0) (ν ∷ []) T.the-row ∷ MutSlice (named 1) (ν′ ∷ []) u64 ∷ usize ∷ []) (pass-a γ γ′ j s x u) (pass-vals j u)) ∷ []) ∵ join ! $ frame ! $ done !
 
   abbrev FinishArg : Type 0
-  FinishArg = RefT (List ℕ) × (RefT (List ℕ) × (RefT (List ℕ) × (RefT (List ℕ) × (RefT (List ℕ) × (RefT (List ℕ) × (Turn × (Begun × Unit {0})))))))
+  FinishArg = RefT (List ℕ) × (RefT (List ℕ) × (RefT (List ℕ) × (RefT (List ℕ) × (RefT (List ℕ) × (RefT (List ℕ) × (RunState × (Begun × Unit {0})))))))
 
   abbrev finish-a : GName → GName → GName → GName → ℕ → Now → List ℕ → List ℕ → Begun → FinishArg
   finish-a γ₀ γ₁ γ₂ γ₃ j s rs x u = (ref-at u16 b₀ o₀ γ₀ (s .cs), (ref-at u64 b₁ o₁ γ₁ rs, (ref-at u64 b₂ o₂ γ₂ (s .ws), (xi, (xo, (array-at w64 256 j γ₃ x, (s .t, (u, tt))))))))
@@ -363,7 +363,7 @@ module _ {M : Type 1} (𝓤 : URA M) (H : Heap 𝓤) (A : Atoms 𝓤) (W : Given
     is = is₀;
   }
 
-  module _ (𝓣 : Tables 𝓤 H) (known-begin : Triple 𝓤 (𝓣 .C #order-run·begin) (Begin 𝓤 H A mem run)) (known-pass : Triple 𝓤 (𝓣 .C #engine-list·pass) (Pass 𝓤 H A mem run)) (known-finish : Triple 𝓤 (𝓣 .C #order-run·finish) (Finish 𝓤 H A mem run)) (l₀ l₁ l₂ l₃ l₄ l₅ l₆ l₇ l₈ l₉ l₁₀ l₁₁ l₁₂ l₁₃ l₁₄ l₁₅ l₁₆ l₁₇ l₁₈ l₁₉ l₂₀ l₂₁ l₂₂ l₂₃ l₂₄ l₂₅ l₂₆ l₂₇ l₂₈ l₂₉ : ℕ) where
+  module _ (𝓣 : Tables 𝓤 H) (known-begin : Triple 𝓤 (𝓣 .C #order-run·begin-next) (Begin 𝓤 H A mem run)) (known-pass : Triple 𝓤 (𝓣 .C #engine-list·pass) (Pass 𝓤 H A mem run)) (known-finish : Triple 𝓤 (𝓣 .C #order-run·finish-next) (Finish 𝓤 H A mem run)) (l₀ l₁ l₂ l₃ l₄ l₅ l₆ l₇ l₈ l₉ l₁₀ l₁₁ l₁₂ l₁₃ l₁₄ l₁₅ l₁₆ l₁₇ l₁₈ l₁₉ l₂₀ l₂₁ l₂₂ l₂₃ l₂₄ l₂₅ l₂₆ l₂₇ l₂₈ l₂₉ : ℕ) where
     abbrev C′ : Calls 𝓤 H
     C′ = 𝓣 .C
 
@@ -382,7 +382,7 @@ module _ {M : Type 1} (𝓤 : URA M) (H : Heap 𝓤) (A : Atoms 𝓤) (W : Given
 
     -- the invariant, where so many turns are left
     abbrev Inv : ℕ → SProp 𝓤
-    Inv k = ex 𝓤 (λ (s : Now). guard 𝓤 ((turns-left (s .t) ≡ k) × Fine s) (⋆ 𝓤 H A (At s)))
+    Inv k = ex 𝓤 (λ (s : Now). guard 𝓤 ((moves-left (s .t) ≡ k) × Fine s) (⋆ 𝓤 H A (At s)))
 
     abbrev Below : ℕ → SProp 𝓤
     Below k = ex 𝓤 (λ (j : ℕ). guard 𝓤 (j < k) (Inv j))
@@ -392,7 +392,7 @@ module _ {M : Type 1} (𝓤 : URA M) (H : Heap 𝓤) (A : Atoms 𝓤) (W : Given
     Left = afterBlock 𝓤 H (afterSeq 𝓤 H (Wp 𝓤 H C′ Λ En mir.t-4 (atReturn 𝓤 H En Post)) (atReturn 𝓤 H En Post))
 
     -- a turn of one move
-    more : (s : Now) (X : SProp 𝓤) → Fine s → s .t .more ≡ true → ((s′ : Now) → Fine s′ → turns-left (s′ .t) ≤ 64 - s .t .at → ent 𝓤 (⋆ 𝓤 H A (At s′)) X)
+    more : (s : Now) (X : SProp 𝓤) → Fine s → s .t .more ≡ true → ((s′ : Now) → Fine s′ → moves-left (s′ .t) ≤ 64 - s .t .at → ent 𝓤 (⋆ 𝓤 H A (At s′)) X)
         → ent 𝓤 (⋆ 𝓤 H A (At s)) (Wp 𝓤 H C′ Λ En mir.turn-1 (afterTurn 𝓤 H X Left))
     unfolding afterTurn
     more s X good on k =
@@ -452,7 +452,7 @@ module _ {M : Type 1} (𝓤 : URA M) (H : Heap 𝓤) (A : Atoms 𝓤) (W : Given
         nothing ! $ move ! (7 ∷ 0 ∷ []) $ join ! $ move ! (17 ∷ 0 ∷ []) $ join ! $ move ! (17 ∷ 0 ∷ []) $ join ! $ move ! (9 ∷ 0 ∷ []) $ join ! $ move ! (11 ∷ 0 ∷ []) $ join ! $ move ! (13 ∷ 0 ∷ []) $ join ! $ nothing ! $ owned ! B.the-row (Is B.the-row) (LL.makes B.the-type B′.the-plain 𝓤 H A) u _ (is-begun u w₁ isu) $ fjoin ! $ owned ! G.the-row (Is G.the-row) (LL.makes G.the-type G′.the-plain 𝓤 H A) (s .t) _ (good .is) $ fjoin ! $ move ! (6 ∷ 0 ∷ []) $ fjoin ! $ move ! (3 ∷ 0 ∷ []) $ fjoin ! $ move ! (4 ∷ 0 ∷ []) $ fjoin ! $ move ! (5 ∷ 0 ∷ []) $ fjoin ! $ move ! (6 ∷ 0 ∷ []) $ fjoin ! $ move ! (7 ∷ 0 ∷ []) $ fjoin ! $
         move ! (1 ∷ 0 ∷ []) $ use2 W (raw (Finish 𝓤 H A mem run .pre (to-finish ν₅ ν₆ ν₇ ν₈ γ₅ γ₆ γ₇ γ₈ l₈ s (bs .1 .0) (ps .1 .0) u))) (asked-finish ν₅ ν₆ ν₇ ν₈ γ₅ γ₆ γ₇ γ₈ l₈ s (bs .1 .0) (ps .1 .0) u) $
         calls-at-last ! (fmOf 𝓤 H (W .laws) 𝓣) (Finish 𝓤 H A mem run) known-finish (to-finish ν₅ ν₆ ν₇ ν₈ γ₅ γ₆ γ₇ γ₈ l₈ s (bs .1 .0) (ps .1 .0) u) (and-then ! (load ! (from ! (stop !)) (look ! 23 refl)) (and-then ! (load ! (from ! (stop !)) (look ! 25 refl)) (and-then ! (load ! (from ! (stop !)) (look ! 27 refl)) (and-then ! (load ! (from ! (stop !)) (look ! 33 refl)) (and-then ! (load ! (from ! (stop !)) (look ! 34 refl)) (and-then ! (load ! (from ! (stop !)) (look ! 28 refl)) (and-then ! (load ! (from ! (stop !)) (look ! 8 refl)) (and-then ! (load ! (from ! (stop !)) (look ! 9 refl)) (no-more !))))))))) (λ w₃.
-        use1 W (later (some (λ (t′ : Turn). ((‵ (flft (ν₅ ∷ []) fullShare) ⊛ ‵ (flft (ν₆ ∷ []) fullShare) ⊛ ‵ (flft (ν₇ ∷ []) fullShare) ⊛ ‵ (flft κ₄ q₄) ⊛ ‵ (flft κ₅ q₅) ⊛ ‵ (flft (ν₈ ∷ []) fullShare) ⊛ ‵ ftrue) ⊛ ‵ (G.the-row .own t′ (w₃ ∷ []))) ⊛ raw (ensured 𝓤 H A finish.ended (finish.clauses 𝓤 H A mem run) (finish-lfts ν₅ ν₆ ν₇ ν₈) (finish-a γ₅ γ₆ γ₇ γ₈ l₈ s (bs .1 .0) (ps .1 .0) u) tt t′)))) (id⊢ 𝓤 _) $ await ! tt $ pick ! (λ t′. split ! $ move ! (1 ∷ []) $ use1 W (some (λ (fs : List ℕ × (List ℕ × (List ℕ × (Unit {0} × (Unit {0} × (Unit {0} × (Unit {0} × (Unit {0} × Unit {0})))))))). ‵ (lasts finish.ended (finish-lfts ν₅ ν₆ ν₇ ν₈) (finish-a γ₅ γ₆ γ₇ γ₈ l₈ s (bs .1 .0) (ps .1 .0) u) fs) ⊛ raw (fact 𝓤 (Finishes (xi .now) (xo .now) (s .t) u (ps .1 .0) (s .cs) (bs .1 .0) (s .ws) t′ (fs .0) (fs .1 .0) (fs .1 .1 .0))))) (id⊢ 𝓤 _) $ pick ! (λ fs. split ! $ move ! (1 ∷ []) $ heard ! (Finishes (xi .now) (xo .now) (s .t) u (ps .1 .0) (s .cs) (bs .1 .0) (s .ws) t′ (fs .0) (fs .1 .0) (fs .1 .1 .0)) (λ e₃.
+        use1 W (later (some (λ (t′ : RunState). ((‵ (flft (ν₅ ∷ []) fullShare) ⊛ ‵ (flft (ν₆ ∷ []) fullShare) ⊛ ‵ (flft (ν₇ ∷ []) fullShare) ⊛ ‵ (flft κ₄ q₄) ⊛ ‵ (flft κ₅ q₅) ⊛ ‵ (flft (ν₈ ∷ []) fullShare) ⊛ ‵ ftrue) ⊛ ‵ (G.the-row .own t′ (w₃ ∷ []))) ⊛ raw (ensured 𝓤 H A finish.ended (finish.clauses 𝓤 H A mem run) (finish-lfts ν₅ ν₆ ν₇ ν₈) (finish-a γ₅ γ₆ γ₇ γ₈ l₈ s (bs .1 .0) (ps .1 .0) u) tt t′)))) (id⊢ 𝓤 _) $ await ! tt $ pick ! (λ t′. split ! $ move ! (1 ∷ []) $ use1 W (some (λ (fs : List ℕ × (List ℕ × (List ℕ × (Unit {0} × (Unit {0} × (Unit {0} × (Unit {0} × (Unit {0} × Unit {0})))))))). ‵ (lasts finish.ended (finish-lfts ν₅ ν₆ ν₇ ν₈) (finish-a γ₅ γ₆ γ₇ γ₈ l₈ s (bs .1 .0) (ps .1 .0) u) fs) ⊛ raw (fact 𝓤 (Finishes (xi .now) (xo .now) (s .t) u (ps .1 .0) (s .cs) (bs .1 .0) (s .ws) t′ (fs .0) (fs .1 .0) (fs .1 .1 .0))))) (id⊢ 𝓤 _) $ pick ! (λ fs. split ! $ move ! (1 ∷ []) $ heard ! (Finishes (xi .now) (xo .now) (s .t) u (ps .1 .0) (s .cs) (bs .1 .0) (s .ws) t′ (fs .0) (fs .1 .0) (fs .1 .1 .0)) (λ e₃.
         fsplit ! $ fsplit ! $ move ! (1 ∷ []) $ feqL ! (λ lc. move ! (1 ∷ []) $ fsplit ! $ fsplit ! $ move ! (1 ∷ []) $ feqL ! (λ lr. move ! (1 ∷ []) $ fsplit ! $ fsplit ! $ move ! (1 ∷ []) $ feqL ! (λ lw. move ! (1 ∷ []) $ fsplit ! $ drop ! $ fsplit ! $ drop ! $ fsplit ! $ drop ! $ fsplit ! $ drop ! $ fsplit ! $ drop ! $ drop ! $
         move ! (3 ∷ []) $ split ! $ move ! (1 ∷ []) $ peeks ! G.the-row (Is G.the-row) (shows 𝓤 H A G.the-row) t′ (w₃ ∷ []) (λ is′.
         drop ! $ split ! $ move ! (1 ∷ []) $ split ! $ move ! (1 ∷ []) $ split ! $ move ! (1 ∷ []) $ split ! $ move ! (1 ∷ []) $ split ! $ move ! (1 ∷ []) $ split ! $ move ! (1 ∷ []) $ drop ! $
@@ -482,33 +482,33 @@ module _ {M : Type 1} (𝓤 : URA M) (H : Heap 𝓤) (A : Atoms 𝓤) (W : Given
         move ! (41 ∷ 46 ∷ []) $ free1 ! $ move ! (34 ∷ 45 ∷ []) $ free1 ! $ move ! (34 ∷ 44 ∷ []) $ free1 ! $ move ! (34 ∷ 43 ∷ []) $ free1 ! $ move ! (34 ∷ 42 ∷ []) $ free1 ! $ move ! (34 ∷ 41 ∷ []) $ free1 ! $ move ! (34 ∷ 40 ∷ []) $ free1 ! $ move ! (34 ∷ 39 ∷ []) $ free1 ! $ move ! (0 ∷ 38 ∷ []) $ free1 ! $ move ! (12 ∷ 37 ∷ []) $ free1 ! $ move ! (12 ∷ 36 ∷ []) $ free1 ! $ move ! (12 ∷ 35 ∷ []) $ free1 ! $ move ! (12 ∷ 34 ∷ []) $ free1 ! $ move ! (12 ∷ 33 ∷ []) $ free1 ! $ move ! (12 ∷ 32 ∷ []) $ free1 ! $ move ! (12 ∷ 31 ∷ []) $ free1 ! $ move ! (12 ∷ 30 ∷ []) $ free1 ! $ move ! (12 ∷ 29 ∷ []) $ free1 ! $ move ! (12 ∷ 28 ∷ []) $ free1 ! $ move ! (12 ∷ 27 ∷ []) $ free1 ! $ move ! (12 ∷ 26 ∷ []) $ free1 ! $ move ! (12 ∷ 25 ∷ []) $ free1 ! $ move ! (12 ∷ 24 ∷ []) $ free1 ! $ move ! (12 ∷ 23 ∷ []) $ free1 ! $ move ! (12 ∷ 22 ∷ []) $ free1 ! $ move ! (12 ∷ 21 ∷ []) $ free1 ! $ move ! (12 ∷ 20 ∷ []) $ free1 ! $ move ! (12 ∷ 19 ∷ []) $ free1 ! $ move ! (12 ∷ 18 ∷ []) $ free1 ! $ move ! (12 ∷ 17 ∷ []) $ free1 ! $ free0 ! $
         keep ! (11 ∷ 8 ∷ 5 ∷ 2 ∷ 12 ∷ 13 ∷ 14 ∷ 15 ∷ 9 ∷ 10 ∷ 6 ∷ 7 ∷ 3 ∷ 4 ∷ 0 ∷ 1 ∷ []) $ by ! (exits s good off)
 
-    inv-at : (k : ℕ) (s : Now) → (turns-left (s .t) ≡ k) × Fine s → ent 𝓤 (⋆ 𝓤 H A (At s)) (Inv k)
+    inv-at : (k : ℕ) (s : Now) → (moves-left (s .t) ≡ k) × Fine s → ent 𝓤 (⋆ 𝓤 H A (At s)) (Inv k)
     inv-at k s e =
-        via 𝓤 (guard 𝓤 ((turns-left (s .t) ≡ k) × Fine s) (⋆ 𝓤 H A (At s))) (guardI 𝓤 ((turns-left (s .t) ≡ k) × Fine s) (⋆ 𝓤 H A (At s)) e)
-        (exI 𝓤 (λ (u : Now). guard 𝓤 ((turns-left (u .t) ≡ k) × Fine u) (⋆ 𝓤 H A (At u))) s)
+        via 𝓤 (guard 𝓤 ((moves-left (s .t) ≡ k) × Fine s) (⋆ 𝓤 H A (At s))) (guardI 𝓤 ((moves-left (s .t) ≡ k) × Fine s) (⋆ 𝓤 H A (At s)) e)
+        (exI 𝓤 (λ (u : Now). guard 𝓤 ((moves-left (u .t) ≡ k) × Fine u) (⋆ 𝓤 H A (At u))) s)
 
     -- a turn from the invariant at k leaves the loop, or ends in the invariant below k
-    turn-at : (k : ℕ) (s : Now) → (turns-left (s .t) ≡ k) × Fine s → ent 𝓤 (⋆ 𝓤 H A (At s)) (Wp 𝓤 H C′ Λ En mir.turn-1 (afterTurn 𝓤 H (Below k) Left))
+    turn-at : (k : ℕ) (s : Now) → (moves-left (s .t) ≡ k) × Fine s → ent 𝓤 (⋆ 𝓤 H A (At s)) (Wp 𝓤 H C′ Λ En mir.turn-1 (afterTurn 𝓤 H (Below k) Left))
     turn-at k s e = go (s .t .more) refl
       where
         go : (v : Bool) → s .t .more ≡ v → ent 𝓤 (⋆ 𝓤 H A (At s)) (Wp 𝓤 H C′ Λ En mir.turn-1 (afterTurn 𝓤 H (Below k) Left))
         go false y = ends s (Below k) (e .1) y
         go true y =
             more s (Below k) (e .1) y (λ s′ good fewer.
-            let j = turns-left (s′ .t) in
+            let j = moves-left (s′ .t) in
             let here : suc (64 - s .t .at) ≡ k = ap (λ (v : Bool). if v then suc (64 - s .t .at) else 0) (sym y) ∙ e .0 in
             let less : j < k = omega (arith, fewer, here) in
             via 𝓤 (Inv j) (inv-at j s′ (refl, good))
             (via 𝓤 (guard 𝓤 (j < k) (Inv j)) (guardI 𝓤 (j < k) (Inv j) less) (exI 𝓤 (λ (i : ℕ). guard 𝓤 (i < k) (Inv i)) j)))
 
     turns : (k : ℕ) → ent 𝓤 (Inv k) (Wp 𝓤 H C′ Λ En mir.turn-1 (afterTurn 𝓤 H (Below k) Left))
-    turns k = exE 𝓤 (λ (s : Now). guard 𝓤 ((turns-left (s .t) ≡ k) × Fine s) (⋆ 𝓤 H A (At s))) (λ s. guardE 𝓤 ((turns-left (s .t) ≡ k) × Fine s) (⋆ 𝓤 H A (At s)) (λ e. turn-at k s e))
+    turns k = exE 𝓤 (λ (s : Now). guard 𝓤 ((moves-left (s .t) ≡ k) × Fine s) (⋆ 𝓤 H A (At s))) (λ s. guardE 𝓤 ((moves-left (s .t) ≡ k) × Fine s) (⋆ 𝓤 H A (At s)) (λ e. turn-at k s e))
 
     loops : (s : Now) → Fine s → Sq W (At s) (runs C′ Λ En mir.t-3 (atRet En Post))
-    loops s good = first′ ! $ blocks ! $ by ! (via 𝓤 (Inv (turns-left (s .t))) (inv-at (turns-left (s .t)) s (refl, good)) (loop-rule 𝓤 H (W .laws) 𝓣 _<_ (Nat·lt-wfRel .wf) En mir.turn-1 Left Inv turns (turns-left (s .t))))
+    loops s good = first′ ! $ blocks ! $ by ! (via 𝓤 (Inv (moves-left (s .t))) (inv-at (moves-left (s .t)) s (refl, good)) (loop-rule 𝓤 H (W .laws) 𝓣 _<_ (Nat·lt-wfRel .wf) En mir.turn-1 Left Inv turns (moves-left (s .t))))
 
   -- the MIR, up to the loop
-  walk : (𝓣 : Tables 𝓤 H) → Triple 𝓤 (𝓣 .C #order-run·begin) (Begin 𝓤 H A mem run) → Triple 𝓤 (𝓣 .C #engine-list·pass) (Pass 𝓤 H A mem run) → Triple 𝓤 (𝓣 .C #order-run·finish) (Finish 𝓤 H A mem run)
+  walk : (𝓣 : Tables 𝓤 H) → Triple 𝓤 (𝓣 .C #order-run·begin-next) (Begin 𝓤 H A mem run) → Triple 𝓤 (𝓣 .C #engine-list·pass) (Pass 𝓤 H A mem run) → Triple 𝓤 (𝓣 .C #order-run·finish-next) (Finish 𝓤 H A mem run)
       → ent 𝓤 (onEntry 𝓤 H A made.signature κs qs a vals) (WpFn 𝓤 H (𝓣 .C) (𝓣 .Λ) code.function (sc ∷ sr ∷ sw ∷ sl ∷ si ∷ so ∷ mach t₀ ∷ []) Post)
   walk 𝓣 known-begin known-pass known-finish =
       qed W (raw (onEntry 𝓤 H A made.signature κs qs a vals) ∷ []) ∵ enter ! (𝓣 .C) (𝓣 .Λ) code.function (sc ∷ sr ∷ sw ∷ sl ∷ si ∷ so ∷ mach t₀ ∷ []) _ $
@@ -527,7 +527,7 @@ module _ {M : Type 1} (𝓤 : URA M) (H : Heap 𝓤) (A : Atoms 𝓤) (W : Given
       keep ! (7 ∷ 5 ∷ 3 ∷ 1 ∷ 13 ∷ 54 ∷ 52 ∷ 50 ∷ 48 ∷ 46 ∷ 44 ∷ 42 ∷ 40 ∷ 38 ∷ 36 ∷ 34 ∷ 32 ∷ 30 ∷ 28 ∷ 26 ∷ 24 ∷ 22 ∷ 20 ∷ 18 ∷ 16 ∷ 14 ∷ 69 ∷ 67 ∷ 65 ∷ 63 ∷ 61 ∷ 59 ∷ 57 ∷ 71 ∷ 6 ∷ 4 ∷ 2 ∷ 0 ∷ 12 ∷ 11 ∷ 10 ∷ 9 ∷ 72 ∷ 70 ∷ 68 ∷ 66 ∷ 64 ∷ 62 ∷ 60 ∷ 58 ∷ 56 ∷ 55 ∷ 53 ∷ 51 ∷ 49 ∷ 47 ∷ 45 ∷ 43 ∷ 41 ∷ 39 ∷ 37 ∷ 35 ∷ 33 ∷ 31 ∷ 29 ∷ 27 ∷ 25 ∷ 23 ∷ 21 ∷ 19 ∷ 17 ∷ 15 ∷ []) $ loops 𝓣 known-begin known-pass known-finish l₀ l₁ l₂ l₃ l₄ l₅ l₆ l₇ l₈ l₉ l₁₀ l₁₁ l₁₂ l₁₃ l₁₄ l₁₅ l₁₆ l₁₇ l₁₈ l₁₉ l₂₀ l₂₁ l₂₂ l₂₃ l₂₄ l₂₅ l₂₆ l₂₇ l₂₈ l₂₉ (record { t = t₀; cs = C; rs = R; ws = D; us = replicate 256 0; zs = Y }) start-good))))))))))))))))))))))))))))))
 
 module _ {M : Type 1} (𝓤 : URA M) (H : Heap 𝓤) (A : Atoms 𝓤) (W : Given 𝓤 H A) (mem : Memory → SProp 𝓤) (run : Routine → Fun 𝓤) where
-  made-walks : (𝓣 : Tables 𝓤 H) → Triple 𝓤 (𝓣 .C #order-run·begin) (Begin 𝓤 H A mem run) → Triple 𝓤 (𝓣 .C #engine-list·pass) (Pass 𝓤 H A mem run) → Triple 𝓤 (𝓣 .C #order-run·finish) (Finish 𝓤 H A mem run)
+  made-walks : (𝓣 : Tables 𝓤 H) → Triple 𝓤 (𝓣 .C #order-run·begin-next) (Begin 𝓤 H A mem run) → Triple 𝓤 (𝓣 .C #engine-list·pass) (Pass 𝓤 H A mem run) → Triple 𝓤 (𝓣 .C #order-run·finish-next) (Finish 𝓤 H A mem run)
       → Walks 𝓤 H A made.ended stayed (WpFn 𝓤 H (𝓣 .C) (𝓣 .Λ) code.function) (made.clauses 𝓤 H A mem run)
   made-walks 𝓣 known-begin known-pass known-finish = walked 𝓤 H A made.ended stayed (made.clauses 𝓤 H A mem run) (WpFn 𝓤 H (𝓣 .C) (𝓣 .Λ) code.function)
       (λ κs. (slice-vals, (slice-vals, (slice-vals, (slice-vals, (ptr-vals, (ptr-vals, ((λ t. mach t ∷ []), tt))))))))
@@ -538,7 +538,7 @@ module _ {M : Type 1} (𝓤 : URA M) (H : Heap 𝓤) (A : Atoms 𝓤) (W : Given
       (a .0 .name) (a .1 .0 .name) (a .1 .1 .0 .name) (a .1 .1 .1 .0 .name) (a .0 .now) (a .1 .0 .now) (a .1 .1 .0 .now) (a .1 .1 .1 .0 .now) (a .1 .1 .1 .1 .0) (a .1 .1 .1 .1 .1 .0) (a .1 .1 .1 .1 .1 .1 .0)
       (are .0 .0 .1) (are .1 .0 .0 .1) (are .1 .1 .0 .0 .1) (are .1 .1 .1 .0 .0 .1) (are .1 .1 .1 .1 .1 .1 .0) 𝓣 known-begin known-pass known-finish))
 
-made-meets : {M : Type 1} (𝓤 : URA M) (H : Heap 𝓤) (A : Atoms 𝓤) → Given 𝓤 H A → (mem : Memory → SProp 𝓤) (run : Routine → Fun 𝓤) (𝓣 : Tables 𝓤 H) → Triple 𝓤 (𝓣 .C #order-run·begin) (Begin 𝓤 H A mem run) → Triple 𝓤 (𝓣 .C #engine-list·pass) (Pass 𝓤 H A mem run) → Triple 𝓤 (𝓣 .C #order-run·finish) (Finish 𝓤 H A mem run)
+made-meets : {M : Type 1} (𝓤 : URA M) (H : Heap 𝓤) (A : Atoms 𝓤) → Given 𝓤 H A → (mem : Memory → SProp 𝓤) (run : Routine → Fun 𝓤) (𝓣 : Tables 𝓤 H) → Triple 𝓤 (𝓣 .C #order-run·begin-next) (Begin 𝓤 H A mem run) → Triple 𝓤 (𝓣 .C #engine-list·pass) (Pass 𝓤 H A mem run) → Triple 𝓤 (𝓣 .C #order-run·finish-next) (Finish 𝓤 H A mem run)
     → Meets 𝓤 H A made.signature (WpFn 𝓤 H (𝓣 .C) (𝓣 .Λ) code.function) (made.spec 𝓤 H A mem run)
 made-meets 𝓤 H A W mem run 𝓣 known-begin known-pass known-finish =
     walk-meets 𝓤 H A made.ended stayed W
@@ -551,6 +551,6 @@ make-moves-spec 𝓤 H 𝓜 𝓖 𝓡 =
     entered 𝓤 H (tripleOf 𝓤 H (𝓖 .A) made.signature (made.spec 𝓤 H (𝓖 .A) (𝓜 .mem) (𝓡 .run)))
     (tables 𝓤 H 𝓜 𝓡 code.env .C) (tables 𝓤 H 𝓜 𝓡 code.env .Λ) #order-entry·make-moves code.function (code.unfolded 𝓤 H 𝓜 𝓡)
     (made-meets 𝓤 H (𝓖 .A) (givenOf 𝓤 H 𝓜 𝓖) (𝓜 .mem) (𝓡 .run) (tablesOf 𝓤 H 𝓜 (tables 𝓤 H 𝓜 𝓡 code.env))
-    (cited 𝓤 H (Begin 𝓤 H (𝓖 .A) (𝓜 .mem) (𝓡 .run)) 𝓜 𝓡 code.env #order-run·begin begin-def.routine code.calls-order-run·begin (begin-thm.met 𝓤 H 𝓜 𝓖 𝓡))
+    (cited 𝓤 H (Begin 𝓤 H (𝓖 .A) (𝓜 .mem) (𝓡 .run)) 𝓜 𝓡 code.env #order-run·begin-next begin-def.routine code.calls-order-run·begin-next (begin-thm.met 𝓤 H 𝓜 𝓖 𝓡))
     (cited 𝓤 H (Pass 𝓤 H (𝓖 .A) (𝓜 .mem) (𝓡 .run)) 𝓜 𝓡 code.env #engine-list·pass pass-def.routine code.calls-engine-list·pass (pass-thm.met 𝓤 H 𝓜 𝓖 𝓡))
-    (cited 𝓤 H (Finish 𝓤 H (𝓖 .A) (𝓜 .mem) (𝓡 .run)) 𝓜 𝓡 code.env #order-run·finish finish-def.routine code.calls-order-run·finish (finish-thm.met 𝓤 H 𝓜 𝓖 𝓡)))
+    (cited 𝓤 H (Finish 𝓤 H (𝓖 .A) (𝓜 .mem) (𝓡 .run)) 𝓜 𝓡 code.env #order-run·finish-next finish-def.routine code.calls-order-run·finish-next (finish-thm.met 𝓤 H 𝓜 𝓖 𝓡)))

@@ -61,14 +61,14 @@ use Rattle.order.specs.Run.{LogAnswer}
 use Rattle.order.specs.Call.{Tables as Tables′, log-call}
 use Rattle.order.specs.Lists.{call-lists}
 use Rattle.order.proofs.Claim.{demand3}
-use Rattle.engine_list.specs.Written.{all-written}
+use Rattle.engine_list.specs.Written.{all-records-written}
 use Rattle.engine_list.proofs.Lending.{ref-at, LentMut, lend-mut, mut-back}
 use Rattle.engine_list.proofs.Arrays.{array-at, LentArray, fresh-typed, begins, over, lend-array, array-back, share-array}
-use Rattle.order_run.specs.declared.Turn.{Turn}
-use Rattle.order_run.specs.Turns.{answered}
-use Rattle.order_run.specs.Laps.{Lap}
-use Rattle.order_run.proofs.Turn as G
-use Rattle.order_run.proofs.Turn.Laws as G′
+use Rattle.order_run.specs.declared.RunState.{RunState}
+use Rattle.order_run.specs.Runs.{answer-with}
+use Rattle.order_run.specs.Stages.{CallAt}
+use Rattle.order_run.proofs.RunState as G
+use Rattle.order_run.proofs.RunState.Laws as G′
 use Rattle.order_run.proofs.prepare as prepare
 use Rattle.order_run.proofs.prepare.Symbol as prepare-def
 use Rattle.order_run.proofs.prepare.Symbol.{name as #order-run·prepare}
@@ -96,10 +96,10 @@ module _ {M : Type 1} (𝓤 : URA M) (H : Heap 𝓤) (A : Atoms 𝓤) (mem : Mem
 room-of : (R : RattleType) (m k : ℕ) → Room R m → k ≡ m → Room R k
 room-of R m k room e = subst (Room R) (sym e) room
 
-abbrev mach : Turn → Val
+abbrev mach : RunState → Val
 mach t = LL.tuple-val G.the-type G′.the-laws (G.the-type .to t)
 
-is-turn : (t : Turn) (w : Val) → Is G.the-row t (w ∷ []) → Is G.the-row t (mach t ∷ [])
+is-turn : (t : RunState) (w : Val) → Is G.the-row t (w ∷ []) → Is G.the-row t (mach t ∷ [])
 is-turn t w is = subst (λ (vs : List Val). Is G.the-row t vs) (LL.tells G.the-type G′.the-laws t _ is) is
 
 -- what `prepare` leaves
@@ -109,12 +109,12 @@ record Opened : Type 0 where
   ws : List ℕ
   mi : List ℕ
   od : List ℕ
-  t : Turn
+  t : RunState
 
 -- what `go_on` says
-abbrev Goes : List ℕ → List ℕ → Turn → List ℕ → List ℕ → List ℕ → List Record → Answer → List ℕ → List ℕ → List ℕ → List Record → Type 0
+abbrev Goes : List ℕ → List ℕ → RunState → List ℕ → List ℕ → List ℕ → List Record → Answer → List ℕ → List ℕ → List ℕ → List Record → Type 0
 Goes m o t cs rs ws ys r cs′ rs′ ws′ zs =
-    (lent : Tables′) (whole : LogAnswer) (rest : List (List Instruction)) → Lap lent (length ys) whole m o rest t cs rs ws → (answered r cs′ rs′ ws′ ≡ whole) × (zs ≡ all-written rest ys)
+    (lent : Tables′) (whole : LogAnswer) (rest : List (List Instruction)) → CallAt lent (length ys) whole m o rest t cs rs ws → (answer-with r cs′ rs′ ws′ ≡ whole) × (zs ≡ all-records-written rest ys)
 
 -- the book and the log; the contents C at (b₂, o₂), the marks R at (b₃, o₃) and D at (b₄, o₄), and the list Y at (b₅, o₅)
 module _ {M : Type 1} (𝓤 : URA M) (H : Heap 𝓤) (A : Atoms 𝓤) (W : Given 𝓤 H A) (mem : Memory → SProp 𝓤) (run : Routine → Fun 𝓤) (κ₀ κ₁ κ₂ κ₃ κ₄ κ₅ : Lft) (q₀ q₁ q₂ q₃ q₄ q₅ : Share) (xb xg : RefT (List ℕ)) (b₂ o₂ b₃ o₃ b₄ o₄ b₅ o₅ : ℕ) (δ₂ δ₃ δ₄ δ₅ : GName) (C R D : List ℕ) (Y : List Record)
@@ -171,7 +171,7 @@ module _ {M : Type 1} (𝓤 : URA M) (H : Heap 𝓤) (A : Atoms 𝓤) (W : Given
   Log′ = ShrSlice (named 1) κ₁ u8 .own xg (sg ∷ [])
 
   exits : (r : Answer) (w : Val) → Is N.the-row r (w ∷ []) → (cs rs ws : List ℕ) (zs : List Record) → length cs ≡ length C → length rs ≡ length R → length ws ≡ length D → length zs ≡ n
-      → (answered r cs rs ws ≡ log-call (xb .now) (xg .now) lent n) × (zs ≡ all-written lists Y)
+      → (answer-with r cs rs ws ≡ log-call (xb .now) (xg .now) lent n) × (zs ≡ all-records-written lists Y)
       → ent 𝓤 (⋆ 𝓤 H A (‵ (flft κ₀ q₀) ∷ ‵ (flft κ₁ q₁) ∷ ‵ (flft κ₂ q₂) ∷ ‵ (flft κ₃ q₃) ∷ ‵ (flft κ₄ q₄) ∷ ‵ (flft κ₅ q₅) ∷ ‵ Program ∷ ‵ Log′
       ∷ ‵ (fobs δ₂ (codedHoleys u16 .code (heres u16 cs))) ∷ ‵ (fbor κ₂ (Held u16 (length cs) b₂ o₂ δ₂)) ∷ ‵ (fobs δ₃ (codedHoleys u64 .code (heres u64 rs))) ∷ ‵ (fbor κ₃ (Held u64 (length rs) b₃ o₃ δ₃))
       ∷ ‵ (fobs δ₄ (codedHoleys u64 .code (heres u64 ws))) ∷ ‵ (fbor κ₄ (Held u64 (length ws) b₄ o₄ δ₄)) ∷ ‵ (fobs δ₅ (codedHoleys T.the-row .code (heres T.the-row zs))) ∷ ‵ (fbor κ₅ (Held T.the-row (length zs) b₅ o₅ δ₅)) ∷ [])) (Post w)
@@ -218,7 +218,7 @@ module _ {M : Type 1} (𝓤 : URA M) (H : Heap 𝓤) (A : Atoms 𝓤) (W : Given
       (open-a γ₀ γ₁ γ₂ γ₃ γ₄ i j) (open-vals i j)) ∷ []) ∵ join ! $ frame ! $ done !
 
   abbrev GoArg : Type 0
-  GoArg = RefT (List ℕ) × (RefT (List ℕ) × (RefT (List ℕ) × (RefT (List Record) × (RefT (List ℕ) × (RefT (List ℕ) × (Turn × Unit {0}))))))
+  GoArg = RefT (List ℕ) × (RefT (List ℕ) × (RefT (List ℕ) × (RefT (List Record) × (RefT (List ℕ) × (RefT (List ℕ) × (RunState × Unit {0}))))))
 
   abbrev go-a : GName → GName → GName → GName → GName → GName → ℕ → ℕ → Opened → GoArg
   go-a γ₀ γ₁ γ₂ γ₃ γ₄ γ₅ i j s = (ref-at u16 b₂ o₂ γ₀ (s .cs), (ref-at u64 b₃ o₃ γ₁ (s .rs), (ref-at u64 b₄ o₄ γ₂ (s .ws), (ref-at T.the-row b₅ o₅ γ₃ Y, (array-at w32 2248 i γ₄ (s .mi), (array-at w64 512 j γ₅ (s .od), (s .t, tt)))))))
@@ -274,7 +274,7 @@ module _ {M : Type 1} (𝓤 : URA M) (H : Heap 𝓤) (A : Atoms 𝓤) (W : Given
       nothing ! $ move ! (7 ∷ 0 ∷ []) $ join ! $ move ! (9 ∷ 0 ∷ []) $ join ! $ move ! (11 ∷ 0 ∷ []) $ join ! $ move ! (13 ∷ 0 ∷ []) $ join ! $ move ! (15 ∷ 0 ∷ []) $ join ! $ move ! (20 ∷ 0 ∷ []) $ join ! $ move ! (20 ∷ 0 ∷ []) $ join ! $ nothing ! $ move ! (6 ∷ 0 ∷ []) $ fjoin ! $ move ! (7 ∷ 0 ∷ []) $ fjoin ! $ owned ! usize (Is usize) (uint-makes 𝓤 H A W w64) n _ (refl, room-l .0) $ fjoin ! $ move ! (8 ∷ 0 ∷ []) $ fjoin ! $ move ! (9 ∷ 0 ∷ []) $ fjoin ! $ move ! (10 ∷ 0 ∷ []) $ fjoin ! $ move ! (3 ∷ 0 ∷ []) $ fjoin ! $ move ! (4 ∷ 0 ∷ []) $ fjoin ! $
       move ! (1 ∷ 0 ∷ []) $ use2 W (raw (Open 𝓤 H A mem run .pre (to-open ν₀ ν₁ ν₂ ν₃ ν₄ γ₀ γ₁ γ₂ γ₃ γ₄ l₈ l₉))) (asked-open ν₀ ν₁ ν₂ ν₃ ν₄ γ₀ γ₁ γ₂ γ₃ γ₄ l₈ l₉) $
       calls-at ! fm (Open 𝓤 H A mem run) known-open (to-open ν₀ ν₁ ν₂ ν₃ ν₄ γ₀ γ₁ γ₂ γ₃ γ₄ l₈ l₉) (and-then ! (load ! (from ! (stop !)) (look ! 65 refl)) (and-then ! (load ! (from ! (stop !)) (look ! 63 refl)) (and-then ! (load ! (from ! (stop !)) (look ! 45 refl)) (and-then ! (load ! (from ! (stop !)) (look ! 41 refl)) (and-then ! (load ! (from ! (stop !)) (look ! 37 refl)) (and-then ! (load ! (from ! (stop !)) (look ! 53 refl)) (and-then ! (load ! (from ! (stop !)) (look ! 35 refl)) (and-then ! (load ! (from ! (stop !)) (look ! 33 refl)) (no-more !))))))))) (λ w₁.
-      use1 W (later (some (λ (t : Turn). ((‵ (flft κ₀ q₀) ⊛ ‵ (flft κ₁ q₁) ⊛ ‵ (flft (ν₀ ∷ []) fullShare) ⊛ ‵ (flft (ν₁ ∷ []) fullShare) ⊛ ‵ (flft (ν₂ ∷ []) fullShare) ⊛ ‵ (flft (ν₃ ∷ []) fullShare) ⊛ ‵ (flft (ν₄ ∷ []) fullShare) ⊛ ‵ ftrue) ⊛ ‵ (G.the-row .own t (w₁ ∷ []))) ⊛ raw (ensured 𝓤 H A prepare.ended (prepare.clauses 𝓤 H A mem run) (open-lfts ν₀ ν₁ ν₂ ν₃ ν₄) (open-a γ₀ γ₁ γ₂ γ₃ γ₄ l₈ l₉) tt t)))) (id⊢ 𝓤 _) $ await ! tt $ pick ! (λ t. split ! $ move ! (1 ∷ []) $ use1 W (some (λ (os : Unit {0} × (Unit {0} × (List ℕ × (List ℕ × (List ℕ × (Unit {0} × (List ℕ × (List ℕ × Unit {0})))))))). ‵ (lasts prepare.ended (open-lfts ν₀ ν₁ ν₂ ν₃ ν₄) (open-a γ₀ γ₁ γ₂ γ₃ γ₄ l₈ l₉) os) ⊛ raw (fact 𝓤 (Lap lent n (log-call (xb .now) (xg .now) lent n) (os .1 .1 .1 .1 .1 .1 .0) (os .1 .1 .1 .1 .1 .1 .1 .0) lists t (os .1 .1 .0) (os .1 .1 .1 .0) (os .1 .1 .1 .1 .0))))) (id⊢ 𝓤 _) $ pick ! (λ os. split ! $ move ! (1 ∷ []) $ heard ! (Lap lent n (log-call (xb .now) (xg .now) lent n) (os .1 .1 .1 .1 .1 .1 .0) (os .1 .1 .1 .1 .1 .1 .1 .0) lists t (os .1 .1 .0) (os .1 .1 .1 .0) (os .1 .1 .1 .1 .0)) (λ e₁.
+      use1 W (later (some (λ (t : RunState). ((‵ (flft κ₀ q₀) ⊛ ‵ (flft κ₁ q₁) ⊛ ‵ (flft (ν₀ ∷ []) fullShare) ⊛ ‵ (flft (ν₁ ∷ []) fullShare) ⊛ ‵ (flft (ν₂ ∷ []) fullShare) ⊛ ‵ (flft (ν₃ ∷ []) fullShare) ⊛ ‵ (flft (ν₄ ∷ []) fullShare) ⊛ ‵ ftrue) ⊛ ‵ (G.the-row .own t (w₁ ∷ []))) ⊛ raw (ensured 𝓤 H A prepare.ended (prepare.clauses 𝓤 H A mem run) (open-lfts ν₀ ν₁ ν₂ ν₃ ν₄) (open-a γ₀ γ₁ γ₂ γ₃ γ₄ l₈ l₉) tt t)))) (id⊢ 𝓤 _) $ await ! tt $ pick ! (λ t. split ! $ move ! (1 ∷ []) $ use1 W (some (λ (os : Unit {0} × (Unit {0} × (List ℕ × (List ℕ × (List ℕ × (Unit {0} × (List ℕ × (List ℕ × Unit {0})))))))). ‵ (lasts prepare.ended (open-lfts ν₀ ν₁ ν₂ ν₃ ν₄) (open-a γ₀ γ₁ γ₂ γ₃ γ₄ l₈ l₉) os) ⊛ raw (fact 𝓤 (CallAt lent n (log-call (xb .now) (xg .now) lent n) (os .1 .1 .1 .1 .1 .1 .0) (os .1 .1 .1 .1 .1 .1 .1 .0) lists t (os .1 .1 .0) (os .1 .1 .1 .0) (os .1 .1 .1 .1 .0))))) (id⊢ 𝓤 _) $ pick ! (λ os. split ! $ move ! (1 ∷ []) $ heard ! (CallAt lent n (log-call (xb .now) (xg .now) lent n) (os .1 .1 .1 .1 .1 .1 .0) (os .1 .1 .1 .1 .1 .1 .1 .0) lists t (os .1 .1 .0) (os .1 .1 .1 .0) (os .1 .1 .1 .1 .0)) (λ e₁.
       fsplit ! $ drop ! $ fsplit ! $ drop ! $ fsplit ! $ fsplit ! $ move ! (1 ∷ []) $ feqL ! (λ lc₁. move ! (1 ∷ []) $ fsplit ! $ fsplit ! $ move ! (1 ∷ []) $ feqL ! (λ lr₁. move ! (1 ∷ []) $ fsplit ! $ fsplit ! $ move ! (1 ∷ []) $ feqL ! (λ lw₁. move ! (1 ∷ []) $ fsplit ! $ drop ! $ fsplit ! $ move ! (1 ∷ []) $ fsplit ! $ move ! (1 ∷ []) $ drop ! $
       move ! (5 ∷ []) $ split ! $ move ! (1 ∷ []) $ peeks ! G.the-row (Is G.the-row) (shows 𝓤 H A G.the-row) t (w₁ ∷ []) (λ ist.
       land ! (from ! (stop !)) (init ! 55 refl (LL.lawful G.the-type G′.the-laws 𝓤 H A W .typed t _ ist .0)) $ rewrite ! 55 (λ (v : Val). ‵ (fat fullShare G′.mir l₁₀ 0 v)) (ap only (LL.tells G.the-type G′.the-laws t _ ist)) refl $

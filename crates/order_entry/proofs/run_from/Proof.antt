@@ -57,14 +57,14 @@ use Rattle.engine.specs.declared.Record.{Record}
 use Rattle.engine.proofs.Record as T
 use Rattle.order.specs.Run.{LogAnswer}
 use Rattle.order.specs.Call.{Tables as Tables′}
-use Rattle.engine_list.specs.Written.{all-written}
+use Rattle.engine_list.specs.Written.{all-records-written}
 use Rattle.engine_list.proofs.Lending.{ref-at, LentPart, lend-part, part-back}
-use Rattle.order_run.specs.declared.Turn.{Turn}
-use Rattle.order_run.specs.Turns.{answered}
-use Rattle.order_run.specs.Laps.{Lap}
+use Rattle.order_run.specs.declared.RunState.{RunState}
+use Rattle.order_run.specs.Runs.{answer-with}
+use Rattle.order_run.specs.Stages.{CallAt}
 use Rattle.order_run.proofs.Calls.{ends-call}
-use Rattle.order_run.proofs.Turn as G
-use Rattle.order_run.proofs.Turn.Laws as G′
+use Rattle.order_run.proofs.RunState as G
+use Rattle.order_run.proofs.RunState.Laws as G′
 use Rattle.order_run.proofs.records_used as used
 use Rattle.order_run.proofs.records_used.Symbol as used-def
 use Rattle.order_run.proofs.records_used.Symbol.{name as #order-run·records-used}
@@ -90,38 +90,38 @@ module _ {M : Type 1} (𝓤 : URA M) (H : Heap 𝓤) (A : Atoms 𝓤) (mem : Mem
   abbrev Make : Contract 𝓤
   Make = tripleOf 𝓤 H A make.signature (make.spec 𝓤 H A mem run)
 
-abbrev mach : Turn → Val
+abbrev mach : RunState → Val
 mach t = LL.tuple-val G.the-type G′.the-laws (G.the-type .to t)
 
-none-left : (ys : List Record) → all-written [] ys ≡ ys
-unfolding all-written
+none-left : (ys : List Record) → all-records-written [] ys ≡ ys
+unfolding all-records-written
 none-left ys = refl
 
 unchanged : (k : ℕ) (C d : List ℕ) → d ≡ take k C → d ++ rest-from k C ≡ C
 unchanged k C d e = ap (λ (y : List ℕ). y ++ rest-from k C) e ∙ take-append-drop k C
 
-module _ (m o : List ℕ) (t : Turn) (C R D : List ℕ) (Y : List Record) (k : ℕ) (r : Answer) (cs rs ws : List ℕ) (zs : List Record) where
+module _ (m o : List ℕ) (t : RunState) (C R D : List ℕ) (Y : List Record) (k : ℕ) (r : Answer) (cs rs ws : List ℕ) (zs : List Record) where
   -- what `make_moves` says on the first k records, with the others, is what the contract says
   of-all-records : MovesMade m o t (take k C) (take k R) (take k D) Y r cs rs ws zs → k ≡ min (word m 6) (min (length C) (min (length R) (length D))) → length cs ≡ length (take k C) → length rs ≡ length (take k R) → length ws ≡ length (take k D)
-      → (lent : Tables′) (whole : LogAnswer) (rest : List (List Instruction)) → Lap lent (length Y) whole m o rest t C R D
-      → (answered r (cs ++ rest-from k C) (rs ++ rest-from k R) (ws ++ rest-from k D) ≡ whole) × (zs ≡ all-written rest Y)
+      → (lent : Tables′) (whole : LogAnswer) (rest : List (List Instruction)) → CallAt lent (length Y) whole m o rest t C R D
+      → (answer-with r (cs ++ rest-from k C) (rs ++ rest-from k R) (ws ++ rest-from k D) ≡ whole) × (zs ≡ all-records-written rest Y)
   of-all-records said ek lc lr lw lent whole rest h = by-turn (t .more) refl
     where
-      by-turn : (v : Bool) → t .more ≡ v → (answered r (cs ++ rest-from k C) (rs ++ rest-from k R) (ws ++ rest-from k D) ≡ whole) × (zs ≡ all-written rest Y)
-      by-turn true y = ends-call lent (length Y) whole m o rest t C R D h y k ek r cs rs ws lc lr lw (zs ≡ all-written rest Y) (λ g c few stage. said .run g c rest few stage)
+      by-turn : (v : Bool) → t .more ≡ v → (answer-with r (cs ++ rest-from k C) (rs ++ rest-from k R) (ws ++ rest-from k D) ≡ whole) × (zs ≡ all-records-written rest Y)
+      by-turn true y = ends-call lent (length Y) whole m o rest t C R D h y k ek r cs rs ws lc lr lw (zs ≡ all-records-written rest Y) (λ g c few stage. said .run g c rest few stage)
       by-turn false y =
           let q = said .none y in
           let e = h .over y in
-          let same : answered r (cs ++ rest-from k C) (rs ++ rest-from k R) (ws ++ rest-from k D) ≡ answered (t .answer) C R D = rw (
+          let same : answer-with r (cs ++ rest-from k C) (rs ++ rest-from k R) (ws ++ rest-from k D) ≡ answer-with (t .answer) C R D = rw (
             ap (λ (v : LogAnswer). v .answer) (q .0),
             unchanged k C cs (ap (λ (v : LogAnswer). v .contents) (q .0)),
             unchanged k R rs (ap (λ (v : LogAnswer). v .readers) (q .0)),
             unchanged k D ws (ap (λ (v : LogAnswer). v .writers) (q .0)),
           ) in
-          (same ∙ e .1, q .1 ∙ sym (none-left Y) ∙ ap (λ (y : List (List Instruction)). all-written y Y) (sym (e .0)))
+          (same ∙ e .1, q .1 ∙ sym (none-left Y) ∙ ap (λ (y : List (List Instruction)). all-records-written y Y) (sym (e .0)))
 
 -- the contents C at (b₀, o₀), the marks R at (b₁, o₁) and D at (b₂, o₂); the list, the image, the order, and the first turn
-module _ {M : Type 1} (𝓤 : URA M) (H : Heap 𝓤) (A : Atoms 𝓤) (W : Given 𝓤 H A) (mem : Memory → SProp 𝓤) (run : Routine → Fun 𝓤) (κ₀ κ₁ κ₂ κ₃ κ₄ κ₅ : Lft) (q₀ q₁ q₂ q₃ q₄ q₅ : Share) (b₀ o₀ b₁ o₁ b₂ o₂ : ℕ) (δ₀ δ₁ δ₂ : GName) (C R D : List ℕ) (xl : RefT (List Record)) (xi xo : RefT (List ℕ)) (t : Turn)
+module _ {M : Type 1} (𝓤 : URA M) (H : Heap 𝓤) (A : Atoms 𝓤) (W : Given 𝓤 H A) (mem : Memory → SProp 𝓤) (run : Routine → Fun 𝓤) (κ₀ κ₁ κ₂ κ₃ κ₄ κ₅ : Lft) (q₀ q₁ q₂ q₃ q₄ q₅ : Share) (b₀ o₀ b₁ o₁ b₂ o₂ : ℕ) (δ₀ δ₁ δ₂ : GName) (C R D : List ℕ) (xl : RefT (List Record)) (xi xo : RefT (List ℕ)) (t : RunState)
     (room-c : Room u16 (length C)) (room-r : Room u64 (length R)) (room-w : Room u64 (length D)) (room-l : Room T.the-row (length (xl .now))) (is-t : Is G.the-row t (mach t ∷ [])) where
   abbrev κs : Lfts 6
   κs = (κ₀, (κ₁, (κ₂, (κ₃, (κ₄, (κ₅, tt))))))
@@ -148,7 +148,7 @@ module _ {M : Type 1} (𝓤 : URA M) (H : Heap 𝓤) (A : Atoms 𝓤) (W : Given
   so = vptr (xo .ptr .0) (xo .ptr .1)
 
   abbrev Arg : Type 0
-  Arg = RefT (List ℕ) × (RefT (List ℕ) × (RefT (List ℕ) × (RefT (List Record) × (RefT (List ℕ) × (RefT (List ℕ) × (Turn × Unit {0}))))))
+  Arg = RefT (List ℕ) × (RefT (List ℕ) × (RefT (List ℕ) × (RefT (List Record) × (RefT (List ℕ) × (RefT (List ℕ) × (RunState × Unit {0}))))))
 
   abbrev a : Arg
   a = (ref-at u16 b₀ o₀ δ₀ C, (ref-at u64 b₁ o₁ δ₁ R, (ref-at u64 b₂ o₂ δ₂ D, (xl, (xi, (xo, (t, tt)))))))
@@ -172,7 +172,7 @@ module _ {M : Type 1} (𝓤 : URA M) (H : Heap 𝓤) (A : Atoms 𝓤) (W : Given
   Least k = k ≡ min (word (xi .now) 6) (min (length C) (min (length R) (length D)))
 
   exits : (r : Answer) (w : Val) → Is N.the-row r (w ∷ []) → (cs rs ws : List ℕ) (zs : List Record) → length cs ≡ length C → length rs ≡ length R → length ws ≡ length D → length zs ≡ length (xl .now)
-      → ((lent : Tables′) (whole : LogAnswer) (rest : List (List Instruction)) → Lap lent (length (xl .now)) whole (xi .now) (xo .now) rest t C R D → (answered r cs rs ws ≡ whole) × (zs ≡ all-written rest (xl .now)))
+      → ((lent : Tables′) (whole : LogAnswer) (rest : List (List Instruction)) → CallAt lent (length (xl .now)) whole (xi .now) (xo .now) rest t C R D → (answer-with r cs rs ws ≡ whole) × (zs ≡ all-records-written rest (xl .now)))
       → ent 𝓤 (⋆ 𝓤 H A (‵ (flft κ₀ q₀) ∷ ‵ (flft κ₁ q₁) ∷ ‵ (flft κ₂ q₂) ∷ ‵ (flft κ₃ q₃) ∷ ‵ (flft κ₄ q₄) ∷ ‵ (flft κ₅ q₅) ∷ ‵ Image ∷ ‵ Order
       ∷ ‵ (fobs δ₀ (codedHoleys u16 .code (heres u16 cs))) ∷ ‵ (fbor κ₀ (Held u16 (length cs) b₀ o₀ δ₀)) ∷ ‵ (fobs δ₁ (codedHoleys u64 .code (heres u64 rs))) ∷ ‵ (fbor κ₁ (Held u64 (length rs) b₁ o₁ δ₁))
       ∷ ‵ (fobs δ₂ (codedHoleys u64 .code (heres u64 ws))) ∷ ‵ (fbor κ₂ (Held u64 (length ws) b₂ o₂ δ₂)) ∷ ‵ (finally T.the-row (xl .name) zs) ∷ [])) (Post w)

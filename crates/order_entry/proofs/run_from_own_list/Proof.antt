@@ -55,7 +55,7 @@ use Rattle.engine.proofs.Record.Laws as T′
 use Rattle.engine.specs.declared.Instruction.{Instruction}
 use Rattle.order.specs.Run.{LogAnswer}
 use Rattle.order.specs.Call.{Tables as Tables′}
-use Rattle.engine_list.specs.Written.{all-written}
+use Rattle.engine_list.specs.Written.{all-records-written}
 use Rattle.order_entry.proofs.Longer.{lap-shorter}
 use Rattle.engine_list.proofs.Records.{is-number, first-ones, room-first, hides, falls}
 use Rattle.text.proofs.smaller as smaller
@@ -63,11 +63,11 @@ use Rattle.text.proofs.smaller.Symbol as smaller-def
 use Rattle.text.proofs.smaller.Symbol.{name as #text·smaller}
 use Rattle.text.proofs.smaller.Met as smaller-thm
 use Rattle.engine_list.proofs.Lending.{ref-at, LentPart, lend-part, part-back}
-use Rattle.order_run.specs.declared.Turn.{Turn}
-use Rattle.order_run.specs.Turns.{answered}
-use Rattle.order_run.specs.Laps.{Lap}
-use Rattle.order_run.proofs.Turn as G
-use Rattle.order_run.proofs.Turn.Laws as G′
+use Rattle.order_run.specs.declared.RunState.{RunState}
+use Rattle.order_run.specs.Runs.{answer-with}
+use Rattle.order_run.specs.Stages.{CallAt}
+use Rattle.order_run.proofs.RunState as G
+use Rattle.order_run.proofs.RunState.Laws as G′
 use Rattle.order_entry.proofs.run_from as go
 use Rattle.order_entry.proofs.run_from.Symbol as go-def
 use Rattle.order_entry.proofs.run_from.Symbol.{name as #order-entry·run-from}
@@ -95,10 +95,10 @@ module _ {M : Type 1} (𝓤 : URA M) (H : Heap 𝓤) (A : Atoms 𝓤) (mem : Mem
   abbrev Go : Contract 𝓤
   Go = tripleOf 𝓤 H A go.signature (go.spec 𝓤 H A mem run)
 
-abbrev mach : Turn → Val
+abbrev mach : RunState → Val
 mach t = LL.tuple-val G.the-type G′.the-laws (G.the-type .to t)
 
-module _ {M : Type 1} (𝓤 : URA M) (H : Heap 𝓤) (A : Atoms 𝓤) (W : Given 𝓤 H A) (mem : Memory → SProp 𝓤) (run : Routine → Fun 𝓤) (κ₀ κ₁ κ₂ κ₃ κ₄ : Lft) (q₀ q₁ q₂ q₃ q₄ : Share) (xc xr xw : RefT (List ℕ)) (n : ℕ) (xi xo : RefT (List ℕ)) (t : Turn)
+module _ {M : Type 1} (𝓤 : URA M) (H : Heap 𝓤) (A : Atoms 𝓤) (W : Given 𝓤 H A) (mem : Memory → SProp 𝓤) (run : Routine → Fun 𝓤) (κ₀ κ₁ κ₂ κ₃ κ₄ : Lft) (q₀ q₁ q₂ q₃ q₄ : Share) (xc xr xw : RefT (List ℕ)) (n : ℕ) (xi xo : RefT (List ℕ)) (t : RunState)
     (room-c : Room u16 (length (xc .now))) (room-r : Room u64 (length (xr .now))) (room-w : Room u64 (length (xw .now))) (n-fits : n < 2 ^ 64) (is-t : Is G.the-row t (mach t ∷ [])) where
   abbrev κs : Lfts 5
   κs = (κ₀, (κ₁, (κ₂, (κ₃, (κ₄, tt)))))
@@ -122,7 +122,7 @@ module _ {M : Type 1} (𝓤 : URA M) (H : Heap 𝓤) (A : Atoms 𝓤) (W : Given
   so = vptr (xo .ptr .0) (xo .ptr .1)
 
   abbrev Arg : Type 0
-  Arg = RefT (List ℕ) × (RefT (List ℕ) × (RefT (List ℕ) × (ℕ × (RefT (List ℕ) × (RefT (List ℕ) × (Turn × Unit {0}))))))
+  Arg = RefT (List ℕ) × (RefT (List ℕ) × (RefT (List ℕ) × (ℕ × (RefT (List ℕ) × (RefT (List ℕ) × (RunState × Unit {0}))))))
 
   abbrev a : Arg
   a = (xc, (xr, (xw, (n, (xi, (xo, (t, tt)))))))
@@ -141,14 +141,14 @@ module _ {M : Type 1} (𝓤 : URA M) (H : Heap 𝓤) (A : Atoms 𝓤) (W : Given
 
   -- what `order_entry::run_from` says
   abbrev Said : List Record → Answer → List ℕ → List ℕ → List ℕ → List Record → Type 0
-  Said ys r cs rs ws zs = (lent : Tables′) (whole : LogAnswer) (rest : List (List Instruction)) → Lap lent (length ys) whole (xi .now) (xo .now) rest t (xc .now) (xr .now) (xw .now) → (answered r cs rs ws ≡ whole) × (zs ≡ all-written rest ys)
+  Said ys r cs rs ws zs = (lent : Tables′) (whole : LogAnswer) (rest : List (List Instruction)) → CallAt lent (length ys) whole (xi .now) (xo .now) rest t (xc .now) (xr .now) (xw .now) → (answer-with r cs rs ws ≡ whole) × (zs ≡ all-records-written rest ys)
 
   exits : (ys : List Record) (r : Answer) (w : Val) → Is N.the-row r (w ∷ []) → (cs rs ws : List ℕ) (zs : List Record) → Said ys r cs rs ws zs → length ys ≡ min n 256 → length cs ≡ length (xc .now) → length rs ≡ length (xr .now) → length ws ≡ length (xw .now)
       → ent 𝓤 (⋆ 𝓤 H A (‵ (flft κ₀ q₀) ∷ ‵ (flft κ₁ q₁) ∷ ‵ (flft κ₂ q₂) ∷ ‵ (flft κ₃ q₃) ∷ ‵ (flft κ₄ q₄) ∷ ‵ Image ∷ ‵ Order ∷ ‵ (finally u16 (xc .name) cs) ∷ ‵ (finally u64 (xr .name) rs) ∷ ‵ (finally u64 (xw .name) ws) ∷ [])) (Post w)
   exits ys r w is cs rs ws zs said l lc lr lw =
       qed W (‵ (flft κ₀ q₀) ∷ ‵ (flft κ₁ q₁) ∷ ‵ (flft κ₂ q₂) ∷ ‵ (flft κ₃ q₃) ∷ ‵ (flft κ₄ q₄) ∷ ‵ Image ∷ ‵ Order ∷ ‵ (finally u16 (xc .name) cs) ∷ ‵ (finally u64 (xr .name) rs) ∷ ‵ (finally u64 (xw .name) ws) ∷ []) ∵
       suffices ! _ (ends-at 𝓤 H A alone.ended stayed (alone.clauses 𝓤 H A mem run) W ((κs, qs, tt, a, vals), tt) w r (cs, (rs, (ws, (tt, (tt, (tt, (tt, tt))))))) (lc, (lr, (lw, (tt, (tt, (tt, (tt, tt)))))))) $
-      says ! (λ lent whole rest h. said lent whole rest (subst (λ (k : ℕ). Lap lent k whole (xi .now) (xo .now) rest t (xc .now) (xr .now) (xw .now)) (sym l) (lap-shorter lent n whole (xi .now) (xo .now) rest t (xc .now) (xr .now) (xw .now) h)) .0) $
+      says ! (λ lent whole rest h. said lent whole rest (subst (λ (k : ℕ). CallAt lent k whole (xi .now) (xo .now) rest t (xc .now) (xr .now) (xw .now)) (sym l) (lap-shorter lent n whole (xi .now) (xo .now) rest t (xc .now) (xr .now) (xw .now) h)) .0) $
       nothing ! $ move ! (5 ∷ 0 ∷ []) $ join ! $ move ! (4 ∷ 0 ∷ []) $ join ! $ move ! (3 ∷ 0 ∷ []) $ join ! $ move ! (2 ∷ 0 ∷ []) $ join ! $ move ! (1 ∷ 0 ∷ []) $ join ! $ frame ! $
       -- [image; order; the last contents, readers and writers]
       nothing ! $ owned ! G.the-row (Is G.the-row) (LL.makes G.the-type G′.the-plain 𝓤 H A) t _ is-t $ fjoin ! $ move ! (2 ∷ 0 ∷ []) $ fjoin ! $ move ! (1 ∷ 0 ∷ []) $ fjoin ! $ owned ! usize (Is usize) (uint-makes 𝓤 H A W w64) n _ (refl, n-fits) $ fjoin ! $ move ! (3 ∷ 0 ∷ []) $ fjoin ! $ move ! (2 ∷ 0 ∷ []) $ fjoin ! $ move ! (1 ∷ 0 ∷ []) $ fjoin ! $ frame ! $
@@ -169,7 +169,7 @@ module _ {M : Type 1} (𝓤 : URA M) (H : Heap 𝓤) (A : Atoms 𝓤) (W : Given
       qed W [] ∵ nothing ! $ nothing ! $ owned ! usize (Is usize) (uint-makes 𝓤 H A W w64) 256 _ (refl, lit< tt) $ fjoin ! $ owned ! usize (Is usize) (uint-makes 𝓤 H A W w64) n _ (refl, n-fits) $ fjoin ! $ move ! (1 ∷ 0 ∷ []) $ join ! $ frame ! $ done !
 
   abbrev GoArg : Type 0
-  GoArg = RefT (List ℕ) × (RefT (List ℕ) × (RefT (List ℕ) × (RefT (List Record) × (RefT (List ℕ) × (RefT (List ℕ) × (Turn × Unit {0}))))))
+  GoArg = RefT (List ℕ) × (RefT (List ℕ) × (RefT (List ℕ) × (RefT (List Record) × (RefT (List ℕ) × (RefT (List ℕ) × (RunState × Unit {0}))))))
 
   abbrev go-a : GName → ℕ → List Record → GoArg
   go-a γ j ys = (xc, (xr, (xw, (ref-at T.the-row j 0 γ ys, (xi, (xo, (t, tt)))))))

@@ -61,7 +61,7 @@ use Rattle.text.proofs.smaller.Symbol as smaller-def
 use Rattle.text.proofs.smaller.Symbol.{name as #text·smaller}
 use Rattle.text.proofs.smaller.Met as smaller-thm
 use Rattle.engine_list.proofs.Lending.{ref-at, LentPart, lend-part, part-back}
-use Rattle.order_entry.specs.Ran.{Ran}
+use Rattle.order_entry.specs.LogRun.{LogRun}
 use Rattle.order_entry.proofs.run as run′
 use Rattle.order_entry.proofs.run.Symbol as run-def
 use Rattle.order_entry.proofs.run.Symbol.{name as #order-entry·run}
@@ -135,7 +135,7 @@ module _ {M : Type 1} (𝓤 : URA M) (H : Heap 𝓤) (A : Atoms 𝓤) (W : Given
 
   -- what `run` says
   abbrev Said : List Record → Answer → List ℕ → List ℕ → List ℕ → List Record → Type 0
-  Said ys r cs rs ws zs = Ran (xb .now) (xg .now) lent ys r (record { contents = cs; readers = rs; writers = ws }) zs
+  Said ys r cs rs ws zs = LogRun (xb .now) (xg .now) lent ys r (record { contents = cs; readers = rs; writers = ws }) zs
 
   exits : (ys : List Record) (r : Answer) (w : Val) → Is N.the-row r (w ∷ []) → (cs rs ws : List ℕ) (zs : List Record) → Said ys r cs rs ws zs → length ys ≡ min n 256 → length cs ≡ length (xc .now) → length rs ≡ length (xr .now) → length ws ≡ length (xw .now)
       → ent 𝓤 (⋆ 𝓤 H A (‵ (flft κ₀ q₀) ∷ ‵ (flft κ₁ q₁) ∷ ‵ (flft κ₂ q₂) ∷ ‵ (flft κ₃ q₃) ∷ ‵ (flft κ₄ q₄) ∷ ‵ Program ∷ ‵ Log′ ∷ ‵ (finally u16 (xc .name) cs) ∷ ‵ (finally u64 (xr .name) rs) ∷ ‵ (finally u64 (xw .name) ws) ∷ [])) (Post w)

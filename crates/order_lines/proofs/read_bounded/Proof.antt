@@ -1,7 +1,7 @@
 -- `read_bounded` meets its contract.
 use Rattle.order_lines.proofs.Turns.{Turned, turned-start, turned-stop, turned-turn, turned-end, choice-within, left, left-all, left-turn, left-end}
 use Rattle.order.specs.Log.{choice-at}
-use Rattle.order_lines.specs.Lines.{filed}
+use Rattle.order_lines.specs.Lines.{pick-put}
 use Rattle.order.specs.Log.{bad-choice}
 use borrow.Author.Needs.{needs}
 use native.Mathlib.Omega.{arith}
@@ -39,8 +39,8 @@ returns : tie.Need-returns Inv-loop μ-loop
 returns c = let a = c .before .before .before .before .before .before .before .args in let l = c .before .before .before .before .before .loop in let f = choice-at (a .k) (a .log .now) in
     rw (← left-all f (a .n) (a .order .now)) (turned-stop (a .log .now) (a .k) (a .n) (bad-choice (a .elements) (a .m)) (left f (a .n)) (a .order .now) (l .i) (l .order) (l .before) (l .fault) (l .inv .1) (c .before .before .before .before .loop-test .taken) (c .before .before .before .parse .result) (c .before .before .before .parse .ensures) (not-true (c .before .before .before .parse .result .ok) (c .if1 .taken)))
 
-choice-fault-requires : tie.Need-choice-fault-requires Inv-loop μ-loop
-choice-fault-requires c κs = search needs
+bad-choice-requires : tie.Need-bad-choice-requires Inv-loop μ-loop
+bad-choice-requires c κs = search needs
 
 add-or-here : tie.Need-add-or-here Inv-loop μ-loop
 add-or-here c = search needs
@@ -51,8 +51,8 @@ add-or-here-2 c = search needs
 or-here-requires : tie.Need-or-here-requires Inv-loop μ-loop
 or-here-requires c κs = search needs
 
-file-requires : tie.Need-file-requires Inv-loop μ-loop
-file-requires c κs = let a = c .before .before .before .before .before .before .before .before .before .before .args in let l = c .before .before .before .before .before .before .before .before .loop in (omega (arith, c .before .before .before .before .before .before .before .before .before .before .pre .2), λ z. choice-within (a .elements) (a .m) (l .before) (c .before .before .before .before .before .before .parse .result .line) (l .i) (c .before .before .choice-fault .result) (c .before .before .before .before .before .before .before .before .before .before .pre .0) (c .before .before .choice-fault .ensures) z)
+put-pick-requires : tie.Need-put-pick-requires Inv-loop μ-loop
+put-pick-requires c κs = let a = c .before .before .before .before .before .before .before .before .before .before .args in let l = c .before .before .before .before .before .before .before .before .loop in (omega (arith, c .before .before .before .before .before .before .before .before .before .before .pre .2), λ z. choice-within (a .elements) (a .m) (l .before) (c .before .before .before .before .before .before .parse .result .line) (l .i) (c .before .before .bad-choice .result) (c .before .before .before .before .before .before .before .before .before .before .pre .0) (c .before .before .bad-choice .ensures) z)
 
 add-i : tie.Need-add-i Inv-loop μ-loop
 add-i c = search needs
@@ -68,8 +68,8 @@ loop-again c =
     let f = choice-at (a .k) (a .log .now) in (
       omega arith,
       turned-turn (a .log .now) (a .k) (a .n) (bad-choice (a .elements) (a .m)) (left f (a .n)) (a .order .now) (l .i) (l .order) (l .before) (l .fault) (l .inv .1) (c .before .before .before .before .before .before .before .before .loop-test .taken) (p .result) (p .ensures)
-          (λ j x. refl) (not-false (p .result .ok) (c .before .before .before .before .if1 .left)) (c .before .before .before .choice-fault .result) (c .before .before .before .choice-fault .ensures) (c .before .before .or-here .result) (c .before .before .or-here .ensures) (c .file .last .0)
-          (filed (l .order) (l .i) (p .result .line .a) (p .result .line .b)) (c .file .ensures) (λ e. rw e (left-turn f (a .n) (l .i) (l .order) (c .before .before .before .before .before .before .before .before .loop-test .taken))),
+          (λ j x. refl) (not-false (p .result .ok) (c .before .before .before .before .if1 .left)) (c .before .before .before .bad-choice .result) (c .before .before .before .bad-choice .ensures) (c .before .before .or-here .result) (c .before .before .or-here .ensures) (c .put-pick .last .0)
+          (pick-put (l .order) (l .i) (p .result .line .a) (p .result .line .b)) (c .put-pick .ensures) (λ e. rw e (left-turn f (a .n) (l .i) (l .order) (c .before .before .before .before .before .before .before .before .loop-test .taken))),
     )
 
 returns-2 : tie.Need-returns-2 Inv-loop μ-loop
@@ -89,11 +89,11 @@ read-bounded-spec =
     add-t16
     add-t17
     returns
-    choice-fault-requires
+    bad-choice-requires
     add-or-here
     add-or-here-2
     or-here-requires
-    file-requires
+    put-pick-requires
     add-i
     loop-less
     loop-again

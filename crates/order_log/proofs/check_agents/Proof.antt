@@ -11,7 +11,7 @@ use Rattle.order_log.proofs.check_agents.Statement.{statement}
 use Rattle.order_log.proofs.check_agents.Tie as tie
 use Rattle.order_log.proofs.check_agents.Reads as reads
 use Rattle.order_log.proofs.check_agents.Lts as lts
-use Rattle.order_log.proofs.nearest.Reads as nearest-reads
+use Rattle.order_log.proofs.least_unordered.Reads as least-unordered-reads
 use Rattle.text.proofs.smaller.Reads as smaller-reads
 use Rattle.text.proofs.must.Reads as must-reads
 
@@ -36,20 +36,20 @@ mul-a c = search needs
 element-copy-out-a : tie.Need-element-copy-out-a Inv-loop μ-loop
 element-copy-out-a c = omega (arith, c .before .before .smaller .ensures)
 
-mul-nearest : tie.Need-mul-nearest Inv-loop μ-loop
-mul-nearest c = search needs
+mul-least-unordered : tie.Need-mul-least-unordered Inv-loop μ-loop
+mul-least-unordered c = search needs
 
-array-read-nearest : tie.Need-array-read-nearest Inv-loop μ-loop
-array-read-nearest c = search needs
+array-read-least-unordered : tie.Need-array-read-least-unordered Inv-loop μ-loop
+array-read-least-unordered c = search needs
 
-mul-nearest-2 : tie.Need-mul-nearest-2 Inv-loop μ-loop
-mul-nearest-2 c = search needs
+mul-least-unordered-2 : tie.Need-mul-least-unordered-2 Inv-loop μ-loop
+mul-least-unordered-2 c = search needs
 
-element-copy-out-nearest : tie.Need-element-copy-out-nearest Inv-loop μ-loop
-element-copy-out-nearest c = omega (arith, c .before .before .before .smaller .ensures)
+element-copy-out-least-unordered : tie.Need-element-copy-out-least-unordered Inv-loop μ-loop
+element-copy-out-least-unordered c = omega (arith, c .before .before .before .smaller .ensures)
 
-nearest-requires : tie.Need-nearest-requires Inv-loop μ-loop
-nearest-requires c κs = search needs
+least-unordered-requires : tie.Need-least-unordered-requires Inv-loop μ-loop
+least-unordered-requires c κs = search needs
 
 mul-own : tie.Need-mul-own Inv-loop μ-loop
 mul-own c = search needs
@@ -76,7 +76,7 @@ loop-again : tie.Need-loop-again Inv-loop μ-loop
 loop-again c =
     let o = c .before .before .before .before .before .before .before .args .order .now in
     let l = c .before .before .before .before .before .loop in
-    let n = c .before .nearest in
+    let n = c .before .least-unordered in
     let lim : l .j < 64 = omega (arith, c .before .before .before .before .before .before .smaller .ensures) in
     let hit = own-hit o (l .j) (l .own) lim (l .inv .2) (n .result) (n .ensures) in
     let low = own-low o (l .j) (l .own) lim (l .inv .2) (n .result) (n .ensures) in
@@ -109,11 +109,11 @@ check-agents-spec =
     add-a
     mul-a
     element-copy-out-a
-    mul-nearest
-    array-read-nearest
-    mul-nearest-2
-    element-copy-out-nearest
-    nearest-requires
+    mul-least-unordered
+    array-read-least-unordered
+    mul-least-unordered-2
+    element-copy-out-least-unordered
+    least-unordered-requires
     mul-own
     array-read-own
     shl-own

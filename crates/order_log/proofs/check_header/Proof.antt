@@ -5,7 +5,7 @@ use Rattle.text.specs.Words.{must, answer-of}
 use native.Mathlib.Omega.{arith}
 use Rattle.order_log.proofs.Answers.{stops, goes}
 use Rattle.text.proofs.Checks.{must-numbered}
-use Rattle.order_log.specs.Read.{header-judged}
+use Rattle.order_log.specs.Read.{header-checked}
 use borrow.Author.Needs.{needs}
 use Rattle.order_log.proofs.check_header.Statement.{statement}
 use Rattle.order_log.proofs.check_header.Tie as tie
@@ -14,7 +14,7 @@ must-requires : tie.Need-must-requires
 must-requires c κs = search needs
 
 returns : tie.Need-returns
-unfolding header-judged
+unfolding header-checked
 returns c = stops (c .before .before .must .result) _ _ (c .before .before .must .ensures) (c .if1 .taken)
 
 header-fits-requires : tie.Need-header-fits-requires
@@ -24,7 +24,7 @@ must-requires-2 : tie.Need-must-requires-2
 must-requires-2 c κs = search needs
 
 returns-2 : tie.Need-returns-2
-unfolding header-judged
+unfolding header-checked
 returns-2 c =
     let p = c .before .before .before .before .before .before .args .head in
     goes (c .before .before .before .before .before .must .result) (must (p .ok) 1 0 1) _ (c .must2 .result) (must-numbered (p .ok) 1 0 1 (omega arith)) (c .before .before .before .before .before .must .ensures) (c .before .before .before .if1 .left)

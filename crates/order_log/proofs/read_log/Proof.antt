@@ -22,17 +22,17 @@ returns c =
 read-lines-requires : tie.Need-read-lines-requires
 read-lines-requires c κs = header-ok (c .before .before .before .before .before .before .before .args .log .now) (c .before .before .before .before .before .parse .result) (c .before .before .before .before .before .parse .ensures) (c .before .before .before .before .check-header .result) (c .before .before .before .before .check-header .ensures) (c .before .before .if1 .left) .1
 
-add-judge : tie.Need-add-judge
-add-judge c = omega (arith, header-small (c .before .before .before .before .before .before .before .parse .result .line) (header-ok (c .before .before .before .before .before .before .before .before .before .args .log .now) (c .before .before .before .before .before .before .before .parse .result) (c .before .before .before .before .before .before .before .parse .ensures) (c .before .before .before .before .before .before .check-header .result) (c .before .before .before .before .before .before .check-header .ensures) (c .before .before .before .before .if1 .left) .1))
+add-check-lines : tie.Need-add-check-lines
+add-check-lines c = omega (arith, header-small (c .before .before .before .before .before .before .before .parse .result .line) (header-ok (c .before .before .before .before .before .before .before .before .before .args .log .now) (c .before .before .before .before .before .before .before .parse .result) (c .before .before .before .before .before .before .before .parse .ensures) (c .before .before .before .before .before .before .check-header .result) (c .before .before .before .before .before .before .check-header .ensures) (c .before .before .before .before .if1 .left) .1))
 
-add-judge-2 : tie.Need-add-judge-2
-add-judge-2 c = omega (arith, header-small (c .before .before .before .before .before .before .before .before .parse .result .line) (header-ok (c .before .before .before .before .before .before .before .before .before .before .args .log .now) (c .before .before .before .before .before .before .before .before .parse .result) (c .before .before .before .before .before .before .before .before .parse .ensures) (c .before .before .before .before .before .before .before .check-header .result) (c .before .before .before .before .before .before .before .check-header .ensures) (c .before .before .before .before .before .if1 .left) .1))
+add-check-lines-2 : tie.Need-add-check-lines-2
+add-check-lines-2 c = omega (arith, header-small (c .before .before .before .before .before .before .before .before .parse .result .line) (header-ok (c .before .before .before .before .before .before .before .before .before .before .args .log .now) (c .before .before .before .before .before .before .before .before .parse .result) (c .before .before .before .before .before .before .before .before .parse .ensures) (c .before .before .before .before .before .before .before .check-header .result) (c .before .before .before .before .before .before .before .check-header .ensures) (c .before .before .before .before .before .if1 .left) .1))
 
-add-judge-3 : tie.Need-add-judge-3
-add-judge-3 c = omega (arith, header-small (c .before .before .before .before .before .before .before .before .before .parse .result .line) (header-ok (c .before .before .before .before .before .before .before .before .before .before .before .args .log .now) (c .before .before .before .before .before .before .before .before .before .parse .result) (c .before .before .before .before .before .before .before .before .before .parse .ensures) (c .before .before .before .before .before .before .before .before .check-header .result) (c .before .before .before .before .before .before .before .before .check-header .ensures) (c .before .before .before .before .before .before .if1 .left) .1))
+add-check-lines-3 : tie.Need-add-check-lines-3
+add-check-lines-3 c = omega (arith, header-small (c .before .before .before .before .before .before .before .before .before .parse .result .line) (header-ok (c .before .before .before .before .before .before .before .before .before .before .before .args .log .now) (c .before .before .before .before .before .before .before .before .before .parse .result) (c .before .before .before .before .before .before .before .before .before .parse .ensures) (c .before .before .before .before .before .before .before .before .check-header .result) (c .before .before .before .before .before .before .before .before .check-header .ensures) (c .before .before .before .before .before .before .if1 .left) .1))
 
-judge-requires : tie.Need-judge-requires
-judge-requires c κs = search needs
+check-lines-requires : tie.Need-check-lines-requires
+check-lines-requires c κs = search needs
 
 returns-2 : tie.Need-returns-2
 returns-2 c =
@@ -44,7 +44,7 @@ returns-2 c =
     let formed = sym (parsed-ok text 0 (p .result) (p .ensures)) ∙ header-ok text (p .result) (p .ensures) (head .result) (head .ensures) passed .0 in
     let past = past-header text (p .result) (p .ensures) (head .result) (head .ensures) (a .agents) (a .elements) passed in
     let lines = c .before .before .before .before .read-lines in
-    lines-read (a .agents) (a .elements) text (p .result .line) formed past (lines .last .1 .1 .1 .1 .0) (lines .result) (lines .ensures) (c .judge .result) (c .judge .ensures)
+    lines-read (a .agents) (a .elements) text (p .result .line) formed past (lines .last .1 .1 .1 .1 .0) (lines .result) (lines .ensures) (c .check-lines .result) (c .check-lines .ensures)
 
 pub read-log-spec : {M : Type 1} → statement M
 read-log-spec =
@@ -54,8 +54,8 @@ read-log-spec =
     check-header-requires
     returns
     read-lines-requires
-    add-judge
-    add-judge-2
-    add-judge-3
-    judge-requires
+    add-check-lines
+    add-check-lines-2
+    add-check-lines-3
+    check-lines-requires
     returns-2)

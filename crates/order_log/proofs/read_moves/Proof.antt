@@ -33,8 +33,8 @@ same-length c = c .before .before .before .before .before .loop .inv .1 .table .
 returns : tie.Need-returns Inv-loop μ-loop
 returns c = let a = c .before .before .before .before .before .before .before .before .args in let l = c .before .before .before .before .before .loop in moved-stop (a .agents) (a .log .now) (a .m) (l .i) (l .order) (l .fault) (l .inv .1) (c .before .before .before .before .loop-test .taken) (c .before .before .before .parse .result) (c .before .before .before .parse .ensures) (not-true (c .before .before .before .parse .result .ok) (c .if1 .taken))
 
-move-fault-requires : tie.Need-move-fault-requires Inv-loop μ-loop
-move-fault-requires c κs = search needs
+bad-move-requires : tie.Need-bad-move-requires Inv-loop μ-loop
+bad-move-requires c κs = search needs
 
 add-or-here : tie.Need-add-or-here Inv-loop μ-loop
 add-or-here c = search needs
@@ -103,7 +103,7 @@ loop-again c =
     let p = c .before .before .before .before .before .before .parse in (
       omega arith,
       moved-turn (a .agents) (a .log .now) (a .m) (l .i) (l .order) (l .fault) (l .inv .1) (c .before .before .before .before .before .before .before .loop-test .taken) (p .result) (p .ensures) (c .before .before .before .before .before .before .before .before .before .before .before .pre .0)
-          (not-false (p .result .ok) (c .before .before .before .if1 .left)) (c .before .before .move-fault .result) (c .before .before .move-fault .ensures) (c .before .or-here .result) (c .before .or-here .ensures),
+          (not-false (p .result .ok) (c .before .before .before .if1 .left)) (c .before .before .bad-move .result) (c .before .before .bad-move .ensures) (c .before .or-here .result) (c .before .or-here .ensures),
     )
 
 same-length-2 : tie.Need-same-length-2 Inv-loop μ-loop
@@ -124,7 +124,7 @@ read-moves-spec =
     add-t11
     same-length
     returns
-    move-fault-requires
+    bad-move-requires
     add-or-here
     or-here-requires
     cast-order

@@ -4,7 +4,7 @@ use mathlib.Core.Path.{refl}
 use Prim.Native.Nat.{_-_, _≤_}
 use Rattle.order.specs.Log.{bad-pair}
 use Rattle.order_lines.proofs.Turns.{Turned, turned-start, turned-stop, turned-turn, turned-end}
-use Rattle.order_log.specs.Read.{pair-at, join}
+use Rattle.order_log.specs.Read.{pair-at, pair-put}
 use Rattle.order_log.proofs.Parts.{left, left-all, left-turn, left-end, pair-within}
 use native.Mathlib.Omega.{arith}
 use borrow.Author.Needs.{needs}
@@ -39,8 +39,8 @@ returns : tie.Need-returns Inv-loop μ-loop
 returns c = let a = c .before .before .before .before .before .before .before .args in let l = c .before .before .before .before .before .loop in let f = pair-at (a .m) (a .log .now) in
     rw (← left-all f (a .n) (a .order .now)) (turned-stop (a .log .now) (a .m) (a .n) (bad-pair (a .m)) (left f (a .n)) (a .order .now) (l .i) (l .order) (l .before) (l .fault) (l .inv .1) (c .before .before .before .before .loop-test .taken) (c .before .before .before .parse .result) (c .before .before .before .parse .ensures) (not-true (c .before .before .before .parse .result .ok) (c .if1 .taken)))
 
-pair-fault-requires : tie.Need-pair-fault-requires Inv-loop μ-loop
-pair-fault-requires c κs = search needs
+bad-pair-requires : tie.Need-bad-pair-requires Inv-loop μ-loop
+bad-pair-requires c κs = search needs
 
 add-or-here : tie.Need-add-or-here Inv-loop μ-loop
 add-or-here c = search needs
@@ -51,8 +51,8 @@ add-or-here-2 c = search needs
 or-here-requires : tie.Need-or-here-requires Inv-loop μ-loop
 or-here-requires c κs = search needs
 
-chain-requires : tie.Need-chain-requires Inv-loop μ-loop
-chain-requires c κs = let l = c .before .before .before .before .before .before .before .before .loop in λ z. pair-within (c .before .before .before .before .before .before .before .before .before .before .args .m) (l .before) (c .before .before .before .before .before .before .parse .result .line) (l .i) (c .before .before .pair-fault .result) (c .before .before .before .before .before .before .before .before .before .before .pre .0) (c .before .before .pair-fault .ensures) z
+put-pair-requires : tie.Need-put-pair-requires Inv-loop μ-loop
+put-pair-requires c κs = let l = c .before .before .before .before .before .before .before .before .loop in λ z. pair-within (c .before .before .before .before .before .before .before .before .before .before .args .m) (l .before) (c .before .before .before .before .before .before .parse .result .line) (l .i) (c .before .before .bad-pair .result) (c .before .before .before .before .before .before .before .before .before .before .pre .0) (c .before .before .bad-pair .ensures) z
 
 add-i : tie.Need-add-i Inv-loop μ-loop
 add-i c = search needs
@@ -68,8 +68,8 @@ loop-again c =
     let f = pair-at (a .m) (a .log .now) in (
       omega arith,
       turned-turn (a .log .now) (a .m) (a .n) (bad-pair (a .m)) (left f (a .n)) (a .order .now) (l .i) (l .order) (l .before) (l .fault) (l .inv .1) (c .before .before .before .before .before .before .before .before .loop-test .taken) (p .result) (p .ensures)
-          (λ j x. refl) (not-false (p .result .ok) (c .before .before .before .before .if1 .left)) (c .before .before .before .pair-fault .result) (c .before .before .before .pair-fault .ensures) (c .before .before .or-here .result) (c .before .before .or-here .ensures) (c .chain .last .0)
-          (join (l .order) (p .result .line .a) (p .result .line .b)) (c .chain .ensures) (λ e. rw e (left-turn f (a .n) (l .i) (l .order) (c .before .before .before .before .before .before .before .before .loop-test .taken))),
+          (λ j x. refl) (not-false (p .result .ok) (c .before .before .before .before .if1 .left)) (c .before .before .before .bad-pair .result) (c .before .before .before .bad-pair .ensures) (c .before .before .or-here .result) (c .before .before .or-here .ensures) (c .put-pair .last .0)
+          (pair-put (l .order) (p .result .line .a) (p .result .line .b)) (c .put-pair .ensures) (λ e. rw e (left-turn f (a .n) (l .i) (l .order) (c .before .before .before .before .before .before .before .before .loop-test .taken))),
     )
 
 returns-2 : tie.Need-returns-2 Inv-loop μ-loop
@@ -89,11 +89,11 @@ read-pairs-spec =
     add-t14
     add-t15
     returns
-    pair-fault-requires
+    bad-pair-requires
     add-or-here
     add-or-here-2
     or-here-requires
-    chain-requires
+    put-pair-requires
     add-i
     loop-less
     loop-again

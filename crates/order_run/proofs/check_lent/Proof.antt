@@ -1,6 +1,6 @@
 -- `check_lent` meets its contract.
 use mathlib.Core.Path.{_∙_}
-use Rattle.order_run.proofs.Ends.{lent-0, lent-1, lent-2, lent-3, lent-all}
+use Rattle.order_run.proofs.RunTables.{lent-0, lent-1, lent-2, lent-3, lent-all}
 use borrow.Author.Needs.{needs}
 use Rattle.order_run.proofs.check_lent.Statement.{statement}
 use Rattle.order_run.proofs.check_lent.Tie as tie

@@ -14,7 +14,7 @@ use Rattle.order_touch.proofs.least_pair.Statement.{statement}
 use Rattle.order_touch.proofs.least_pair.Tie as tie
 use Rattle.order_touch.proofs.least_pair.Reads as reads
 use Rattle.order_touch.proofs.least_pair.Lts as lts
-use Rattle.order_touch.proofs.nearest.Reads as nearest-reads
+use Rattle.order_touch.proofs.least_touching.Reads as least-touching-reads
 
 -- moves i < j are unordered, and i is among those that touch j
 abbrev pairs : List ℕ → List ℕ → ℕ → ℕ → Bool
@@ -31,24 +31,24 @@ loop-holds : tie.Need-loop-holds Inv-loop μ-loop
 loop-holds c = (search needs, search needs, best-start _)
 
 -- src/lib.rt:75:25
-mul-nearest : tie.Need-mul-nearest Inv-loop μ-loop
-mul-nearest c = search needs
+mul-least-touching : tie.Need-mul-least-touching Inv-loop μ-loop
+mul-least-touching c = search needs
 
 -- src/lib.rt:75:25
-element-copy-out-nearest : tie.Need-element-copy-out-nearest Inv-loop μ-loop
-element-copy-out-nearest c = search needs
+element-copy-out-least-touching : tie.Need-element-copy-out-least-touching Inv-loop μ-loop
+element-copy-out-least-touching c = search needs
 
 -- src/lib.rt:75:33
-mul-nearest-2 : tie.Need-mul-nearest-2 Inv-loop μ-loop
-mul-nearest-2 c = search needs
+mul-least-touching-2 : tie.Need-mul-least-touching-2 Inv-loop μ-loop
+mul-least-touching-2 c = search needs
 
 -- src/lib.rt:75:33
-element-copy-out-nearest-2 : tie.Need-element-copy-out-nearest-2 Inv-loop μ-loop
-element-copy-out-nearest-2 c = search needs
+element-copy-out-least-touching-2 : tie.Need-element-copy-out-least-touching-2 Inv-loop μ-loop
+element-copy-out-least-touching-2 c = search needs
 
 -- src/lib.rt:75:13
-nearest-requires : tie.Need-nearest-requires Inv-loop μ-loop
-nearest-requires c κs = search needs
+least-touching-requires : tie.Need-least-touching-requires Inv-loop μ-loop
+least-touching-requires c κs = search needs
 
 -- src/lib.rt:80:9
 add-j : tie.Need-add-j Inv-loop μ-loop
@@ -60,7 +60,7 @@ loop-less c = search needs
 
 -- src/lib.rt:74:5
 loop-again : tie.Need-loop-again Inv-loop μ-loop
-loop-again c = let a = c .before .before .before .before .before .before .args in let l = c .before .before .before .before .before .loop in let n = c .before .nearest in let lim : l .j < 64 = omega arith in ⊎-elim (λ y. rw (y .1, y .2) (omega arith, omega arith, best-new (pairs (a .order .now) (a .met .now)) (l .j) (l .first) (l .second) (n .result) lim (l .inv .2) (n .ensures .hit) (n .ensures .low) (y .0 .taken))) (λ y. rw (y .1, y .2) (omega arith, l .inv .1, best-old (pairs (a .order .now) (a .met .now)) (l .j) (l .first) (l .second) (n .result) lim (l .inv .2) (n .ensures .hit) (n .ensures .low) (y .0 .left))) (c .if1 .came)
+loop-again c = let a = c .before .before .before .before .before .before .args in let l = c .before .before .before .before .before .loop in let n = c .before .least-touching in let lim : l .j < 64 = omega arith in ⊎-elim (λ y. rw (y .1, y .2) (omega arith, omega arith, best-new (pairs (a .order .now) (a .met .now)) (l .j) (l .first) (l .second) (n .result) lim (l .inv .2) (n .ensures .hit) (n .ensures .low) (y .0 .taken))) (λ y. rw (y .1, y .2) (omega arith, l .inv .1, best-old (pairs (a .order .now) (a .met .now)) (l .j) (l .first) (l .second) (n .result) lim (l .inv .2) (n .ensures .hit) (n .ensures .low) (y .0 .left))) (c .if1 .came)
 
 -- src/lib.rt:86:21
 cast-t19 : tie.Need-cast-t19 Inv-loop μ-loop
@@ -81,11 +81,11 @@ least-pair-spec =
     Inv-loop
     μ-loop
     loop-holds
-    mul-nearest
-    element-copy-out-nearest
-    mul-nearest-2
-    element-copy-out-nearest-2
-    nearest-requires
+    mul-least-touching
+    element-copy-out-least-touching
+    mul-least-touching-2
+    element-copy-out-least-touching-2
+    least-touching-requires
     add-j
     loop-less
     loop-again

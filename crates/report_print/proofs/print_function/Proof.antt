@@ -7,7 +7,7 @@ use borrow.Author.Needs.{needs}
 use Rattle.book.specs.Image.{program-in}
 use Rattle.book.specs.Book.{function-at}
 use Rattle.report.specs.Report.{part-lines}
-use Rattle.report_print.specs.Print.{shown}
+use Rattle.report_print.specs.Print.{location-lines}
 use Rattle.report_print.proofs.Lines.{Left, left-all, left-step, left-none, shown-most, size-few, size-same, part-next, part-end}
 use Rattle.report_print.proofs.print_function.Statement.{statement}
 use Rattle.report_print.proofs.print_function.Tie as tie
@@ -54,7 +54,7 @@ loop-less : tie.Need-loop-less Inv-loop μ-loop
 loop-less c = search needs
 
 loop-again : tie.Need-loop-again Inv-loop μ-loop
-loop-again c = let a = c .before .before .before .before .before .before .before .before .before .before .before .before .before .args in let l = c .before .before .before .before .before .before .loop in let B = program-in (a .image .now) in let n = c .before .before .before .before .before .before .before .before .size .result in let e = c .before .before .before .before .before .before .before .before .before .elements .result in let f = c .before .before .before .before .before .before .before .before .before .before .function-at .result in let v = c .before .before .before .before .fetch .result in let o = c .before .before .print-location in (search needs, o .kept .1 .1 .1 .1 .1 .1 .0 ∙ l .inv .1, omega (arith, shown-most e f (a .k) (l .i) v, o .ensures .0, l .inv .2), left-step (a .n) (part-lines B (a .contents .now) (a .k) 0 n) (a .out .now) (l .lines) (o .result) (part-lines B (a .contents .now) (a .k) (l .i) (n - l .i)) (shown e f (a .k) (l .i) v) (part-lines B (a .contents .now) (a .k) (l .i + 1) (n - (l .i + 1))) (l .out) (o .last .1 .1 .1 .1 .1 .1 .0) (part-next B (a .contents .now) (a .k) n (l .i) e f v (c .before .before .before .before .before .loop-test .taken) (c .before .before .before .before .before .before .before .before .before .elements .ensures) (c .before .before .before .before .before .before .before .before .before .before .function-at .ensures) (c .before .before .before .before .fetch .ensures)) (l .inv .3) (o .ensures .0) (o .ensures .1))
+loop-again c = let a = c .before .before .before .before .before .before .before .before .before .before .before .before .before .args in let l = c .before .before .before .before .before .before .loop in let B = program-in (a .image .now) in let n = c .before .before .before .before .before .before .before .before .size .result in let e = c .before .before .before .before .before .before .before .before .before .elements .result in let f = c .before .before .before .before .before .before .before .before .before .before .function-at .result in let v = c .before .before .before .before .fetch .result in let o = c .before .before .print-location in (search needs, o .kept .1 .1 .1 .1 .1 .1 .0 ∙ l .inv .1, omega (arith, shown-most e f (a .k) (l .i) v, o .ensures .0, l .inv .2), left-step (a .n) (part-lines B (a .contents .now) (a .k) 0 n) (a .out .now) (l .lines) (o .result) (part-lines B (a .contents .now) (a .k) (l .i) (n - l .i)) (location-lines e f (a .k) (l .i) v) (part-lines B (a .contents .now) (a .k) (l .i + 1) (n - (l .i + 1))) (l .out) (o .last .1 .1 .1 .1 .1 .1 .0) (part-next B (a .contents .now) (a .k) n (l .i) e f v (c .before .before .before .before .before .loop-test .taken) (c .before .before .before .before .before .before .before .before .before .elements .ensures) (c .before .before .before .before .before .before .before .before .before .before .function-at .ensures) (c .before .before .before .before .fetch .ensures)) (l .inv .3) (o .ensures .0) (o .ensures .1))
 
 same-length : tie.Need-same-length Inv-loop μ-loop
 same-length c = c .before .loop .inv .1

@@ -3,8 +3,8 @@ use borrow.Author.Needs.{needs}
 use Rattle.report_print.proofs.report_on.Statement.{statement}
 use Rattle.report_print.proofs.report_on.Tie as tie
 
-start-requires : tie.Need-start-requires
-start-requires c κs = search needs
+start-run-requires : tie.Need-start-run-requires
+start-run-requires c κs = search needs
 
 run-from-own-list-requires : tie.Need-run-from-own-list-requires
 run-from-own-list-requires c κs = search needs
@@ -28,7 +28,7 @@ returns : tie.Need-returns
 returns c = λ b g p.
     let k = c .before .before .print-image in
     let q = c .before .before .before .before .before .before .before .before .before .before .before .before .before .run-from-own-list in
-    run-shown _ b g _ _ _ _ p (q .result) (q .last .0) (q .last .1 .0) (q .last .1 .1 .0) (q .ensures _ _ _ (c .before .before .before .before .before .before .before .before .before .before .before .before .before .before .before .before .before .before .before .before .before .before .before .start .ensures b g 2048 (p .passed))) _ (c .before .before .before .before .before .before .before .before .before .before .before .before .before .before .before .before .before .before .before .before .before .before .before .before .before .before .before .before .before .before .before .before .pre) (k .result) (k .last .1 .1 .1 .0) (k .ensures)
+    run-shown _ b g _ _ _ _ p (q .result) (q .last .0) (q .last .1 .0) (q .last .1 .1 .0) (q .ensures _ _ _ (c .before .before .before .before .before .before .before .before .before .before .before .before .before .before .before .before .before .before .before .before .before .before .before .start-run .ensures b g 2048 (p .passed))) _ (c .before .before .before .before .before .before .before .before .before .before .before .before .before .before .before .before .before .before .before .before .before .before .before .before .before .before .before .before .before .before .before .before .pre) (k .result) (k .last .1 .1 .1 .0) (k .ensures)
 
 print-refusal-requires : tie.Need-print-refusal-requires
 print-refusal-requires c κs = c .before .before .before .before .before .before .before .before .before .before .before .before .before .before .before .before .before .before .before .before .before .before .before .before .before .before .before .before .pre
@@ -49,13 +49,13 @@ returns-2 : tie.Need-returns-2
 returns-2 c = λ b g p.
     let k = c .before .before .print-refusal in
     let q = c .before .before .before .before .before .before .before .before .before .before .before .before .run-from-own-list in
-    halt-shown _ b g _ _ _ _ p (q .result) (q .last .0) (q .last .1 .0) (q .last .1 .1 .0) (q .ensures _ _ _ (c .before .before .before .before .before .before .before .before .before .before .before .before .before .before .before .before .before .before .before .before .before .before .start .ensures b g 2048 (p .passed))) _ (c .before .before .before .before .before .before .before .before .before .before .before .before .before .before .before .before .before .before .before .before .before .before .before .before .before .before .before .before .before .before .before .pre) (k .result) (k .last .1 .0) (c .before .before .before .before .if1 .left) (k .ensures)
+    halt-shown _ b g _ _ _ _ p (q .result) (q .last .0) (q .last .1 .0) (q .last .1 .1 .0) (q .ensures _ _ _ (c .before .before .before .before .before .before .before .before .before .before .before .before .before .before .before .before .before .before .before .before .before .before .start-run .ensures b g 2048 (p .passed))) _ (c .before .before .before .before .before .before .before .before .before .before .before .before .before .before .before .before .before .before .before .before .before .before .before .before .before .before .before .before .before .before .before .pre) (k .result) (k .last .1 .0) (c .before .before .before .before .if1 .left) (k .ensures)
 
 pub report-on-spec : {M : Type 1} → statement M
 report-on-spec =
     tie.close
     (tie.spec
-    start-requires
+    start-run-requires
     run-from-own-list-requires
     print-image-requires
     same-length

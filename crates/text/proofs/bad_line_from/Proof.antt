@@ -8,7 +8,7 @@ use Rattle.text.proofs.bad_line_from.Statement.{statement}
 use Rattle.text.proofs.bad_line_from.Tie as tie
 use Rattle.text.proofs.bad_line_from.Reads as reads
 use Rattle.text.proofs.bad_line_from.Lts as lts
-use Rattle.text.proofs.sound.Reads as sound-reads
+use Rattle.text.proofs.in_form.Reads as in-form-reads
 
 abbrev Inv-loop : tie.InvT-loop
 Inv-loop text first end i₀ i = least-from (bad-line text) (end - i) i ≡ least-from (bad-line text) (end - first) first
@@ -21,8 +21,8 @@ loop-holds : tie.Need-loop-holds Inv-loop μ-loop
 loop-holds c = refl
 
 -- src/lib.rt:140:13
-sound-requires : tie.Need-sound-requires Inv-loop μ-loop
-sound-requires c κs = search needs
+in-form-requires : tie.Need-in-form-requires Inv-loop μ-loop
+in-form-requires c κs = search needs
 
 -- src/lib.rt:141:13
 returns : tie.Need-returns Inv-loop μ-loop
@@ -51,7 +51,7 @@ bad-line-from-spec =
     Inv-loop
     μ-loop
     loop-holds
-    sound-requires
+    in-form-requires
     returns
     add-i
     loop-less

@@ -6,34 +6,34 @@ use Rattle.text.proofs.field.Tie as tie
 use Rattle.text.proofs.field.Reads as reads
 use Rattle.text.proofs.field.Lts as lts
 use Rattle.text.proofs.blanks.Reads as blanks-reads
-use Rattle.text.proofs.long.Reads as long-reads
-use Rattle.text.proofs.three.Reads as three-reads
+use Rattle.text.proofs.six_columns.Reads as six-columns-reads
+use Rattle.text.proofs.last_three.Reads as last-three-reads
 use Rattle.text.proofs.three_blank.Reads as three-blank-reads
-use Rattle.text.proofs.two.Reads as two-reads
+use Rattle.text.proofs.last_two.Reads as last-two-reads
 
 -- src/lib.rt:231:8
 blanks-requires : tie.Need-blanks-requires
 blanks-requires c κs = search needs
 
 -- src/lib.rt:232:18
-add-two : tie.Need-add-two
-add-two c = search needs
+add-last-two : tie.Need-add-last-two
+add-last-two c = search needs
 
 -- src/lib.rt:232:13
-shared-slice-read-two : tie.Need-shared-slice-read-two
-shared-slice-read-two c = search needs
+shared-slice-read-last-two : tie.Need-shared-slice-read-last-two
+shared-slice-read-last-two c = search needs
 
 -- src/lib.rt:232:32
-add-two-2 : tie.Need-add-two-2
-add-two-2 c = search needs
+add-last-two-2 : tie.Need-add-last-two-2
+add-last-two-2 c = search needs
 
 -- src/lib.rt:232:27
-shared-slice-read-two-2 : tie.Need-shared-slice-read-two-2
-shared-slice-read-two-2 c = search needs
+shared-slice-read-last-two-2 : tie.Need-shared-slice-read-last-two-2
+shared-slice-read-last-two-2 c = search needs
 
 -- src/lib.rt:232:9
-two-requires : tie.Need-two-requires
-two-requires c κs = search needs
+last-two-requires : tie.Need-last-two-requires
+last-two-requires c κs = search needs
 
 -- src/lib.rt:233:27
 shared-slice-read-three-blank : tie.Need-shared-slice-read-three-blank
@@ -60,44 +60,44 @@ three-blank-requires : tie.Need-three-blank-requires
 three-blank-requires c κs = search needs
 
 -- src/lib.rt:234:20
-add-three : tie.Need-add-three
-add-three c = search needs
+add-last-three : tie.Need-add-last-three
+add-last-three c = search needs
 
 -- src/lib.rt:234:15
-shared-slice-read-three : tie.Need-shared-slice-read-three
-shared-slice-read-three c = search needs
+shared-slice-read-last-three : tie.Need-shared-slice-read-last-three
+shared-slice-read-last-three c = search needs
 
 -- src/lib.rt:234:34
-add-three-2 : tie.Need-add-three-2
-add-three-2 c = search needs
+add-last-three-2 : tie.Need-add-last-three-2
+add-last-three-2 c = search needs
 
 -- src/lib.rt:234:29
-shared-slice-read-three-2 : tie.Need-shared-slice-read-three-2
-shared-slice-read-three-2 c = search needs
+shared-slice-read-last-three-2 : tie.Need-shared-slice-read-last-three-2
+shared-slice-read-last-three-2 c = search needs
 
 -- src/lib.rt:234:48
-add-three-3 : tie.Need-add-three-3
-add-three-3 c = search needs
+add-last-three-3 : tie.Need-add-last-three-3
+add-last-three-3 c = search needs
 
 -- src/lib.rt:234:43
-shared-slice-read-three-3 : tie.Need-shared-slice-read-three-3
-shared-slice-read-three-3 c = search needs
+shared-slice-read-last-three-3 : tie.Need-shared-slice-read-last-three-3
+shared-slice-read-last-three-3 c = search needs
 
 -- src/lib.rt:234:9
-three-requires : tie.Need-three-requires
-three-requires c κs = search needs
+last-three-requires : tie.Need-last-three-requires
+last-three-requires c κs = search needs
 
 -- src/lib.rt:236:9
-long-requires : tie.Need-long-requires
-long-requires c κs = search needs
+six-columns-requires : tie.Need-six-columns-requires
+six-columns-requires c κs = search needs
 
 -- src/lib.rt:227:1
 returns : tie.Need-returns
-returns c = let a = c .before .before .before .before .before .before .args in four-before (a .text .now) (a .at) (c .before .before .before .before .before .before .pre .0) _ (c .before .before .before .before .blanks .ensures (c .before .before .before .if1 .taken)) (c .two .ensures)
+returns c = let a = c .before .before .before .before .before .before .args in four-before (a .text .now) (a .at) (c .before .before .before .before .before .before .pre .0) _ (c .before .before .before .before .blanks .ensures (c .before .before .before .if1 .taken)) (c .last-two .ensures)
 
 -- src/lib.rt:227:1
 returns-2 : tie.Need-returns-2
-returns-2 c = let a = c .before .before .before .before .before .before .before .before .before .before .before .before .args in three-before (a .text .now) (a .at) (c .before .before .before .before .before .before .before .before .before .before .before .before .pre .0) _ (c .before .before .before .before .before .three-blank .ensures (c .before .before .before .before .if2 .taken)) (c .three .ensures)
+returns-2 c = let a = c .before .before .before .before .before .before .before .before .before .before .before .before .args in three-before (a .text .now) (a .at) (c .before .before .before .before .before .before .before .before .before .before .before .before .pre .0) _ (c .before .before .before .before .before .three-blank .ensures (c .before .before .before .before .if2 .taken)) (c .last-three .ensures)
 
 -- src/lib.rt:227:1
 returns-3 : tie.Need-returns-3
@@ -108,25 +108,25 @@ field-spec =
     tie.close
     (tie.spec
     blanks-requires
-    add-two
-    shared-slice-read-two
-    add-two-2
-    shared-slice-read-two-2
-    two-requires
+    add-last-two
+    shared-slice-read-last-two
+    add-last-two-2
+    shared-slice-read-last-two-2
+    last-two-requires
     shared-slice-read-three-blank
     add-three-blank
     shared-slice-read-three-blank-2
     add-three-blank-2
     shared-slice-read-three-blank-3
     three-blank-requires
-    add-three
-    shared-slice-read-three
-    add-three-2
-    shared-slice-read-three-2
-    add-three-3
-    shared-slice-read-three-3
-    three-requires
-    long-requires
+    add-last-three
+    shared-slice-read-last-three
+    add-last-three-2
+    shared-slice-read-last-three-2
+    add-last-three-3
+    shared-slice-read-last-three-3
+    last-three-requires
+    six-columns-requires
     returns
     returns-2
     returns-3)

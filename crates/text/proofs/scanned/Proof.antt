@@ -12,8 +12,8 @@ use Rattle.text.proofs.scanned.Statement.{statement}
 use Rattle.text.proofs.scanned.Tie as tie
 use Rattle.text.proofs.scanned.Reads as reads
 use Rattle.text.proofs.scanned.Lts as lts
-use Rattle.text.proofs.ends.Reads as ends-reads
-use Rattle.text.proofs.step.Reads as step-reads
+use Rattle.text.proofs.scan_ends.Reads as scan-ends-reads
+use Rattle.text.proofs.scan_byte.Reads as scan-byte-reads
 
 abbrev Inv-loop : tie.InvT-loop
 Inv-loop text at s₀ k₀ s k =
@@ -27,16 +27,16 @@ loop-holds : tie.Need-loop-holds Inv-loop μ-loop
 loop-holds c = let at = c .before .args .at in let e : at + 0 ≡ at = omega arith in (search needs, rw e)
 
 -- src/lib.rt:115:26
-add-step : tie.Need-add-step Inv-loop μ-loop
-add-step c = search needs
+add-scan-byte : tie.Need-add-scan-byte Inv-loop μ-loop
+add-scan-byte c = search needs
 
 -- src/lib.rt:115:21
-shared-slice-read-step : tie.Need-shared-slice-read-step Inv-loop μ-loop
-shared-slice-read-step c = search needs
+shared-slice-read-scan-byte : tie.Need-shared-slice-read-scan-byte Inv-loop μ-loop
+shared-slice-read-scan-byte c = search needs
 
 -- src/lib.rt:115:9
-step-requires : tie.Need-step-requires Inv-loop μ-loop
-step-requires c κs = search needs
+scan-byte-requires : tie.Need-scan-byte-requires Inv-loop μ-loop
+scan-byte-requires c κs = search needs
 
 -- src/lib.rt:116:9
 add-k : tie.Need-add-k Inv-loop μ-loop
@@ -48,15 +48,15 @@ loop-less c = search needs
 
 -- src/lib.rt:114:5
 loop-again : tie.Need-loop-again Inv-loop μ-loop
-loop-again c = let a = c .before .before .before .before .before .args in let l = c .before .before .before .loop in (search needs, rw (c .step .ensures) (sym (scan-step (a .text .now) (a .at) (l .k) (l .s) (c .before .before .before .before .before .pre) (c .before .before .loop-test .taken)) ∙ l .inv .1))
+loop-again c = let a = c .before .before .before .before .before .args in let l = c .before .before .before .loop in (search needs, rw (c .scan-byte .ensures) (sym (scan-step (a .text .now) (a .at) (l .k) (l .s) (c .before .before .before .before .before .pre) (c .before .before .loop-test .taken)) ∙ l .inv .1))
 
 -- src/lib.rt:118:5
-ends-requires : tie.Need-ends-requires Inv-loop μ-loop
-ends-requires c κs = search needs
+scan-ends-requires : tie.Need-scan-ends-requires Inv-loop μ-loop
+scan-ends-requires c κs = search needs
 
 -- src/lib.rt:108:1
 returns : tie.Need-returns Inv-loop μ-loop
-returns c = let a = c .before .before .before .before .args in let l = c .before .before .loop in c .ends .ensures ∙ ap ends-well (sym (scan-end (a .text .now) (a .at) (l .k) (l .s) (c .before .loop-test .left)) ∙ l .inv .1) ∙ scan-field (take 6 (drop (a .at) (a .text .now)))
+returns c = let a = c .before .before .before .before .args in let l = c .before .before .loop in c .scan-ends .ensures ∙ ap ends-well (sym (scan-end (a .text .now) (a .at) (l .k) (l .s) (c .before .loop-test .left)) ∙ l .inv .1) ∙ scan-field (take 6 (drop (a .at) (a .text .now)))
 
 pub scanned-spec : {M : Type 1} → statement M
 scanned-spec =
@@ -65,11 +65,11 @@ scanned-spec =
     Inv-loop
     μ-loop
     loop-holds
-    add-step
-    shared-slice-read-step
-    step-requires
+    add-scan-byte
+    shared-slice-read-scan-byte
+    scan-byte-requires
     add-k
     loop-less
     loop-again
-    ends-requires
+    scan-ends-requires
     returns)

@@ -1,0 +1,31 @@
+-- What a move's walk leaves: its outcome, and its marks, which a refused move does not leave.
+use mathlib.Core.Path.{_≡_}
+use mathlib.Core.List.{List, map}
+use Prim.Native.Nat.{ℕ, _-_, _^_, _<_}
+use lib.Bits.{bitAnd}
+use lib.Dec.{eqb}
+use lib.ListN.{getD}
+use Rattle.text.specs.Words.{if_then_else_}
+use Rattle.book.specs.Book.{Program}
+use Rattle.engine.specs.Rule.{Walk, Walked, walking, refused-at}
+use Rattle.engine.specs.Move.{Input, walked, walk-reads}
+use Rattle.engine_term.specs.Marks.{marked, Placed}
+
+-- the marks without the bits that this mask lacks
+abbrev pub masked : ℕ → List ℕ → List ℕ
+masked mask m = map (λ v. bitAnd v mask) m
+
+-- the marks without this bit and the higher ones
+abbrev pub bits-cleared : ℕ → List ℕ → List ℕ
+bits-cleared bit m = if eqb bit 0 then m else masked (bit - 1) m
+
+-- marks of moves with lower bits only
+abbrev pub LowerBits : ℕ → List ℕ → Type 0
+LowerBits bit m = (i : ℕ) → getD m i 0 < bit
+
+-- The walk of a move with this input came to the outcome o, and the marks m became n.
+pub record WalkMarked (B : Program) (c : List ℕ) (bit : ℕ) (i : Input) (o : Walked) (m n : List ℕ) : Type 0 where
+  pub outcome : o ≡ walked B c i
+  pub fired : Placed B → (w : Walk) → o ≡ walking w → n ≡ marked bit (walk-reads B c i) m
+  pub refused : Placed B → (r q : ℕ) → o ≡ refused-at r q → (k : ℕ) → bit ≡ 2 ^ k → LowerBits bit m → n ≡ m
+  pub silent : Placed B → bit ≡ 0 → n ≡ m

@@ -1,0 +1,22 @@
+use Rattle.order_touch.proofs.Best.{shifted-pos, near-is}
+use native.Mathlib.Omega.{arith}
+use borrow.Author.Needs.{needs}
+use Rattle.order_touch.proofs.least_touching.Statement.{statement}
+use Rattle.order_touch.proofs.least_touching.Tie as tie
+use Rattle.order_touch.proofs.least_touching.Reads as reads
+use Rattle.order_touch.proofs.least_touching.Lts as lts
+
+-- src/lib.rt:62:20
+shl-earlier : tie.Need-shl-earlier
+shl-earlier c = search needs
+
+-- src/lib.rt:62:19
+sub-earlier : tie.Need-sub-earlier
+sub-earlier c = shifted-pos (c .args .j) (c .pre)
+
+-- src/lib.rt:58:1
+returns : tie.Need-returns
+returns c = near-is (c .args .met) (c .args .row) (c .args .j) (omega arith) (omega arith) (c .pre)
+
+pub least-touching-spec : {M : Type 1} → statement M
+least-touching-spec = tie.close (tie.spec shl-earlier sub-earlier returns)
