@@ -1,5 +1,5 @@
 #!/usr/bin/env bash
-# Runs the built program `rental` on the cases of 01 and of the documents, on the examples, on random inputs and on broken streams, and
+# Runs the built program `rental` on the specification's cases and those of the documents, on the examples, on random inputs and on broken streams, and
 # compares all that it prints. Its last line is 'N passed, M failed'.
 set -u
 cd "$(dirname "$0")/.." || exit 1

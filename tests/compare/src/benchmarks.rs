@@ -1,8 +1,9 @@
 // The rows of the benchmarks, by name. `entries` says which of the public entries they call.
-use crate::loads::{self, Logged};
+use crate::loads;
 use crate::meter::Meter;
 use crate::rows::*;
-use crate::shops::{paper_book, paper_log, shop, shop_log};
+use crate::shop_book::shop;
+use inputs::{specification, BookAndLog};
 
 pub struct Benchmark {
     pub what: &'static str,
@@ -33,7 +34,7 @@ pub fn wanted(word: &str) -> Vec<&'static Benchmark> {
 }
 
 const BOOK_CHECKS: &[Benchmark] = &[
-    Benchmark::new("book check: 01's book", |what, meter| book_row(what, meter, &paper_book())),
+    Benchmark::new("book check: 01's book", |what, meter| book_row(what, meter, &specification::book())),
     Benchmark::new("book check: 1,024 nodes", |what, meter| book_row(what, meter, &loads::thousand_nodes())),
     Benchmark::new("book check: 65,281 contents lines", |what, meter| {
         book_row(what, meter, &loads::full_contents())
@@ -89,12 +90,10 @@ const SINGLE_MOVES: &[Benchmark] = &[
 
 const LOGS: &[Benchmark] = &[
     Benchmark::new("log: 01's book and log, 2 moves", |what, meter| {
-        run_row(what, meter, &Logged { book: paper_book(), log: paper_log() })
+        run_row(what, meter, &BookAndLog { book: specification::book(), log: specification::log() })
     }),
     Benchmark::new("log: the shop's book, 64 moves of 16 agents", |what, meter| {
-        let book = shop();
-        let log = shop_log(&book);
-        run_row(what, meter, &Logged { book, log })
+        run_row(what, meter, &loads::shop_logged())
     }),
     Benchmark::new("log: 64 foralls of 200 members, a set each", |what, meter| {
         run_row(what, meter, &loads::two_hundred_logged())
@@ -109,35 +108,34 @@ const LOGS: &[Benchmark] = &[
         run_row(what, meter, &loads::releases_logged())
     }),
     Benchmark::new("log: 32 releases and 32 counts, unordered, L 60,000", |what, meter| {
-        run_row(what, meter, &loads::retirement_logged(10_000))
+        run_row(what, meter, &loads::releases_and_counts_logged(10_000))
     }),
 ];
 
 const ORDER_CHECKS: &[Benchmark] = &[
     Benchmark::new("order: 64 moves, each desk's own in order", |what, meter| {
-        run_row(what, meter, &loads::desks_logged(false))
+        run_row(what, meter, &loads::flags_logged(false))
     }),
     Benchmark::new("order: 64 moves, all 2,016 pairs", |what, meter| {
-        run_row(what, meter, &loads::desks_logged(true))
+        run_row(what, meter, &loads::flags_logged(true))
     }),
     Benchmark::new("order: 32 releases and 32 counts, unordered, L 1,200", |what, meter| {
-        run_row(what, meter, &loads::retirement_logged(200))
+        run_row(what, meter, &loads::releases_and_counts_logged(200))
     }),
     Benchmark::new("order: 32 releases and 32 imports, L 801", |what, meter| {
-        run_row(what, meter, &loads::depot_logged())
+        run_row(what, meter, &loads::releases_and_imports_logged())
     }),
     Benchmark::new("order: of these, 17 alone", |what, meter| {
-        beyond_row(what, meter, &loads::depot_logged(), &loads::depot_refused_at_last(), 12)
+        beyond_row(what, meter, &loads::releases_and_imports_logged(), &loads::refused_at_last(), 12)
     }),
 ];
 
 const WHOLE_RUNS: &[Benchmark] = &[
     Benchmark::new("rental: 01's book and log", |what, meter| {
-        report_row(what, meter, &[paper_book(), paper_log()].concat())
+        report_row(what, meter, &specification::book_and(specification::LOG))
     }),
     Benchmark::new("rental: the shop's book, 64 moves of 16 agents", |what, meter| {
-        let book = shop();
-        let log = shop_log(&book);
+        let BookAndLog { book, log } = loads::shop_logged();
         report_row(what, meter, &[book, log].concat())
     }),
 ];

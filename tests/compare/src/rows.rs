@@ -1,8 +1,10 @@
 // The rows of the benchmarks: each measured in one run for the proved code and the independent one.
-use crate::loads::{Logged, Single};
+use crate::loads::Single;
 use crate::meter::Meter;
-use crate::{check_book, paper_check_book, report_into, run, step, MOST_OUTPUT};
-use paper::{Answer, Pick, INSTRUCTIONS};
+use crate::question::{Run, Step};
+use crate::{check_book, report_into, run, step, MOST_OUTPUT};
+use inputs::BookAndLog;
+use paper::{Answer, INSTRUCTIONS};
 use std::hint::black_box;
 use std::io;
 
@@ -82,19 +84,17 @@ impl Row {
 
 pub fn book_row(what: &str, meter: &mut Meter, book: &[u8]) -> Row {
     assert_eq!(check_book(book), Answer::ACCEPTED, "{what}");
-    assert_eq!(paper_check_book(book), Answer::ACCEPTED, "{what}");
+    assert_eq!(paper::book_answer(book), Answer::ACCEPTED, "{what}");
     let proved = &mut || {
         black_box(check_book(black_box(book)));
     };
     let independent = &mut || {
-        black_box(paper_check_book(black_box(book)));
+        black_box(paper::book_answer(black_box(book)));
     };
     Row::calls(what, meter.measure([proved, independent]))
 }
 
 // ---- single moves
-
-type Step = fn(&[u8], &mut [u16], usize, &[Pick], usize) -> Answer;
 
 // One call after another on one table.
 fn stepping(single: &Single, step: Step) -> impl FnMut() + use<'_> {
@@ -151,23 +151,21 @@ impl Tables {
     }
 }
 
-type Run = fn(&[u8], &[u8], &mut [u16], &mut [u64], &mut [u64], usize) -> Answer;
-
 // One run after another on one set of tables.
-fn running(logged: &Logged, run: Run) -> impl FnMut() + use<'_> {
+fn running(logged: &BookAndLog, run: Run) -> impl FnMut() + use<'_> {
     let mut tables = Tables::of(&logged.book);
     move || {
         black_box(run_on(logged, run, &mut tables));
     }
 }
 
-fn run_on(logged: &Logged, run: Run, tables: &mut Tables) -> Answer {
+fn run_on(logged: &BookAndLog, run: Run, tables: &mut Tables) -> Answer {
     let Tables { contents, readers, writers } = tables;
     run(black_box(&logged.book), black_box(&logged.log), contents, readers, writers, INSTRUCTIONS)
 }
 
-// Reader marks are left to tests/loads.rs: a library of before F-3 has more of them where a move releases, and is to be measured too.
-fn assert_runs_alike(what: &str, logged: &Logged, number: u32) {
+// Reader marks are left to tests/comparisons.rs: a library of before F-3 has more of them where a move releases, and is to be measured too.
+fn assert_runs_alike(what: &str, logged: &BookAndLog, number: u32) {
     let (mut ours, mut theirs) = (Tables::of(&logged.book), Tables::of(&logged.book));
     let answer = run_on(logged, run, &mut ours);
     assert_eq!(answer, run_on(logged, paper::run, &mut theirs), "{what}");
@@ -176,19 +174,25 @@ fn assert_runs_alike(what: &str, logged: &Logged, number: u32) {
     assert!(ours.writers == theirs.writers, "{what}: writer marks");
 }
 
-pub fn run_row(what: &str, meter: &mut Meter, logged: &Logged) -> Row {
+pub fn run_row(what: &str, meter: &mut Meter, logged: &BookAndLog) -> Row {
     assert_runs_alike(what, logged, 0);
     let (mut ours, mut theirs) = (running(logged, run), running(logged, paper::run));
     Row::calls(what, meter.measure([&mut ours, &mut theirs]))
 }
 
 // What each of `units` takes by which the larger run is larger.
-pub fn run_slope_row(what: &str, meter: &mut Meter, small: &Logged, large: &Logged, units: u32) -> Row {
+pub fn run_slope_row(
+    what: &str,
+    meter: &mut Meter,
+    small: &BookAndLog,
+    large: &BookAndLog,
+    units: u32,
+) -> Row {
     Row { units: f64::from(units), ..beyond_row(what, meter, large, small, 0) }
 }
 
 // What one run takes more than another, which is answered with this number.
-pub fn beyond_row(what: &str, meter: &mut Meter, whole: &Logged, less: &Logged, number: u32) -> Row {
+pub fn beyond_row(what: &str, meter: &mut Meter, whole: &BookAndLog, less: &BookAndLog, number: u32) -> Row {
     assert_runs_alike(what, whole, 0);
     assert_runs_alike(what, less, number);
     let (mut ours, mut theirs) = (running(whole, run), running(whole, paper::run));

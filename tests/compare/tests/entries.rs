@@ -1,5 +1,7 @@
-// Every public entry is called by a row of the benchmarks and by a comparison test.
+// Every public entry is called by a row of the benchmarks and by a comparison.
 use compare::benchmarks::benchmarks;
+use compare::comparison::Comparison;
+use compare::comparisons::{comparisons, named};
 use compare::entries::{Calls, CALLS};
 use std::fs;
 use std::path::{Path, PathBuf};
@@ -24,12 +26,23 @@ fn all_of_the_list() {
 }
 
 #[test]
-fn rows_and_tests_are_there() {
-    for Calls { rows, test, .. } in &CALLS {
+fn rows_and_comparisons_call_them() {
+    for Calls { entries, rows, comparison } in &CALLS {
         for begin in *rows {
             assert!(benchmarks().any(|benchmark| benchmark.what.starts_with(begin)), "{begin}");
         }
-        assert!(path(&format!("tests/compare/tests/{test}")).is_file(), "{test}");
+        let (_, function) = entries[0].split_once("::").expect("crate::function");
+        assert_eq!(named(comparison).entry, function);
+    }
+}
+
+// The loop asserts of each question that it is put to its comparison's entry; here, that no comparison has another.
+#[test]
+fn comparisons_call_no_others() {
+    for Comparison { name, entry, .. } in comparisons() {
+        let listed =
+            |calls: &Calls| calls.entries[0].split_once("::").is_some_and(|(_, function)| function == *entry);
+        assert!(CALLS.iter().any(listed), "{name}: {entry}");
     }
 }
 

@@ -1,10 +1,10 @@
 // Sound books: functions, contents, rules and agents at random, from tiny to full size.
 
-use crate::clerks::{at_shelf, clerk};
-use crate::draft::*;
-use crate::flavours;
+use crate::book_draft::{BookDraft, RESERVE};
+use crate::choice_rules::{choosing, choosing_in_shared};
+use crate::release_rules::{self, releasing_or_not};
 use crate::rng::Rng;
-use crate::stations::{self, station};
+use crate::root_rules::{self, at_own_element, importing_or_releasing};
 use paper::Line;
 use std::collections::BTreeMap;
 
@@ -29,98 +29,81 @@ const SMALL: Size =
 const MIDDLING: Size =
     Size { elements: (25, 130), functions: (4, 12), rules: 30, roots: 5, agents: 16, locations: 3_000 };
 
-/// The nullary function of a depot that holds a label.
-const HOOK: u32 = 2;
+/// The nullary function that holds a label, where a book is about labels.
+const HOLDER: u32 = 2;
 
-/// The universe that clerks pick from at least.
+/// The universe of most choices, where a book is about these, and the unary function that they set.
 const FIRST_UNIVERSE: u32 = 1;
-
-/// The unary function that they set.
 const NOTES: u32 = 2;
 
-/// What the rules of a book are about.
+/// What the rules of a book are about; `THEMES` has them all, with how likely each is.
 #[derive(Clone, Copy, PartialEq, Eq)]
 enum Theme {
     Any,
-    Desks,
-    Depot,
-    Clerks,
-    /// Clerks who look at what others take from the same universe.
-    Shelf,
-    /// Stations that retire pairs while others work.
-    Stations,
+    /// Each agent sets what is at its own element.
+    OwnElement,
+    /// Imports and releases.
+    Labels,
+    Choices,
+    /// Choices in one universe, which some agents change.
+    SharedUniverse,
+    /// Agents that release labels while others set locations.
+    Releases,
 }
 
+const THEMES: [Theme; 6] =
+    [Theme::Any, Theme::OwnElement, Theme::Labels, Theme::Choices, Theme::SharedUniverse, Theme::Releases];
+const WEIGHTS: [u32; 6] = [26, 4, 11, 25, 10, 24];
+
 /// A sound book, mostly small.
-pub fn sound(rng: &mut Rng) -> Draft {
+pub fn sound(rng: &mut Rng) -> BookDraft {
     if rng.below(1_200) == 0 {
         return full(rng);
     }
     let size = [&TINY, &SMALL, &MIDDLING][rng.weighted(&[47, 45, 8])];
-    let themes = [Theme::Any, Theme::Desks, Theme::Depot, Theme::Clerks, Theme::Shelf, Theme::Stations];
-    let theme = themes[rng.weighted(&[26, 4, 11, 25, 10, 24])];
+    let theme = THEMES[rng.weighted(&WEIGHTS)];
     let careful = rng.percent(60);
     let mut draft = without_rules(rng, size, theme);
-    let least = if theme == Theme::Stations { 2 } else { 1 };
+    let least = if theme == Theme::Releases { 2 } else { 1 };
     let count = rng.range(least, (size.roots + least - 1).min(draft.permanent));
     let mut roots: Vec<u32> = (0..count)
         .map(|number| {
             let rules = rng.range(1, size.rules);
             match theme {
-                Theme::Any => flavours::root(rng, &mut draft, careful, rules),
-                Theme::Desks => flavours::desk(rng, &mut draft),
-                Theme::Depot => flavours::depot(rng, &mut draft, careful),
-                Theme::Clerks => with_clerk(rng, &mut draft, careful),
-                Theme::Shelf => at_shelf(rng, &mut draft, FIRST_UNIVERSE, NOTES),
-                Theme::Stations => station(rng, &mut draft, careful, number),
+                Theme::Any => root_rules::root(rng, &mut draft, careful, rules),
+                Theme::OwnElement => at_own_element(rng, &mut draft),
+                Theme::Labels => importing_or_releasing(rng, &mut draft, careful),
+                Theme::Choices => mostly_choosing(rng, &mut draft, careful),
+                Theme::SharedUniverse => choosing_in_shared(rng, &mut draft, FIRST_UNIVERSE, NOTES),
+                Theme::Releases => releasing_or_not(rng, &mut draft, careful, number),
             }
         })
         .collect();
     // An agent that changes nothing, most often beside releases.
-    if count < draft.permanent && rng.percent(if theme == Theme::Depot { 60 } else { 25 }) {
-        roots.push(flavours::idle(rng, &mut draft));
+    if count < draft.permanent && rng.percent(if theme == Theme::Labels { 60 } else { 25 }) {
+        roots.push(root_rules::idle(rng, &mut draft));
     }
     // A book of long rules may have too many nodes: then another one.
     if draft.nodes.len() > MOST_NODES {
         return sound(rng);
     }
     add_agents(rng, &mut draft, &roots, size.agents);
-    if theme == Theme::Stations {
-        stations::equip(rng, &mut draft);
+    if theme == Theme::Releases {
+        release_rules::fill_slots(rng, &mut draft);
     }
     draft
 }
 
 /// Elements, functions and contents of a size.
-fn without_rules(rng: &mut Rng, size: &Size, theme: Theme) -> Draft {
-    let least = if theme == Theme::Stations { stations::ELEMENTS } else { size.elements.0 };
+fn without_rules(rng: &mut Rng, size: &Size, theme: Theme) -> BookDraft {
+    let least = if theme == Theme::Releases { release_rules::ELEMENTS } else { size.elements.0 };
     let elements = rng.range(least.max(size.elements.0), size.elements.1);
     let most_labels = (elements - 4).min(elements / 2 + 1);
     let labels = match theme {
-        Theme::Depot | Theme::Stations => most_labels,
+        Theme::Labels | Theme::Releases => most_labels,
         _ => rng.range(0, most_labels),
     };
-    let mut draft = Draft {
-        elements,
-        permanent: elements - labels,
-        functions: vec![RESERVE],
-        nodes: Vec::new(),
-        agents: Vec::new(),
-        contents: Vec::new(),
-    };
-    if theme == Theme::Depot {
-        // A universe and a function for the labels beside the hook.
-        draft.functions.extend([[1, 3, 0, 0], [0, 2, 0, 0], [1, 2, 0, 0]]);
-    }
-    if theme == Theme::Clerks || theme == Theme::Shelf {
-        // A universe to pick from, and something to set.
-        let universe = if theme == Theme::Shelf { 3 } else { rng.pick(&[1, 3, 3]) };
-        let noted = rng.pick(&[2, 2, 3]);
-        draft.functions.extend([[1, universe, 0, 0], [1, noted, 0, 0]]);
-    }
-    if theme == Theme::Stations {
-        draft.functions.extend(stations::FUNCTIONS);
-    }
+    let mut draft = BookDraft::new(elements, elements - labels, &functions_of(rng, theme));
     for _ in 1..rng.range(size.functions.0, size.functions.1) {
         let mut function = any_function(rng);
         draft.functions.push(function);
@@ -130,55 +113,66 @@ fn without_rules(rng: &mut Rng, size: &Size, theme: Theme) -> Draft {
         }
     }
     draft.contents = match theme {
-        Theme::Stations => {
+        Theme::Releases => {
             let share = rng.pick(&[0, 30, 50]);
             entries_with(rng, &draft, share)
         }
         _ => entries(rng, &draft),
     };
-    if theme == Theme::Depot && rng.percent(60) {
-        hang_label(rng, &mut draft);
+    if theme == Theme::Labels && rng.percent(60) {
+        hold_label(rng, &mut draft);
     }
-    if theme == Theme::Shelf || (theme == Theme::Clerks && rng.percent(90)) {
-        people(rng, &mut draft);
+    if theme == Theme::SharedUniverse || (theme == Theme::Choices && rng.percent(90)) {
+        add_members(rng, &mut draft);
     }
     draft
 }
 
-/// A clerk's rule, alone or beside a desk's; or a rule without a choice.
-fn with_clerk(rng: &mut Rng, draft: &mut Draft, careful: bool) -> u32 {
-    match rng.weighted(&[64, 14, 8, 14]) {
-        0 => clerk(rng, draft, careful),
-        1 => {
-            let (clerk, other) = (clerk(rng, draft, careful), flavours::desk(rng, draft));
-            draft.add([22, clerk, other, 0])
+/// The functions, as arity and kind, that the rules of a theme are about.
+fn functions_of(rng: &mut Rng, theme: Theme) -> Vec<[u32; 2]> {
+    match theme {
+        Theme::Any | Theme::OwnElement => Vec::new(),
+        // A universe, the holder, and a function for the labels.
+        Theme::Labels => vec![[1, 3], [0, 2], [1, 2]],
+        // A universe to pick from, and something to set.
+        Theme::Choices | Theme::SharedUniverse => {
+            let universe = if theme == Theme::SharedUniverse { 3 } else { rng.pick(&[1, 3, 3]) };
+            vec![[1, universe], [1, rng.pick(&[2, 2, 3])]]
         }
-        2 => flavours::depot(rng, draft, careful),
-        _ => flavours::root(rng, draft, careful, 4),
+        Theme::Releases => release_rules::FUNCTIONS.to_vec(),
+    }
+}
+
+/// A rule with a choice, alone or beside one at the agent's own element; or a rule without a choice.
+fn mostly_choosing(rng: &mut Rng, draft: &mut BookDraft, careful: bool) -> u32 {
+    match rng.weighted(&[64, 14, 8, 14]) {
+        0 => choosing(rng, draft, careful),
+        1 => {
+            let (choice, other) = (choosing(rng, draft, careful), at_own_element(rng, draft));
+            draft.both(choice, other)
+        }
+        2 => importing_or_releasing(rng, draft, careful),
+        _ => root_rules::root(rng, draft, careful, 4),
     }
 }
 
 /// Lets the first universe of a draft have members.
-fn people(rng: &mut Rng, draft: &mut Draft) {
+fn add_members(rng: &mut Rng, draft: &mut BookDraft) {
     let universe = FIRST_UNIVERSE;
     let bound = if draft.is_dynamic(universe) { draft.elements } else { draft.permanent };
     for _ in 0..rng.range(1, 5) {
         let element = rng.below(bound);
-        let given =
-            |function: u32| draft.contents.iter().any(|line| line[0] == function && line[1] == element);
-        if !given(0) && !given(universe) {
+        if !draft.is_given(0, element) && !draft.is_given(universe, element) {
             draft.insert_contents([universe, element, 0, 2]);
         }
     }
 }
 
-/// Lets the hook of a depot hold a label in use, if there is one.
-fn hang_label(rng: &mut Rng, draft: &mut Draft) {
-    let free: Vec<u32> = draft.contents.iter().filter(|line| line[0] == 0).map(|line| line[1]).collect();
-    let used: Vec<u32> = (draft.permanent..draft.elements).filter(|label| !free.contains(label)).collect();
-    if let Some(label) = rng.any(&used) {
-        draft.contents.retain(|line| line[0] != HOOK);
-        draft.insert_contents([HOOK, 0, 0, label]);
+/// Lets the holder hold a label in use, if there is one.
+fn hold_label(rng: &mut Rng, draft: &mut BookDraft) {
+    if let Some(label) = rng.any(&draft.used_labels()) {
+        draft.contents.retain(|line| line[0] != HOLDER);
+        draft.insert_contents([HOLDER, 0, 0, label]);
     }
 }
 
@@ -192,13 +186,13 @@ fn any_function(rng: &mut Rng) -> Line {
 }
 
 /// Contents lines that keep the rules, for the functions of a draft.
-pub fn entries(rng: &mut Rng, draft: &Draft) -> Vec<Line> {
+pub fn entries(rng: &mut Rng, draft: &BookDraft) -> Vec<Line> {
     let share = rng.pick(&[0, 30, 60, 60, 100]);
     entries_with(rng, draft, share)
 }
 
 /// The same, with this share of the labels on the roll, in hundredths.
-fn entries_with(rng: &mut Rng, draft: &Draft, share: u32) -> Vec<Line> {
+fn entries_with(rng: &mut Rng, draft: &BookDraft, share: u32) -> Vec<Line> {
     let free: Vec<bool> =
         (0..draft.elements).map(|element| element >= draft.permanent && rng.percent(share)).collect();
     let on_roll = (0..draft.elements).filter(|&element| free[element as usize]);
@@ -210,7 +204,7 @@ fn entries_with(rng: &mut Rng, draft: &Draft, share: u32) -> Vec<Line> {
 }
 
 /// Adds sound lines of one function: none, a few or many.
-fn fill(rng: &mut Rng, draft: &Draft, function: u32, free: &[bool], lines: &mut Vec<Line>) {
+fn fill(rng: &mut Rng, draft: &BookDraft, function: u32, free: &[bool], lines: &mut Vec<Line>) {
     let dynamic = draft.is_dynamic(function);
     let mut least = 0;
     if dynamic && draft.is_relation(function) && draft.arity(function) == 1 && rng.percent(40) {
@@ -261,7 +255,7 @@ fn some_arguments(rng: &mut Rng, arity: u32, allowed: &[u32]) -> (u32, u32) {
 }
 
 /// A value other than the default; labels are those in use, none for a static function.
-fn value(rng: &mut Rng, draft: &Draft, function: u32, labels: &[u32]) -> u32 {
+fn value(rng: &mut Rng, draft: &BookDraft, function: u32, labels: &[u32]) -> u32 {
     if draft.is_relation(function) {
         return 2;
     }
@@ -273,7 +267,7 @@ fn value(rng: &mut Rng, draft: &Draft, function: u32, labels: &[u32]) -> u32 {
 }
 
 /// Agents with ascending elements, at most so many; each root gets one at least.
-fn add_agents(rng: &mut Rng, draft: &mut Draft, roots: &[u32], most: u32) {
+fn add_agents(rng: &mut Rng, draft: &mut BookDraft, roots: &[u32], most: u32) {
     let most = most.min(draft.permanent).min(16);
     let count = rng.range(roots.len() as u32, most.max(roots.len() as u32)) as usize;
     let mut assigned: Vec<u32> = roots.to_vec();
@@ -295,20 +289,19 @@ fn add_agents(rng: &mut Rng, draft: &mut Draft, roots: &[u32], most: u32) {
 }
 
 /// A book at one or more of its bounds.
-pub fn full(rng: &mut Rng) -> Draft {
+pub fn full(rng: &mut Rng) -> BookDraft {
     let (elements, functions) = full_functions(rng);
     let permanent = rng.pick(&[4, elements / 2, elements - 1, elements]);
-    let mut draft =
-        Draft { elements, permanent, functions, nodes: Vec::new(), agents: Vec::new(), contents: Vec::new() };
+    let mut draft = BookDraft { functions, ..BookDraft::new(elements, permanent, &[]) };
     debug_assert!(draft.locations() <= MOST_LOCATIONS);
     draft.contents = if rng.percent(25) { every_location(rng, &draft) } else { entries(rng, &draft) };
     let count = rng.range(1, 4);
-    let mut roots: Vec<u32> = (0..count).map(|_| flavours::root(rng, &mut draft, true, 8)).collect();
+    let mut roots: Vec<u32> = (0..count).map(|_| root_rules::root(rng, &mut draft, true, 8)).collect();
     if draft.nodes.len() > MOST_NODES - 6 {
         return full(rng);
     }
     let last = roots.last_mut().expect("there is a root");
-    if rng.percent(60) && flavours::depth(&draft, *last) < flavours::MOST_DEPTH {
+    if rng.percent(60) && draft.depth(*last) < root_rules::MOST_DEPTH {
         *last = pad_nodes(&mut draft, *last, MOST_NODES);
     }
     let agents = if rng.percent(60) { 16 } else { 4 };
@@ -332,7 +325,7 @@ fn full_functions(rng: &mut Rng) -> (u32, Vec<Line>) {
 }
 
 /// A contents line for each location that can have one: no label is free, so none is a trace.
-fn every_location(rng: &mut Rng, draft: &Draft) -> Vec<Line> {
+fn every_location(rng: &mut Rng, draft: &BookDraft) -> Vec<Line> {
     let mut lines = Vec::new();
     for function in 1..draft.functions.len() as u32 {
         let bound = if draft.is_dynamic(function) { draft.elements } else { draft.permanent };
@@ -347,25 +340,17 @@ fn every_location(rng: &mut Rng, draft: &Draft) -> Vec<Line> {
 
 /// Joins rules without effect to a root until the draft has exactly this many nodes; at least six
 /// are missing. Gives the new root.
-pub fn pad_nodes(draft: &mut Draft, root: u32, target: usize) -> u32 {
+pub fn pad_nodes(draft: &mut BookDraft, root: u32, target: usize) -> u32 {
     let missing = target - draft.nodes.len() - 1;
     let first = if missing.is_multiple_of(2) {
-        let fails = draft.add([1, 1, 0, 0]);
-        let (b, c) = (draft.add([20, 0, 0, 0]), draft.add([20, 0, 0, 0]));
-        draft.add([23, fails, b, c])
+        let fails = draft.element(1);
+        let (b, c) = (draft.skip(), draft.skip());
+        draft.conditional(fails, b, c)
     } else {
-        draft.add([20, 0, 0, 0])
+        draft.skip()
     };
-    let mut open = std::collections::VecDeque::from([first]);
-    for _ in 0..(target - draft.nodes.len() - 1) / 2 {
-        let skip = draft.add([20, 0, 0, 0]);
-        open.push_back(skip);
-    }
-    while open.len() > 1 {
-        let a = open.pop_front().expect("two are open");
-        let b = open.pop_front().expect("two are open");
-        let both = draft.add([22, a, b, 0]);
-        open.push_back(both);
-    }
-    draft.add([22, root, open[0], 0])
+    let skips = (target - draft.nodes.len() - 1) / 2;
+    let rules: Vec<u32> = std::iter::once(first).chain((0..skips).map(|_| draft.skip())).collect();
+    let joined = draft.joined(rules, BookDraft::both);
+    draft.both(root, joined)
 }

@@ -1,10 +1,12 @@
 // Damaged books: each refusal of the book's checks, alone and with others, and plain garbage.
 
+use crate::book_draft::{BookDraft, RESERVE};
 use crate::books::{self, MOST_NODES};
-use crate::draft::*;
 use crate::faults;
-use crate::flavours::{deepen, depth, MOST_DEPTH};
+use crate::lines::{one_more, text_of};
+use crate::nodes::{is_binder, is_rule, operand_fields};
 use crate::rng::Rng;
+use crate::root_rules::{deepen, MOST_DEPTH};
 use paper::{Line, LINE_BYTES};
 
 /// A book with one fault, or a few, from any of the book's checks.
@@ -28,7 +30,7 @@ pub fn damaged(rng: &mut Rng) -> Vec<u8> {
 }
 
 /// Makes a refusal of this number likely, 4 to 8.
-fn spoil_draft(rng: &mut Rng, draft: &mut Draft, number: u32) {
+fn spoil_draft(rng: &mut Rng, draft: &mut BookDraft, number: u32) {
     match number {
         4 => spoil_function(rng, draft),
         5 => spoil_node(rng, draft),
@@ -73,7 +75,7 @@ fn too_many_locations(rng: &mut Rng, lines: &mut Vec<Line>) {
     lines.splice(2..2 + before, functions);
 }
 
-fn spoil_function(rng: &mut Rng, draft: &mut Draft) {
+fn spoil_function(rng: &mut Rng, draft: &mut BookDraft) {
     let function = rng.index(draft.functions.len());
     let field = rng.index(4);
     let line = &mut draft.functions[function];
@@ -87,7 +89,7 @@ fn spoil_function(rng: &mut Rng, draft: &mut Draft) {
 }
 
 /// One field of a node line: another kind, a wrong operand or function, an unused field in use.
-fn spoil_node(rng: &mut Rng, draft: &mut Draft) {
+fn spoil_node(rng: &mut Rng, draft: &mut BookDraft) {
     let node = rng.index(draft.nodes.len());
     let field = rng.index(4);
     let (e, p) = (draft.elements, draft.permanent);
@@ -102,7 +104,7 @@ fn spoil_node(rng: &mut Rng, draft: &mut Draft) {
 }
 
 /// A fault of use, binding, depth or nesting.
-fn spoil_tree(rng: &mut Rng, draft: &mut Draft) {
+fn spoil_tree(rng: &mut Rng, draft: &mut BookDraft) {
     if draft.nodes.len() + 80 > MOST_NODES {
         return spoil_use(rng, draft);
     }
@@ -119,7 +121,7 @@ fn spoil_tree(rng: &mut Rng, draft: &mut Draft) {
 }
 
 /// Two uses of one node, a node without use, or an operand that is a root too.
-fn spoil_use(rng: &mut Rng, draft: &mut Draft) {
+fn spoil_use(rng: &mut Rng, draft: &mut BookDraft) {
     let node = rng.index(draft.nodes.len());
     match rng.below(4) {
         0 | 1 => use_another(rng, draft, node),
@@ -135,7 +137,7 @@ fn spoil_use(rng: &mut Rng, draft: &mut Draft) {
 }
 
 /// Lets an operand place of a node hold another node of the same sort.
-fn use_another(rng: &mut Rng, draft: &mut Draft, node: usize) {
+fn use_another(rng: &mut Rng, draft: &mut BookDraft, node: usize) {
     let users: Vec<usize> =
         (0..draft.nodes.len()).filter(|&user| !operand_fields(draft.nodes[user][0]).is_empty()).collect();
     let Some(&user) = users.iter().find(|&&user| user >= node).or(users.last()) else { return };
@@ -154,7 +156,7 @@ fn use_another(rng: &mut Rng, draft: &mut Draft, node: usize) {
 }
 
 /// Puts the tree of one root, as all its agents name it, under more rules.
-fn rewrap(rng: &mut Rng, draft: &mut Draft, wrap: impl FnOnce(&mut Rng, &mut Draft, u32) -> u32) {
+fn rewrap(rng: &mut Rng, draft: &mut BookDraft, wrap: impl FnOnce(&mut Rng, &mut BookDraft, u32) -> u32) {
     let agent = rng.index(draft.agents.len());
     let old = draft.agents[agent][0];
     if old as usize >= draft.nodes.len() {
@@ -165,7 +167,7 @@ fn rewrap(rng: &mut Rng, draft: &mut Draft, wrap: impl FnOnce(&mut Rng, &mut Dra
 }
 
 /// A variable node without a binder around it: beside the root, or by another number.
-fn unbound(rng: &mut Rng, draft: &mut Draft) {
+fn unbound(rng: &mut Rng, draft: &mut BookDraft) {
     let variables: Vec<usize> = (0..draft.nodes.len()).filter(|&node| draft.nodes[node][0] == 2).collect();
     let binders: Vec<usize> = (0..draft.nodes.len()).filter(|&node| is_binder(&draft.nodes[node])).collect();
     let choice = rng.below(3);
@@ -174,19 +176,19 @@ fn unbound(rng: &mut Rng, draft: &mut Draft) {
         (1, _, Some(node)) => draft.nodes[node][1] = rng.below(8),
         _ => rewrap(rng, draft, |rng, draft, root| {
             let variable = rng.below(8);
-            let term = draft.add([2, variable, 0, 0]);
+            let term = draft.variable(variable);
             if rng.percent(50) {
                 // The b of a let that binds it.
-                return draft.add([24, variable, term, root]);
+                return draft.let_in(variable, term, root);
             }
-            let release = draft.add([27, term, 0, 0]);
-            draft.add([22, root, release, 0])
+            let release = draft.release(term);
+            draft.both(root, release)
         }),
     }
 }
 
 /// A binder of a variable that is bound around it.
-fn bound_again(rng: &mut Rng, draft: &mut Draft) {
+fn bound_again(rng: &mut Rng, draft: &mut BookDraft) {
     let binders: Vec<Line> = draft.nodes.iter().copied().filter(is_binder).collect();
     let universes = draft.universes(false);
     let variable = rng.any(&binders).map_or(rng.below(8), |line| line[1]);
@@ -194,12 +196,12 @@ fn bound_again(rng: &mut Rng, draft: &mut Draft) {
         for _ in 0..if binders.is_empty() { 2 } else { 1 } {
             root = match rng.any(&universes) {
                 Some(universe) if rng.percent(60) => {
-                    let kind = rng.pick(&[25, 28]);
-                    draft.add([kind, variable, universe, root])
+                    let bind = rng.pick(&[BookDraft::for_all, BookDraft::choose]);
+                    bind(draft, variable, universe, root)
                 }
                 _ => {
-                    let value = draft.add([3, 0, 0, 0]);
-                    draft.add([24, variable, value, root])
+                    let value = draft.agent_element();
+                    draft.let_in(variable, value, root)
                 }
             };
         }
@@ -208,7 +210,7 @@ fn bound_again(rng: &mut Rng, draft: &mut Draft) {
 }
 
 /// Three foralls or more around one another, with variables that are free where that can be.
-fn third_forall(rng: &mut Rng, draft: &mut Draft) {
+fn third_forall(rng: &mut Rng, draft: &mut BookDraft) {
     let universes = draft.universes(false);
     let Some(universe) = rng.any(&universes) else { return unbound(rng, draft) };
     let used: Vec<u32> = draft.nodes.iter().filter(|line| is_binder(line)).map(|line| line[1]).collect();
@@ -216,15 +218,15 @@ fn third_forall(rng: &mut Rng, draft: &mut Draft) {
     let count = rng.range(1, 4) as usize;
     rewrap(rng, draft, |_, draft, mut root| {
         for &variable in free.iter().take(count) {
-            if depth(draft, root) < MOST_DEPTH {
-                root = draft.add([25, variable, universe, root]);
+            if draft.depth(root) < MOST_DEPTH {
+                root = draft.for_all(variable, universe, root);
             }
         }
         root
     });
 }
 
-fn spoil_agent(rng: &mut Rng, draft: &mut Draft) {
+fn spoil_agent(rng: &mut Rng, draft: &mut BookDraft) {
     let last = draft.agents.len() - 1;
     let agent = rng.index(last + 1);
     match rng.below(6) {
@@ -245,12 +247,12 @@ fn spoil_agent(rng: &mut Rng, draft: &mut Draft) {
 }
 
 /// One more agent, or one of those that share a root, with a root that is no rule.
-fn odd_root(rng: &mut Rng, draft: &mut Draft) {
+fn odd_root(rng: &mut Rng, draft: &mut BookDraft) {
     let agent = rng.index(draft.agents.len());
     let root = draft.agents[agent][0];
     let shared = draft.agents.iter().filter(|line| line[0] == root).count() > 1;
     let odd = if rng.percent(50) && draft.nodes.len() < MOST_NODES {
-        draft.add([1, 3, 0, 0])
+        draft.element(3)
     } else {
         draft.nodes.len() as u32
     };

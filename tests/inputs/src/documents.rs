@@ -1,5 +1,5 @@
 // The inputs that the project's documents show, with the first line that they say `rental` prints.
-use paper::padded;
+use crate::lines::{numbers_in, padded};
 
 // An input of `rental` as a document writes it, its bytes, and the numbers of the first printed line.
 pub struct Shown {
@@ -32,10 +32,5 @@ pub fn shown_in(document: &str) -> Vec<Shown> {
 fn shown_by(line: &str, book: &str) -> Shown {
     let (input, answer) = line.split_once("=>").expect("a case has =>");
     let text = input.trim().replace("BOOK", book);
-    Shown { input: padded(&text), answer: numbers(answer), text }
-}
-
-// The numbers of a printed line.
-pub fn numbers(line: &str) -> Vec<u32> {
-    line.split_whitespace().map(|word| word.parse().expect("a number")).collect()
+    Shown { input: padded(&text), answer: numbers_in(answer), text }
 }

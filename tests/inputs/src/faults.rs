@@ -1,10 +1,10 @@
 // Contents at fault, each reason of 8: in the lines of a draft and in lent tables.
 
-use crate::draft::*;
+use crate::book_draft::BookDraft;
 use crate::rng::Rng;
 
 /// Spoils the contents lines by one reason, or by the next one that the draft has room for.
-pub fn spoil_contents(rng: &mut Rng, draft: &mut Draft) {
+pub fn spoil_contents(rng: &mut Rng, draft: &mut BookDraft) {
     let first = rng.below(12);
     for reason in (first..12).chain(0..first) {
         if spoil_by(rng, draft, reason) {
@@ -14,7 +14,7 @@ pub fn spoil_contents(rng: &mut Rng, draft: &mut Draft) {
 }
 
 /// Spoils by one reason; false if the draft has no function or label for it.
-fn spoil_by(rng: &mut Rng, draft: &mut Draft, reason: u32) -> bool {
+fn spoil_by(rng: &mut Rng, draft: &mut BookDraft, reason: u32) -> bool {
     let line = match reason {
         0 => Some([draft.functions.len() as u32, 0, 0, 3]),
         1 => argument_too_large(rng, draft),
@@ -35,7 +35,7 @@ fn spoil_by(rng: &mut Rng, draft: &mut Draft, reason: u32) -> bool {
 type Made = Option<[u32; 4]>;
 
 /// A sound value of a function that needs no label.
-fn plain_value(draft: &Draft, function: u32) -> u32 {
+fn plain_value(draft: &BookDraft, function: u32) -> u32 {
     if draft.is_relation(function) {
         2
     } else {
@@ -43,7 +43,7 @@ fn plain_value(draft: &Draft, function: u32) -> u32 {
     }
 }
 
-fn argument_too_large(rng: &mut Rng, draft: &Draft) -> Made {
+fn argument_too_large(rng: &mut Rng, draft: &BookDraft) -> Made {
     let functions = draft.functions_where(|draft, f| draft.arity(f) > 0);
     let function = rng.any(&functions)?;
     let large = rng.pick(&[draft.elements, draft.elements + 1, 65_536, 999_999]);
@@ -54,13 +54,13 @@ fn argument_too_large(rng: &mut Rng, draft: &Draft) -> Made {
     Some([function, large, 0, value])
 }
 
-fn value_too_large(rng: &mut Rng, draft: &Draft) -> Made {
+fn value_too_large(rng: &mut Rng, draft: &BookDraft) -> Made {
     let functions = draft.functions_where(|_, _| true);
     let function = rng.any(&functions)?;
     Some([function, 0, 0, rng.pick(&[draft.elements, draft.elements + 1, 65_538, 999_999])])
 }
 
-fn unused_argument(rng: &mut Rng, draft: &Draft) -> Made {
+fn unused_argument(rng: &mut Rng, draft: &BookDraft) -> Made {
     let functions = draft.functions_where(|draft, f| draft.arity(f) < 2);
     let function = rng.any(&functions)?;
     let value = plain_value(draft, function);
@@ -70,20 +70,20 @@ fn unused_argument(rng: &mut Rng, draft: &Draft) -> Made {
     Some([function, 0, 1, value])
 }
 
-fn default_value(rng: &mut Rng, draft: &Draft) -> Made {
+fn default_value(rng: &mut Rng, draft: &BookDraft) -> Made {
     let functions = draft.functions_where(|_, _| true);
     let function = rng.any(&functions)?;
     Some([function, 0, 0, u32::from(draft.is_relation(function))])
 }
 
-fn no_boolean(rng: &mut Rng, draft: &Draft) -> Made {
+fn no_boolean(rng: &mut Rng, draft: &BookDraft) -> Made {
     let relations = draft.functions_where(|draft, f| draft.is_relation(f));
     let relation = rng.any(&relations).unwrap_or(0);
     let argument = if relation == 0 { draft.elements - 1 } else { 0 };
     Some([relation, argument, 0, rng.pick(&[0, 1, 3, draft.elements - 1])])
 }
 
-fn static_at_label(rng: &mut Rng, draft: &Draft) -> Made {
+fn static_at_label(rng: &mut Rng, draft: &BookDraft) -> Made {
     let functions = draft.functions_where(|draft, f| !draft.is_dynamic(f) && draft.arity(f) > 0);
     let function = rng.any(&functions)?;
     let label = label(rng, draft)?;
@@ -94,18 +94,18 @@ fn static_at_label(rng: &mut Rng, draft: &Draft) -> Made {
     Some([function, label, 0, value])
 }
 
-fn static_label(rng: &mut Rng, draft: &Draft) -> Made {
+fn static_label(rng: &mut Rng, draft: &BookDraft) -> Made {
     let functions = draft.functions_where(|draft, f| !draft.is_dynamic(f) && !draft.is_relation(f));
     let function = rng.any(&functions)?;
     Some([function, 0, 0, label(rng, draft)?])
 }
 
-fn label(rng: &mut Rng, draft: &Draft) -> Option<u32> {
+fn label(rng: &mut Rng, draft: &BookDraft) -> Option<u32> {
     (draft.permanent < draft.elements).then(|| rng.range(draft.permanent, draft.elements - 1))
 }
 
 /// Two lines swapped, or one twice.
-fn out_of_order(rng: &mut Rng, draft: &mut Draft) -> bool {
+fn out_of_order(rng: &mut Rng, draft: &mut BookDraft) -> bool {
     if draft.contents.len() < 2 {
         return false;
     }
@@ -119,9 +119,8 @@ fn out_of_order(rng: &mut Rng, draft: &mut Draft) -> bool {
 }
 
 /// A trace of a label on the roll: as an argument, or as a value.
-fn trace(rng: &mut Rng, draft: &Draft, as_argument: bool) -> Made {
-    let roll: Vec<u32> = draft.contents.iter().filter(|line| line[0] == 0).map(|line| line[1]).collect();
-    let label = rng.any(&roll)?;
+fn trace(rng: &mut Rng, draft: &BookDraft, as_argument: bool) -> Made {
+    let label = rng.any(&draft.free_labels())?;
     let functions = draft.functions_where(|draft, f| {
         draft.is_dynamic(f) && if as_argument { draft.arity(f) > 0 } else { !draft.is_relation(f) }
     });
@@ -137,7 +136,7 @@ fn trace(rng: &mut Rng, draft: &Draft, as_argument: bool) -> Made {
 }
 
 /// Spoils a lent table of a draft's locations by one reason of 8.
-pub fn spoil_table(rng: &mut Rng, draft: &Draft, table: &mut [u16]) {
+pub fn spoil_table(rng: &mut Rng, draft: &BookDraft, table: &mut [u16]) {
     let first = rng.below(8);
     for reason in (first..8).chain(0..first) {
         if let Some((location, value)) = table_fault(rng, draft, table, reason) {
@@ -148,7 +147,7 @@ pub fn spoil_table(rng: &mut Rng, draft: &Draft, table: &mut [u16]) {
 }
 
 /// A location with a value that one reason forbids there.
-fn table_fault(rng: &mut Rng, draft: &Draft, table: &[u16], reason: u32) -> Option<(usize, u32)> {
+fn table_fault(rng: &mut Rng, draft: &BookDraft, table: &[u16], reason: u32) -> Option<(usize, u32)> {
     let relations = draft.functions_where(|draft, f| draft.is_relation(f));
     let any_in = |rng: &mut Rng, function: u32| draft.first(function) + rng.index(draft.size(function));
     let line = match reason {

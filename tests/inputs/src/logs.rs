@@ -1,10 +1,11 @@
-// Logs: guided ones whose moves fire and whose pairs fit, loose ones, damaged ones; random orders.
+// Logs: guided ones whose moves fire and whose pairs fit, loose ones, damaged ones.
 
 use crate::damage::spoil_text;
-use crate::draft::{one_more, text_of};
 use crate::idle::changes;
+use crate::lines::{one_more, text_of};
+use crate::log_draft::{all_pairs, successive_pairs, LogDraft};
 use crate::picks::{fitting_picks, has_choices, spoil_picks};
-use crate::retired::{has_releases, pairs_by_other_reads};
+use crate::releases::{has_releases, pairs_by_other_reads};
 use crate::rng::Rng;
 use paper::{fire_move, start_table, Book, Line, Marks, Pick, CHOICE_LINES};
 
@@ -12,58 +13,6 @@ const MOST_MOVES: usize = 64;
 
 /// The most picks of one move of a random log.
 const MOST_PICKS: usize = 40;
-
-/// The agents of the moves, the pairs in any order, and the picks of each move, which are elements; moves past these have none.
-#[derive(Debug, Clone, PartialEq, Eq)]
-pub struct DraftLog {
-    pub agents: Vec<u32>,
-    pub pairs: Vec<(u32, u32)>,
-    pub picks: Vec<Vec<Pick>>,
-}
-
-impl DraftLog {
-    fn lines(&self) -> Vec<Line> {
-        let mut pairs = self.pairs.clone();
-        pairs.sort_unstable();
-        pairs.dedup();
-        let mut lines = vec![[self.agents.len() as u32, pairs.len() as u32, self.choices() as u32, 0]];
-        lines.extend(self.agents.iter().map(|&agent| [agent, 0, 0, 0]));
-        lines.extend(pairs.into_iter().map(|(earlier, later)| [earlier, later, 0, 0]));
-        for (number, picks) in self.picks.iter().enumerate() {
-            lines.extend(picks.iter().map(|&pick| [number as u32, pick as u32, 0, 0]));
-        }
-        lines
-    }
-
-    /// How many choice lines it has.
-    fn choices(&self) -> usize {
-        self.picks.iter().map(Vec::len).sum()
-    }
-
-    pub fn text(&self) -> Vec<u8> {
-        text_of(&self.lines())
-    }
-}
-
-/// An order at random, among all those that keep the pairs of a log of m moves.
-pub fn random_order(pairs: &[(usize, usize)], m: usize, rng: &mut Rng) -> Vec<usize> {
-    let mut waiting = vec![0; m];
-    pairs.iter().for_each(|&(_, later)| waiting[later] += 1);
-    let mut ready: Vec<usize> = (0..m).filter(|&number| waiting[number] == 0).collect();
-    let mut order = Vec::with_capacity(m);
-    while !ready.is_empty() {
-        let place = rng.index(ready.len());
-        let next = ready.swap_remove(place);
-        order.push(next);
-        for &(_, later) in pairs.iter().filter(|&&(earlier, _)| earlier == next) {
-            waiting[later] -= 1;
-            if waiting[later] == 0 {
-                ready.push(later);
-            }
-        }
-    }
-    order
-}
 
 /// How many moves a log has: mostly a few.
 fn some_moves(rng: &mut Rng) -> usize {
@@ -73,7 +22,7 @@ fn some_moves(rng: &mut Rng) -> usize {
 }
 
 /// A log that keeps its lines and counts, with moves that fire or not.
-pub fn sound(rng: &mut Rng, book: &Book) -> DraftLog {
+pub fn sound(rng: &mut Rng, book: &Book) -> LogDraft {
     let mut log = match rng.weighted(&[75, 25]) {
         0 => guided(rng, book),
         _ => loose(rng, book),
@@ -86,7 +35,7 @@ pub fn sound(rng: &mut Rng, book: &Book) -> DraftLog {
 }
 
 /// A pick too few, too many or wrong; or one that another move gets.
-fn spoil_choices(rng: &mut Rng, book: &Book, log: &mut DraftLog) {
+fn spoil_choices(rng: &mut Rng, book: &Book, log: &mut LogDraft) {
     let any_move = rng.index(log.agents.len());
     let picking: Vec<usize> = (0..log.picks.len()).filter(|&number| !log.picks[number].is_empty()).collect();
     match (rng.below(8), rng.any(&picking)) {
@@ -102,13 +51,13 @@ fn spoil_choices(rng: &mut Rng, book: &Book, log: &mut DraftLog) {
 }
 
 /// Moves of any agents and pairs of any density; often each agent's own moves are ordered.
-fn loose(rng: &mut Rng, book: &Book) -> DraftLog {
+fn loose(rng: &mut Rng, book: &Book) -> LogDraft {
     let moves = some_moves(rng);
     let agents: Vec<u32> = (0..moves).map(|_| rng.below(book.agents.len() as u32)).collect();
     let share = rng.pick(&[0, 5, 20, 50, 100]);
     let mut pairs = any_pairs(rng, moves, share);
     match rng.below(5) {
-        0 | 1 => pairs.extend((1..moves as u32).map(|later| (later - 1, later))),
+        0 | 1 => pairs.extend(successive_pairs(moves as u32)),
         2 | 3 => {
             let own = any_pairs(rng, moves, 100);
             pairs.extend(own.iter().filter(|pair| agents[pair.0 as usize] == agents[pair.1 as usize]));
@@ -116,7 +65,7 @@ fn loose(rng: &mut Rng, book: &Book) -> DraftLog {
         _ => {}
     }
     let picks = picks_as_listed(rng, book, &agents);
-    DraftLog { agents, pairs, picks }
+    LogDraft { agents, pairs, picks }
 }
 
 /// Picks that fit each move as the log lists it, as many as a log has room for; a refused move changes nothing.
@@ -137,18 +86,17 @@ fn picks_as_listed(rng: &mut Rng, book: &Book, agents: &[u32]) -> Vec<Vec<Pick>>
 }
 
 fn any_pairs(rng: &mut Rng, moves: usize, share: u32) -> Vec<(u32, u32)> {
-    let all = (1..moves as u32).flat_map(|later| (0..later).map(move |earlier| (earlier, later)));
-    all.filter(|_| rng.percent(share)).collect()
+    all_pairs(moves as u32).filter(|_| rng.percent(share)).collect()
 }
 
 /// Moves that were tried with fitting picks and fire, the last one perhaps not, and pairs chosen by what they touch; some logs lack just those
 /// for the labels that moves take out.
-pub fn guided(rng: &mut Rng, book: &Book) -> DraftLog {
+pub fn guided(rng: &mut Rng, book: &Book) -> LogDraft {
     let wanted = some_moves(rng);
     let mut contents = start_table(book);
     let (mut readers, mut writers) = (vec![0; book.locations], vec![0; book.locations]);
     let mut list = Vec::new();
-    let mut log = DraftLog { agents: Vec::new(), pairs: Vec::new(), picks: Vec::new() };
+    let mut log = LogDraft::default();
     let refused_at_last = rng.percent(25);
     // Moves that change nothing come as they do, are fewer, or are left out.
     let left_out = rng.pick(&[0, 60, 100]);
@@ -214,7 +162,7 @@ fn choose_pairs(rng: &mut Rng, needed: Vec<(u32, u32)>, agents: &[u32]) -> Vec<(
             let more = any_pairs(rng, agents.len(), 10);
             [needed, more].concat()
         }
-        3 => (1..agents.len() as u32).map(|later| (later - 1, later)).collect(),
+        3 => successive_pairs(agents.len() as u32),
         4 => without_one(rng, reduced(&needed)),
         5 => {
             // Moves of one agent stay ordered, so that the pair left out is missed for touching.
@@ -272,7 +220,7 @@ pub fn damaged(rng: &mut Rng, book: &Book) -> Vec<u8> {
 }
 
 /// One field past its bound, one out of order, or a count that does not fit.
-fn spoil_line(rng: &mut Rng, lines: &mut Vec<Line>, log: &DraftLog, agents: u32) {
+fn spoil_line(rng: &mut Rng, lines: &mut Vec<Line>, log: &LogDraft, agents: u32) {
     let moves = log.agents.len().min(lines.len() - 1);
     let pairs = (lines.len() - 1 - moves).saturating_sub(log.choices());
     let any_move = 1 + rng.index(moves.max(1));
@@ -304,7 +252,7 @@ fn spoil_line(rng: &mut Rng, lines: &mut Vec<Line>, log: &DraftLog, agents: u32)
 }
 
 /// A fault of a choice line, or of their count.
-fn spoil_choice_line(rng: &mut Rng, lines: &mut Vec<Line>, log: &DraftLog, elements: u32) {
+fn spoil_choice_line(rng: &mut Rng, lines: &mut Vec<Line>, log: &LogDraft, elements: u32) {
     let moves = log.agents.len() as u32;
     let choices = log.choices().min(lines.len() - 1);
     let line = lines.len() - 1 - rng.index(choices.max(1));

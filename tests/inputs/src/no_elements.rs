@@ -1,6 +1,6 @@
 // Picks that are no elements, near and far; and what shows a library that cuts picks to fewer bits.
 
-use crate::cases::StepInput;
+use crate::entry_inputs::StepInput;
 use crate::rng::Rng;
 use paper::{step, Answer, Pick};
 

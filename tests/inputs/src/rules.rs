@@ -1,6 +1,7 @@
 // Terms and rules at random, of such sorts that many of the moves fire.
 
-use crate::draft::Draft;
+use crate::book_draft::BookDraft;
+use crate::nodes::Leaf;
 use crate::rng::Rng;
 use paper::Line;
 
@@ -22,7 +23,7 @@ pub enum Sort {
 /// Adds nodes to a draft whose functions and contents are there already.
 pub struct Writer<'a> {
     pub rng: &'a mut Rng,
-    pub draft: &'a mut Draft,
+    pub draft: &'a mut BookDraft,
     /// Whether terms keep to the sort meant; otherwise some do not.
     pub careful: bool,
     /// The variables bound here, with what they are bound to.
@@ -33,7 +34,7 @@ pub struct Writer<'a> {
 }
 
 impl<'a> Writer<'a> {
-    pub fn new(rng: &'a mut Rng, draft: &'a mut Draft, careful: bool) -> Writer<'a> {
+    pub fn new(rng: &'a mut Rng, draft: &'a mut BookDraft, careful: bool) -> Writer<'a> {
         Writer { rng, draft, careful, bound: Vec::new(), foralls: 0, turns: 1 }
     }
 
@@ -49,6 +50,15 @@ impl<'a> Writer<'a> {
         } else {
             let b = second(self);
             (first(self), b)
+        }
+    }
+
+    /// Both rules, either of them first.
+    pub fn both_in_any_order(&mut self, a: u32, b: u32) -> u32 {
+        if self.rng.percent(50) {
+            self.draft.both(a, b)
+        } else {
+            self.draft.both(b, a)
         }
     }
 
@@ -70,7 +80,7 @@ impl<'a> Writer<'a> {
 
     fn small_rule(&mut self, depth: u32) -> u32 {
         if depth < 4 {
-            return self.draft.add([20, 0, 0, 0]);
+            return self.draft.skip();
         }
         match self.rng.weighted(&[34, 28, 16, 8, 4, 4]) {
             0 => self.set(depth),
@@ -78,14 +88,14 @@ impl<'a> Writer<'a> {
             2 => self.toggle(),
             3 => self.release(depth),
             4 => self.keep(),
-            _ => self.draft.add([20, 0, 0, 0]),
+            _ => self.draft.skip(),
         }
     }
 
     fn both(&mut self, size: u32, depth: u32) -> u32 {
         let left = self.rng.range(1, size - 1);
         let (a, b) = self.two(|w| w.rule(left, depth - 1), |w| w.rule(size - left, depth - 1));
-        self.draft.add([22, a, b, 0])
+        self.draft.both(a, b)
     }
 
     fn conditional(&mut self, size: u32, depth: u32) -> u32 {
@@ -98,7 +108,7 @@ impl<'a> Writer<'a> {
             let branches = self.two(|w| w.rule(left, depth - 1), |w| w.rule(size - left, depth - 1));
             (self.term(Sort::Boolean, levels), branches)
         };
-        self.draft.add([23, a, b, c])
+        self.draft.conditional(a, b, c)
     }
 
     fn let_in(&mut self, size: u32, depth: u32) -> u32 {
@@ -107,7 +117,7 @@ impl<'a> Writer<'a> {
         let levels = depth.min(4) - 1;
         let (b, c) =
             self.two(|w| w.term(sort, levels), |w| w.inside(variable, sort, |w| w.rule(size, depth - 1)));
-        self.draft.add([24, variable, b, c])
+        self.draft.let_in(variable, b, c)
     }
 
     fn for_all(&mut self, size: u32, depth: u32) -> u32 {
@@ -128,7 +138,7 @@ impl<'a> Writer<'a> {
         let c = self.inside(variable, sort, body);
         self.foralls -= 1;
         self.turns = turns;
-        self.draft.add([25, variable, universe, c])
+        self.draft.for_all(variable, universe, c)
     }
 
     fn sort_of_members(&self, universe: u32) -> Sort {
@@ -156,7 +166,7 @@ impl<'a> Writer<'a> {
     pub fn choose_in(&mut self, variable: u32, universe: u32, body: impl FnOnce(&mut Self) -> u32) -> u32 {
         let sort = self.sort_of_members(universe);
         let c = self.inside(variable, sort, body);
-        self.draft.add([28, variable, universe, c])
+        self.draft.choose(variable, universe, c)
     }
 
     pub fn may_nest(&self, universe: u32) -> bool {
@@ -167,9 +177,9 @@ impl<'a> Writer<'a> {
     /// A universe, mostly one with members.
     pub fn universe(&mut self) -> Option<u32> {
         let universes = self.draft.universes(false);
-        let peopled: Vec<u32> =
+        let with_members: Vec<u32> =
             universes.iter().copied().filter(|&universe| self.draft.lines_of(universe) > 0).collect();
-        match self.rng.any(&peopled) {
+        match self.rng.any(&with_members) {
             Some(universe) if self.rng.percent(85) => Some(universe),
             _ => self.rng.any(&universes),
         }
@@ -180,7 +190,7 @@ impl<'a> Writer<'a> {
         match (self.rng.any(&universes), self.free_variable()) {
             (Some(universe), Some(variable)) => {
                 let c = self.inside(variable, Sort::Label, |w| w.rule(size, depth - 1));
-                self.draft.add([26, variable, universe, c])
+                self.draft.import(variable, universe, c)
             }
             _ => self.rule(size, depth),
         }
@@ -204,7 +214,7 @@ impl<'a> Writer<'a> {
     /// Sets a location of any dynamic function to a term of its sort.
     fn set(&mut self, depth: u32) -> u32 {
         let dynamic = self.draft.functions_where(|draft, function| draft.is_dynamic(function));
-        let Some(function) = self.rng.any(&dynamic) else { return self.draft.add([20, 0, 0, 0]) };
+        let Some(function) = self.rng.any(&dynamic) else { return self.draft.skip() };
         let sort = match self.draft.is_relation(function) {
             true if !self.careful && self.rng.percent(60) => self.rng.pick(&[Sort::Any, Sort::Number]),
             true => Sort::Boolean,
@@ -212,7 +222,7 @@ impl<'a> Writer<'a> {
         };
         let levels = depth.min(5) - 1;
         let (a, b) = self.two(|w| w.apply(function, levels), |w| w.term(sort, levels));
-        self.draft.add([21, a, b, 0])
+        self.draft.set(a, b)
     }
 
     /// f(x) := f(x) plus or minus a number, where f(x) may be one at the start; or f(x) := a number.
@@ -225,7 +235,7 @@ impl<'a> Writer<'a> {
         let numbers: Vec<Line> = numbers.collect();
         match self.rng.any(&numbers) {
             Some([function, first, second, _]) if self.rng.percent(60) => {
-                let arguments = [[1, first, 0, 0], [1, second, 0, 0]];
+                let arguments = [first, second].map(Leaf::Element);
                 let used = self.draft.arity(function) as usize;
                 self.count_on(function, &arguments[..used])
             }
@@ -233,40 +243,40 @@ impl<'a> Writer<'a> {
         }
     }
 
-    fn count_on(&mut self, function: u32, arguments: &[Line]) -> u32 {
-        let (a, b) = self.two(|w| w.name(function, arguments), |w| w.constant(Sort::Number));
+    fn count_on(&mut self, function: u32, arguments: &[Leaf]) -> u32 {
+        let (a, b) = self.two(|w| w.of_leaves(function, arguments), |w| w.constant(Sort::Number));
         let kind = self.rng.pick(&[11, 11, 11, 12]);
         let value = self.draft.add([kind, a, b, 0]);
-        let location = self.name(function, arguments);
-        self.draft.add([21, location, value, 0])
+        let location = self.of_leaves(function, arguments);
+        self.draft.set(location, value)
     }
 
     fn set_to_number(&mut self) -> u32 {
         let counters = self.draft.functions_where(|draft, f| draft.is_dynamic(f) && !draft.is_relation(f));
         let Some(function) = self.rng.any(&counters) else { return self.toggle() };
         let arguments = self.leaf_arguments(function);
-        let (a, b) = self.two(|w| w.name(function, &arguments), |w| w.constant(Sort::Number));
-        self.draft.add([21, a, b, 0])
+        let (a, b) = self.two(|w| w.of_leaves(function, &arguments), |w| w.constant(Sort::Number));
+        self.draft.set(a, b)
     }
 
     /// f(x) := f(x).
     pub fn keep(&mut self) -> u32 {
         let dynamic = self.draft.functions_where(|draft, function| draft.is_dynamic(function));
-        let Some(function) = self.rng.any(&dynamic) else { return self.draft.add([20, 0, 0, 0]) };
+        let Some(function) = self.rng.any(&dynamic) else { return self.draft.skip() };
         let arguments = self.leaf_arguments(function);
-        let (a, b) = self.two(|w| w.name(function, &arguments), |w| w.name(function, &arguments));
-        self.draft.add([21, a, b, 0])
+        let (a, b) = self.two(|w| w.of_leaves(function, &arguments), |w| w.of_leaves(function, &arguments));
+        self.draft.set(a, b)
     }
 
     /// r(x) := not r(x).
     pub fn toggle(&mut self) -> u32 {
         let relations = self.draft.functions_where(|draft, f| draft.is_dynamic(f) && draft.is_relation(f));
-        let Some(function) = self.rng.any(&relations) else { return self.draft.add([20, 0, 0, 0]) };
+        let Some(function) = self.rng.any(&relations) else { return self.draft.skip() };
         let arguments = self.leaf_arguments(function);
-        let old = self.name(function, &arguments);
-        let new = self.draft.add([8, old, 0, 0]);
-        let location = self.name(function, &arguments);
-        self.draft.add([21, location, new, 0])
+        let old = self.of_leaves(function, &arguments);
+        let new = self.draft.not(old);
+        let location = self.of_leaves(function, &arguments);
+        self.draft.set(location, new)
     }
 
     /// Releases a label that is in use, or any term when careless.
@@ -277,15 +287,15 @@ impl<'a> Writer<'a> {
         let term = match self.rng.any(&holders) {
             Some(_) if bound && self.rng.percent(50) => self.leaf(Sort::Label),
             Some([function, first, second, _]) => {
-                let arguments = [[1, first, 0, 0], [1, second, 0, 0]];
+                let arguments = [first, second].map(Leaf::Element);
                 let used = self.draft.arity(function) as usize;
-                self.name(function, &arguments[..used])
+                self.of_leaves(function, &arguments[..used])
             }
             None if bound => self.leaf(Sort::Label),
-            None if self.careful => return self.draft.add([20, 0, 0, 0]),
+            None if self.careful => return self.draft.skip(),
             None => self.term(Sort::Label, depth.min(4) - 1),
         };
-        self.draft.add([27, term, 0, 0])
+        self.draft.release(term)
     }
 
     /// Whether a contents line gives a label at arguments that a term can name.
@@ -322,7 +332,7 @@ impl<'a> Writer<'a> {
             }
             1 => {
                 let a = self.term(Sort::Boolean, depth - 1);
-                self.draft.add([8, a, 0, 0])
+                self.draft.not(a)
             }
             2 => self.of_two(9, Sort::Boolean, depth),
             3 => self.of_two(10, Sort::Boolean, depth),
@@ -353,14 +363,14 @@ impl<'a> Writer<'a> {
     /// A function of argument terms.
     fn apply(&mut self, function: u32, depth: u32) -> u32 {
         match self.draft.arity(function) {
-            0 => self.draft.add([4, function, 0, 0]),
+            0 => self.draft.nullary(function),
             1 => {
                 let b = self.argument(depth - 1);
-                self.draft.add([5, function, b, 0])
+                self.draft.unary(function, b)
             }
             _ => {
                 let (b, c) = self.two(|w| w.argument(depth - 1), |w| w.argument(depth - 1));
-                self.draft.add([6, function, b, c])
+                self.draft.binary(function, b, c)
             }
         }
     }
@@ -369,40 +379,37 @@ impl<'a> Writer<'a> {
         if self.rng.percent(20) {
             self.term(Sort::Any, depth)
         } else {
-            let line = self.leaf_line();
-            self.draft.add(line)
+            let leaf = self.any_leaf();
+            self.draft.leaf(leaf)
         }
     }
 
     /// A function of arguments that are leaves.
-    pub fn name(&mut self, function: u32, arguments: &[Line]) -> u32 {
+    pub fn of_leaves(&mut self, function: u32, arguments: &[Leaf]) -> u32 {
         match *arguments {
-            [] => self.draft.add([4, function, 0, 0]),
-            [argument] => {
-                let b = self.draft.add(argument);
-                self.draft.add([5, function, b, 0])
-            }
+            [] => self.draft.nullary(function),
+            [argument] => self.draft.unary_of(function, argument),
             [first, second, ..] => {
-                let (b, c) = self.two(|w| w.draft.add(first), |w| w.draft.add(second));
-                self.draft.add([6, function, b, c])
+                let (b, c) = self.two(|w| w.draft.leaf(first), |w| w.draft.leaf(second));
+                self.draft.binary(function, b, c)
             }
         }
     }
 
-    fn leaf_arguments(&mut self, function: u32) -> Vec<Line> {
-        (0..self.draft.arity(function)).map(|_| self.leaf_line()).collect()
+    fn leaf_arguments(&mut self, function: u32) -> Vec<Leaf> {
+        (0..self.draft.arity(function)).map(|_| self.any_leaf()).collect()
     }
 
     /// A leaf that can stand in two places: a variable, the agent's element or a constant.
-    fn leaf_line(&mut self) -> Line {
+    fn any_leaf(&mut self) -> Leaf {
         match self.rng.below(5) {
             0 | 1 if !self.bound.is_empty() => {
                 let bound = self.rng.index(self.bound.len());
-                [2, self.bound[bound].0, 0, 0]
+                Leaf::Variable(self.bound[bound].0)
             }
-            2 => [1, self.rng.below(self.draft.permanent), 0, 0],
-            3 => [1, self.rng.below(self.draft.permanent.min(6)), 0, 0],
-            _ => [3, 0, 0, 0],
+            2 => Leaf::Element(self.rng.below(self.draft.permanent)),
+            3 => Leaf::Element(self.rng.below(self.draft.permanent.min(6))),
+            _ => Leaf::AgentElement,
         }
     }
 
@@ -412,7 +419,7 @@ impl<'a> Writer<'a> {
             self.bound.iter().filter(|bound| bound.1 == sort).map(|bound| bound.0).collect();
         if let Some(variable) = self.rng.any(&variables) {
             if self.rng.percent(60) {
-                return self.draft.add([2, variable, 0, 0]);
+                return self.draft.variable(variable);
             }
         }
         let nullary = self.draft.functions_where(|draft, function| {
@@ -420,10 +427,10 @@ impl<'a> Writer<'a> {
                 && (sort == Sort::Any || draft.is_relation(function) == (sort == Sort::Boolean))
         });
         match self.rng.any(&nullary) {
-            Some(function) if self.rng.percent(40) => self.draft.add([4, function, 0, 0]),
+            Some(function) if self.rng.percent(40) => self.draft.nullary(function),
             _ if sort == Sort::Any => {
-                let line = self.leaf_line();
-                self.draft.add(line)
+                let leaf = self.any_leaf();
+                self.draft.leaf(leaf)
             }
             _ => self.constant(sort),
         }
@@ -437,6 +444,6 @@ impl<'a> Writer<'a> {
             Sort::Number => 3 + self.rng.below((permanent - 3).min(5)),
             Sort::Any | Sort::Label => self.rng.below(permanent),
         };
-        self.draft.add([1, element, 0, 0])
+        self.draft.element(element)
     }
 }

@@ -1,22 +1,18 @@
 // Every input of some small kinds, by number: a book and a log each.
 
-use crate::draft::{text_of, Draft, RESERVE};
-use crate::logs::DraftLog;
+use crate::book_draft::BookDraft;
+use crate::entry_inputs::BookAndLog;
+use crate::log_draft::{all_pairs, LogDraft};
+use crate::nodes::{operand_fields, Leaf};
 use crate::small_picks as picks;
-use paper::{padded, Line};
+use crate::specification;
+use paper::Line;
 use std::sync::OnceLock;
-
-/// A book and a log; `rental` reads one after the other.
-#[derive(Debug, Clone, PartialEq, Eq)]
-pub struct Small {
-    pub book: Vec<u8>,
-    pub log: Vec<u8>,
-}
 
 /// A kind of small inputs: how many there are, and each by its number.
 struct Kind {
     count: fn() -> u64,
-    nth: fn(u64) -> Small,
+    nth: fn(u64) -> BookAndLog,
 }
 
 const KINDS: [Kind; 10] = [
@@ -44,7 +40,7 @@ pub fn small_inputs() -> u64 {
 }
 
 /// The small input with this number, which is below their count.
-pub fn small_input(number: u64) -> Small {
+pub fn small_input(number: u64) -> BookAndLog {
     let mut left = number;
     for (kind, &count) in KINDS.iter().zip(counts()) {
         if left < count {
@@ -63,15 +59,12 @@ pub fn digit(number: &mut u64, base: u64) -> u32 {
 }
 
 fn one_move() -> Vec<u8> {
-    padded("1 0 0 0 / 0 0 0 0")
+    LogDraft::unordered(vec![0]).text()
 }
 
-/// The book shown in the paper, and its log.
-fn shown() -> Small {
-    let book = "8 6 3 13 / 2 3 0 0 / 1 3 0 0 / 1 3 0 0 / 1 2 0 0 / 2 0 0 0 / 5 2 0 0 / 1 3 0 0 / 21 1 2 0 / \
-        26 0 1 3 / 2 0 0 0 / 5 2 5 0 / 2 0 0 0 / 5 2 7 0 / 1 4 0 0 / 11 8 9 0 / 21 6 10 0 / 25 0 1 11 / \
-        4 4 0 0 / 12 5 0 0 / 0 7 0 2 / 1 6 0 2 / 2 6 0 4";
-    Small { book: padded(book), log: padded("2 1 0 0 / 0 0 0 0 / 1 0 0 0 / 0 1 0 0") }
+/// The specification's own book and log.
+fn own() -> BookAndLog {
+    BookAndLog { book: specification::book(), log: specification::log() }
 }
 
 // ---- terms: f := a ∘ b for every operator and every two elements, f a function or a relation
@@ -83,97 +76,123 @@ fn terms() -> u64 {
     2 * OPERATORS * OPERANDS * OPERANDS
 }
 
-fn term(mut number: u64) -> Small {
+fn term(mut number: u64) -> BookAndLog {
     let kind = 2 + digit(&mut number, 2);
     let operator = 7 + digit(&mut number, OPERATORS);
     let operands = [digit(&mut number, OPERANDS), digit(&mut number, OPERANDS)];
-    let second = if operator == 8 { 0 } else { 2 };
-    // Both operands are read from constants, so that they may be labels too.
-    let mut nodes: Vec<Line> = vec![[4, 1, 0, 0], [4, 2, 0, 0], [4, 3, 0, 0], [operator, 1, second, 0]];
-    if operator == 8 {
-        nodes = vec![[4, 1, 0, 0], [4, 2, 0, 0], [operator, 1, 0, 0]];
-    }
-    let value = nodes.len() as u32 - 1;
-    nodes.push([21, 0, value, 0]);
-    let held = |function: u32, value: u32| (value != 0).then_some([function, 0, 0, value]);
-    let contents = [held(2, operands[0]), held(3, operands[1])].into_iter().flatten().collect();
-    let book = Draft {
-        elements: 8,
-        permanent: 6,
-        functions: vec![RESERVE, [0, kind, 0, 0], [0, 2, 0, 0], [0, 2, 0, 0]],
-        agents: vec![[nodes.len() as u32 - 1, 3, 0, 0]],
-        nodes,
-        contents,
+    let mut book = BookDraft::new(8, 6, &[[0, kind], [0, 2], [0, 2]]);
+    let location = book.nullary(1);
+    // Both operands are values of functions, so that they may be labels too.
+    let a = book.nullary(2);
+    let value = if operator == 8 {
+        book.not(a)
+    } else {
+        let b = book.nullary(3);
+        book.add([operator, a, b, 0])
     };
-    Small { book: book.text(), log: one_move() }
+    let root = book.set(location, value);
+    book.agent(root, 3);
+    let held = (2..).zip(operands).filter(|&(_, value)| value != 0);
+    held.for_each(|(function, value)| book.holds(function, 0, value));
+    BookAndLog { book: book.text(), log: one_move() }
 }
 
-// ---- logs: up to four moves of three desks of each book, with every set of pairs
+// ---- logs: up to four moves of three agents of each book, with every set of pairs
 
 const BOOKS: [fn() -> Vec<u8>; 6] =
-    [desks, || shown().book, retiring, working_beside, || taking_out(4, 3), || taking_out(3, 5)];
-const DESKS: u64 = 3;
+    [copying, specification::book, releasing, setting_beside, || taking_out(4, 3), || taking_out(3, 5)];
+const AGENTS: u64 = 3;
 const MOST_MOVES: u64 = 4;
 
 /// How many logs of m moves there are.
 fn logs_of(m: u64) -> u64 {
-    DESKS.pow(m as u32) * (1 << (m * m.saturating_sub(1) / 2))
+    AGENTS.pow(m as u32) * (1 << (m * m.saturating_sub(1) / 2))
 }
 
 fn logs() -> u64 {
     BOOKS.len() as u64 * (0..=MOST_MOVES).map(logs_of).sum::<u64>()
 }
 
-/// Desks 0 and 1 toggle a flag each; desk 2 copies the flag of desk 0 to its own.
-fn desks() -> Vec<u8> {
-    padded(
-        "4 4 4 11 / 3 0 0 0 / 1 3 0 0 / 0 3 0 0 / 0 3 0 0 / 0 2 0 0 / 4 1 0 0 / 4 1 0 0 / 8 1 0 0 / 21 0 2 0 / \
-         4 2 0 0 / 4 2 0 0 / 8 5 0 0 / 21 4 6 0 / 4 3 0 0 / 4 1 0 0 / 21 8 9 0 / 3 0 0 0 / 7 1 0 0 / 10 2 0 0",
-    )
+/// Agents 0 and 1 change a relation each; agent 2 copies that of agent 0 to a function.
+fn copying() -> Vec<u8> {
+    let mut book = BookDraft::new(4, 4, &[[0, 3], [0, 3], [0, 2]]);
+    for (agent, relation) in [(0, 1), (1, 2)] {
+        let (location, old) = (book.nullary(relation), book.nullary(relation));
+        let new = book.not(old);
+        let root = book.set(location, new);
+        book.agent(root, agent);
+    }
+    let location = book.nullary(3);
+    let copy = book.set_to(location, Leaf::Nullary(1));
+    book.agent(copy, 2);
+    book.text()
 }
 
-/// Desk 0 takes a label to an empty hook and releases it from a full one; desk 1 skips; desk 2 sets s to what it is.
-fn retiring() -> Vec<u8> {
-    padded(
-        "5 4 4 14 / 3 2 0 0 / 1 3 0 0 / 1 3 0 0 / 0 2 0 0 / 0 2 0 0 / 4 2 0 0 / 1 0 0 0 / 7 0 1 0 / 4 2 0 0 / 2 0 0 0 / \
-         21 3 4 0 / 26 0 1 5 / 4 2 0 0 / 27 7 0 0 / 23 2 6 8 / 20 0 0 0 / 4 3 0 0 / 4 3 0 0 / 21 11 12 0 / 9 0 0 0 / \
-         10 1 0 0 / 13 2 0 0 / 2 0 0 4 / 3 0 0 3",
-    )
+/// Agent 0 imports a label where function 2 is undef, and releases what it holds; agent 1 skips; agent 2 sets function 3 to what it is.
+fn releasing() -> Vec<u8> {
+    let mut book = BookDraft::new(5, 4, &[[1, 3], [0, 2], [0, 2]]);
+    let release = book.import_or_release(1, 2);
+    let skip = book.skip();
+    let location = book.nullary(3);
+    let keep = book.set_to(location, Leaf::Nullary(3));
+    (0..).zip([release, skip, keep]).for_each(|(agent, root)| book.agent(root, agent));
+    book.holds(2, 0, 4);
+    book.holds(3, 0, 3);
+    book.text()
 }
 
-/// Desk 0 takes a label to an empty hook t and releases it from a full one; desk 1, for the one member of a static universe, changes whether the
-/// label of s is in the dynamic one; desk 2 takes the label off a full hook u and imports one to an empty one. At the start t holds 8, s and u hold 7,
+/// Agent 0 imports a label where t is undef, and releases what it holds; agent 1, for the one member of a static universe, changes whether the
+/// label of s is in the dynamic one; agent 2 imports a label where u is undef, and takes the label out of it. At the start t holds 8, s and u hold 7,
 /// and 4 and 5 are free.
-fn working_beside() -> Vec<u8> {
-    padded(
-        "9 4 6 28 / 3 6 0 0 / 1 3 0 0 / 1 3 0 0 / 0 2 0 0 / 0 2 0 0 / 0 2 0 0 / 1 1 0 0 / 4 2 0 0 / 1 0 0 0 / 7 0 1 0 / 4 2 0 0 / \
-         2 0 0 0 / 21 3 4 0 / 26 0 1 5 / 4 2 0 0 / 27 7 0 0 / 23 2 6 8 / 4 3 0 0 / 5 1 10 0 / 4 3 0 0 / 5 1 12 0 / 8 13 0 0 / \
-         21 11 14 0 / 25 0 5 15 / 4 4 0 0 / 1 0 0 0 / 7 17 18 0 / 4 4 0 0 / 2 0 0 0 / 21 20 21 0 / 26 0 1 22 / 4 4 0 0 / 1 0 0 0 / \
-         21 24 25 0 / 23 19 23 26 / 9 0 0 0 / 16 1 0 0 / 27 2 0 0 / 0 4 0 2 / 0 5 0 2 / 2 0 0 8 / 3 0 0 7 / 4 0 0 7 / 5 3 0 2",
-    )
+fn setting_beside() -> Vec<u8> {
+    let [t, s, u] = [2, 3, 4];
+    let mut book = BookDraft::new(9, 4, &[[1, 3], [0, 2], [0, 2], [0, 2], [1, 1]]);
+    let release = book.import_or_release(1, t);
+    let (location, old) = (book.unary_of(1, Leaf::Nullary(s)), book.unary_of(1, Leaf::Nullary(s)));
+    let new = book.not(old);
+    let set = book.set(location, new);
+    let change = book.for_all(0, 5, set);
+    let guard = book.is_undef(u);
+    let location = book.nullary(u);
+    let set = book.set_to(location, Leaf::Variable(0));
+    let import = book.import(0, 1, set);
+    let location = book.nullary(u);
+    let take_out = book.set_to(location, Leaf::Element(0));
+    let import_or_take_out = book.conditional(guard, import, take_out);
+    (0..).zip([release, change, import_or_take_out]).for_each(|(agent, root)| book.agent(root, agent));
+    let contents = [(0, 4, 2), (0, 5, 2), (t, 0, 8), (s, 0, 7), (u, 0, 7), (5, 3, 2)];
+    contents.into_iter().for_each(|(function, argument, value)| book.holds(function, argument, value));
+    book.text()
 }
 
-/// Desk 0 releases the label 5 of a full hook t; desk 1 releases the label 4 of a full hook s; desk 2 sets u, which holds 4, to w. Function 1 at 5 and w
-/// hold these elements.
+/// Agent 0 releases the label 5 that t holds, agent 1 the label 4 that s holds, each unless it is undef; agent 2 sets u, which holds 4, to w. Function 1
+/// at 5 and w hold these elements.
 fn taking_out(at_5: u32, w: u32) -> Vec<u8> {
-    padded(&format!(
-        "6 4 6 17 / 3 5 0 0 / 1 3 0 0 / 1 2 0 0 / 0 2 0 0 / 0 2 0 0 / 0 2 0 0 / 0 2 0 0 / 4 2 0 0 / 1 0 0 0 / 7 0 1 0 / 20 0 0 0 / \
-         4 2 0 0 / 27 4 0 0 / 23 2 3 5 / 4 3 0 0 / 1 0 0 0 / 7 7 8 0 / 20 0 0 0 / 4 3 0 0 / 27 11 0 0 / 23 9 10 12 / 4 4 0 0 / \
-         4 5 0 0 / 21 14 15 0 / 6 0 0 0 / 13 1 0 0 / 16 2 0 0 / 1 5 0 {at_5} / 2 0 0 5 / 3 0 0 4 / 4 0 0 4 / 5 0 0 {w}"
-    ))
+    let mut book = BookDraft::new(6, 4, &[[1, 2], [0, 2], [0, 2], [0, 2], [0, 2]]);
+    for (agent, holder) in [(0, 2), (1, 3)] {
+        let (guard, skip) = (book.is_undef(holder), book.skip());
+        let release = book.release_of(Leaf::Nullary(holder));
+        let root = book.conditional(guard, skip, release);
+        book.agent(root, agent);
+    }
+    let location = book.nullary(4);
+    let exchange = book.set_to(location, Leaf::Nullary(5));
+    book.agent(exchange, 2);
+    let contents = [(1, 5, at_5), (2, 0, 5), (3, 0, 4), (4, 0, 4), (5, 0, w)];
+    contents.into_iter().for_each(|(function, argument, value)| book.holds(function, argument, value));
+    book.text()
 }
 
-fn log(mut number: u64) -> Small {
+fn log(mut number: u64) -> BookAndLog {
     let book = BOOKS[digit(&mut number, BOOKS.len() as u64) as usize]();
     let mut m = 0;
     while number >= logs_of(m) {
         number -= logs_of(m);
         m += 1;
     }
-    let agents = (0..m).map(|_| digit(&mut number, DESKS)).collect();
-    let all = (1..m as u32).flat_map(|later| (0..later).map(move |earlier| (earlier, later)));
-    let pairs = all.filter(|_| digit(&mut number, 2) == 1).collect();
-    Small { book, log: DraftLog { agents, pairs, picks: Vec::new() }.text() }
+    let agents = (0..m).map(|_| digit(&mut number, AGENTS)).collect();
+    let pairs = all_pairs(m as u32).filter(|_| digit(&mut number, 2) == 1).collect();
+    BookAndLog { book, log: LogDraft { agents, pairs, picks: Vec::new() }.text() }
 }
 
 // ---- headers: every field of both header lines and of the log's at its bounds
@@ -187,14 +206,14 @@ fn headers() -> u64 {
     12 * AT_BOUNDS.len() as u64
 }
 
-fn header(mut number: u64) -> Small {
+fn header(mut number: u64) -> BookAndLog {
     let field = digit(&mut number, 12) as usize;
-    let Small { mut book, mut log } = shown();
+    let BookAndLog { mut book, mut log } = own();
     let (text, at) =
         if field < 8 { (&mut book, field / 4 * 25 + field % 4 * 6) } else { (&mut log, field % 4 * 6) };
     let value = format!("{:6}", AT_BOUNDS[number as usize]);
     text[at..at + 6].copy_from_slice(value.as_bytes());
-    Small { book, log }
+    BookAndLog { book, log }
 }
 
 // ---- bytes: each byte of the shown inputs changed to some others
@@ -202,8 +221,8 @@ fn header(mut number: u64) -> Small {
 const OTHERS: &[u8; 16] = b" \n0123456789-a\0\xff";
 
 /// The shown input, and one with picks.
-fn all_shown() -> [Small; 2] {
-    [shown(), picks::shown_pick()]
+fn all_shown() -> [BookAndLog; 2] {
+    [own(), picks::shown_pick()]
 }
 
 /// How many bytes the shown inputs have.
@@ -212,7 +231,7 @@ fn shown_bytes() -> u64 {
 }
 
 /// The shown input that has this byte, counted over both, and where the byte stands in it.
-fn shown_at(byte: u64) -> (Small, usize) {
+fn shown_at(byte: u64) -> (BookAndLog, usize) {
     let mut at = byte as usize;
     for small in all_shown() {
         let bytes = small.book.len() + small.log.len();
@@ -228,7 +247,7 @@ fn bytes() -> u64 {
     OTHERS.len() as u64 * shown_bytes()
 }
 
-fn byte(mut number: u64) -> Small {
+fn byte(mut number: u64) -> BookAndLog {
     let other = OTHERS[digit(&mut number, OTHERS.len() as u64) as usize];
     let (mut small, at) = shown_at(number);
     let split = small.book.len();
@@ -242,19 +261,19 @@ fn cuts() -> u64 {
     2 * shown_bytes()
 }
 
-fn cut(mut number: u64) -> Small {
+fn cut(mut number: u64) -> BookAndLog {
     let to_the_end = digit(&mut number, 2) == 1;
-    let (Small { book, log }, at) = shown_at(number);
+    let (BookAndLog { book, log }, at) = shown_at(number);
     let without = |text: &[u8], at: usize| {
         let rest = if to_the_end { &[] } else { &text[at + 1..] };
         [&text[..at], rest].concat()
     };
     if at >= book.len() {
         let log = without(&log, at - book.len());
-        return Small { book, log };
+        return BookAndLog { book, log };
     }
     let book = without(&book, at);
-    Small { book, log: if to_the_end { Vec::new() } else { log } }
+    BookAndLog { book, log: if to_the_end { Vec::new() } else { log } }
 }
 
 // ---- roots: every line of kind 0 to 29 with fields to 6 over a term, a location and two skips
@@ -266,30 +285,23 @@ fn roots() -> u64 {
     KINDS_OF_NODES * FIELDS.pow(3)
 }
 
-fn root(mut number: u64) -> Small {
+fn root(mut number: u64) -> BookAndLog {
     let kind = digit(&mut number, KINDS_OF_NODES);
     let root = [kind, digit(&mut number, FIELDS), digit(&mut number, FIELDS), digit(&mut number, FIELDS)];
     let under: [Line; 4] = [[1, 3, 0, 0], [4, 3, 0, 0], [20, 0, 0, 0], [20, 0, 0, 0]];
-    let functions = [[1, 1, 0, 0], [1, 3, 0, 0], [0, 2, 0, 0], [2, 2, 0, 0], [0, 0, 0, 0]];
-    let book = Draft {
-        elements: 8,
-        permanent: 6,
-        functions: [&[RESERVE], &functions[..]].concat(),
-        nodes: used_by(root, &under),
-        agents: Vec::new(),
-        contents: vec![[0, 7, 0, 2], [1, 4, 0, 2], [2, 5, 0, 2]],
-    };
-    let last = book.nodes.len() as u32 - 1;
-    let book = Draft { agents: vec![[last, 3, 0, 0]], ..book };
-    Small { book: book.text(), log: one_move() }
+    let mut book = BookDraft::new(8, 6, &[[1, 1], [1, 3], [0, 2], [2, 2], [0, 0]]);
+    book.nodes = used_by(root, &under);
+    book.agent(book.nodes.len() as u32 - 1, 3);
+    let members = [(0, 7), (1, 4), (2, 5)];
+    members.into_iter().for_each(|(relation, element)| book.holds(relation, element, 2));
+    BookAndLog { book: book.text(), log: one_move() }
 }
 
 /// The nodes that a root names among those given, renumbered, then the root; a number past them stays one past all.
 fn used_by(root: Line, under: &[Line]) -> Vec<Line> {
-    let fields: Vec<usize> = crate::draft::operand_fields(root[0]).iter().map(|&(field, _)| field).collect();
     let mut nodes = Vec::new();
     let mut renumbered = root;
-    for field in fields {
+    for &(field, _) in operand_fields(root[0]) {
         if let Some(&node) = under.get(root[field] as usize) {
             renumbered[field] = nodes.len() as u32;
             nodes.push(node);
@@ -307,12 +319,14 @@ fn pairs_of_nodes() -> u64 {
     (KINDS_OF_NODES * 2u64.pow(3)) * (KINDS_OF_NODES * 3u64.pow(3))
 }
 
-fn two_nodes(mut number: u64) -> Small {
+fn two_nodes(mut number: u64) -> BookAndLog {
     let mut node = |fields| {
         let kind = digit(&mut number, KINDS_OF_NODES);
         [kind, digit(&mut number, fields), digit(&mut number, fields), digit(&mut number, fields)]
     };
-    let lines = [[5, 4, 3, 2], [1, 1, 0, 0], RESERVE, [1, 3, 0, 0], [0, 2, 0, 0], node(2), node(3)];
-    let book = text_of(&[&lines[..], &[[1, 3, 0, 0], [1, 3, 0, 2]]].concat());
-    Small { book, log: one_move() }
+    let mut book = BookDraft::new(5, 4, &[[1, 3], [0, 2]]);
+    book.nodes = vec![node(2), node(3)];
+    book.agent(1, 3);
+    book.holds(1, 3, 2);
+    BookAndLog { book: book.text(), log: one_move() }
 }

@@ -1,7 +1,7 @@
 // Contents tables for a single move: reached by moves, random sound ones, damaged ones.
 
+use crate::book_draft::BookDraft;
 use crate::books;
-use crate::draft::Draft;
 use crate::faults;
 use crate::picks::fitting_picks;
 use crate::rng::Rng;
@@ -11,7 +11,7 @@ use paper::{fire_move, start_table, Book, Marks};
 const MOST_PICKS: usize = 30;
 
 /// A table of L records that keeps the rules, if the book does.
-pub fn sound(rng: &mut Rng, draft: &Draft, book: &Book) -> Vec<u16> {
+pub fn sound(rng: &mut Rng, draft: &BookDraft, book: &Book) -> Vec<u16> {
     match rng.weighted(&[25, 35, 40]) {
         0 => start_table(book),
         1 => reached(rng, book),
@@ -33,7 +33,7 @@ pub fn reached(rng: &mut Rng, book: &Book) -> Vec<u16> {
 }
 
 /// A table with entries of its own, static ones too.
-fn random(rng: &mut Rng, draft: &Draft, book: &Book) -> Vec<u16> {
+fn random(rng: &mut Rng, draft: &BookDraft, book: &Book) -> Vec<u16> {
     let mut contents = Vec::with_capacity(book.locations);
     for function in &book.functions {
         contents.resize(contents.len() + function.len, function.default_value());
@@ -46,7 +46,7 @@ fn random(rng: &mut Rng, draft: &Draft, book: &Book) -> Vec<u16> {
 }
 
 /// A sound table with one fault of 8, or two.
-pub fn damaged(rng: &mut Rng, draft: &Draft, book: &Book) -> Vec<u16> {
+pub fn damaged(rng: &mut Rng, draft: &BookDraft, book: &Book) -> Vec<u16> {
     let mut contents = sound(rng, draft, book);
     for _ in 0..if rng.percent(80) { 1 } else { 2 } {
         faults::spoil_table(rng, draft, &mut contents);

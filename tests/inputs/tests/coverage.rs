@@ -1,105 +1,66 @@
 // Each answer of each entry, each reason of the book's refusals, picks, releases, and moves that change nothing occur often enough.
 
 use inputs::{
-    book_input, cuts, idle_ways, picked_ways, report_input, retired_ways, run_input, step_input, Cut, Idle,
-    Picked, Retired, Rng, RunInput, StepInput,
+    book_and_log_in, book_input, cuts, first_line_in, idle_ways, lines_in, operands, picked_ways,
+    printed_answer, released_ways, report_input, run_input, step_input, Counts, Cut, Idle, Picked, Released,
+    Rng,
 };
-use paper::{check_book, report, run, step, Answer, Line, Pick, LINE_BYTES};
-use std::collections::BTreeMap;
+use paper::{book_answer, check_book, report, Answer, Pick};
 
 const SEED: u64 = 22;
 const INPUTS: u64 = 20_000;
 
 /// How often each key comes up, over the inputs of a seed.
-fn tally<K: Ord, Keys: IntoIterator<Item = K>>(keys: impl Fn(&mut Rng) -> Keys) -> BTreeMap<K, u64> {
-    let mut counts = BTreeMap::new();
-    for input in 0..INPUTS {
-        for key in keys(&mut Rng::for_input(SEED, input)) {
-            *counts.entry(key).or_insert(0) += 1;
-        }
-    }
-    counts
-}
-
-/// Each of these keys came up at least so often, and no other did.
-fn assert_all<K: Ord + std::fmt::Debug>(
-    counts: &BTreeMap<K, u64>,
-    keys: impl IntoIterator<Item = K>,
-    least: u64,
-) {
-    let keys: Vec<K> = keys.into_iter().collect();
-    for key in &keys {
-        let count = counts.get(key).copied().unwrap_or(0);
-        assert!(count >= least, "{key:?} only {count} times, in {counts:?}");
-    }
-    assert!(counts.keys().all(|key| keys.contains(key)), "more than {keys:?}: {counts:?}");
-}
-
-/// Each key came up at least as often as its floor says, and no other key did.
-fn assert_floors<K: Ord + Copy + std::fmt::Debug>(counts: &BTreeMap<K, u64>, floors: &[(K, u64)]) {
-    assert_all(counts, floors.iter().map(|(key, _)| *key), 1);
-    assert!(floors.iter().all(|(key, least)| counts[key] >= *least), "{counts:?}, not {floors:?}");
-}
-
-fn book_answer(book: &[u8]) -> Answer {
-    check_book(book).err().unwrap_or(Answer::ACCEPTED)
+fn count<K: Ord, Keys: IntoIterator<Item = K>>(keys: impl Fn(&mut Rng) -> Keys) -> Counts<K> {
+    (0..INPUTS).flat_map(|input| keys(&mut Rng::for_input(SEED, input))).collect()
 }
 
 #[test]
 fn answers_of_the_book_check() {
-    let counts = tally(|rng| {
+    let counts = count(|rng| {
         let answer = book_answer(&book_input(rng));
         assert_eq!(answer.q, 0);
         Some(answer.number)
     });
-    assert_all(&counts, [0, 1, 3, 4, 5, 6, 7, 8], INPUTS * 75 / 10_000);
-}
-
-fn answer_of_move(input: &StepInput) -> Answer {
-    step(&input.book, &mut input.contents.clone(), input.agent, &input.picks, input.lent)
+    counts.assert_all([0, 1, 3, 4, 5, 6, 7, 8], INPUTS * 75 / 10_000);
 }
 
 #[test]
 fn answers_of_a_single_move() {
-    let counts = tally(|rng| Some(answer_of_move(&step_input(rng)).number));
+    let counts = count(|rng| Some(step_input(rng).answer().number));
     println!("single moves: {counts:?}");
-    assert_all(&counts, (0..=9).chain(11..=15).chain([18, 19]), INPUTS * 60 / 10_000);
-}
-
-fn answer_of(input: &mut RunInput) -> Answer {
-    let (contents, readers, writers) = (&mut input.contents, &mut input.readers, &mut input.writers);
-    run(&input.book, &input.log, contents, readers, writers, input.lent)
+    counts.assert_all((0..=9).chain(11..=15).chain([18, 19]), INPUTS * 60 / 10_000);
 }
 
 #[test]
 fn answers_of_a_run() {
-    let counts = tally(|rng| Some(answer_of(&mut run_input(rng)).number));
+    let counts = count(|rng| Some(run_input(rng).answer().number));
     println!("runs: {counts:?}");
-    assert_all(&counts, Answer::NUMBERS, INPUTS * 40 / 10_000);
+    counts.assert_all(Answer::NUMBERS, INPUTS * 40 / 10_000);
 }
 
 #[test]
 fn moves_that_change_nothing() {
-    let counts = tally(|rng| {
-        let mut input = run_input(rng);
-        let answer = answer_of(&mut input);
+    let counts = count(|rng| {
+        let input = run_input(rng);
+        let answer = input.answer();
         idle_ways(&input.book, &input.log, answer)
     });
     println!("moves that change nothing: {counts:?}");
-    assert_all(&counts, Idle::ALL, INPUTS * 20 / 10_000);
-    let often = [Idle::Bare, Idle::Writing].map(|way| counts[&way]);
+    counts.assert_all(Idle::ALL, INPUTS * 20 / 10_000);
+    let often = [Idle::Bare, Idle::Writing].map(|way| counts.of(way));
     assert!(often.iter().all(|&count| count >= INPUTS * 5 / 100), "{often:?} in accepted logs");
 }
 
 #[test]
 fn picks_in_logs() {
-    let counts = tally(|rng| {
-        let mut input = run_input(rng);
-        let answer = answer_of(&mut input);
+    let counts = count(|rng| {
+        let input = run_input(rng);
+        let answer = input.answer();
         picked_ways(&input.book, &input.log, answer)
     });
     println!("picks in logs: {counts:?}");
-    assert_all(&counts, Picked::ALL, INPUTS * 20 / 10_000);
+    counts.assert_all(Picked::ALL, INPUTS * 20 / 10_000);
     for (way, least) in [
         (Picked::Accepted, INPUTS * 12 / 100),
         (Picked::InTurns, INPUTS * 2 / 100),
@@ -108,20 +69,20 @@ fn picks_in_logs() {
         (Picked::Lacking, INPUTS / 100),
         (Picked::LeftOver, INPUTS / 100),
     ] {
-        assert!(counts[&way] >= least, "{way:?} in {counts:?}");
+        assert!(counts.of(way) >= least, "{way:?} in {counts:?}");
     }
 }
 
 #[test]
 fn releases_in_logs() {
-    let counts = tally(|rng| {
-        let mut input = run_input(rng);
-        let answer = answer_of(&mut input);
-        retired_ways(&input.book, &input.log, answer)
+    let counts = count(|rng| {
+        let input = run_input(rng);
+        let answer = input.answer();
+        released_ways(&input.book, &input.log, answer)
     });
     println!("releases in logs: {counts:?}");
-    assert_all(&counts, Retired::ALL, INPUTS * 20 / 10_000);
-    let often = [Retired::Unordered, Retired::BesideWork].map(|way| counts[&way]);
+    counts.assert_all(Released::ALL, INPUTS * 20 / 10_000);
+    let often = [Released::Unordered, Released::BesideChange].map(|way| counts.of(way));
     assert!(often.iter().all(|&count| count >= INPUTS * 3 / 100), "{often:?} in accepted logs");
 }
 
@@ -129,9 +90,9 @@ fn releases_in_logs() {
 fn reason_of_9(book: &[u8], log: &[u8], place: usize) -> Option<&'static str> {
     let elements = check_book(book).unwrap().elements as u32;
     if place == 0 {
-        return (lines(&log[..LINE_BYTES])[0][2] > 256).then_some("count");
+        return first_line_in(log).is_some_and(|[_, _, choices, _]| choices > 256).then_some("count");
     }
-    let lines = lines(log);
+    let lines = lines_in(log);
     let [m, k, ..] = lines[0];
     let first = (1 + m + k) as usize;
     let [of_move, element, third, fourth] = lines[place];
@@ -148,13 +109,13 @@ fn reason_of_9(book: &[u8], log: &[u8], place: usize) -> Option<&'static str> {
 
 #[test]
 fn reasons_of_choice_lines() {
-    let counts = tally(|rng| {
-        let mut input = run_input(rng);
-        let answer = answer_of(&mut input);
+    let counts = count(|rng| {
+        let input = run_input(rng);
+        let answer = input.answer();
         (answer.number == 9).then(|| reason_of_9(&input.book, &input.log, answer.p as usize)).flatten()
     });
     println!("choice lines at fault: {counts:?}");
-    assert_all(&counts, ["count", "move", "element", "third field", "fourth field", "order"], 20);
+    counts.assert_all(["count", "move", "element", "third field", "fourth field", "order"], 20);
 }
 
 /// How the picks of a single move stand.
@@ -173,114 +134,89 @@ fn way_of_picks(picks: &[Pick], answer: Answer) -> Option<&'static str> {
 
 #[test]
 fn picks_of_single_moves() {
-    let counts = tally(|rng| {
+    let counts = count(|rng| {
         let input = step_input(rng);
-        way_of_picks(&input.picks, answer_of_move(&input))
+        way_of_picks(&input.picks, input.answer())
     });
     println!("picks of single moves: {counts:?}");
     let often = ["accepted", "no element", "19 without picks", "19"];
     let rare = ["more than 256, accepted", "no element past 256", "more than 256, 19"];
-    assert_all(&counts, often.into_iter().chain(rare), 4);
-    assert!(often.iter().all(|way| counts[way] >= 200), "{counts:?}");
+    counts.assert_all(often.into_iter().chain(rare), 4);
+    assert!(often.iter().all(|way| counts.of(way) >= 200), "{counts:?}");
 }
 
 #[test]
 fn sizes_of_picks_that_are_no_elements() {
     let sizes = [("2^16", 1 << 16), ("2^32", 1 << 32), ("2^63", 1 << 63), ("2^64 - 1", Pick::MAX)];
-    let counts = tally(|rng| {
+    let counts = count(|rng| {
         let input = step_input(rng);
-        let answer = answer_of_move(&input);
+        let answer = input.answer();
         let at_fault = answer.number == 9 && answer.p > 0;
         let pick = if at_fault { input.picks[answer.p as usize - 1] } else { 0 };
         sizes.into_iter().filter(move |&(_, least)| pick >= least).map(|(size, _)| size)
     });
     println!("picks that are no elements, at or past: {counts:?}");
-    assert_floors(&counts, &[("2^16", 300), ("2^32", 200), ("2^63", 80), ("2^64 - 1", 8)]);
+    counts.assert_floors([("2^16", 300), ("2^32", 200), ("2^63", 80), ("2^64 - 1", 8)]);
 }
 
 #[test]
 fn cut_picks_are_seen() {
-    let counts = tally(|rng| {
+    let counts = count(|rng| {
         let input = step_input(rng);
-        let answer = answer_of_move(&input);
+        let answer = input.answer();
         cuts(&input, answer)
     });
     println!("picks cut to fewer bits: {counts:?}");
     let seen = [(Cut::Seen(16), 200), (Cut::Seen(32), 100), (Cut::Seen(48), 40), (Cut::Seen(63), 30)];
     let accepted = [16, 32, 48, 63].map(Cut::Accepted).into_iter().zip([30, 15, 8, 6]);
-    assert_floors(&counts, &seen.into_iter().chain(accepted).collect::<Vec<_>>());
+    counts.assert_floors(seen.into_iter().chain(accepted));
 }
 
 /// Whether a log's header says that it has choice lines.
 fn has_choice_lines(log: &[u8]) -> bool {
-    let field = log.get(12..18).and_then(|columns| std::str::from_utf8(columns).ok());
-    field.is_some_and(|field| field.trim().parse::<u32>().is_ok_and(|count| count > 0))
-}
-
-/// The log of an input whose header says where it begins.
-fn log_in(input: &[u8]) -> Option<&[u8]> {
-    let header = std::str::from_utf8(input.get(..2 * LINE_BYTES)?).ok()?;
-    let fields: Option<Vec<usize>> = header.split_whitespace().map(|field| field.parse().ok()).collect();
-    let lines = 2 + fields?.get(2..6)?.iter().sum::<usize>();
-    input.get(lines * LINE_BYTES..)
+    first_line_in(log).is_some_and(|[_, _, choices, _]| choices > 0)
 }
 
 #[test]
 fn a_third_of_the_inputs_have_picks() {
-    let moves = tally(|rng| (!step_input(rng).picks.is_empty()).then_some(()));
-    let logs = tally(|rng| has_choice_lines(&run_input(rng).log).then_some(()));
-    let reports = tally(|rng| log_in(&report_input(rng)).is_some_and(has_choice_lines).then_some(()));
+    let moves = count(|rng| (!step_input(rng).picks.is_empty()).then_some(()));
+    let logs = count(|rng| has_choice_lines(&run_input(rng).log).then_some(()));
+    let reports = count(|rng| {
+        let input = report_input(rng);
+        book_and_log_in(&input).is_some_and(|(_, log)| has_choice_lines(log)).then_some(())
+    });
     println!("with picks, of {INPUTS}: {moves:?} moves, {logs:?} logs, {reports:?} whole inputs");
-    assert_all(&moves, [()], INPUTS / 3);
-    assert_all(&logs, [()], INPUTS / 3);
-    assert_all(&reports, [()], INPUTS / 3);
+    moves.assert_all([()], INPUTS / 3);
+    logs.assert_all([()], INPUTS / 3);
+    reports.assert_all([()], INPUTS / 3);
 }
 
 #[test]
 fn answers_of_the_printer() {
-    let number =
-        |text: Vec<u8>| String::from_utf8(text[..6].to_vec()).unwrap().trim().parse::<u32>().unwrap();
-    let counts = tally(|rng| Some(number(report(&report_input(rng)))));
+    let counts = count(|rng| Some(printed_answer(&report(&report_input(rng))).number));
     println!("whole inputs: {counts:?}");
-    assert_all(&counts, Answer::NUMBERS, INPUTS * 40 / 10_000);
-    let sizes = tally(|rng| {
+    counts.assert_all(Answer::NUMBERS, INPUTS * 40 / 10_000);
+    let sizes = count(|rng| {
         let length = report_input(rng).len();
         [60_000, 60_001].contains(&length).then_some(length)
     });
-    assert_all(&sizes, [60_000, 60_001], 10);
+    sizes.assert_all([60_000, 60_001], 10);
 }
 
 #[test]
 fn fields_of_the_header() {
-    let counts = tally(|rng| {
+    let counts = count(|rng| {
         let answer = book_answer(&book_input(rng));
         (answer.number == 3).then_some(answer.p)
     });
-    assert_all(&counts, 0..=8, 40);
-}
-
-/// The lines of a book whose text is sound.
-fn lines(book: &[u8]) -> Vec<Line> {
-    let field = |columns: &[u8]| std::str::from_utf8(columns).unwrap().trim().parse().unwrap();
-    let line = |line: &[u8]| [0, 6, 12, 18].map(|at| field(&line[at..at + 6]));
-    book.chunks(LINE_BYTES).map(line).collect()
+    counts.assert_all(0..=8, 40);
 }
 
 /// Why a node is at fault by 6: "use", or the kind of fault at its place in the tree.
 fn reason_of_6(book: &[u8], node: u32) -> &'static str {
-    let lines = lines(book);
+    let lines = lines_in(book);
     let [_, _, f, n] = lines[0].map(|field| field as usize);
     let nodes = &lines[2 + f..2 + f + n];
-    let operands = |line: &Line| match line[0] {
-        5 => vec![line[2]],
-        6 => vec![line[2], line[3]],
-        8 | 27 => vec![line[1]],
-        7 | 9..=13 | 21 | 22 => vec![line[1], line[2]],
-        23 => line[1..].to_vec(),
-        24 => vec![line[2], line[3]],
-        25 | 26 | 28 => vec![line[3]],
-        _ => vec![],
-    };
     let users = |node: u32| nodes.iter().filter(move |line| operands(line).contains(&node));
     let is_root = |node: u32| lines[2 + f + n..][..lines[1][0] as usize].iter().any(|line| line[0] == node);
     let uses = |node: u32| nodes.iter().flat_map(operands).filter(|&operand| operand == node).count();
@@ -303,17 +239,17 @@ fn reason_of_6(book: &[u8], node: u32) -> &'static str {
 
 #[test]
 fn reasons_of_use_binding_depth_and_nesting() {
-    let counts = tally(|rng| {
+    let counts = count(|rng| {
         let book = book_input(rng);
         let answer = book_answer(&book);
         (answer.number == 6).then(|| reason_of_6(&book, answer.p))
     });
-    assert_all(&counts, ["use", "unbound", "bound again", "depth", "nesting"], 100);
+    counts.assert_all(["use", "unbound", "bound again", "depth", "nesting"], 100);
 }
 
 /// Why a contents line is at fault by 8.
 fn reason_of_8(book: &[u8], place: u32) -> &'static str {
-    let lines = lines(book);
+    let lines = lines_in(book);
     let [e, p, f, _] = lines[0];
     let [function, first, second, value] = lines[place as usize];
     if function >= f {
@@ -343,7 +279,7 @@ fn reason_of_8(book: &[u8], place: u32) -> &'static str {
 
 #[test]
 fn reasons_of_contents_lines() {
-    let counts = tally(|rng| {
+    let counts = count(|rng| {
         let book = book_input(rng);
         let answer = book_answer(&book);
         (answer.number == 8).then(|| reason_of_8(&book, answer.p))
@@ -362,7 +298,7 @@ fn reasons_of_contents_lines() {
         "trace as value",
         "order",
     ];
-    assert_all(&counts, reasons, 30);
+    counts.assert_all(reasons, 30);
 }
 
 /// Why a location of a lent table is at fault by 8.
@@ -388,9 +324,9 @@ fn reason_in_table(book: &[u8], contents: &[u16], location: usize) -> &'static s
 
 #[test]
 fn reasons_in_lent_tables() {
-    let counts = tally(|rng| {
-        let mut input = step_input(rng);
-        let answer = step(&input.book, &mut input.contents, input.agent, &input.picks, input.lent);
+    let counts = count(|rng| {
+        let input = step_input(rng);
+        let answer = input.answer();
         let of_table = answer.number == 8 && check_book(&input.book).is_ok();
         of_table.then(|| reason_in_table(&input.book, &input.contents, answer.p as usize))
     });
@@ -403,5 +339,5 @@ fn reasons_in_lent_tables() {
         "trace as argument",
         "trace as value",
     ];
-    assert_all(&counts, reasons, 30);
+    counts.assert_all(reasons, 30);
 }

@@ -1,5 +1,6 @@
 // What docs/ says of inputs is what the independent implementation prints.
-use inputs::documents::{numbers, shown_in};
+use inputs::documents::shown_in;
+use inputs::numbers_in;
 use std::fs;
 
 fn check(name: &str, at_least: usize) {
@@ -9,7 +10,7 @@ fn check(name: &str, at_least: usize) {
     for case in shown {
         let printed = String::from_utf8(paper::report(&case.input)).expect("ASCII");
         let first = printed.lines().next().expect("a line");
-        assert_eq!(numbers(first), case.answer, "{name}: {}", case.text);
+        assert_eq!(numbers_in(first), case.answer, "{name}: {}", case.text);
     }
 }
 

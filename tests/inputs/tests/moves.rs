@@ -1,6 +1,6 @@
 // What holds of every move: sound contents stay sound, and only what is read decides; where a release is, also where its label is held.
 
-use inputs::{books, fitting_picks, is_release, spoil_picks, step_input, tables, Rng, StepInput};
+use inputs::{books, fitting_picks, is_release, spoil_picks, step_input, tables, Counts, Rng, StepInput};
 use paper::*;
 
 const SEED: u64 = 21;
@@ -44,8 +44,7 @@ fn walked(tables: &TwoTables, contents: &[u16]) -> (Result<Vec<Instruction>, Ref
 /// The claim on reads, with equal picks and tables that agree on the reads, and on Reserve when the walk is refused.
 #[test]
 fn only_what_is_read_decides() {
-    let (mut fired, mut with_picks, mut refused, mut by_18, mut by_19) = (0, 0, 0, 0, 0);
-    let (mut with_release, mut by_12) = (0, 0);
+    let (mut numbers, mut with_picks, mut with_release) = (Counts::new(), 0, 0);
     for input in 0..9_000 {
         let tables = two_tables(input);
         let TwoTables { book, first, picks, .. } = &tables;
@@ -58,21 +57,20 @@ fn only_what_is_read_decides() {
         }
         if differ(first, &second) {
             let number = outcome.as_ref().map_or_else(|refusal| refusal.number, |_| 0);
-            *(if number == 0 { &mut fired } else { &mut refused }) += 1;
+            numbers.add(number);
             with_picks += usize::from(number == 0 && !picks.is_empty());
             with_release += usize::from(outcome.as_ref().is_ok_and(|list| list.iter().any(is_release)));
-            by_12 += usize::from(number == 12);
-            by_18 += usize::from(number == 18);
-            by_19 += usize::from(number == 19);
         }
         assert_eq!(walked(&tables, &second).0, outcome, "input {input}");
     }
-    println!(
-        "{fired} walks to the end, {with_picks} with picks, {with_release} with a release; {refused} refused, {by_12} by 12, {by_18} by 18, {by_19} by 19"
+    println!("walks: {numbers}; of those to the end {with_picks} with picks, {with_release} with a release");
+    numbers.assert_floors([(0, 1_000), (11, 1), (12, 200), (13, 1), (14, 1), (18, 50), (19, 200)]);
+    let refused: u64 = [11, 12, 13, 14, 18, 19].into_iter().map(|number| numbers.of(number)).sum();
+    assert!(refused >= 300, "{numbers}");
+    assert!(
+        with_picks >= 500 && with_release >= 200,
+        "{with_picks} with picks, {with_release} with a release"
     );
-    assert!(fired >= 1_000 && refused >= 300, "{fired} walks to the end, {refused} refused ones");
-    assert!(with_picks >= 500 && by_18 >= 50 && by_19 >= 200, "{with_picks} with picks, {by_18}, {by_19}");
-    assert!(with_release >= 200 && by_12 >= 200, "{with_release} with a release, {by_12} refused by 12");
 }
 
 /// With equal picks and tables that agree on the reads, a move that releases gives the same updates if both tables hold the released labels at
@@ -131,7 +129,7 @@ fn moves_keep_contents_sound() {
     assert!(enough, "{changed} changed something, {idle} nothing, {refused} were refused");
 }
 
-/// The contents after these instructions, one location at a time, in the paper's words.
+/// The contents after these instructions, one location at a time, in the words of SPECIFICATION 4.
 fn by_the_words(book: &Book, before: &[u16], list: &[Instruction]) -> Vec<u16> {
     let released = |label: usize| list.contains(&Instruction::Release { label: label as u16 });
     let mut after = before.to_vec();

@@ -1,18 +1,9 @@
 // What `rental` prints agrees with the run, and its lines are contents lines of the book.
 
-use inputs::{report_input, Rng};
-use paper::{check_book, padded, report, run, LINE_BYTES};
+use inputs::{book_and_log_in, padded, report_input, Rng};
+use paper::{check_book, report, run, LINE_BYTES};
 
 const SEED: u64 = 23;
-
-/// The book and the log in an input whose book is sound.
-fn parts(input: &[u8]) -> Option<(&[u8], &[u8])> {
-    let header = std::str::from_utf8(input.get(..2 * LINE_BYTES)?).ok()?;
-    let fields: Vec<usize> =
-        header.split_whitespace().map(|field| field.parse().ok()).collect::<Option<_>>()?;
-    let lines = 2 + fields.get(2..6)?.iter().sum::<usize>();
-    input.split_at_checked(lines * LINE_BYTES).filter(|(book, _)| check_book(book).is_ok())
-}
 
 /// A book whose contents lines are those that an accepted log printed.
 fn with_contents(book: &[u8], printed: &[u8]) -> Vec<u8> {
@@ -28,7 +19,10 @@ fn printed_lines_are_a_start() {
     let (mut accepted, mut refused) = (0, 0);
     for input in 0..6_000 {
         let input = report_input(&mut Rng::for_input(SEED, input));
-        let Some((book, log)) = parts(&input).filter(|_| input.len() <= 60_000) else { continue };
+        let Some((book, log)) = book_and_log_in(&input) else { continue };
+        if check_book(book).is_err() || input.len() > 60_000 {
+            continue;
+        }
         let (mut contents, mut readers, mut writers) = (vec![0; 2_048], vec![0; 2_048], vec![0; 2_048]);
         let answer = run(book, log, &mut contents, &mut readers, &mut writers, 2_048);
         let printed = report(&input);

@@ -1,29 +1,17 @@
 // The small inputs are those that they are said to be, and get many different answers.
 
 use inputs::{
-    cuts, picked_ways, retired_ways, small_input, small_inputs, small_move, small_moves, Cut, Picked,
-    Retired, Small,
+    cuts, picked_ways, printed_answer, released_ways, small_input, small_inputs, small_move, small_moves,
+    Counts, Cut, Picked, Released, RunInput,
 };
-use paper::{check_book, report, run, step, Answer, INSTRUCTIONS};
-use std::collections::BTreeMap;
-
-fn printed(small: &Small) -> String {
-    String::from_utf8(report(&[&small.book[..], &small.log].concat())).expect("ASCII")
-}
-
-fn number(small: &Small) -> usize {
-    printed(small)[..6].trim().parse().expect("a number")
-}
+use paper::report;
 
 #[test]
 fn answers() {
-    let mut counts = [0; 20];
-    (0..small_inputs()).for_each(|i| counts[number(&small_input(i))] += 1);
+    let counts: Counts<u32> =
+        (0..small_inputs()).map(|i| printed_answer(&report(&small_input(i).input())).number).collect();
     println!("small inputs: {counts:?}");
-    for number in [0, 1, 3, 4, 5, 6, 7, 8, 9, 10, 11, 12, 13, 15, 17, 18, 19] {
-        assert!(counts[number] > 0, "no {number}: {counts:?}");
-    }
-    assert_eq!(counts[16], 0, "16 is never given");
+    counts.assert_all((0..=13).chain([15, 17, 18, 19]), 1);
 }
 
 #[test]
@@ -35,51 +23,30 @@ fn numbered() {
 
 #[test]
 fn picks() {
-    let mut counts: BTreeMap<Picked, u64> = BTreeMap::new();
-    for number in 0..small_inputs() {
-        let small = small_input(number);
-        let answer = run_of(&small);
-        for way in picked_ways(&small.book, &small.log, answer) {
-            *counts.entry(way).or_insert(0) += 1;
-        }
-    }
+    let ways = |run: RunInput| picked_ways(&run.book, &run.log, run.answer());
+    let counts: Counts<Picked> = (0..small_inputs()).map(|i| small_input(i).run()).flat_map(ways).collect();
     println!("picks in small inputs: {counts:?}");
-    assert_eq!(counts.len(), Picked::ALL.len(), "{counts:?}");
-    assert!(counts.values().all(|&count| count >= 16), "{counts:?}");
+    counts.assert_all(Picked::ALL, 16);
 }
 
 #[test]
 fn releases() {
-    let mut counts: BTreeMap<Retired, u64> = BTreeMap::new();
-    for number in 0..small_inputs() {
-        let small = small_input(number);
-        let answer = run_of(&small);
-        for way in retired_ways(&small.book, &small.log, answer) {
-            *counts.entry(way).or_insert(0) += 1;
-        }
-    }
+    let ways = |run: RunInput| released_ways(&run.book, &run.log, run.answer());
+    let counts: Counts<Released> = (0..small_inputs()).map(|i| small_input(i).run()).flat_map(ways).collect();
     println!("releases in small inputs: {counts:?}");
-    assert_eq!(counts.len(), Retired::ALL.len(), "{counts:?}");
-    assert!(counts.values().all(|&count| count >= 8), "{counts:?}");
+    counts.assert_all(Released::ALL, 8);
 }
 
 #[test]
 fn moves() {
-    let (mut numbers, mut shown): (BTreeMap<u32, u64>, BTreeMap<Cut, u64>) = Default::default();
+    let (mut numbers, mut shown) = (Counts::new(), Counts::new());
     for number in 0..small_moves() {
         let input = small_move(number);
-        let answer = step(&input.book, &mut input.contents.clone(), input.agent, &input.picks, input.lent);
-        *numbers.entry(answer.number).or_insert(0) += 1;
-        cuts(&input, answer).into_iter().for_each(|cut| *shown.entry(cut).or_insert(0) += 1);
+        let answer = input.answer();
+        numbers.add(answer.number);
+        shown.extend(cuts(&input, answer));
     }
     println!("small moves: {numbers:?}; cut picks would show: {shown:?}");
-    assert!([0, 9, 18, 19].iter().all(|number| numbers[number] >= 50), "{numbers:?}");
-    assert!(Cut::ALL.iter().all(|cut| shown[cut] >= 50), "{shown:?}");
-}
-
-/// The answer of the run of a small input's log, on tables of its book's locations.
-fn run_of(small: &Small) -> Answer {
-    let records = check_book(&small.book).map_or(0, |book| book.locations);
-    let (mut contents, mut readers, mut writers) = (vec![0; records], vec![0; records], vec![0; records]);
-    run(&small.book, &small.log, &mut contents, &mut readers, &mut writers, INSTRUCTIONS)
+    assert!([0, 9, 18, 19].into_iter().all(|number| numbers.of(number) >= 50), "{numbers:?}");
+    shown.assert_all(Cut::ALL, 50);
 }

@@ -112,7 +112,7 @@ impl Header {
     }
 }
 
-/// All checks of a book, in the paper's order.
+/// All checks of a book, in their order (SPECIFICATION 3 and 8).
 pub fn check_book(book: &[u8]) -> Result<Book, Answer> {
     let header = Header::read(book)?;
     let lines = text::lines(book, header.lines()).map_err(|line| Answer::refused(1, line, 0))?;
@@ -140,6 +140,11 @@ pub fn check_book(book: &[u8]) -> Result<Book, Answer> {
     checked.start = table::read_contents(&checked, contents_lines)
         .map_err(|line| Answer::refused(8, lines.len() - contents_lines.len() + line, 0))?;
     Ok(checked)
+}
+
+/// The answer of these checks alone.
+pub fn book_answer(book: &[u8]) -> Answer {
+    check_book(book).err().unwrap_or(Answer::ACCEPTED)
 }
 
 /// 4: arity, kind, unused fields, and what function 0 has to be.

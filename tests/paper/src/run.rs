@@ -7,7 +7,7 @@ use crate::step::fire_move;
 use crate::table::fill_start;
 use crate::walk::{Marks, INSTRUCTIONS};
 
-/// Runs a log from its book's start; the tables are changed as the paper says.
+/// Runs a log from its book's start; the tables are changed as a run changes them (SPECIFICATION 7).
 pub fn run(
     book: &[u8],
     log: &[u8],

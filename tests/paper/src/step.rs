@@ -1,7 +1,7 @@
 // A move after its walk: clash, firing and marks; and the entry for a single move.
 //
-// A move that fires reads what its walk looked at, each location that a release of it gives a value (F-3 of
-// paper 02), and, for each location that it changes from a label to another value, Reserve at that label.
+// A move that fires reads what its walk looked at, each location that a release of it gives a value, and, for each
+// location that it changes from a label to another value, Reserve at that label (SPECIFICATION 5).
 
 use crate::answer::{Answer, Refusal};
 use crate::book::{check_book, Book, Function, TRUE};

@@ -63,14 +63,3 @@ pub fn write_line(text: &mut Vec<u8>, line: Line) {
     }
     text.push(b'\n');
 }
-
-/// The paper's compact form, as in `8 6 3 13 / 2 3 0 0`, as padded lines.
-pub fn padded(compact: &str) -> Vec<u8> {
-    let mut text = Vec::new();
-    for part in compact.split('/').map(str::trim).filter(|part| !part.is_empty()) {
-        let fields: Vec<u32> =
-            part.split_whitespace().map(|field| field.parse().expect("a field is a number")).collect();
-        write_line(&mut text, fields.try_into().expect("a line has four fields"));
-    }
-    text
-}

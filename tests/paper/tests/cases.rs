@@ -1,29 +1,32 @@
-// The marked cases (a) to (l) of the paper.
+// The cases (a) to (l) of the specification.
 
 mod support;
-use paper::{padded, report, TRUE, UNDEF};
+use inputs::{compact_lines, specification, BookDraft};
+use paper::{report, TRUE, UNDEF};
 use support::*;
 
 /// What `rental` prints for the shown book with this log.
 fn shown_with(log: &str) -> String {
-    printed(&[padded(SHOWN), padded(log)].concat())
+    printed(&specification::book_and(log))
 }
 
 /// The value that a nullary function has after it was set to a term in a book with E 8 and P 6.
 /// The start value tells a term that gives undef from one that was never set.
 fn value_of(term: &str, start: u16) -> u16 {
-    let term_nodes = padded(term).len() / 25;
-    let nodes = format!("{term} / 4 1 0 0 / 21 {term_nodes} {} 0", term_nodes - 1);
-    let root = format!("{} 3 0 0", term_nodes + 1);
-    let book = book(8, 6, "0 2 0 0", &nodes, &root, &format!("1 0 0 {start}"));
-    let (answer, contents, _) = step_of(&book);
+    let mut draft = BookDraft::new(8, 6, &[[0, 2]]);
+    let value = draft.append(&compact_lines(term));
+    let location = draft.nullary(1);
+    let root = draft.set(location, value);
+    draft.agent(root, 3);
+    draft.holds(1, 0, u32::from(start));
+    let (answer, contents, _) = step_of(&draft.text());
     assert_eq!(answer, accepted());
     contents[8]
 }
 
 #[test]
 fn a_the_output_shown() {
-    let input = [padded(SHOWN), padded("2 1 0 0 / 0 0 0 0 / 1 0 0 0 / 0 1 0 0")].concat();
+    let input = specification::book_and(specification::LOG);
     let output = "     0     0     0     4\n     1     6     0     2\n     1     7     0     2\n     2     6     0     5\n     2     7     0     4\n";
     assert_eq!(String::from_utf8(report(&input)).unwrap(), output);
 }

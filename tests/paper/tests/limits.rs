@@ -1,7 +1,8 @@
-// The limits of the paper, each at its last sound value and one past it.
+// The limits (SPECIFICATION 11), each at its last sound value and one past it.
 
 mod support;
-use paper::{padded, step, Instruction};
+use inputs::{all_pairs, padded, BookDraft};
+use paper::{book_answer, step, Instruction};
 use support::*;
 
 /// f := not f for agent 0, so that each of any number of moves changes it.
@@ -9,13 +10,13 @@ fn toggling() -> Vec<u8> {
     book(4, 4, "0 3 0 0", "4 1 0 0 / 4 1 0 0 / 8 1 0 0 / 21 0 2 0", "3 3 0 0", "")
 }
 
-/// For all x in a universe of this many elements: f(x) := number 0, beside a second rule.
-fn many(members: u32, second: &str) -> Vec<u8> {
-    let universe: Vec<String> = (0..members).map(|element| format!("1 {element} 0 2")).collect();
-    let last = 4 + second.split('/').count();
-    let nodes = format!("2 0 0 0 / 5 2 0 0 / 1 3 0 0 / 21 1 2 0 / 25 0 1 3 / {second} / 22 4 {last} 0");
-    let root = format!("{} 3 0 0", last + 1);
-    book(300, 290, "1 1 0 0 / 1 2 0 0 / 1 3 0 0", &nodes, &root, &universe.join(" / "))
+/// For all x in a universe of this many elements: f(x) := number 0, beside a second rule, whose nodes count from 0.
+fn many(elements: u32, second: &str) -> Vec<u8> {
+    let set_each = "2 0 0 0 / 5 2 0 0 / 1 3 0 0 / 21 1 2 0 / 25 0 1 3";
+    let functions = "1 1 0 0 / 1 2 0 0 / 1 3 0 0";
+    let mut draft = BookDraft::compact(300, 290, functions, "", "", &members(1, elements));
+    draft.agent_with(3, &both(set_each, second));
+    draft.text()
 }
 
 #[test]
@@ -35,8 +36,8 @@ fn moves_that_change_nothing() {
 
 #[test]
 fn pairs() {
-    let all: Vec<(u32, u32)> =
-        (0..64).flat_map(|first| (first + 1..64).map(move |second| (first, second))).collect();
+    let mut all: Vec<(u32, u32)> = all_pairs(64).collect();
+    all.sort_unstable();
     assert_eq!(all.len(), 2_016);
     assert_eq!(run_of(&toggling(), &log(&[0; 64], &all)).answer, accepted());
     let more = [all.as_slice(), &[(62, 63)]].concat();
@@ -54,7 +55,7 @@ fn instructions() {
     let mut contents = start(&many(257, "20 0 0 0"));
     assert_eq!(step(&many(257, "20 0 0 0"), &mut contents, 0, &[], 1_000), refused(14, 0, 3));
     // Repeats count: the 257th has a location and a value that were given before.
-    let again = "1 3 0 0 / 5 2 5 0 / 1 3 0 0 / 21 6 7 0";
+    let again = "1 3 0 0 / 5 2 0 0 / 1 3 0 0 / 21 1 2 0";
     assert_eq!(step_of(&many(255, again)).0, accepted());
     assert_eq!(step_of(&many(256, again)).0, refused(14, 0, 8));
 }
@@ -98,9 +99,10 @@ fn locations() {
 
 #[test]
 fn every_location_filled() {
-    let lines: Vec<String> = (1..8).flat_map(|f| (0..8_192).map(move |x| format!("{f} {x} 0 3"))).collect();
-    let full = book(8192, 8192, &["1 2 0 0"; 7].join(" / "), "20 0 0 0", "0 3 0 0", &lines.join("/"));
-    let checked = paper::check_book(&full).unwrap();
+    let mut full = BookDraft::new(8192, 8192, &[[1, 2]; 7]);
+    full.agent_with(3, "20 0 0 0");
+    (1..8).for_each(|function| (0..8_192).for_each(|element| full.holds(function, element, 3)));
+    let checked = paper::check_book(&full.text()).unwrap();
     assert_eq!((checked.locations, checked.start.len()), (65_536, 7 * 8_192));
     assert_eq!(checked.start.last(), Some(&(65_535, 3)));
 }
@@ -109,10 +111,13 @@ fn every_location_filled() {
 fn depth() {
     // A tower of nots under a set: the root has depth 1, the innermost term depth nots + 3.
     let tower = |nots: usize| {
-        let mut nodes = "1 1 0 0".to_string();
-        (0..nots).for_each(|below| nodes += &format!(" / 8 {below} 0 0"));
-        nodes += &format!(" / 4 1 0 0 / 21 {} {nots} 0", nots + 1);
-        book(4, 4, "0 2 0 0", &nodes, &format!("{} 3 0 0", nots + 2), "")
+        let mut draft = BookDraft::new(4, 4, &[[0, 2]]);
+        let innermost = draft.element(1);
+        let value = (0..nots).fold(innermost, |below, _| draft.not(below));
+        let location = draft.nullary(1);
+        let root = draft.set(location, value);
+        draft.agent(root, 3);
+        draft.text()
     };
     assert_eq!(book_answer(&tower(30)), accepted());
     assert_eq!(book_answer(&tower(31)), refused(6, 0, 0));
@@ -139,8 +144,10 @@ fn variables() {
 #[test]
 fn agents() {
     let of = |count: u32| {
-        let lines: Vec<String> = (0..count).map(|element| format!("0 {element} 0 0")).collect();
-        book_answer(&book(20, 20, "", "20 0 0 0", &lines.join("/"), ""))
+        let mut draft = BookDraft::new(20, 20, &[]);
+        let skip = draft.skip();
+        (0..count).for_each(|element| draft.agent(skip, element));
+        book_answer(&draft.text())
     };
     assert_eq!(of(16), accepted());
     assert_eq!(of(17), refused(3, 4, 0));

@@ -1,18 +1,13 @@
-// How the paper's open points are read: what a move does, its reads, writes and marks.
+// What a move does, its reads, writes and marks (SPECIFICATION 4 and 5), with the points that its text leaves open.
 
 mod support;
-use paper::{reads_and_writes, Instruction, FALSE, TRUE, UNDEF};
+use inputs::{compact_lines, BookDraft};
+use paper::{Instruction, FALSE, TRUE, UNDEF};
 use support::*;
-
-/// The locations that agent 0 reads and writes in its first move.
-fn touched(book: &[u8]) -> (Vec<usize>, Vec<usize>) {
-    let checked = paper::check_book(book).unwrap();
-    reads_and_writes(&checked, &paper::start_table(&checked), 0, &[]).unwrap()
-}
 
 /// The answer of a log with one move of each of two agents, not ordered.
 fn unordered(first: &str, second: &str, contents: &str) -> paper::Answer {
-    run_of(&rules(&[first, second], contents), &log(&[0, 1], &[])).answer
+    unordered_run(first, second, contents).answer
 }
 
 mod inside_a_move {
@@ -39,49 +34,34 @@ mod inside_a_move {
     /// The contents lines that let S hold at four elements.
     const FOUR: &str = "6 0 0 2 / 6 1 0 2 / 6 2 0 2 / 6 3 0 2";
 
-    /// A rule that gives this many instructions, all g := 3: a part for all x in S, the rest beside it.
-    fn repeated(count: usize) -> String {
-        let mut nodes = tree_of_sets(count / 4);
-        nodes.push(format!("25 7 6 {}", nodes.len() - 1));
-        for _ in 0..count % 4 {
-            let at = nodes.len();
-            nodes.extend(["4 4 0 0".to_string(), "1 3 0 0".to_string()]);
-            nodes.push(format!("21 {} {} 0", at, at + 1));
-            nodes.push(format!("22 {} {} 0", at - 1, at + 2));
-        }
-        nodes.join(" / ")
+    fn set_g(draft: &mut BookDraft) -> u32 {
+        draft.append(&compact_lines(SET_G))
     }
 
-    /// g := 3 this many times, paired until one rule is left.
-    fn tree_of_sets(count: usize) -> Vec<String> {
-        let mut nodes = Vec::new();
-        let mut open = std::collections::VecDeque::new();
-        for at in (0..count).map(|set| 3 * set) {
-            nodes.extend(["4 4 0 0".to_string(), "1 3 0 0".to_string()]);
-            nodes.push(format!("21 {} {} 0", at, at + 1));
-            open.push_back(at + 2);
+    /// A rule that gives this many instructions, all g := 3: a part for all x in S, the rest beside it.
+    fn repeated(draft: &mut BookDraft, count: usize) -> u32 {
+        let sets = (0..count / 4).map(|_| set_g(draft)).collect();
+        let joined = draft.joined(sets, BookDraft::both);
+        let mut rule = draft.for_all(7, 6, joined);
+        for _ in 0..count % 4 {
+            let set = set_g(draft);
+            rule = draft.both(rule, set);
         }
-        while open.len() > 1 {
-            let pair = [open.pop_front().unwrap(), open.pop_front().unwrap()];
-            open.push_back(nodes.len());
-            nodes.push(format!("22 {} {} 0", pair[0], pair[1]));
-        }
-        nodes
+        rule
     }
 
     /// The answer when a list of this length is followed by a rule, whose nodes count from 0, and
     /// the number of that rule's last node in the book.
-    fn after(count: usize, rule_lines: &[&str], reserve: &str) -> (paper::Answer, u32) {
-        let before = repeated(count);
-        let last = before.split('/').count() - 1;
-        let lines: Vec<String> = rule_lines.iter().map(|line| shifted(line, last + 1)).collect();
-        let end = last + lines.len();
-        let nodes = format!("{before} / {} / 22 {last} {end} 0", lines.join(" / "));
-        let contents = format!("{reserve} / {FOUR}");
-        (step_of(&rule(&nodes, &contents)).0, end as u32)
+    fn after(count: usize, rule: &str, reserve: &str) -> (paper::Answer, u32) {
+        let mut draft = rules_draft(&format!("{reserve} / {FOUR}"));
+        let before = repeated(&mut draft, count);
+        let end = draft.append(&compact_lines(rule));
+        let root = draft.both(before, end);
+        draft.agent(root, 5);
+        (step_of(&draft.text()).0, end)
     }
 
-    const IMPORT: &[&str] = &["20 0 0 0", "26 0 1 0"];
+    const IMPORT: &str = "20 0 0 0 / 26 0 1 0";
 
     #[test]
     fn import_in_a_nearly_full_list() {
@@ -96,9 +76,9 @@ mod inside_a_move {
         assert_eq!(answer, refused(13, 0, import));
         let (answer, import) = after(256, IMPORT, "0 6 0 2");
         assert_eq!(answer, refused(14, 0, import));
-        let (answer, release) = after(256, &["1 0 0 0", "27 0 0 0"], "");
+        let (answer, release) = after(256, "1 0 0 0 / 27 0 0 0", "");
         assert_eq!(answer, refused(12, 0, release));
-        let (answer, set) = after(256, &["4 8 0 0", "1 3 0 0", "21 0 1 0"], "");
+        let (answer, set) = after(256, "4 8 0 0 / 1 3 0 0 / 21 0 1 0", "");
         assert_eq!(answer, refused(11, 0, set));
     }
 
@@ -106,7 +86,7 @@ mod inside_a_move {
     #[test]
     fn full_list_and_a_later_refusal() {
         // The 257th instruction, then a release of undef.
-        let both = ["4 4 0 0", "1 3 0 0", "21 0 1 0", "1 0 0 0", "27 3 0 0", "22 2 4 0"];
+        let both = both(SET_G, "1 0 0 0 / 27 0 0 0");
         let (answer, end) = after(256, &both, "");
         assert_eq!(answer, refused(14, 0, end - 3));
         let (answer, end) = after(255, &both, "");
@@ -316,7 +296,7 @@ mod reads_writes_and_marks {
     fn a_set_location_is_not_read_but_its_arguments_are() {
         // f(g) := h.
         let book = rule("4 4 0 0 / 5 3 0 0 / 4 5 0 0 / 21 1 2 0", "4 0 0 3 / 5 0 0 4");
-        assert_eq!(touched(&book), (vec![G, H], vec![F + 3]));
+        assert_eq!(reads_and_writes_of(&book), (vec![G, H], vec![F + 3]));
     }
 
     #[test]
@@ -324,52 +304,55 @@ mod reads_writes_and_marks {
         // g := (r and U(3)), then with or; r is false, then true.
         for (kind, contents) in [(9, "5 0 0 3"), (10, "8 0 0 2")] {
             let nodes = format!("4 8 0 0 / 1 3 0 0 / 5 1 1 0 / {kind} 0 2 0 / 4 4 0 0 / 21 4 3 0");
-            assert_eq!(touched(&rule(&nodes, contents)), (vec![U + 3, R], vec![G]));
+            assert_eq!(reads_and_writes_of(&rule(&nodes, contents)), (vec![U + 3, R], vec![G]));
         }
     }
 
     #[test]
     fn a_let_reads_its_b_once_walked() {
         let nodes = "4 4 0 0 / 4 5 0 0 / 1 3 0 0 / 21 1 2 0 / 24 0 0 3";
-        assert_eq!(touched(&rule(nodes, "")), (vec![G], vec![H]));
+        assert_eq!(reads_and_writes_of(&rule(nodes, "")), (vec![G], vec![H]));
     }
 
     #[test]
     fn the_guard_is_read_and_the_other_branch_is_not() {
         // If r then g := h else g := 3.
         let nodes = "4 8 0 0 / 4 4 0 0 / 4 5 0 0 / 21 1 2 0 / 4 4 0 0 / 1 3 0 0 / 21 4 5 0 / 23 0 3 6";
-        assert_eq!(touched(&rule(nodes, "")), (vec![R], vec![G]));
-        assert_eq!(touched(&rule(nodes, "5 0 0 3 / 8 0 0 2")), (vec![H, R], vec![G]));
+        assert_eq!(reads_and_writes_of(&rule(nodes, "")), (vec![R], vec![G]));
+        assert_eq!(reads_and_writes_of(&rule(nodes, "5 0 0 3 / 8 0 0 2")), (vec![H, R], vec![G]));
     }
 
     #[test]
     fn a_forall_reads_its_dynamic_universe_at_all_elements() {
         let nodes = |universe: u32| format!("2 0 0 0 / 5 3 0 0 / 1 3 0 0 / 21 1 2 0 / 25 0 {universe} 3");
         let all: Vec<usize> = (U..U + 8).collect();
-        assert_eq!(touched(&rule(&nodes(1), "1 4 0 2")), (all, vec![F + 4]));
+        assert_eq!(reads_and_writes_of(&rule(&nodes(1), "1 4 0 2")), (all, vec![F + 4]));
         // A static universe and static locations leave no mark.
-        assert_eq!(touched(&rule(&nodes(6), "6 4 0 2")), (vec![], vec![F + 4]));
+        assert_eq!(reads_and_writes_of(&rule(&nodes(6), "6 4 0 2")), (vec![], vec![F + 4]));
         let constant = "4 4 0 0 / 4 7 0 0 / 21 0 1 0";
-        assert_eq!(touched(&rule(constant, "7 0 0 4")), (vec![], vec![G]));
+        assert_eq!(reads_and_writes_of(&rule(constant, "7 0 0 4")), (vec![], vec![G]));
         // Not walked, not read: the forall stands in the branch not taken.
         let nodes = "1 1 0 0 / 20 0 0 0 / 25 0 1 1 / 4 4 0 0 / 1 3 0 0 / 21 3 4 0 / 23 0 2 5";
-        assert_eq!(touched(&rule(nodes, "")), (vec![], vec![G]));
+        assert_eq!(reads_and_writes_of(&rule(nodes, "")), (vec![], vec![G]));
     }
 
     #[test]
     fn an_import_reads_reserve_up_to_its_label() {
         let one = "20 0 0 0 / 26 0 1 0";
-        assert_eq!(touched(&rule(one, "0 6 0 2 / 0 7 0 2")), (vec![6], vec![6, U + 6]));
-        assert_eq!(touched(&rule(one, "0 7 0 2")), (vec![6, 7], vec![7, U + 7]));
+        assert_eq!(reads_and_writes_of(&rule(one, "0 6 0 2 / 0 7 0 2")), (vec![6], vec![6, U + 6]));
+        assert_eq!(reads_and_writes_of(&rule(one, "0 7 0 2")), (vec![6, 7], vec![7, U + 7]));
         let two = "20 0 0 0 / 26 0 1 0 / 26 1 1 1";
-        assert_eq!(touched(&rule(two, "0 6 0 2 / 0 7 0 2")), (vec![6, 7], vec![6, 7, U + 6, U + 7]));
+        assert_eq!(
+            reads_and_writes_of(&rule(two, "0 6 0 2 / 0 7 0 2")),
+            (vec![6, 7], vec![6, 7, U + 6, U + 7])
+        );
     }
 
     #[test]
     fn unchanged_writes_are_writes() {
         // g := 3 beside h := 4, with g 3 already.
         let nodes = "4 4 0 0 / 1 3 0 0 / 21 0 1 0 / 4 5 0 0 / 1 4 0 0 / 21 3 4 0 / 22 2 5 0";
-        assert_eq!(touched(&rule(nodes, "4 0 0 3")), (vec![], vec![G, H]));
+        assert_eq!(reads_and_writes_of(&rule(nodes, "4 0 0 3")), (vec![], vec![G, H]));
     }
 
     #[test]
@@ -441,10 +424,13 @@ mod idle {
 
     #[test]
     fn no_instructions_leave_the_marks_of_the_reads() {
-        assert_eq!(touched(&rule(&look_at(4), "")), (vec![G], vec![]));
+        assert_eq!(reads_and_writes_of(&rule(&look_at(4), "")), (vec![G], vec![]));
         // If r then skip, otherwise skip; for all x in U skip.
-        assert_eq!(touched(&rule("4 8 0 0 / 20 0 0 0 / 20 0 0 0 / 23 0 1 2", "")), (vec![R], vec![]));
-        assert_eq!(touched(&rule("20 0 0 0 / 25 0 1 0", "")), ((U..U + 8).collect(), vec![]));
+        assert_eq!(
+            reads_and_writes_of(&rule("4 8 0 0 / 20 0 0 0 / 20 0 0 0 / 23 0 1 2", "")),
+            (vec![R], vec![])
+        );
+        assert_eq!(reads_and_writes_of(&rule("20 0 0 0 / 25 0 1 0", "")), ((U..U + 8).collect(), vec![]));
     }
 
     #[test]
@@ -461,7 +447,7 @@ mod idle {
             / 1 3 0 0 / 5 3 7 0 / 1 0 0 0 / 21 8 9 0 / 22 6 10 0";
         let book = rule(nodes, "4 0 0 3 / 5 0 0 4");
         assert_eq!(step_of(&book).1, start(&book));
-        assert_eq!(touched(&book), (vec![G], vec![F + 3, G, H]));
+        assert_eq!(reads_and_writes_of(&book), (vec![G], vec![F + 3, G, H]));
     }
 
     #[test]

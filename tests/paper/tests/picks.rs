@@ -1,7 +1,8 @@
-// The clerk's pick, paper 02's F-2: node kind 28, choice lines, the picks of a single move, 18 and 19.
+// Choices (SPECIFICATION 2, 4 and 6): node kind 28, choice lines, the picks of a single move, 18 and 19.
 
 mod support;
-use paper::{check_book, padded, reads_and_writes, run, step, walk_move, Marks, Pick, TRUE, UNDEF};
+use inputs::padded;
+use paper::{book_answer, check_book, reads_and_writes, run, step, walk_move, Marks, Pick, TRUE, UNDEF};
 use support::*;
 
 /// Choose x in U and do g := x; node 3 is the choose.
@@ -15,13 +16,6 @@ const PICK_EACH: &str = "2 0 0 0 / 5 3 0 0 / 2 1 0 0 / 21 1 2 0 / 28 1 2 3 / 25 
 
 /// g := 3 beside g := 4; node 6 is the root.
 const TWO_VALUES: &str = "4 4 0 0 / 1 3 0 0 / 21 0 1 0 / 4 4 0 0 / 1 4 0 0 / 21 3 4 0 / 22 2 5 0";
-
-/// Both rules, each with nodes that count from 0.
-fn both(first: &str, second: &str) -> String {
-    let a = first.split('/').count();
-    let lines: Vec<String> = second.split('/').map(|line| shifted(line, a)).collect();
-    format!("{first} / {} / 22 {} {} 0", lines.join(" / "), a - 1, a + lines.len() - 1)
-}
 
 /// The answer of a move of agent 0 with these picks.
 fn picked(nodes: &str, contents: &str, picks: &[Pick]) -> paper::Answer {
@@ -336,13 +330,13 @@ mod choice_lines {
     use super::*;
 
     /// Two agents, each of which picks: choose x in U do g := x, and choose x in V do h := x.
-    fn clerks() -> Vec<u8> {
+    fn choosing_agents() -> Vec<u8> {
         let second = "4 5 0 0 / 2 0 0 0 / 21 0 1 0 / 28 0 2 2";
         rules(&[PICK, second], "1 3 0 2 / 1 4 0 2 / 2 4 0 2 / 2 5 0 2")
     }
 
     fn answer(log: &str) -> paper::Answer {
-        let book = clerks();
+        let book = choosing_agents();
         let run = run_of(&book, &padded(log));
         if run.answer.number == 9 || run.answer.number == 1 {
             assert!(run.contents.iter().all(|&value| value == LENT_VALUE));
@@ -353,9 +347,9 @@ mod choice_lines {
 
     #[test]
     fn each_move_uses_its_own() {
-        let run = run_of(&clerks(), &log_with(&[0, 1], &[], &[(0, 3), (1, 5)]));
+        let run = run_of(&choosing_agents(), &log_with(&[0, 1], &[], &[(0, 3), (1, 5)]));
         assert_eq!((run.answer, run.contents[G], run.contents[H]), (accepted(), 3, 5));
-        let run = run_of(&clerks(), &log_with(&[1, 0], &[], &[(0, 5), (1, 3)]));
+        let run = run_of(&choosing_agents(), &log_with(&[1, 0], &[], &[(0, 5), (1, 3)]));
         assert_eq!((run.answer, run.contents[G], run.contents[H]), (accepted(), 3, 5));
         // Both lines are move 0's: it has one left over; with the first only, move 1 lacks its own.
         assert_eq!(answer("2 0 2 0 / 0 0 0 0 / 1 0 0 0 / 0 3 0 0 / 0 4 0 0"), refused(19, 0, 3));
@@ -434,7 +428,7 @@ mod choice_lines {
         assert_eq!(answer("1 0 1 0 / 9 0 0 0 / 0 3 0 0 / 0 3 0 0"), refused(1, 3, 1));
         let mut text = padded("1 0 1 0 / 9 0 0 0 / 0 3 0 0");
         text[2 * 25 + 10..][..2].copy_from_slice(b"03");
-        assert_eq!(run_of(&clerks(), &text).answer, refused(1, 2, 1));
+        assert_eq!(run_of(&choosing_agents(), &text).answer, refused(1, 2, 1));
         assert_eq!(answer("1 0 1 0 / 9 0 0 0 / 0 3 0 0"), refused(9, 1, 0));
     }
 
@@ -442,10 +436,10 @@ mod choice_lines {
     fn nine_before_ten_and_two() {
         assert_eq!(answer("2 0 1 0 / 0 0 0 0 / 0 0 0 0 / 2 3 0 0"), refused(9, 3, 0));
         let log = padded("1 0 1 0 / 0 0 0 0 / 1 3 0 0");
-        assert_eq!(run(&clerks(), &log, &mut [], &mut [], &mut [], 0), refused(9, 2, 0));
+        assert_eq!(run(&choosing_agents(), &log, &mut [], &mut [], &mut [], 0), refused(9, 2, 0));
         let log = padded("1 0 1 0 / 0 0 0 0 / 0 5 0 0");
-        assert_eq!(run(&clerks(), &log, &mut [], &mut [], &mut [], 0), refused(2, 44, 0));
-        assert_eq!(run_of(&clerks(), &log).answer, refused(18, 0, 3));
+        assert_eq!(run(&choosing_agents(), &log, &mut [], &mut [], &mut [], 0), refused(2, 44, 0));
+        assert_eq!(run_of(&choosing_agents(), &log).answer, refused(18, 0, 3));
     }
 
     #[test]
@@ -463,7 +457,7 @@ mod choice_lines {
 
     #[test]
     fn printed_by_rental() {
-        let log = |lines: &str| printed(&[clerks(), padded(lines)].concat());
+        let log = |lines: &str| printed(&[choosing_agents(), padded(lines)].concat());
         let start = "1 3 0 2 / 1 4 0 2 / 2 4 0 2 / 2 5 0 2";
         assert_eq!(log("1 0 1 0 / 0 0 0 0 / 0 4 0 0"), format!("0 0 0 5 / {start} / 4 0 0 4"));
         assert_eq!(log("1 0 1 0 / 0 0 0 0 / 0 5 0 0"), "18 0 3 0");

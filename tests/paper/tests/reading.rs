@@ -1,7 +1,8 @@
-// How the paper's open points are read: text, book, lent tables, log and printer.
+// Text, book, lent tables, log and printer (SPECIFICATION 1 to 3, 6 and 10), with the points that their text leaves open.
 
 mod support;
-use paper::{check_book, padded, run, step};
+use inputs::{padded, specification};
+use paper::{book_answer, check_book, run, step};
 use support::*;
 
 /// A book of these nodes with one agent at this root, a static relation 1, a dynamic relation 2,
@@ -21,7 +22,7 @@ mod text_and_headers {
 
     #[test]
     fn cut_short_and_surplus() {
-        let whole = padded(SHOWN);
+        let whole = specification::book();
         let lines = whole.len() / 25;
         for length in 2 * 25..whole.len() {
             assert_eq!(book_answer(&whole[..length]), refused(1, length as u32 / 25, 0));
@@ -34,7 +35,7 @@ mod text_and_headers {
 
     #[test]
     fn ill_formed_fields() {
-        let whole = padded(SHOWN);
+        let whole = specification::book();
         for field in [
             &b"      "[..],
             b"\t    1",
@@ -420,7 +421,7 @@ mod logs {
 
     #[test]
     fn header_before_missing_lines() {
-        let shown = padded(SHOWN);
+        let shown = specification::book();
         assert_eq!(run_of(&shown, &padded("65 0 0 0")).answer, refused(9, 0, 0));
         assert_eq!(run_of(&shown, &padded("64 2017 0 0")).answer, refused(9, 0, 0));
         assert_eq!(run_of(&shown, &padded("0 0 257 0")).answer, refused(9, 0, 0));
@@ -431,7 +432,7 @@ mod logs {
 
     #[test]
     fn missing_line_before_a_bad_agent() {
-        let shown = padded(SHOWN);
+        let shown = specification::book();
         assert_eq!(run_of(&shown, &padded("2 0 0 0 / 7 0 0 0")).answer, refused(1, 2, 1));
         assert_eq!(run_of(&shown, &padded("2 0 0 0 / 7 0 0 0 / 0 0 0 0")).answer, refused(9, 1, 0));
     }
@@ -451,7 +452,7 @@ mod logs {
             ("3 2 0 0 / 0 0 0 0 / 0 0 0 0 / 0 0 0 0 / 1 2 0 0 / 0 2 0 0", 5),
             ("3 2 0 0 / 0 0 0 0 / 0 0 0 0 / 0 0 0 0 / 0 2 0 0 / 0 1 0 0", 5),
         ] {
-            assert_eq!(run_of(&padded(SHOWN), &padded(lines)).answer, refused(9, line, 0), "{lines}");
+            assert_eq!(run_of(&specification::book(), &padded(lines)).answer, refused(9, line, 0), "{lines}");
         }
     }
 
@@ -460,19 +461,19 @@ mod logs {
         // Too many pairs for one move: the first of them is at fault, not the header.
         let pairs = ["0 1 0 0"; 2_016].join("/");
         let log = padded(&format!("1 2016 0 0 / 0 0 0 0 / {pairs}"));
-        assert_eq!(run_of(&padded(SHOWN), &log).answer, refused(9, 2, 0));
+        assert_eq!(run_of(&specification::book(), &log).answer, refused(9, 2, 0));
     }
 
     #[test]
     fn nine_before_ten() {
         let log = padded("2 1 0 0 / 0 0 0 0 / 0 0 0 0 / 1 1 0 0");
-        assert_eq!(run_of(&padded(SHOWN), &log).answer, refused(9, 3, 0));
+        assert_eq!(run_of(&specification::book(), &log).answer, refused(9, 3, 0));
     }
 
     #[test]
     fn least_pair_of_ten() {
         let answer =
-            |agents: &[u32], pairs: &[(u32, u32)]| run_of(&padded(SHOWN), &log(agents, pairs)).answer;
+            |agents: &[u32], pairs: &[(u32, u32)]| run_of(&specification::book(), &log(agents, pairs)).answer;
         assert_eq!(answer(&[0, 1, 1, 0], &[]), refused(10, 0, 3));
         assert_eq!(answer(&[0, 1, 1, 0], &[(0, 3)]), refused(10, 1, 2));
         // 0 is before 1 and before 2, which are not ordered.
@@ -483,7 +484,7 @@ mod logs {
 
     #[test]
     fn ten_before_two() {
-        let shown = padded(SHOWN);
+        let shown = specification::book();
         let unordered = log(&[0, 0], &[]);
         assert_eq!(run(&shown, &unordered, &mut [], &mut [], &mut [], 0), refused(10, 0, 1));
     }
@@ -522,7 +523,7 @@ mod rental {
     #[test]
     fn little_input() {
         assert_eq!(printed(b""), "1 0 0 0");
-        assert_eq!(printed(&padded(SHOWN)), "1 0 1 0");
+        assert_eq!(printed(&specification::book()), "1 0 1 0");
         let idle_contents = book(4, 4, "0 2 0 0", "20 0 0 0", "0 3 0 0", "1 0 0 0");
         assert_eq!(printed(&idle_contents), "8 6 0 0");
     }
@@ -530,7 +531,7 @@ mod rental {
     #[test]
     fn input_that_ends_inside_the_book() {
         // One line short, the log's lines are taken as the book's last ones.
-        let mut book = padded(SHOWN);
+        let mut book = specification::book();
         book.truncate(book.len() - 25);
         let lines = book.len() as u32 / 25;
         assert_eq!(printed(&book), format!("1 {lines} 0 0"));

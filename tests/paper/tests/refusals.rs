@@ -1,7 +1,8 @@
-// One test for each example in the paper's table of refusals, and for the order of the refusals.
+// One test for each example in the table of refusals, and for the order of the refusals (SPECIFICATION 8).
 
 mod support;
-use paper::{padded, run, step, Answer};
+use inputs::{padded, specification};
+use paper::{book_answer, run, step, Answer};
 use support::*;
 
 /// The answer of a run of the shown book on tables of these lengths.
@@ -10,7 +11,7 @@ fn run_with_lengths([contents, readers, writers, instructions]: [usize; 4]) -> A
     let mut contents = vec![LENT_VALUE; contents];
     let mut readers = vec![LENT_MARK; readers];
     let mut writers = vec![LENT_MARK; writers];
-    let answer = run(&padded(SHOWN), &log, &mut contents, &mut readers, &mut writers, instructions);
+    let answer = run(&specification::book(), &log, &mut contents, &mut readers, &mut writers, instructions);
     if answer.number != 0 {
         assert!(contents.iter().all(|&value| value == LENT_VALUE));
         assert!(readers.iter().chain(&writers).all(|&mark| mark == LENT_MARK));
@@ -20,7 +21,7 @@ fn run_with_lengths([contents, readers, writers, instructions]: [usize; 4]) -> A
 
 #[test]
 fn refusal_1_leading_zero() {
-    let mut book = padded(SHOWN);
+    let mut book = specification::book();
     let at = 3 * 25 + 4;
     book[at..at + 2].copy_from_slice(b"07");
     assert_eq!(book_answer(&book), refused(1, 3, 0));
@@ -37,7 +38,7 @@ fn refusal_2_lent_tables_short() {
 
 #[test]
 fn refusal_2_in_a_single_move() {
-    let book = padded(SHOWN);
+    let book = specification::book();
     let mut contents = start(&book);
     assert_eq!(step(&book, &mut contents[..23], 0, &[], 0), refused(2, 24, 0));
     assert_eq!(step(&book, &mut contents, 0, &[], 255), refused(2, 256, 3));
@@ -80,13 +81,13 @@ fn refusal_8_static_value_is_a_label() {
 
 #[test]
 fn refusal_9_pair_of_one_move() {
-    let run = run_of(&padded(SHOWN), &log(&[0, 1], &[(1, 1)]));
+    let run = run_of(&specification::book(), &log(&[0, 1], &[(1, 1)]));
     assert_eq!(run.answer, refused(9, 3, 0));
 }
 
 #[test]
 fn refusal_10_moves_of_one_agent() {
-    let run = run_of(&padded(SHOWN), &log(&[0, 0], &[]));
+    let run = run_of(&specification::book(), &log(&[0, 0], &[]));
     assert_eq!(run.answer, refused(10, 0, 1));
     assert!(run.contents.iter().all(|&value| value == LENT_VALUE));
     assert!(run.readers.iter().chain(&run.writers).all(|&mark| mark == LENT_MARK));
@@ -108,7 +109,7 @@ fn refusal_12_release_of_undef() {
 
 #[test]
 fn refusal_13_second_import() {
-    let run = run_of(&padded(SHOWN), &ordered(&[0, 0]));
+    let run = run_of(&specification::book(), &ordered(&[0, 0]));
     assert_eq!(run.answer, refused(13, 1, 4));
     // The contents after move 0 and its marks stay.
     assert_eq!(run.contents[16 + 7], 3);
@@ -120,9 +121,8 @@ fn refusal_13_second_import() {
 #[test]
 fn refusal_14_forall_over_257() {
     // For all x in U: f := x, with U at elements 0 to 256.
-    let members: Vec<String> = (0..257).map(|element| format!("1 {element} 0 2")).collect();
     let nodes = "4 2 0 0 / 1 3 0 0 / 21 0 1 0 / 25 0 1 2";
-    let book = book(300, 300, "1 1 0 0 / 0 2 0 0", nodes, "3 3 0 0", &members.join(" / "));
+    let book = book(300, 300, "1 1 0 0 / 0 2 0 0", nodes, "3 3 0 0", &members(1, 257));
     assert_eq!(step_of(&book), (refused(14, 0, 2), start(&book), vec![]));
 }
 
@@ -145,7 +145,7 @@ fn refusal_16_is_not_given_when_set_to_its_own_value() {
 
 #[test]
 fn refusal_17_moves_that_touch() {
-    let run = run_of(&padded(SHOWN), &log(&[0, 1], &[]));
+    let run = run_of(&specification::book(), &log(&[0, 1], &[]));
     assert_eq!(run.answer, refused(17, 0, 1));
     // Final contents and all marks stay.
     assert_eq!(run.contents[16 + 6..16 + 8], [5, 4]);
@@ -179,7 +179,7 @@ fn order_of_the_books_refusals() {
 /// The same for a log: its header and lines, 10, the lent tables, the moves, 17.
 #[test]
 fn order_of_the_logs_refusals() {
-    let book = padded(SHOWN);
+    let book = specification::book();
     let mut lines = ["65 2 0 0", "0 0 0 0", "9 0 0 0", "0 0 0 0", "1 2 0 0", "1 2 0 0", "0 0 0 0"];
     let steps = [
         (refused(9, 0, 0), 0, "3 2 0 0"),

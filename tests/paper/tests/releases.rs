@@ -1,8 +1,8 @@
-// How F-3 is read: what a move with a release reads, what a move reads that takes a label out of a location, and
+// Releases (SPECIFICATION 5): what a move with a release reads, what a move reads that takes a label out of a location, and
 // which moves may stand unordered beside a release.
 
 mod support;
-use paper::{reads_and_writes, FALSE, TRUE, UNDEF};
+use paper::{FALSE, TRUE, UNDEF};
 use support::*;
 
 /// Release g, and release h.
@@ -13,23 +13,9 @@ const RELEASE_H: &str = "4 5 0 0 / 27 0 0 0";
 const G_TO_H: &str = "4 4 0 0 / 4 5 0 0 / 21 0 1 0";
 const KEEP_G: &str = "4 4 0 0 / 4 4 0 0 / 21 0 1 0";
 
-/// Rules, each counted from 0, joined into one.
-fn both(first: &str, second: &str) -> String {
-    let base = first.split('/').count();
-    let lines: Vec<String> = second.split('/').map(|line| shifted(line, base)).collect();
-    let last = base + lines.len();
-    format!("{first} / {} / 22 {} {} 0", lines.join(" / "), base - 1, last - 1)
-}
-
-/// The locations that agent 0 reads and writes in its first move.
+/// The locations that a rule reads and writes.
 fn touched(nodes: &str, contents: &str) -> (Vec<usize>, Vec<usize>) {
-    let book = paper::check_book(&rule(nodes, contents)).unwrap();
-    reads_and_writes(&book, &paper::start_table(&book), 0, &[]).unwrap()
-}
-
-/// The run of one move of each of two agents, in this order and not ordered by a pair.
-fn unordered(first: &str, second: &str, contents: &str) -> Run {
-    run_of(&rules(&[first, second], contents), &log(&[0, 1], &[]))
+    reads_and_writes_of(&rule(nodes, contents))
 }
 
 /// Where two moves touch: what the first reads and the second writes, the other way round, and what both write.
@@ -251,11 +237,11 @@ mod touching {
     fn a_release_that_clears_the_label_away() {
         // g 7, f(7) 6, h 6: agent 0 releases g, agent 1 releases h.
         let contents = "3 7 0 6 / 4 0 0 7 / 5 0 0 6";
-        let run = unordered(RELEASE_G, RELEASE_H, contents);
+        let run = unordered_run(RELEASE_G, RELEASE_H, contents);
         assert_touch_by_reads_of_first(&run, &[6]);
         assert_eq!((run.contents[6], run.contents[7], run.contents[F + 7]), (TRUE, TRUE, UNDEF));
         // The other way round both write f(7).
-        let run = unordered(RELEASE_H, RELEASE_G, contents);
+        let run = unordered_run(RELEASE_H, RELEASE_G, contents);
         assert_eq!((run.answer, common(&run)[2].clone()), (refused(17, 0, 1), vec![F + 7]));
         assert_eq!(run_of(&rules(&[RELEASE_G, RELEASE_H], contents), &ordered(&[0, 1])).answer, accepted());
     }
@@ -263,7 +249,7 @@ mod touching {
     #[test]
     fn two_releases_of_labels_that_have_nothing_in_common() {
         for order in [[RELEASE_G, RELEASE_H], [RELEASE_H, RELEASE_G]] {
-            let run = unordered(order[0], order[1], "4 0 0 7 / 5 0 0 6");
+            let run = unordered_run(order[0], order[1], "4 0 0 7 / 5 0 0 6");
             assert_eq!((run.answer, common(&run)), (accepted(), [vec![], vec![], vec![]]));
             assert_eq!(run.contents[6..8], [TRUE, TRUE]);
         }
@@ -282,13 +268,13 @@ mod touching {
 
     #[test]
     fn an_update_that_takes_the_label_out() {
-        let run = unordered(SET_G, RELEASE_H, "4 0 0 6 / 5 0 0 6");
+        let run = unordered_run(SET_G, RELEASE_H, "4 0 0 6 / 5 0 0 6");
         assert_touch_by_reads_of_first(&run, &[6]);
-        assert_eq!(unordered(RELEASE_H, SET_G, "4 0 0 6 / 5 0 0 6").answer, refused(17, 0, 1));
+        assert_eq!(unordered_run(RELEASE_H, SET_G, "4 0 0 6 / 5 0 0 6").answer, refused(17, 0, 1));
         // Another label, or none.
         for contents in ["4 0 0 7 / 5 0 0 6", "4 0 0 4 / 5 0 0 6", "5 0 0 6"] {
-            assert_eq!(unordered(SET_G, RELEASE_H, contents).answer, accepted(), "{contents}");
-            assert_eq!(unordered(RELEASE_H, SET_G, contents).answer, accepted(), "{contents}");
+            assert_eq!(unordered_run(SET_G, RELEASE_H, contents).answer, accepted(), "{contents}");
+            assert_eq!(unordered_run(RELEASE_H, SET_G, contents).answer, accepted(), "{contents}");
         }
     }
 
@@ -296,20 +282,20 @@ mod touching {
     fn an_update_for_another_label() {
         // g := f(3), with f(3) 7; g and h hold 6.
         let set_g = "4 4 0 0 / 1 3 0 0 / 5 3 1 0 / 21 0 2 0";
-        let run = unordered(set_g, RELEASE_H, "3 3 0 7 / 4 0 0 6 / 5 0 0 6");
+        let run = unordered_run(set_g, RELEASE_H, "3 3 0 7 / 4 0 0 6 / 5 0 0 6");
         assert_touch_by_reads_of_first(&run, &[6]);
         // g holds 7 already.
-        let run = unordered(set_g, RELEASE_H, "3 3 0 7 / 4 0 0 7 / 5 0 0 6");
+        let run = unordered_run(set_g, RELEASE_H, "3 3 0 7 / 4 0 0 7 / 5 0 0 6");
         assert_eq!((run.answer, common(&run)), (accepted(), [vec![], vec![], vec![]]));
     }
 
     #[test]
     fn an_update_that_keeps_the_label() {
         // The release writes g, which g := g reads and writes; Reserve at 6 is not read by it.
-        let run = unordered(KEEP_G, RELEASE_H, "4 0 0 6 / 5 0 0 6");
+        let run = unordered_run(KEEP_G, RELEASE_H, "4 0 0 6 / 5 0 0 6");
         assert_eq!((run.answer, run.read(0), run.written(0)), (refused(17, 0, 1), vec![G], vec![G]));
         assert_eq!(common(&run), [vec![G], vec![G], vec![G]]);
-        assert_eq!(unordered(KEEP_G, RELEASE_H, "4 0 0 7 / 5 0 0 6").answer, accepted());
+        assert_eq!(unordered_run(KEEP_G, RELEASE_H, "4 0 0 7 / 5 0 0 6").answer, accepted());
     }
 
     #[test]
@@ -332,7 +318,7 @@ mod touching {
         let out = "4 4 0 0 / 1 0 0 0 / 21 0 1 0".to_string();
         for work in [at_g(3, 4), at_g(1, 2), at_g(3, 0), out] {
             for order in [[&work, RELEASE_H], [RELEASE_H, &work]] {
-                let run = unordered(order[0], order[1], contents);
+                let run = unordered_run(order[0], order[1], contents);
                 assert_eq!((run.answer, run.contents[6]), (accepted(), TRUE), "{order:?}");
             }
         }
@@ -341,26 +327,26 @@ mod touching {
     #[test]
     fn an_import_of_a_lower_label() {
         let import = "20 0 0 0 / 26 0 1 0";
-        let run = unordered(import, RELEASE_H, "0 6 0 2 / 5 0 0 7");
+        let run = unordered_run(import, RELEASE_H, "0 6 0 2 / 5 0 0 7");
         assert_eq!((run.answer, run.contents[6], run.contents[7]), (accepted(), FALSE, TRUE));
         // The import looks past the label that is released.
-        assert_eq!(unordered(import, RELEASE_H, "0 7 0 2 / 5 0 0 6").answer, refused(17, 0, 1));
+        assert_eq!(unordered_run(import, RELEASE_H, "0 7 0 2 / 5 0 0 6").answer, refused(17, 0, 1));
     }
 
     #[test]
     fn a_forall() {
         // For all x in a universe: f(x) := 3. A static one; a dynamic one is written by the release.
         let for_all = |universe: u32| format!("2 0 0 0 / 5 3 0 0 / 1 3 0 0 / 21 1 2 0 / 25 0 {universe} 3");
-        assert_eq!(unordered(&for_all(6), RELEASE_H, "5 0 0 6 / 6 4 0 2").answer, accepted());
-        assert_eq!(unordered(&for_all(1), RELEASE_H, "1 4 0 2 / 5 0 0 6").answer, refused(17, 0, 1));
+        assert_eq!(unordered_run(&for_all(6), RELEASE_H, "5 0 0 6 / 6 4 0 2").answer, accepted());
+        assert_eq!(unordered_run(&for_all(1), RELEASE_H, "1 4 0 2 / 5 0 0 6").answer, refused(17, 0, 1));
     }
 
     #[test]
     fn a_look_at_the_label() {
         // f(3) := f(g), with g and h 6.
         let look = "1 3 0 0 / 5 3 0 0 / 4 4 0 0 / 5 3 2 0 / 21 1 3 0";
-        let run = unordered(look, RELEASE_H, "4 0 0 6 / 5 0 0 6");
+        let run = unordered_run(look, RELEASE_H, "4 0 0 6 / 5 0 0 6");
         assert_touch_by_reads_of_first(&run, &[F + 6, G]);
-        assert_eq!(unordered(look, RELEASE_H, "4 0 0 7 / 5 0 0 6").answer, accepted());
+        assert_eq!(unordered_run(look, RELEASE_H, "4 0 0 7 / 5 0 0 6").answer, accepted());
     }
 }

@@ -1,5 +1,5 @@
 // Benchmarks: the proved code against the independent one in one run, as ratios. Tables are lent once and used again, caches are warm.
-use compare::against::compare_builds;
+use compare::before_after::compare_builds;
 use compare::benchmarks::wanted;
 use compare::counting::{can_count, counted};
 use compare::entries::called;
@@ -123,7 +123,9 @@ fn perform(options: &Options) -> io::Result<()> {
         return Err(io::Error::other(format!("no row has '{}' in its name", options.word)));
     }
     match &options.task {
-        Task::Help => print!("{USAGE}\nThe rows, the tests and the entries that they call:\n{}", called()),
+        Task::Help => {
+            print!("{USAGE}\nThe rows, the comparisons and the entries that they call:\n{}", called())
+        }
         Task::Turn => tell(&options.word, Meter::Clock(ROUNDS_OF_A_TURN)),
         Task::Count => tell(&options.word, Meter::Callgrind { dumps: 0 }),
         Task::Table => print_table(options)?,

@@ -1,6 +1,7 @@
-// A longer comparison of the book check; a difference is printed with its number and ends the run. Usage: books SEED COUNT.
-use compare::{check_book, paper_check_book, Tally};
-use inputs::{book_input, Rng};
+// A longer comparison of the book check; a difference is printed and kept in tests/differences. Usage: books SEED COUNT.
+use compare::comparison::differences;
+use compare::comparisons::named;
+use compare::question::{independent, proved};
 use std::process::ExitCode;
 
 fn main() -> ExitCode {
@@ -9,16 +10,16 @@ fn main() -> ExitCode {
         eprintln!("usage: books SEED COUNT");
         return ExitCode::from(2);
     };
-    let mut tally = Tally::new();
-    for i in 0..count {
-        let book = book_input(&mut Rng::for_input(seed, i));
-        let (proved, independent) = (check_book(&book), paper_check_book(&book));
-        if proved != independent {
-            println!("input {i}: {proved:?} and {independent:?}");
-            return ExitCode::FAILURE;
-        }
-        tally.add(proved.number);
+    let mut compared = named("books").begin(seed, [proved, independent], differences());
+    if let Err(error) = compared.compare(0..count) {
+        eprintln!("books: a difference could not be kept: {error}");
+        return ExitCode::FAILURE;
     }
-    println!("{count} books, 0 differences: {tally}");
-    ExitCode::SUCCESS
+    print!("{compared}");
+    compared.kept.iter().for_each(|difference| print!("{difference}"));
+    if compared.differences == 0 {
+        ExitCode::SUCCESS
+    } else {
+        ExitCode::FAILURE
+    }
 }

@@ -1,10 +1,10 @@
 // Compares random, damaged and small inputs of every entry for some time, and keeps those that are answered differently.
 // Usage: fuzz SECONDS [SEED] [FOLDER]; the seed is the time of day and the folder tests/differences where none is given.
-use compare::asked::{independent, proved};
-use compare::comparison::Comparison;
-use inputs::{small_inputs, small_moves};
+use compare::comparison::{differences, Compared, Comparison};
+use compare::comparisons::{RANDOM, SMALL};
+use compare::question::{independent, proved};
 use std::io;
-use std::path::{Path, PathBuf};
+use std::path::PathBuf;
 use std::process::ExitCode;
 use std::time::{Duration, Instant, SystemTime, UNIX_EPOCH};
 
@@ -12,11 +12,6 @@ struct Options {
     seconds: u64,
     seed: u64,
     folder: PathBuf,
-}
-
-// The folder `differences` beside this package.
-fn differences() -> PathBuf {
-    Path::new(env!("CARGO_MANIFEST_DIR")).with_file_name("differences")
 }
 
 fn options() -> Option<Options> {
@@ -28,25 +23,26 @@ fn options() -> Option<Options> {
     words.next().is_none().then_some(Options { seconds, seed, folder })
 }
 
-// Random inputs and small ones in turn; how many of the small inputs and of the small moves were seen.
-fn compare_for(comparison: &mut Comparison, time: Duration) -> io::Result<[u64; 2]> {
-    let (began, small, moves) = (Instant::now(), small_inputs(), small_moves());
+// So many small inputs of each kind come with one random input of each kind.
+const SMALL_IN_TURN: u64 = 8;
+
+// Random inputs and small ones in turn.
+fn compare_for(random: &mut [Compared], small: &mut [Compared], seed: u64, time: Duration) -> io::Result<()> {
+    let began = Instant::now();
     // Another part of the small ones comes first for each seed.
-    let first = comparison.seed.wrapping_mul(0x9E37_79B9_7F4A_7C15);
+    let first = seed.wrapping_mul(0x9E37_79B9_7F4A_7C15);
     let mut number = 0;
     while began.elapsed() < time {
-        comparison.ask_random(number)?;
-        for i in 8 * number..8 * (number + 1) {
-            if i < small {
-                comparison.ask_small((first % small + i) % small)?;
+        random.iter_mut().try_for_each(|compared| compared.compare_one(number))?;
+        for compared in small.iter_mut() {
+            let all = (compared.comparison.inputs)();
+            for i in SMALL_IN_TURN * number..(SMALL_IN_TURN * (number + 1)).min(all) {
+                compared.compare_one((first % all + i) % all)?;
             }
-        }
-        if number < moves {
-            comparison.ask_small_move((first % moves + number) % moves)?;
         }
         number += 1;
     }
-    Ok([small.min(8 * number), moves.min(number)])
+    Ok(())
 }
 
 fn main() -> ExitCode {
@@ -55,19 +51,24 @@ fn main() -> ExitCode {
         return ExitCode::from(2);
     };
     println!("seed {seed}; differences are kept in {}", folder.display());
-    let mut comparison = Comparison::new(seed, [proved, independent], folder);
-    let [seen, seen_moves] = match compare_for(&mut comparison, Duration::from_secs(seconds)) {
-        Ok(seen) => seen,
-        Err(error) => {
-            eprintln!("fuzz: a difference could not be kept: {error}");
-            return ExitCode::FAILURE;
-        }
-    };
-    print!("{}", comparison.counts());
-    comparison.kept.iter().for_each(|folder| println!("a difference: {}", folder.display()));
-    println!("{seen} of {} small inputs, {seen_moves} of {} small moves", small_inputs(), small_moves());
-    println!("{} compared, {} differences", comparison.compared, comparison.differences);
-    if comparison.differences == 0 {
+    let begin =
+        |comparison: &'static Comparison| comparison.begin(seed, [proved, independent], folder.clone());
+    let (mut random, mut small) = (RANDOM.each_ref().map(begin), SMALL.each_ref().map(begin));
+    if let Err(error) = compare_for(&mut random, &mut small, seed, Duration::from_secs(seconds)) {
+        eprintln!("fuzz: a difference could not be kept: {error}");
+        return ExitCode::FAILURE;
+    }
+    let all: Vec<Compared> = random.into_iter().chain(small).collect();
+    all.iter().for_each(|compared| print!("{compared}"));
+    let kept = all.iter().flat_map(|compared| &compared.kept);
+    kept.for_each(|difference| println!("a difference: {}", difference.folder.display()));
+    let sum = |count: fn(&Compared) -> u64| all.iter().map(count).sum::<u64>();
+    println!(
+        "{} compared, {} differences",
+        sum(|compared| compared.inputs),
+        sum(|compared| compared.differences)
+    );
+    if sum(|compared| compared.differences) == 0 {
         ExitCode::SUCCESS
     } else {
         ExitCode::FAILURE

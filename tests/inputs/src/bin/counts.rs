@@ -1,58 +1,31 @@
 // Prints, for each entry, how many of a seed's inputs get each answer number. Usage: counts SEED COUNT.
 
-use inputs::{book_input, report_input, run_input, step_input, Rng};
-use paper::{check_book, report, run, step};
+use inputs::{book_input, printed_answer, report_input, run_input, step_input, Counts, Rng};
+use paper::{book_answer, report, Answer};
 use std::time::Instant;
-
-/// One more than the greatest answer number.
-const NUMBERS: usize = 20;
-
-type Counts = [u64; NUMBERS];
 
 fn main() {
     let mut arguments = std::env::args().skip(1).map(|argument| argument.parse().ok());
-    let (Some(Some(seed)), Some(Some(number)), None) = (arguments.next(), arguments.next(), arguments.next())
+    let (Some(Some(seed)), Some(Some(inputs)), None) = (arguments.next(), arguments.next(), arguments.next())
     else {
         eprintln!("usage: counts <seed> <number of inputs>");
         std::process::exit(2);
     };
-    print!("{:8}", "");
-    (0..NUMBERS).for_each(|answer| print!("{answer:>8}"));
-    println!("{:>9}", "seconds");
-    show("book", seed, number, of_book);
-    show("step", seed, number, of_step);
-    show("run", seed, number, of_run);
-    show("report", seed, number, of_report);
+    let numbers = Answer::NUMBERS.map(|number| format!("{number:>8}"));
+    println!("{:8}{}{:>9}", "", numbers.concat(), "seconds");
+    show("book", seed, inputs, |rng| book_answer(&book_input(rng)));
+    show("step", seed, inputs, |rng| step_input(rng).answer());
+    show("run", seed, inputs, |rng| run_input(rng).answer());
+    show("report", seed, inputs, |rng| printed_answer(&report(&report_input(rng))));
 }
 
-fn show(entry: &str, seed: u64, number: u64, answer: impl Fn(&mut Rng) -> u32) {
+fn show(entry: &str, seed: u64, inputs: u64, answer: impl Fn(&mut Rng) -> Answer) {
     let begin = Instant::now();
-    let mut counts: Counts = [0; NUMBERS];
-    for input in 0..number {
-        counts[answer(&mut Rng::for_input(seed, input)) as usize] += 1;
+    let counts: Counts<u32> =
+        (0..inputs).map(|input| answer(&mut Rng::for_input(seed, input)).number).collect();
+    let columns = Answer::NUMBERS.map(|number| format!("{:>8}", counts.of(number)));
+    println!("{entry:8}{}{:>9.1}", columns.concat(), begin.elapsed().as_secs_f64());
+    for number in counts.keys().filter(|number| !Answer::NUMBERS.contains(number)) {
+        println!("{entry:8}and {number}, which should not be given: {}", counts.of(*number));
     }
-    print!("{entry:8}");
-    counts.iter().for_each(|count| print!("{count:>8}"));
-    println!("{:>9.1}", begin.elapsed().as_secs_f64());
-}
-
-fn of_book(rng: &mut Rng) -> u32 {
-    check_book(&book_input(rng)).err().map_or(0, |answer| answer.number)
-}
-
-fn of_step(rng: &mut Rng) -> u32 {
-    let mut input = step_input(rng);
-    step(&input.book, &mut input.contents, input.agent, &input.picks, input.lent).number
-}
-
-fn of_run(rng: &mut Rng) -> u32 {
-    let mut input = run_input(rng);
-    let (contents, readers, writers) = (&mut input.contents, &mut input.readers, &mut input.writers);
-    run(&input.book, &input.log, contents, readers, writers, input.lent).number
-}
-
-fn of_report(rng: &mut Rng) -> u32 {
-    let text = report(&report_input(rng));
-    let number = std::str::from_utf8(&text[..6]).expect("digits");
-    number.trim().parse().expect("a number")
 }

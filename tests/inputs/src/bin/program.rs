@@ -1,9 +1,9 @@
-// Runs the built program on the cases of paper 01 and of the documents, on the examples, on random inputs and on broken streams.
+// Runs the built program on the specification's cases and those of the documents, on the examples, on random inputs and on broken streams.
 // Usage: program PROGRAM, as `program target/bin/rental`. Its last line is 'N passed, M failed'.
 
-use inputs::documents::{numbers, shown_in};
-use inputs::marked::{idle, limits, marked, picks, refusals, releases, Case};
-use inputs::{report_input, Rng};
+use inputs::cases::{idle, lettered, limits, picks, refusals, releases, Case};
+use inputs::documents::shown_in;
+use inputs::{numbers_in, padded, report_input, Rng};
 use std::fs;
 use std::io::{self, Write};
 use std::os::fd::OwnedFd;
@@ -51,7 +51,10 @@ impl Trial {
             let output = paper::report(&case.input);
             let end = fed(&self.program, &case.input, case.input.len());
             let first = |end: &Output| {
-                String::from_utf8_lossy(&end.stdout).lines().next().map(|line| numbers(line) == case.answer)
+                String::from_utf8_lossy(&end.stdout)
+                    .lines()
+                    .next()
+                    .map(|line| numbers_in(line) == case.answer)
             };
             let holds = end.is_ok_and(|end| said(&end, &output, "") && first(&end) == Some(true));
             self.count(&format!("{name}: {}", case.text), holds);
@@ -82,7 +85,7 @@ impl Trial {
 
     /// An input that comes in pieces, as from a slow writer.
     fn pieces(&mut self) {
-        let case = &marked()[0];
+        let case = &lettered()[0];
         for piece in [1, 7, 25, 4_096] {
             let holds = fed(&self.program, &case.input, piece).is_ok_and(|end| said(&end, &case.output, ""));
             self.count(&format!("(a) in pieces of {piece}"), holds);
@@ -91,7 +94,7 @@ impl Trial {
 
     /// What the program does when a shell gives it such streams.
     fn streams(&mut self) {
-        let nothing = paper::padded("1 0 0 0");
+        let nothing = padded("1 0 0 0");
         let (unread, unwritten) =
             ("rental: the input cannot be read\n", "rental: the output cannot be written\n");
         for (name, redirected, output, message) in [
@@ -105,13 +108,13 @@ impl Trial {
             let end = Command::new("sh").arg("-c").arg(script).arg(&self.program).output();
             self.count(name, end.is_ok_and(|end| said(&end, output, message)));
         }
-        let whole = &marked()[0].input;
+        let whole = &lettered()[0].input;
         for came in [0, 1, 600, whole.len()] {
             let end = broken_after(&self.program, &whole[..came]);
             let holds = end.is_ok_and(|end| said(&end, b"", unread));
             self.count(&format!("an input that breaks after {came} bytes"), holds);
         }
-        let gone = reader_gone(&self.program, &marked()[0].input);
+        let gone = reader_gone(&self.program, &lettered()[0].input);
         self.count("a reader that is gone", gone.is_ok_and(|end| end));
     }
 }
@@ -171,7 +174,7 @@ fn main() -> ExitCode {
         return ExitCode::from(2);
     };
     let mut trial = Trial { program: program.into(), passed: 0, failed: 0 };
-    trial.cases([marked(), limits(), refusals(), idle(), picks(), releases()].concat());
+    trial.cases([lettered(), limits(), refusals(), idle(), picks(), releases()].concat());
     trial.document("DECISIONS.md");
     trial.document("REFUSALS.md");
     trial.examples();

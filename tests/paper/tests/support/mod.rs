@@ -1,12 +1,8 @@
 // Shared by the tests: short ways to write books and logs and to call the entries.
 #![allow(dead_code)]
 
-use paper::{check_book, padded, report, run, step_listed, Answer, Instruction, Pick};
-
-/// The book shown in the paper: function 1 is Pair, 2 is Wear.
-pub const SHOWN: &str = "8 6 3 13 / 2 3 0 0 / 1 3 0 0 / 1 3 0 0 / 1 2 0 0 / 2 0 0 0 / 5 2 0 0 / 1 3 0 0 \
-    / 21 1 2 0 / 26 0 1 3 / 2 0 0 0 / 5 2 5 0 / 2 0 0 0 / 5 2 7 0 / 1 4 0 0 / 11 8 9 0 / 21 6 10 0 \
-    / 25 0 1 11 / 4 4 0 0 / 12 5 0 0 / 0 7 0 2 / 1 6 0 2 / 2 6 0 4";
+use inputs::{compact_lines, compact_of, lines_in, log_lines, text_of, BookDraft, LogDraft};
+use paper::{check_book, reads_and_writes, report, run, step_listed, Answer, Instruction, Pick};
 
 /// What filled a lent table before the call.
 pub const LENT_VALUE: u16 = 4_321;
@@ -20,8 +16,7 @@ pub fn refused(number: u32, p: u32, q: u32) -> Answer {
     Answer { number, p, q }
 }
 
-/// A book from its parts in compact form; the counts of the header are taken from them.
-/// Function lines leave out Reserve.
+/// A book from its parts in compact form; function lines leave out Reserve.
 pub fn book(
     elements: u32,
     permanent: u32,
@@ -30,12 +25,20 @@ pub fn book(
     agents: &str,
     contents: &str,
 ) -> Vec<u8> {
-    let functions = format!("1 3 0 0 / {functions}");
-    let parts = [&functions, nodes, agents, contents].map(padded);
-    let [f, n, a, c] = parts.each_ref().map(|part| part.len() / 25);
-    let mut text = padded(&format!("{elements} {permanent} {f} {n} / {a} {c} 0 0"));
-    text.extend(parts.concat());
-    text
+    BookDraft::compact(elements, permanent, functions, nodes, agents, contents).text()
+}
+
+/// Contents lines in which a relation holds at each element below this, in compact form.
+pub fn members(relation: u32, below: u32) -> String {
+    compact_of(&(0..below).map(|element| [relation, element, 0, 2]).collect::<Vec<_>>())
+}
+
+/// Both rules, each with nodes that count from 0.
+pub fn both(first: &str, second: &str) -> String {
+    let mut draft = rules_draft("");
+    let (a, b) = (draft.append(&compact_lines(first)), draft.append(&compact_lines(second)));
+    draft.both(a, b);
+    compact_of(&draft.nodes)
 }
 
 /// A log of these moves and pairs.
@@ -43,24 +46,14 @@ pub fn log(agents: &[u32], pairs: &[(u32, u32)]) -> Vec<u8> {
     log_with(agents, pairs, &[])
 }
 
-/// A log of these moves, pairs and choice lines.
+/// A log of these moves, pairs and choice lines, just as they are given.
 pub fn log_with(agents: &[u32], pairs: &[(u32, u32)], choices: &[(u32, u32)]) -> Vec<u8> {
-    let mut compact = format!("{} {} {} 0", agents.len(), pairs.len(), choices.len());
-    agents.iter().for_each(|agent| compact += &format!(" / {agent} 0 0 0"));
-    let twos = pairs.iter().chain(choices);
-    twos.for_each(|(first, second)| compact += &format!(" / {first} {second} 0 0"));
-    padded(&compact)
+    text_of(&log_lines(agents, pairs, choices))
 }
 
 /// A log of these moves in which each pair of moves is ordered.
 pub fn ordered(agents: &[u32]) -> Vec<u8> {
-    let m = agents.len() as u32;
-    let pairs: Vec<(u32, u32)> = (1..m).map(|later| (later - 1, later)).collect();
-    log(agents, &pairs)
-}
-
-pub fn book_answer(book: &[u8]) -> Answer {
-    check_book(book).err().unwrap_or(accepted())
+    LogDraft::in_sequence(agents.to_vec()).text()
 }
 
 /// What a run left in tables of L + 1 records each.
@@ -96,6 +89,17 @@ pub fn run_of(book: &[u8], log: &[u8]) -> Run {
     Run { answer, contents, readers, writers }
 }
 
+/// The run of one move of each of two agents, in this order and not ordered by a pair.
+pub fn unordered_run(first: &str, second: &str, contents: &str) -> Run {
+    run_of(&rules(&[first, second], contents), &log(&[0, 1], &[]))
+}
+
+/// The locations that agent 0 reads and writes in its first move.
+pub fn reads_and_writes_of(book: &[u8]) -> (Vec<usize>, Vec<usize>) {
+    let book = check_book(book).expect("a sound book");
+    reads_and_writes(&book, &paper::start_table(&book), 0, &[]).expect("the move fires")
+}
+
 /// The start of a sound book, as a table of L records.
 pub fn start(book: &[u8]) -> Vec<u16> {
     paper::start_table(&check_book(book).expect("a sound book"))
@@ -115,9 +119,7 @@ pub fn step_with(book: &[u8], picks: &[Pick]) -> (Answer, Vec<u16>, Vec<Instruct
 
 /// What `rental` prints, in compact form.
 pub fn printed(input: &[u8]) -> String {
-    let text = String::from_utf8(report(input)).expect("plain text");
-    let lines = text.lines().map(|line| line.split_whitespace().collect::<Vec<_>>().join(" "));
-    lines.collect::<Vec<_>>().join(" / ")
+    compact_of(&lines_in(&report(input)))
 }
 
 /// The books of `rules` have E 8 and P 6, so the labels are 6 and 7, and these functions with their first
@@ -142,31 +144,15 @@ pub fn rule(nodes: &str, contents: &str) -> Vec<u8> {
 
 /// A book with one agent for each rule; node numbers count anew in each.
 pub fn rules(rules: &[&str], contents: &str) -> Vec<u8> {
-    let (mut nodes, mut agents, mut base) = (Vec::new(), Vec::new(), 0);
-    for rule in rules {
-        let lines = rule.split('/').map(|line| shifted(line, base));
-        nodes.extend(lines);
-        base = nodes.len();
-        agents.push(format!("{} {} 0 0", base - 1, 6 - rules.len() + agents.len()));
-    }
-    book(8, 6, FUNCTIONS, &nodes.join("/"), &agents.join("/"), contents)
+    let mut draft = rules_draft(contents);
+    let first = 6 - rules.len() as u32;
+    (first..).zip(rules).for_each(|(element, rule)| draft.agent_with(element, rule));
+    draft.text()
 }
 
-/// A node line with this added to its node operands.
-pub fn shifted(line: &str, base: usize) -> String {
-    let mut fields: Vec<usize> = line.split_whitespace().map(|field| field.parse().unwrap()).collect();
-    let operands = match fields[0] {
-        5 => 2..3,
-        6 => 2..4,
-        8 | 27 => 1..2,
-        7..=13 | 21 | 22 => 1..3,
-        23 => 1..4,
-        24 => 2..4,
-        25 | 26 | 28 => 3..4,
-        _ => 0..0,
-    };
-    fields[operands].iter_mut().for_each(|field| *field += base);
-    fields.iter().map(usize::to_string).collect::<Vec<_>>().join(" ")
+/// Such a book without a rule.
+pub fn rules_draft(contents: &str) -> BookDraft {
+    BookDraft::compact(8, 6, FUNCTIONS, "", "", contents)
 }
 
 pub fn update(location: usize, value: u16) -> Instruction {

@@ -1,12 +1,12 @@
-// The cases of paper 01 print what the independent implementation prints, and the proved table of the definitions has the same ones.
+// The independent implementation prints what the cases say, and the proved table of the definitions has the same ones.
 
-use inputs::marked::{idle, limits, marked, picks, refusals, releases, Case};
-use paper::padded;
+use inputs::cases::{idle, lettered, limits, picks, refusals, releases, Case};
+use inputs::padded;
 use std::fs;
 
 #[test]
 fn printed_by_the_independent_implementation() {
-    let cases = [marked(), limits(), refusals(), idle(), picks(), releases()].concat();
+    let cases = [lettered(), limits(), refusals(), idle(), picks(), releases()].concat();
     assert_eq!(cases.len(), 12 + 11 + 18 + 5 + 14 + 7);
     for case in cases {
         assert_eq!(paper::report(&case.input), case.output, "{}", case.name);
@@ -28,7 +28,7 @@ fn quoted(part: &str) -> Vec<String> {
     part.split('"').skip(1).step_by(2).map(|text| text.replace("\\n", "\n")).collect()
 }
 
-/// The inputs and outputs in the definitions' table, (a) to (l). An input is a text, 01's book and a log, or the nodes of a rule between the
+/// The inputs and outputs in the definitions' table, (a) to (l). An input is a text, the specification's own book and a log, or the nodes of a rule between the
 /// two texts of `f-set-to`.
 fn defined() -> Vec<(Vec<u8>, Vec<u8>)> {
     let path = concat!(env!("CARGO_MANIFEST_DIR"), "/../../crates/report/specs/Cases.antt");
@@ -55,8 +55,9 @@ fn defined() -> Vec<(Vec<u8>, Vec<u8>)> {
 #[test]
 fn proved_of_the_definitions() {
     let defined = defined();
-    assert_eq!(defined.len(), marked().len());
-    for (Case { name, input: ours, output: printed }, (input, output)) in marked().into_iter().zip(defined) {
+    assert_eq!(defined.len(), lettered().len());
+    for (Case { name, input: ours, output: printed }, (input, output)) in lettered().into_iter().zip(defined)
+    {
         assert_eq!((input, output), (ours, printed), "{name}");
     }
 }

@@ -1,19 +1,17 @@
-// Rules of clerks who pick: one choice, several, in turns of a forall, in one another, under guards, lets and imports.
+// Rules with choices: one, several, in turns of a forall, in one another, under guards, lets and imports.
 
-use crate::draft::Draft;
-use crate::flavours::desk;
+use crate::book_draft::BookDraft;
+use crate::nodes::Leaf;
 use crate::rng::Rng;
+use crate::root_rules::at_own_element;
 use crate::rules::{Sort, Writer};
 
-const SKIP: paper::Line = [20, 0, 0, 0];
-const ME: paper::Line = [3, 0, 0, 0];
-
-/// One rule with a choice as a root; a desk where the draft has no universe.
-pub fn clerk(rng: &mut Rng, draft: &mut Draft, careful: bool) -> u32 {
+/// One rule with a choice as a root; a rule at the agent's own element where the draft has no universe.
+pub fn choosing(rng: &mut Rng, draft: &mut BookDraft, careful: bool) -> u32 {
     let mut writer = Writer::new(rng, draft, careful);
     let first = writer.draft.universes(false).first().copied();
     let any = if writer.rng.percent(50) { first } else { writer.universe() };
-    let Some(universe) = any else { return desk(rng, draft) };
+    let Some(universe) = any else { return at_own_element(rng, draft) };
     match writer.rng.weighted(&[26, 12, 18, 12, 10, 8, 8, 6]) {
         0 => one(&mut writer, universe),
         1 => two(&mut writer, universe),
@@ -26,21 +24,21 @@ pub fn clerk(rng: &mut Rng, draft: &mut Draft, careful: bool) -> u32 {
     }
 }
 
-/// Choose x in a dynamic universe: a note at the agent's own element, a look, or a word whether x stays in the universe.
-pub fn at_shelf(rng: &mut Rng, draft: &mut Draft, universe: u32, notes: u32) -> u32 {
+/// Choose x in a dynamic universe: x is noted at the agent's own element, only read, kept in the universe or taken out of it.
+pub fn choosing_in_shared(rng: &mut Rng, draft: &mut BookDraft, universe: u32, notes: u32) -> u32 {
     let relation = draft.is_relation(notes);
     let mut writer = Writer::new(rng, draft, true);
     let variable = free(&mut writer);
     let choice = writer.rng.weighted(&[40, 15, 30, 15]);
     writer.choose_in(variable, universe, |writer| match choice {
         0 => {
-            let location = writer.name(notes, &[ME]);
-            let value = writer.draft.add(if relation { [1, 2, 0, 0] } else { [2, variable, 0, 0] });
-            writer.draft.add([21, location, value, 0])
+            let location = writer.draft.own(notes);
+            let value = if relation { Leaf::Element(2) } else { Leaf::Variable(variable) };
+            writer.draft.set_to(location, value)
         }
-        1 => writer.draft.add(SKIP),
-        2 => set_at(writer, universe, variable, [1, 2, 0, 0]),
-        _ => set_at(writer, universe, variable, [1, 1, 0, 0]),
+        1 => writer.draft.skip(),
+        2 => set_at(writer, universe, variable, Leaf::Element(2)),
+        _ => set_at(writer, universe, variable, Leaf::Element(1)),
     })
 }
 
@@ -67,23 +65,21 @@ fn about(writer: &mut Writer, variable: u32, universe: u32) -> u32 {
     match (writer.rng.weighted(&[24, 30, 18, 6, 14, 8]), writer.rng.any(&at)) {
         (0, _) if dynamic => {
             let stays = writer.rng.range(1, 2);
-            set_at(writer, universe, variable, [1, stays, 0, 0])
+            set_at(writer, universe, variable, Leaf::Element(stays))
         }
         (1, Some(function)) if writer.draft.is_relation(function) => {
             let careless = !writer.careful && writer.rng.percent(40);
-            let value = if careless { [2, variable, 0, 0] } else { [1, writer.rng.range(1, 2), 0, 0] };
+            let value =
+                if careless { Leaf::Variable(variable) } else { Leaf::Element(writer.rng.range(1, 2)) };
             set_at(writer, function, variable, value)
         }
         (1 | 2, Some(function)) if !writer.draft.is_relation(function) => {
             let number = 3 + writer.rng.below((writer.draft.permanent - 3).min(5));
-            let value = writer.rng.pick(&[ME, [1, number, 0, 0]]);
+            let value = writer.rng.pick(&[Leaf::AgentElement, Leaf::Element(number)]);
             set_at(writer, function, variable, value)
         }
-        (3, _) => {
-            let label = writer.draft.add([2, variable, 0, 0]);
-            writer.draft.add([27, label, 0, 0])
-        }
-        (5, _) => writer.draft.add(SKIP),
+        (3, _) => writer.draft.release_of(Leaf::Variable(variable)),
+        (5, _) => writer.draft.skip(),
         (4, _) => {
             let size = writer.rng.range(1, 3);
             writer.rule(size, 9)
@@ -93,10 +89,9 @@ fn about(writer: &mut Writer, variable: u32, universe: u32) -> u32 {
 }
 
 /// f(x) := a leaf.
-fn set_at(writer: &mut Writer, function: u32, variable: u32, value: paper::Line) -> u32 {
-    let location = writer.name(function, &[[2, variable, 0, 0]]);
-    let value = writer.draft.add(value);
-    writer.draft.add([21, location, value, 0])
+fn set_at(writer: &mut Writer, function: u32, variable: u32, value: Leaf) -> u32 {
+    let location = writer.draft.at(function, variable);
+    writer.draft.set_to(location, value)
 }
 
 /// g := x, or g(me) := x.
@@ -104,11 +99,10 @@ fn note(writer: &mut Writer, variable: u32) -> u32 {
     let plain = writer
         .draft
         .functions_where(|draft, f| draft.is_dynamic(f) && !draft.is_relation(f) && draft.arity(f) < 2);
-    let Some(function) = writer.rng.any(&plain) else { return writer.draft.add(SKIP) };
-    let arguments = &[ME][..writer.draft.arity(function) as usize];
-    let location = writer.name(function, arguments);
-    let value = writer.draft.add([2, variable, 0, 0]);
-    writer.draft.add([21, location, value, 0])
+    let Some(function) = writer.rng.any(&plain) else { return writer.draft.skip() };
+    let arguments = &[Leaf::AgentElement][..writer.draft.arity(function) as usize];
+    let location = writer.of_leaves(function, arguments);
+    writer.draft.set_to(location, Leaf::Variable(variable))
 }
 
 /// Two choices, or three, beside each other.
@@ -117,8 +111,7 @@ fn two(writer: &mut Writer, universe: u32) -> u32 {
     for _ in 0..writer.rng.range(1, 2) {
         let other = another(writer, universe);
         let next = one(writer, other);
-        let both = if writer.rng.percent(50) { [22, rule, next, 0] } else { [22, next, rule, 0] };
-        rule = writer.draft.add(both);
+        rule = writer.both_in_any_order(rule, next);
     }
     rule
 }
@@ -135,7 +128,9 @@ fn in_turns(writer: &mut Writer, universe: u32) -> u32 {
             .draft
             .functions_where(|draft, f| draft.is_dynamic(f) && draft.arity(f) == 1 && !draft.is_relation(f));
         writer.choose_in(chosen, universe, |writer| match writer.rng.any(&functions) {
-            Some(function) if writer.rng.percent(60) => set_at(writer, function, variable, [2, chosen, 0, 0]),
+            Some(function) if writer.rng.percent(60) => {
+                set_at(writer, function, variable, Leaf::Variable(chosen))
+            }
             _ => about(writer, chosen, universe),
         })
     })
@@ -151,7 +146,7 @@ fn nested(writer: &mut Writer, universe: u32) -> u32 {
             return inner;
         }
         let beside = about(writer, variable, universe);
-        writer.draft.add([22, beside, inner, 0])
+        writer.draft.both(beside, inner)
     })
 }
 
@@ -159,17 +154,16 @@ fn nested(writer: &mut Writer, universe: u32) -> u32 {
 fn guarded(writer: &mut Writer, universe: u32) -> u32 {
     let guard = writer.term(Sort::Boolean, 4);
     let then = one(writer, universe);
-    let otherwise = if writer.rng.percent(50) { writer.draft.add(SKIP) } else { two(writer, universe) };
-    let branches =
-        if writer.rng.percent(50) { [23, guard, then, otherwise] } else { [23, guard, otherwise, then] };
-    writer.draft.add(branches)
+    let otherwise = if writer.rng.percent(50) { writer.draft.skip() } else { two(writer, universe) };
+    let (then, otherwise) = if writer.rng.percent(50) { (then, otherwise) } else { (otherwise, then) };
+    writer.draft.conditional(guard, then, otherwise)
 }
 
 fn with_let(writer: &mut Writer, universe: u32) -> u32 {
     let variable = free(writer);
     let value = writer.term(Sort::Any, 3);
     let body = writer.inside(variable, Sort::Any, |writer| one(writer, universe));
-    writer.draft.add([24, variable, value, body])
+    writer.draft.let_in(variable, value, body)
 }
 
 /// A choice inside an import or around it; the universe may be the one that grows.
@@ -179,12 +173,12 @@ fn with_import(writer: &mut Writer, universe: u32) -> u32 {
     let variable = free(writer);
     if writer.rng.percent(50) {
         let body = writer.inside(variable, Sort::Label, |writer| one(writer, universe));
-        return writer.draft.add([26, variable, growing, body]);
+        return writer.draft.import(variable, growing, body);
     }
     writer.choose_in(variable, universe, |writer| {
         let label = free(writer);
         let body = writer.inside(label, Sort::Label, |writer| about(writer, label, growing));
-        writer.draft.add([26, label, growing, body])
+        writer.draft.import(label, growing, body)
     })
 }
 
@@ -194,5 +188,5 @@ fn after_turns(writer: &mut Writer, universe: u32) -> u32 {
     let turning = another(writer, universe);
     let turns = writer.for_all_in(variable, turning, |writer| about(writer, variable, turning));
     let choice = one(writer, universe);
-    writer.draft.add([22, turns, choice, 0])
+    writer.draft.both(turns, choice)
 }

@@ -1,16 +1,17 @@
 // Releases: how they stand beside other moves in the logs that ran to their end, and the 17s that come from a label taken out alone.
 
+use crate::fired::{fired_moves, is_release, listed_moves, Fired};
 use crate::logs::needed_pairs;
 use crate::picks::under;
 use paper::*;
 
 /// How a release stands in a log.
 #[derive(Debug, Clone, Copy, PartialEq, Eq, PartialOrd, Ord)]
-pub enum Retired {
+pub enum Released {
     /// In an accepted log, unordered with another move.
     Unordered,
     /// In an accepted log, unordered with a move that changes something.
-    BesideWork,
+    BesideChange,
     /// The same, where the other move changes a location with another label as argument.
     BesideLabel,
     /// The same, where it takes another label out of a location by an update.
@@ -32,19 +33,19 @@ pub enum Retired {
     OutByClearing,
 }
 
-impl Retired {
-    pub const ALL: [Retired; 11] = [
-        Retired::Unordered,
-        Retired::BesideWork,
-        Retired::BesideLabel,
-        Retired::BesideTakenOut,
-        Retired::BesideImport,
-        Retired::BesideForAll,
-        Retired::BesideRelease,
-        Retired::BesidePick,
-        Retired::OutByUpdate,
-        Retired::OutForLabel,
-        Retired::OutByClearing,
+impl Released {
+    pub const ALL: [Released; 11] = [
+        Released::Unordered,
+        Released::BesideChange,
+        Released::BesideLabel,
+        Released::BesideTakenOut,
+        Released::BesideImport,
+        Released::BesideForAll,
+        Released::BesideRelease,
+        Released::BesidePick,
+        Released::OutByUpdate,
+        Released::OutForLabel,
+        Released::OutByClearing,
     ];
 }
 
@@ -53,11 +54,9 @@ pub fn has_releases(book: &Book) -> bool {
     book.nodes.iter().any(|node| matches!(node, Node::Release(_)))
 }
 
-/// A move that fired.
+/// A move that fired, with what it looked at and wrote.
 struct Done {
-    before: Vec<u16>,
-    after: Vec<u16>,
-    list: Vec<Instruction>,
+    fired: Fired,
     /// What its walk looked at.
     looked: Vec<bool>,
     /// The locations that it gives a value, and those of them that a release clears; both ascending.
@@ -65,48 +64,38 @@ struct Done {
     cleared: Vec<usize>,
 }
 
-/// Whether an instruction is a release.
-pub fn is_release(instruction: &Instruction) -> bool {
-    matches!(instruction, Instruction::Release { .. })
-}
-
 impl Done {
-    /// Fires a move from these contents, which it changes; nothing if it is refused.
-    fn fire(book: &Book, contents: &mut [u16], agent: usize, picks: &[Pick]) -> Option<Done> {
-        let before = contents.to_vec();
+    fn new(book: &Book, agent: usize, picks: &[Pick], fired: Fired) -> Done {
         let mut readers = vec![0; book.locations];
-        let mut list = Vec::new();
         let mut marks = Marks { readers: &mut readers, writers: &mut [], bit: 1 };
-        walk_move(book, &before, agent, picks, &mut marks, &mut list).ok()?;
-        fire_move(book, contents, agent, picks, Marks::none(), &mut list).ok()?;
-        let releases: Vec<Instruction> = list.iter().copied().filter(is_release).collect();
+        walk_move(book, &fired.before, agent, picks, &mut marks, &mut Vec::new()).expect("the move fired");
+        let releases: Vec<Instruction> = fired.list.iter().copied().filter(is_release).collect();
         let locations = |list: &[Instruction]| {
-            updates(book, &before, list).into_iter().map(|(location, _)| location).collect::<Vec<_>>()
+            updates(book, &fired.before, list).into_iter().map(|(location, _)| location).collect::<Vec<_>>()
         };
-        let (written, cleared) = (locations(&list), locations(&releases));
+        let (written, cleared) = (locations(&fired.list), locations(&releases));
         let looked = readers.into_iter().map(|mark| mark != 0).collect();
-        Some(Done { after: contents.to_vec(), list, looked, written, cleared, before })
-    }
-
-    fn releases(&self) -> bool {
-        self.list.iter().any(is_release)
+        Done { fired, looked, written, cleared }
     }
 
     /// The locations that it changes.
     fn changed(&self) -> impl Iterator<Item = usize> + '_ {
-        self.written.iter().copied().filter(|&location| self.before[location] != self.after[location])
+        self.written
+            .iter()
+            .copied()
+            .filter(|&location| self.fired.before[location] != self.fired.after[location])
     }
 
     /// The locations that it takes a label out of.
     fn taken_out<'a>(&'a self, book: &'a Book) -> impl Iterator<Item = usize> + 'a {
-        self.changed().filter(|&location| book.is_label(self.before[location]))
+        self.changed().filter(|&location| book.is_label(self.fired.before[location]))
     }
 }
 
 /// What these moves do one after the other, up to the first that is refused.
-fn done_by<'a>(book: &Book, moves: impl Iterator<Item = (usize, &'a Vec<Pick>)>) -> Vec<Done> {
-    let mut contents = start_table(book);
-    moves.map_while(|(agent, picks)| Done::fire(book, &mut contents, agent, picks)).collect()
+fn done_by<'a>(book: &Book, moves: impl Iterator<Item = (usize, &'a Vec<Pick>)> + Clone) -> Vec<Done> {
+    let fired = fired_moves(book, moves.clone());
+    moves.zip(fired).map(|((agent, picks), fired)| Done::new(book, agent, picks, fired)).collect()
 }
 
 /// The pairs of moves that have one agent, or touch if no move reads Reserve at a label that it takes out.
@@ -138,7 +127,7 @@ struct Ran {
 impl Ran {
     fn new(book: Book, log: &[u8]) -> Ran {
         let log = check_log(&book, log).expect("the log was run");
-        let done = done_by(&book, log.agents.iter().copied().zip(&log.picks));
+        let done = done_by(&book, listed_moves(&log));
         Ran { book, log, done }
     }
 
@@ -146,15 +135,15 @@ impl Ran {
         one != other && self.log.before[one.max(other)] >> one.min(other) & 1 == 0
     }
 
-    fn ways_of_accepted(&self) -> Vec<Retired> {
+    fn ways_of_accepted(&self) -> Vec<Released> {
         let moves = 0..self.done.len();
-        let releases = moves.clone().filter(|&number| self.done[number].releases());
+        let releases = moves.clone().filter(|&number| self.done[number].fired.releases());
         let beside = |release: usize| moves.clone().filter(move |&other| self.unordered(release, other));
         releases.flat_map(beside).flat_map(|other| self.ways_beside(other)).collect()
     }
 
     /// What a move does that is unordered with a release.
-    fn ways_beside(&self, number: usize) -> Vec<Retired> {
+    fn ways_beside(&self, number: usize) -> Vec<Released> {
         let done = &self.done[number];
         let updated = |location: &usize| done.cleared.binary_search(location).is_err();
         let import = |instruction: &Instruction| match *instruction {
@@ -162,14 +151,17 @@ impl Ran {
             Instruction::Release { .. } => false,
         };
         let ways = [
-            (true, Retired::Unordered),
-            (done.changed().next().is_some(), Retired::BesideWork),
-            (done.changed().filter(updated).any(|location| self.is_of_label(location)), Retired::BesideLabel),
-            (done.taken_out(&self.book).any(|location| updated(&location)), Retired::BesideTakenOut),
-            (done.list.iter().any(import), Retired::BesideImport),
-            (self.has_turns(number), Retired::BesideForAll),
-            (done.releases(), Retired::BesideRelease),
-            (!self.log.picks[number].is_empty(), Retired::BesidePick),
+            (true, Released::Unordered),
+            (done.changed().next().is_some(), Released::BesideChange),
+            (
+                done.changed().filter(updated).any(|location| self.is_of_label(location)),
+                Released::BesideLabel,
+            ),
+            (done.taken_out(&self.book).any(|location| updated(&location)), Released::BesideTakenOut),
+            (done.fired.list.iter().any(import), Released::BesideImport),
+            (self.has_turns(number), Released::BesideForAll),
+            (done.fired.releases(), Released::BesideRelease),
+            (!self.log.picks[number].is_empty(), Released::BesidePick),
         ];
         ways.into_iter().filter(|(holds, _)| *holds).map(|(_, way)| way).collect()
     }
@@ -189,7 +181,7 @@ impl Ran {
     fn has_turns(&self, number: usize) -> bool {
         let (book, done) = (&self.book, &self.done[number]);
         let agent = self.log.agents[number];
-        let mut contents = done.before.clone();
+        let mut contents = done.fired.before.clone();
         for node in under(book, book.agents[agent].root) {
             if let Node::ForAll { universe, .. } = book.nodes[node] {
                 let function = book.functions[universe];
@@ -200,7 +192,7 @@ impl Ran {
         }
         let mut list = Vec::new();
         let walk = walk_move(book, &contents, agent, &self.log.picks[number], &mut Marks::none(), &mut list);
-        walk.is_err() || list != done.list
+        walk.is_err() || list != done.fired.list
     }
 
     /// Whether the log would be accepted if no move read Reserve at a label that it takes out.
@@ -210,21 +202,21 @@ impl Ran {
     }
 
     /// How a move takes a label out whose place in Reserve the other one writes.
-    fn ways_out(&self, number: usize, other: usize) -> Vec<Retired> {
+    fn ways_out(&self, number: usize, other: usize) -> Vec<Released> {
         let (done, other) = (&self.done[number], &self.done[other]);
         let touching =
-            |location: &usize| other.written.binary_search(&(done.before[*location] as usize)).is_ok();
+            |location: &usize| other.written.binary_search(&(done.fired.before[*location] as usize)).is_ok();
         let way = |location: usize| match () {
-            _ if done.cleared.binary_search(&location).is_ok() => Retired::OutByClearing,
-            _ if self.book.is_label(done.after[location]) => Retired::OutForLabel,
-            _ => Retired::OutByUpdate,
+            _ if done.cleared.binary_search(&location).is_ok() => Released::OutByClearing,
+            _ if self.book.is_label(done.fired.after[location]) => Released::OutForLabel,
+            _ => Released::OutByUpdate,
         };
         done.taken_out(&self.book).filter(touching).map(way).collect()
     }
 }
 
 /// How releases stand in a log whose run gave this answer, each way once.
-pub fn retired_ways(book: &[u8], log: &[u8], answer: Answer) -> Vec<Retired> {
+pub fn released_ways(book: &[u8], log: &[u8], answer: Answer) -> Vec<Released> {
     if ![0, 17].contains(&answer.number) {
         return Vec::new();
     }
