@@ -1,5 +1,5 @@
 -- The book: its program (elements, functions, nodes, agents) and its contents lines; locations and their defaults; the start of a run
--- (01, "Elements, functions, locations").
+-- (SPECIFICATION 2.1 to 2.6).
 use mathlib.Core.Bool.{Bool, true, false, _&&_, _||_, not}
 use mathlib.Core.List.{List, [], _∷_}
 use Prim.Native.Nat.{ℕ, zero, suc, _+_, _-_, _*_, _/_, _%_}
@@ -11,7 +11,7 @@ use Rattle.book.specs.declared.Node.{Node}
 use Rattle.book.specs.declared.Agent.{Agent}
 use Rattle.book.specs.declared.Entry.{Entry}
 
--- ---- elements. The first P are permanent; the others are labels, 01's word for the elements that are given out again and again
+-- ---- elements. The first P are permanent; the others are labels, the specification's word for the elements that are given out again and again
 
 abbrev pub undef : ℕ
 undef = 0

@@ -1,4 +1,4 @@
--- The book's checks, 1 and 3 to 8, in the order of 01, "Refused, and how"; and what the exported check answers.
+-- The book's checks, 1 and 3 to 8, in their order (SPECIFICATION 3, 8.2); and what the exported check answers (SPECIFICATION 9.6).
 use mathlib.Core.List.{List}
 use Prim.Native.Nat.{ℕ, _+_, _*_, _^_}
 use lib.Dec.{leb}

@@ -1,5 +1,5 @@
 -- What is claimed of books and contents, and proved in proofs/Claims: the roll rule holds before the first move
--- (01, "Elements, functions, locations").
+-- (SPECIFICATION 2.1 to 2.6).
 use mathlib.Core.Path.{_≡_}
 use mathlib.Core.List.{List}
 use Prim.Native.Nat.{ℕ}

@@ -1,5 +1,5 @@
 -- 8: contents against the rules, line by line in a book, and location by location in a lent table
--- (01, "Elements, functions, locations", "Book and log text").
+-- (SPECIFICATION 3.9).
 use mathlib.Core.Bool.{Bool, true, false, _&&_, _||_, not}
 use mathlib.Core.List.{List, [], _∷_}
 use Prim.Native.Nat.{ℕ, zero, suc, _+_}

@@ -1,4 +1,4 @@
--- Books and what their check answers, as a table under the lemma of Quoted: the order of the refusals, and 01's examples for them.
+-- Books and what their check answers, as a table under the lemma of Quoted: the order of the refusals, and examples of them (SPECIFICATION 3).
 use mathlib.Core.Path.{_≡_, refl}
 use mathlib.Core.Bool.{true}
 use mathlib.Core.List.{List, [], _∷_, _++_}

@@ -1,4 +1,4 @@
--- Node kinds: which are terms, rules and binders, and the sorts of their three operands (01, "Node kinds").
+-- Node kinds: which are terms, rules and binders, and the sorts of their three operands (SPECIFICATION 2.7).
 use mathlib.Core.Bool.{Bool, _||_}
 use mathlib.Core.List.{List, [], _∷_}
 use Prim.Native.Nat.{ℕ, _+_, _*_}

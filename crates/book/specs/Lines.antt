@@ -1,5 +1,5 @@
 -- 3, 4, 5 and 7: the header, function, node and agent lines, each a test of one line; and the book that the lines say
--- (01, "Book and log text", "Node kinds").
+-- (SPECIFICATION 2.6, 3.2, 3.4, 3.5, 3.8).
 use mathlib.Core.Bool.{Bool, true, false, _&&_, _||_, not}
 use mathlib.Core.List.{List, [], _∷_}
 use Prim.Native.Nat.{ℕ, zero, suc, _+_, _-_, _*_}

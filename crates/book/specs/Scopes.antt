@@ -1,5 +1,5 @@
 -- 6, binding, depth and nesting: what stands around a node is handed down from the highest node on, to each operand by the node that names it
--- (01, "Node kinds").
+-- (SPECIFICATION 2.8, 3.7).
 use mathlib.Core.Bool.{Bool, true, false, _&&_, _||_, not}
 use mathlib.Core.List.{List, [], _∷_}
 use Prim.Native.Nat.{ℕ, zero, suc, _+_, _-_}

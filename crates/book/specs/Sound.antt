@@ -1,4 +1,4 @@
--- What the program of a book that passes its checks has, and what all contents of a run have, the roll rule with it (01, "Elements, functions, locations").
+-- What the program of a book that passes its checks has, and what all contents of a run have, the roll rule with it (SPECIFICATION 2.5).
 use mathlib.Core.Path.{_≡_}
 use mathlib.Core.Logic.{_≢_}
 use mathlib.Core.Bool.{true, false}
@@ -45,13 +45,13 @@ at c l = getD c l 0
 abbrev pub Argument : Program → ℕ → ℕ → Type 0
 Argument B x l = has (arguments-at B l) x ≡ true
 
--- x is on the roll, 01's word for Reserve
+-- x is on the roll, the specification's word for Reserve
 abbrev pub OnRoll : Program → List ℕ → ℕ → Type 0
 OnRoll B c x = (x < B .E) × (at c x ≡ true-element)
 
 -- Every location has a value, a relation only true or false; static functions are non-default only at permanent arguments, with permanent values;
 -- and the roll rule: Reserve holds for labels only, a label in it has the default at every other location with it as argument, and no location
--- holds it. (Such a location not at its default, or one that holds the label, is what 01 calls a trace.)
+-- holds it. (Such a location not at its default, or one that holds the label, is what the specification calls a trace.)
 pub record Sound (B : Program) (c : List ℕ) : Type 0 where
   pub long : length c ≡ L B
   pub small : (l : ℕ) → at c l < B .E

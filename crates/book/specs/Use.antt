@@ -1,4 +1,4 @@
--- 6, use: each node is used exactly once, as a root or as an operand (01, "Node kinds").
+-- 6, use: each node is used exactly once, as a root or as an operand (SPECIFICATION 2.8, 3.6).
 use mathlib.Core.Bool.{Bool, false, _&&_, _||_, not}
 use Prim.Native.Nat.{ℕ, zero, suc, _+_}
 use lib.Dec.{eqb}

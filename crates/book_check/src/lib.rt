@@ -1,4 +1,4 @@
-// The whole check of a book, refusals 1 and 3 to 8 in 01's order. Each line of its text is read once.
+// The whole check of a book, refusals 1 and 3 to 8 in the order of SPECIFICATION 3. Each line of its text is read once.
 use book::Header;
 use book::Image;
 use text::Answer;

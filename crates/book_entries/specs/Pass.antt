@@ -1,4 +1,4 @@
--- What a pass over the contents lines finds. A line out of form, wherever it stands, comes before one at fault by 8 (01, "Refused, and how").
+-- What a pass over the contents lines finds. A line out of form, wherever it stands, comes before one at fault by 8 (SPECIFICATION 3.3, 3.9).
 use mathlib.Core.Bool.{Bool}
 use mathlib.Core.List.{List}
 use Prim.Native.Nat.{ℕ, _-_}

@@ -1,4 +1,4 @@
--- A function's part of the contents table: its locations are one unbroken run (01, "Elements, functions, locations").
+-- A function's part of the contents table: its locations are one unbroken run (SPECIFICATION 2.3).
 use mathlib.Core.Bool.{Bool, _&&_}
 use mathlib.Core.List.{List, [], _∷_}
 use Prim.Native.Nat.{ℕ, _+_}

@@ -1,4 +1,4 @@
--- 01's line on equal reads: two contents with equal static functions that agree on what a move reads in one of them give it the same instructions
+-- Equal reads (SPECIFICATION 5.7): two contents with equal static functions that agree on what a move reads in one of them give it the same instructions
 -- if none of 11 to 14, 18 and 19 is met there, and otherwise the same refusal if they agree on Reserve throughout.
 use mathlib.Core.Path.{_≡_, refl, sym, ap, _∙_}
 use mathlib.Core.Logic.{dite}

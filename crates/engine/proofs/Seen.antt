@@ -1,4 +1,4 @@
--- 01's line on reads, as equations on what is looked at: a term 4 to 6 its arguments and its own location, a set only the arguments of the location
+-- Reads (SPECIFICATION 5.1), as equations on what is looked at: a term 4 to 6 its arguments and its own location, a set only the arguments of the location
 -- that it names, a conditional its guard whether it passes or not, a forall its universe at all E elements. (An import: Import.)
 use mathlib.Core.Path.{_≡_, refl, ap, _∙_}
 use mathlib.Core.List.{List, [], _∷_, _++_, append-nil}

@@ -1,5 +1,5 @@
 -- What is claimed of single moves, and proved in proofs/Claims: equal reads, the frame, the roll rule, idle moves, refusals, what imports and choices
--- read, and that trees are whole (01, "What a move does", "Node kinds"; 02, F-1 to F-3).
+-- read, and that trees are whole (SPECIFICATION 2.8, 4, 5).
 use mathlib.Core.Path.{_≡_}
 use mathlib.Core.Logic.{_↔_, _≢_}
 use mathlib.Core.Bool.{true, false}
@@ -32,7 +32,7 @@ SameHolders c d xs = (x l : ℕ) → has xs x ≡ true → (at c l ≡ x) ↔ (a
 
 -- Two contents with equal static functions that agree on what a move reads in one of them give it, with its picks, the same instructions if none of 11
 -- to 14, 18 and 19 is met there, and otherwise the same refusal if they agree on Reserve throughout; what the move reads elsewhere is past Reserve's E
--- locations. For a release to give the same updates, both must also hold its label at the same locations (02, F-3).
+-- locations. For a release to give the same updates, both must also hold its label at the same locations (SPECIFICATION 5.7).
 pub record EqualReads (B : Program) (c d : List ℕ) (i : Input) : Type 0 where
   pub instructions : (w : Walk) → walked B c i ≡ walking w → ((l : ℕ) → has (reads B c i) l ≡ true → at c l ≡ at d l) → walked B d i ≡ walking w
   pub refusal : (n q : ℕ) → walked B c i ≡ refused-at n q → ((l : ℕ) → B .E ≤ l → has (reads B c i) l ≡ true → at c l ≡ at d l)

@@ -1,4 +1,4 @@
--- Single moves and what they leave and read, as a table under the lemma of Quoted: 01's plausible misreadings, 02's F-1 to F-3, and 11 to 15, 18 and 19.
+-- Single moves and what they leave and read, as a table under the lemma of Quoted: what is easily misread (SPECIFICATION 5.8), and 11 to 15, 18 and 19.
 use mathlib.Core.Path.{_≡_, refl}
 use mathlib.Core.Bool.{true}
 use mathlib.Core.List.{List, [], _∷_, _++_}
@@ -107,7 +107,7 @@ examples =
     -- a release clears arguments and values: 4 is a member, has a value and is one
     ∷ case (leaves release-book (none ++ ((1 ∷ 1 ∷ 1 ∷ 1 ∷ 2 ∷ 1 ∷ []) ++ (0 ∷ 0 ∷ 0 ∷ 4 ∷ 3 ∷ 0 ∷ []))))
     (0 ∷ 0 ∷ 0 ∷ (1 ∷ 1 ∷ 1 ∷ 1 ∷ 2 ∷ 1 ∷ []) ++ (none ++ replicate 6 0))
-    -- what a release of 4 reads (02, F-3): the universe, and Reserve at 4, for 12; each location that it gives a value; Reserve at 4, which location 15 held
+    -- what a release of 4 reads (SPECIFICATION 5.2): the universe, and Reserve at 4, for 12; each location that it gives a value; Reserve at 4, which location 15 held
     ∷ case (reads-in release-book (none ++ ((1 ∷ 1 ∷ 1 ∷ 1 ∷ 2 ∷ 1 ∷ []) ++ (0 ∷ 0 ∷ 0 ∷ 4 ∷ 3 ∷ 0 ∷ []))))
     (6 ∷ 7 ∷ 8 ∷ 9 ∷ 10 ∷ 11 ∷ 4 ∷ (4 ∷ 10 ∷ 15 ∷ 16 ∷ []) ++ (4 ∷ []))
     -- the same, where location 16 held another label: Reserve at 5

@@ -1,5 +1,5 @@
 -- A move: the updates that its instructions give, 15, the contents that it leaves, what it reads and what it writes
--- (01, "What a move does"; 02, F-1 to F-3; idle after 003, 2.5).
+-- (SPECIFICATION 4.7 to 4.10, 5; idle after "Equivalence Is In The Eye Of The Beholder", 2.5).
 use mathlib.Core.Bool.{Bool, true, false, _&&_, _||_, not}
 use mathlib.Core.List.{List, [], _∷_, _++_}
 use Prim.Native.Nat.{ℕ, zero, suc}
@@ -70,7 +70,7 @@ set-to-label xs l (i ∷ is) = sets-label xs l i || set-to-label xs l is
 unfoldable pub clashes : List Instruction → List (List ℕ) → ℕ → Bool
 clashes is us l = two-values (values-at us l) || set-to-label (released is) l is
 
--- ---- idle: no location would change. Such a move fires like any other (02, F-1)
+-- ---- idle: no location would change. Such a move fires like any other (SPECIFICATION 4.10)
 
 unfoldable pub idle : List ℕ → List (List ℕ) → Bool
 idle c us = not (some-below (λ l. other (getD c l 0) (values-at us l)) (length us))
@@ -105,7 +105,7 @@ unfoldable pub append-from : (ℕ → List ℕ) → ℕ → ℕ → List ℕ
 append-from f i zero = []
 append-from f i (suc n) = f i ++ append-from f (suc i) n
 
--- Beside what its walk looks at, a move that fires reads two things (02, F-3): each location that a release gives a value, and Reserve at each label that
+-- Beside what its walk looks at, a move that fires reads two things (SPECIFICATION 5.2): each location that a release gives a value, and Reserve at each label that
 -- it takes out of a location.
 
 -- the release of one of the labels xs gives location l a value

@@ -1,4 +1,4 @@
--- What each term kind, 1 to 13, gives, from books' text, as a table under the lemma of Quoted (01, "Node kinds"). Elements are 0 to 6: undef, false,
+-- What each term kind, 1 to 13, gives, from books' text, as a table under the lemma of Quoted (SPECIFICATION 2.7, 4.1). Elements are 0 to 6: undef, false,
 -- true, the numbers 0, 1 and 2, and a label.
 use mathlib.Core.Path.{_≡_, refl}
 use mathlib.Core.Bool.{true, false}

@@ -1,5 +1,5 @@
 -- Rules: the tree that a node stands for, and the walk that gives a move's instructions or meets a refusal 11 to 14, 18 or 19
--- (01, "What a move does"; 02, F-2; 004, 3.2 to 3.4 and 4.1).
+-- (SPECIFICATION 4.2 to 4.6; Lipari Guide 3.1, 3.2, 4.1 and 5.3).
 use mathlib.Core.Bool.{Bool, true, false, _&&_, _||_, not}
 use mathlib.Core.List.{List, [], _∷_, _++_}
 use Prim.Native.Nat.{ℕ, zero, suc, _-_}

@@ -1,4 +1,4 @@
--- The single-move entry: a book, a contents table, an agent and its picks (01, "Refused, and how"; 02, F-2).
+-- The single-move entry: a book, a contents table, an agent and its picks (SPECIFICATION 9.2).
 use mathlib.Core.Bool.{Bool, not}
 use mathlib.Core.List.{List, [], _∷_, _++_}
 use Prim.Native.Nat.{ℕ, suc, min}
@@ -68,7 +68,7 @@ check-step book c i n = do
   good B
 
 -- What it answers: number and place, the contents table, and the instructions of the move if none of 11 to 14, 18 and 19 is met, a pick left over too, so that
--- a clash can be looked into; none of a call that is refused before the move. 01 leaves them free
+-- a clash can be looked into; none of a call that is refused before the move. The specification leaves them free (SPECIFICATION 9.5)
 pub record Stepped : Type 0 where
   pub answer : Answer
   pub contents : List ℕ

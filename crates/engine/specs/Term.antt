@@ -1,4 +1,4 @@
--- Terms: the tree that a node stands for, and its value (01, "Node kinds"; 004, 2.3).
+-- Terms: the tree that a node stands for, and its value (SPECIFICATION 4.1; Lipari Guide 2.3).
 use mathlib.Core.Bool.{Bool, _&&_, _||_, not}
 use mathlib.Core.List.{List, [], _∷_}
 use Prim.Native.Nat.{ℕ, zero, suc, _+_, _-_}

@@ -1,4 +1,4 @@
--- The updates of a list of instructions and their least clash (01, "What a move does").
+-- The updates of a list of instructions and their least clash (SPECIFICATION 4.7, 4.8).
 use mathlib.Core.List.{List, []}
 use Prim.Native.Nat.{ℕ}
 use lib.ListN.{length}

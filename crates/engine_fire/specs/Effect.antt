@@ -1,4 +1,4 @@
--- What one move leaves of the contents and the marks: all of it or nothing (01, "What a move does", "Refused, and how").
+-- What one move leaves of the contents and the marks: all of it or nothing (SPECIFICATION 4.9, 5.6, 8.3).
 use mathlib.Core.Path.{_≡_}
 use mathlib.Core.Bool.{Bool}
 use mathlib.Core.List.{List}
@@ -29,7 +29,7 @@ tables-after bit t (fires f) =
     }
 tables-after bit t (move-refused n q) = t
 
--- the paper's triple for move i: 0 0 0 if it fires
+-- the triple of SPECIFICATION 8.1 for move i: 0 0 0 if it fires
 abbrev pub move-answer : ℕ → Moved → Answer
 move-answer i (fires f) = record { number = 0; p = 0; q = 0 }
 move-answer i (move-refused n q) = record { number = n; p = i; q = q }

@@ -1,4 +1,4 @@
--- What becomes of a move whose walk came to its end: 15, or the contents and the marks after (01, "What a move does"; 02, F-3).
+-- What becomes of a move whose walk came to its end: 15, or the contents and the marks after (SPECIFICATION 4.8, 4.9, 5.2).
 use mathlib.Core.Path.{_≡_}
 use mathlib.Core.Bool.{_&&_}
 use mathlib.Core.List.{List}
@@ -27,7 +27,7 @@ move-by image c list n ls = fired-of (held image) c ls (items list n)
 
 -- ---- outcomes
 
--- the paper's number and q for each
+-- the number and q for each (SPECIFICATION 8.1)
 abbrev pub moved-by : move.Fired → Outcome → Moved
 moved-by f Fired = fires f
 moved-by f (Clash l) = move-refused clash l

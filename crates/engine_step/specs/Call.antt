@@ -1,4 +1,4 @@
--- The checks of a call after the book's (01, "Refused, and how").
+-- The checks of a call after the book's (SPECIFICATION 9.2).
 use mathlib.Core.List.{List}
 use Prim.Native.Nat.{ℕ}
 use lib.ListN.{take}

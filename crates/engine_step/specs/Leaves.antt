@@ -1,4 +1,4 @@
--- The single-move entry: what a call leaves (01, "Refused, and how").
+-- The single-move entry: what a call leaves (SPECIFICATION 8.3, 9.2).
 use mathlib.Core.Path.{_≡_}
 use mathlib.Core.List.{List}
 use Prim.Native.Nat.{ℕ}

@@ -1,4 +1,4 @@
--- Reader marks: each location has the set of the moves that read it, a move being one bit of a number (01, "What a move does").
+-- Reader marks: each location has the set of the moves that read it, a move being one bit of a number (SPECIFICATION 5.6).
 use mathlib.Core.Path.{_≡_}
 use mathlib.Core.Bool.{Bool, true, _&&_}
 use mathlib.Core.List.{List, [], _∷_}

@@ -1,4 +1,4 @@
--- The log entry: a book, a log and the tables that the caller lends; what it answers and leaves, for all inputs (01, "Refused, and how").
+-- The log entry: a book, a log and the tables that the caller lends; what it answers and leaves, for all inputs (SPECIFICATION 8.3, 9.3, 9.4).
 use mathlib.Core.List.{List}
 use Prim.Native.Nat.{ℕ}
 use lib.Dec.{leb}

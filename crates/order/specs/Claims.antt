@@ -1,4 +1,4 @@
--- What is claimed of orders, marks and runs beside demand 3, and proved in proofs/Claims (01, "What a move does", "Book and log text").
+-- What is claimed of orders, marks and runs beside demand 3, and proved in proofs/Claims (SPECIFICATION 5.5, 5.6, 6.4, 7.2).
 use mathlib.Core.Path.{_≡_}
 use mathlib.Core.Logic.{_↔_, _≢_}
 use mathlib.Core.Bool.{true}
@@ -37,7 +37,7 @@ OrdersAgree = (S : Moves) → Laws S → (start : S .Con) (m : ℕ) (pair : ℕ 
 abbrev pub MovesSwap : Type 0
 MovesSwap = (B : Program) → Lawful B → (g : Log) → Laws (moves-of B g)
 
--- a move that takes a label out of a location touches whatever releases that label (02, F-3)
+-- a move that takes a label out of a location touches whatever releases that label (SPECIFICATION 5.2)
 abbrev pub TakingTouches : Type 0
 TakingTouches = (B : Program) → Lawful B → (g : Log) (i j : ℕ) (c d : List ℕ) (a b : Fired) → Sound B c → Sound B d
     → moves-of B g .does i c ≡ some a → moves-of B g .does j d ≡ some b
@@ -70,7 +70,7 @@ module _ (B : Program) (g : Log) (c : List ℕ) where
 abbrev pub RunsLeave : Type 0
 RunsLeave = (B : Program) (g : Log) (c : List ℕ) (n : ℕ) → Left B g c n (run B g c n)
 
--- ---- 16 is never given: no book, log or lent table gets it (02, F-1)
+-- ---- 16 is never given: no book, log or lent table gets it (SPECIFICATION 8.1)
 
 abbrev pub RunsAnswer : Type 0
 RunsAnswer = (book log : List ℕ) (t : Tables) (n : ℕ) → log-call book log t n .answer .number ≢ 16

@@ -1,4 +1,4 @@
--- The log: its lines and their checks, 1, 9 and 10 (01, "Book and log text", "Refused, and how"; 02, F-2).
+-- The log: its lines and their checks, 1, 9 and 10 (SPECIFICATION 6.1 to 6.5).
 use mathlib.Core.Bool.{Bool, _&&_, _||_, not}
 use mathlib.Core.List.{List, [], _∷_}
 use Prim.Native.Nat.{ℕ, _+_, _*_}

@@ -1,5 +1,5 @@
 -- Moves that act on contents, the orders that keep a log's pairs, and what it is that all of them do alike. Nothing here is about one engine
--- (01, "Book and log text": an order; "What a move does": touch).
+-- (SPECIFICATION 6.6: an order; 5.5: touch).
 use mathlib.Core.Path.{_≡_}
 use mathlib.Core.Logic.{_⊎_}
 use mathlib.Core.List.{List, [], _∷_, _++_}

@@ -1,5 +1,5 @@
 -- The order that follows from a log's pairs by chaining, and the least pair of moves that passes a test
--- (01, "Book and log text", "Refused, and how").
+-- (SPECIFICATION 6.4, 6.5, 7.3).
 use mathlib.Core.Bool.{Bool}
 use mathlib.Core.List.{List, [], _∷_, _++_}
 use Prim.Native.Nat.{ℕ, zero, suc}

@@ -1,4 +1,4 @@
--- A log's run: its moves in turn, the marks they leave, and 17 (01, "What a move does", "Refused, and how").
+-- A log's run: its moves in turn, the marks they leave, and 17 (SPECIFICATION 5.5, 5.6, 7.1 to 7.3, 8.3).
 use mathlib.Core.Bool.{Bool, _&&_, _||_, not}
 use mathlib.Core.List.{List, [], _∷_, _++_}
 use Prim.Native.Nat.{ℕ, zero, suc}

@@ -1,4 +1,4 @@
--- A set of moves is a number, with bit i for move i (01, "What a move does": a mark is a set of 64 moves).
+-- A set of moves is a number, with bit i for move i (SPECIFICATION 5.6: a mark is a set of 64 moves).
 use mathlib.Core.Bool.{Bool}
 use Prim.Native.Nat.{ℕ, _/_, _%_, _^_}
 use lib.Bits.{bitOr}

@@ -13,7 +13,7 @@ use Rattle.order_run.specs.Runs.{answer-with}
 
 -- of a book, a log, lent tables and lent records: the answer r, and the tables and records afterwards
 pub record LogRun (book log : List ℕ) (lent : Tables) (records : List Record) (r : Answer) (left : Tables) (records′ : List Record) : Type 0 where
-  -- number and place, contents and both marks are those of 01
+  -- number and place, contents and both marks are those of SPECIFICATION 8.3
   pub answer : answer-with r (left .contents) (left .readers) (left .writers) ≡ log-call book log lent (length records)
   -- the records got each walked move's instructions in turn
   pub written : records′ ≡ all-records-written (call-lists book log lent (length records)) records

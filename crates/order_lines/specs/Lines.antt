@@ -1,4 +1,4 @@
--- What reading the lines of one kind tells, and the choices as they are put into the table of a log (01, "Book and log text", "Refused, and how": 1 and 9; 02, F-2).
+-- What reading the lines of one kind tells, and the choices as they are put into the table of a log (SPECIFICATION 6.2, 6.3).
 use mathlib.Core.Path.{_≡_}
 use mathlib.Core.Bool.{Bool}
 use mathlib.Core.List.{List, [], _∷_}

@@ -1,4 +1,4 @@
--- 10 from the table of an order, by sets of moves (01, "Refused, and how").
+-- 10 from the table of an order, by sets of moves (SPECIFICATION 6.5).
 use mathlib.Core.Path.{_≡_}
 use mathlib.Core.Bool.{Bool, true, _&&_, not}
 use mathlib.Core.List.{List}

@@ -1,4 +1,4 @@
--- What reading a log's text holds on the way, and what it tells a caller (01, "Book and log text", "Refused, and how": 1 and 9).
+-- What reading a log's text holds on the way, and what it tells a caller (SPECIFICATION 6.1 to 6.4).
 use mathlib.Core.Path.{_≡_}
 use mathlib.Core.List.{List, [], _∷_}
 use Prim.Native.Nat.{ℕ, _+_, _*_, _<_}

@@ -1,4 +1,4 @@
--- What a log's run holds on the way: what its moves are made on, and the tables after some of them (01, "What a move does", "Refused, and how").
+-- What a log's run holds on the way: what its moves are made on, and the tables after some of them (SPECIFICATION 7.2, 8.3).
 use mathlib.Core.Path.{_≡_}
 use mathlib.Core.List.{List}
 use Prim.Native.Nat.{ℕ, _≤_, _<_}

@@ -137,7 +137,7 @@ fn refused_checks(answer: Answer) -> CheckedCall
     }
 }
 
-// The book, the log, one agent's moves, the lengths lent: all checks before the first move, in 01's order.
+// The book, the log, one agent's moves, the lengths lent: all checks before the first move, in the order of SPECIFICATION 8.2.
 pub fn check_all(
     book: &[u8],
     log: &[u8],

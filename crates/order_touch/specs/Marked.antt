@@ -1,5 +1,5 @@
 -- 17 from marks: of the pairs of moves that the order leaves unordered, the least that touches at a location, by the bits of its two marks
--- (01, "What a move does", "Refused, and how").
+-- (SPECIFICATION 5.5, 7.3).
 use mathlib.Core.Path.{_≡_}
 use mathlib.Core.Bool.{Bool, true, false, _&&_, _||_, not}
 use mathlib.Core.List.{List}

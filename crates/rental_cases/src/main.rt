@@ -1,7 +1,7 @@
-// The program `cases`: prints what `rental` prints for the marked cases (b) to (l) of 01, each after its letter.
+// The program `cases`: prints what `rental` prints for the cases (b) to (l) of SPECIFICATION 10.4, each after its letter.
 use libc::STDOUT_FILENO;
 
-// 01's book.
+// The specification's book.
 const BOOK: [u8; 575] = *b"     8     6     3    13
      2     3     0     0
      1     3     0     0
@@ -74,7 +74,7 @@ fn show_input(name: &[u8], input: &[u8; 1000], n: usize) {
     show_front(name, input, n);
 }
 
-// The same for 01's book and a log.
+// The same for the specification's book and a log.
 fn show_log(name: &[u8], log: &[u8]) {
     let mut input = [0u8; 1000];
     let book = BOOK;
@@ -86,7 +86,7 @@ fn show_log(name: &[u8], log: &[u8]) {
     }
 }
 
-// 01's book with other logs: (b) to (e).
+// The specification's book with other logs: (b) to (e).
 fn show_logs() {
     // No pair.
     show_log(

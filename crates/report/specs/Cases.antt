@@ -1,4 +1,4 @@
--- The marked cases (a) to (l) of 01, "The log printer", as one table under one lemma.
+-- The cases (a) to (l) of SPECIFICATION 10.4, as one table under one lemma.
 use mathlib.Core.Path.{_≡_, refl}
 use mathlib.Core.Bool.{true}
 use mathlib.Core.List.{List, [], _∷_, _++_}
@@ -9,7 +9,7 @@ use Rattle.text.specs.Quoted.{bytes, padded, Case, case, all-right, each-right}
 use Rattle.report.specs.Report.{rental}
 use Rattle.report.specs.Open.{everything}
 
--- ---- the paper's book
+-- ---- the specification's book
 
 abbrev pub book : List ℕ
 book =
@@ -35,7 +35,7 @@ table =
     ∷ case (book ++ padded "0 0 0 0") (padded "0 0 0 3 / 0 7 0 2 / 1 6 0 2 / 2 6 0 4")
     -- (d)
     ∷ case (book ++ padded "2 1 0 0 / 0 0 0 0 / 0 0 0 0 / 0 1 0 0") (padded "13 1 4 0")
-    -- (e), whose third move changes nothing: accepted by 02, F-1
+    -- (e), whose third move changes nothing: accepted (SPECIFICATION 4.10)
     ∷ case (book ++ padded "3 2 0 0 / 1 0 0 0 / 1 0 0 0 / 1 0 0 0 / 0 1 0 0 / 1 2 0 0") (padded "0 0 0 2 / 0 7 0 2 / 1 6 0 2")
     -- (f) to (j); undef is f's default
     ∷ case (f-set-to "1 4 0 0 / 1 4 0 0 / 11 1 2 0") (padded "0 0 0 1 / 1 0 0 5")

@@ -1,5 +1,5 @@
--- One example and more for each refusal but 16, which is never given, for moves that change nothing, choices and retirements (02, F-1 to F-3), and the limits (01,
--- column 'Example' and the unmarked cases), as tables under the same lemma.
+-- One example and more for each refusal but 16, which is never given, for moves that change nothing, choices and retirements, and the limits (SPECIFICATION 4.6, 4.10,
+-- 5.2, 8.1, 11.1), as tables under the same lemma.
 use mathlib.Core.Path.{_≡_, refl}
 use mathlib.Core.Bool.{true}
 use mathlib.Core.List.{List, [], _∷_, _++_}
@@ -22,7 +22,7 @@ log = padded "2 1 0 0 / 0 0 0 0 / 1 0 0 0 / 0 1 0 0"
 abbrev pub changed : List ℕ → ℕ → List ℕ → List ℕ
 changed text i new = take (line-length * i) text ++ (new ++ drop (line-length * suc i) text)
 
--- 01's book with line i replaced, and its log
+-- the specification's book with line i replaced, and its log
 abbrev pub book-with : ℕ → String → List ℕ
 book-with i new = changed book i (padded new) ++ log
 
@@ -128,7 +128,7 @@ examples =
     "8 6 3 6 / 1 1 0 0 / 1 3 0 0 / 0 2 0 0 / 0 2 0 0 / 4 2 0 0 / 4 1 0 0 / 21 0 1 0 / 4 1 0 0 / 27 3 0 0 / 22 2 4 0 / 5 3 0 0 / 1 0 0 6 / 1 0 0 0 / 0 0 0 0")
     (padded "15 0 9 0")
     ∷ case (book ++ padded "2 0 0 0 / 0 0 0 0 / 1 0 0 0") (padded "17 0 1 0")
-    -- 02, F-1: a rule that does nothing; s := 3 by two unordered moves, where s is 3 already; a release beside a move that does nothing, and beside s := s (F-3)
+    -- SPECIFICATION 4.10: a rule that does nothing; s := 3 by two unordered moves, where s is 3 already; a release beside a move that does nothing, and beside s := s
     ∷ case (padded "8 6 1 1 / 1 0 0 0 / 1 3 0 0 / 20 0 0 0 / 0 3 0 0 / 1 0 0 0 / 0 0 0 0") (padded "0 0 0 0")
     ∷ case
     (padded

@@ -1,4 +1,4 @@
--- What the program `rental` prints for the bytes that it reads (01, "The log printer").
+-- What the program `rental` prints for the bytes that it reads (SPECIFICATION 10.1, 10.2).
 use mathlib.Core.List.{List, [], _∷_, _++_}
 use Prim.Native.Nat.{ℕ, zero, suc, _+_, _*_}
 use lib.Dec.{eqb, leb}

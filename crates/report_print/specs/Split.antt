@@ -1,4 +1,4 @@
--- Where the book of an input ends (01, "The log printer").
+-- Where the book of an input ends (SPECIFICATION 10.1).
 use mathlib.Core.List.{List}
 use Prim.Native.Nat.{ℕ, _*_, min}
 use lib.ListN.{length}

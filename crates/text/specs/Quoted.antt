@@ -11,7 +11,7 @@ use lib.ListN.{length, getD}
 use borrow.Author.Tests.{eqb-true}
 use Rattle.text.specs.Text.{written}
 
--- ---- quoted text: as it stands, or lines without padding, split by /, as 01 shows them
+-- ---- quoted text: as it stands, or lines without padding, split by /, as the specification shows them
 
 abbrev pub bytes : String → List ℕ
 bytes String.[] = []

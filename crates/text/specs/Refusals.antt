@@ -1,4 +1,4 @@
--- The numbers of the refusals, lent tables and texts (01, table of "Refused, and how").
+-- The numbers of the refusals, lent tables and texts (SPECIFICATION 8.1, 11.2).
 use Prim.Native.Nat.{ℕ}
 
 abbrev pub ill-formed : ℕ
@@ -46,7 +46,7 @@ list-full = 14
 abbrev pub clash : ℕ
 clash = 15
 
--- 16 is taken and never given: until 02, F-1, it refused a move that changes nothing
+-- 16 is taken and never given: before F-1 it refused a move that changes nothing (SPECIFICATION 4.10)
 
 abbrev pub unordered-touch : ℕ
 unordered-touch = 17

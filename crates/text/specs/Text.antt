@@ -1,4 +1,4 @@
--- Lines of books and logs: four fields of six columns, then byte 10; reading and writing one (01, "Book and log text").
+-- Lines of books and logs: four fields of six columns, then byte 10; reading and writing one (SPECIFICATION 1).
 use mathlib.Core.Bool.{Bool, true, false, _&&_, _||_, not}
 use mathlib.Core.List.{List, [], _∷_, _++_}
 use Prim.Native.Nat.{ℕ, zero, suc, _+_, _*_, _-_, _/_, _%_, _^_}

@@ -1,4 +1,4 @@
--- Words that every layer uses: a choice, lists made by place, the least place at fault, and what a check answers (01, "Refused, and how").
+-- Words that every layer uses: a choice, lists made by place, the least place at fault, and what a check answers (SPECIFICATION 8.1).
 use mathlib.Core.Bool.{Bool, true, false, _||_, _&&_}
 use mathlib.Core.List.{List, [], _∷_}
 use Prim.Native.Nat.{ℕ, zero, suc, _+_}
@@ -76,7 +76,7 @@ unfoldable pub must : Bool → ℕ → ℕ → ℕ → Checked (Unit {0})
 must true n p q = good tt
 must false n p q = refused n p q
 
--- the paper's triple: 0 0 0 when accepted
+-- the triple of SPECIFICATION 8.1: 0 0 0 when accepted
 abbrev pub answer-of : {A : Type 0} → Checked A → Answer
 answer-of (good a) = record { number = 0; p = 0; q = 0 }
 answer-of (refused n p q) = record { number = n; p = p; q = q }

@@ -9,7 +9,7 @@ ghost use Rattle.text.specs.Words.{least, least-from, none-at, must, ans
 ghost use Rattle.text.specs.Text.{unread, zero-digit, digit, field-ok, value-of, well-formed, line-bytes, line, bad-line, parsed};
 ghost use Rattle.text.specs.Scan.{step-of, ends-well, four-blanks, Read};
 
-// The refusals of 01's table.
+// The refusals of SPECIFICATION 8.1.
 pub const ILL_FORMED: u32 = 1;
 
 pub const LENT_SHORT: u32 = 2;
