@@ -1,3 +1,4 @@
+-- `part_at` meets its contract.
 use mathlib.Core.Path.{_∙_}
 use borrow.Author.Needs.{needs}
 use Rattle.engine_fire.proofs.part_at.Statement.{statement}
@@ -6,15 +7,12 @@ use Rattle.engine_fire.proofs.part_at.Reads as reads
 use Rattle.engine_fire.proofs.part_at.Lts as lts
 use Rattle.book_parts.proofs.part_of.Reads as part-of-reads
 
--- src/lib.rt:104:9
 part-of-requires : tie.Need-part-of-requires
 part-of-requires c κs = search needs
 
--- src/lib.rt:98:1
 returns : tie.Need-returns
 returns c = rw (c .if1 .taken)
 
--- src/lib.rt:98:1
 returns-2 : tie.Need-returns-2
 returns-2 c = c .part-of .ensures ∙ rw (c .before .if1 .left)
 

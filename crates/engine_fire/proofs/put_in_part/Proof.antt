@@ -1,3 +1,4 @@
+-- `put_in_part` meets its contract.
 use mathlib.Core.Path.{_∙_}
 use Prim.Native.Nat.{_<_}
 use native.Mathlib.Omega.{arith}

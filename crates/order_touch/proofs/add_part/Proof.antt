@@ -17,43 +17,33 @@ Inv-loop readers writers a b met₀ l₀ met l = (l ≤ b) × TouchSets readers 
 abbrev μ-loop : tie.MeasureT-loop
 μ-loop readers writers a b met₀ l₀ met l = b - l
 
--- src/lib.rt:71:5
 loop-holds : tie.Need-loop-holds Inv-loop μ-loop
 loop-holds c = (search needs, c .before .before .pre .3)
 
--- src/lib.rt:72:22
 mul-add-if-written : tie.Need-mul-add-if-written Inv-loop μ-loop
 mul-add-if-written c = search needs
 
--- src/lib.rt:72:22
 shared-slice-read-add-if-written : tie.Need-shared-slice-read-add-if-written Inv-loop μ-loop
 shared-slice-read-add-if-written c = search needs
 
--- src/lib.rt:72:34
 mul-add-if-written-2 : tie.Need-mul-add-if-written-2 Inv-loop μ-loop
 mul-add-if-written-2 c = search needs
 
--- src/lib.rt:72:34
 shared-slice-read-add-if-written-2 : tie.Need-shared-slice-read-add-if-written-2 Inv-loop μ-loop
 shared-slice-read-add-if-written-2 c = search needs
 
--- src/lib.rt:72:9
 add-if-written-requires : tie.Need-add-if-written-requires Inv-loop μ-loop
 add-if-written-requires c κs = search needs
 
--- src/lib.rt:73:9
 add-l : tie.Need-add-l Inv-loop μ-loop
 add-l c = search needs
 
--- src/lib.rt:71:5
 loop-less : tie.Need-loop-less Inv-loop μ-loop
 loop-less c = search needs
 
--- src/lib.rt:71:5
 loop-again : tie.Need-loop-again Inv-loop μ-loop
 loop-again c = let a = c .before .before .before .before .before .before .before .before .args in let l = c .before .before .before .before .before .loop in (omega arith, all-turn (a .readers .now) (a .writers .now) (l .l) (l .met) (c .add-if-written .last .1 .1 .0) (l .inv .1) (c .add-if-written .ensures))
 
--- src/lib.rt:66:1
 returns : tie.Need-returns Inv-loop μ-loop
 returns c = let l = c .before .loop in let e : l .l ≡ c .before .before .before .before .args .b = omega arith in rw e at (l .inv .1)
 

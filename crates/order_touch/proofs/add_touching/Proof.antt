@@ -1,3 +1,4 @@
+-- `add_touching` meets its contract.
 use Rattle.order_touch.proofs.Sets.{others, others-all, others-writers, Sofar, sofar-start, left-some, left-lt, rest-ones, rest-fit, sofar-turn, sofar-end}
 use lib.Bits.{or-lt}
 use lib.Count.{trailingZeros, trailing-le, ones}
@@ -17,7 +18,6 @@ Inv-loop readers writers met₀ users left₀ count₀ met left count = (count �
 abbrev μ-loop : tie.MeasureT-loop
 μ-loop readers writers met₀ users left₀ count₀ met left count = count
 
--- src/lib.rt:31:5
 loop-holds : tie.Need-loop-holds Inv-loop μ-loop
 loop-holds c = (refl, or-lt 64 (c .args .readers) (c .args .writers) (omega arith) (omega arith), sofar-start _ _ _)
 
@@ -28,47 +28,36 @@ first c =
     let l = c .before .loop in
     left-lt (a .readers) (a .writers) (a .met .now) (l .met) (l .left) (l .count) (l .inv .1) (l .inv .0) (omega arith)
 
--- src/lib.rt:32:17
 cast-j : tie.Need-cast-j Inv-loop μ-loop
 cast-j c = omega (arith, trailing-le 64 (c .before .loop .left))
 
--- src/lib.rt:34:13
 shr-if1 : tie.Need-shr-if1 Inv-loop μ-loop
 shr-if1 c = first c
 
--- src/lib.rt:37:18
 mul-met : tie.Need-mul-met Inv-loop μ-loop
 mul-met c = omega (arith, first (c .before))
 
--- src/lib.rt:37:18
 element-copy-out-met : tie.Need-element-copy-out-met Inv-loop μ-loop
 element-copy-out-met c = first (c .before)
 
--- src/lib.rt:37:9
 mul-met-2 : tie.Need-mul-met-2 Inv-loop μ-loop
 mul-met-2 c = omega (arith, first (c .before .before .before))
 
--- src/lib.rt:37:9
 element-write-met : tie.Need-element-write-met Inv-loop μ-loop
 element-write-met c = first (c .before .before .before)
 
--- src/lib.rt:38:24
 sub-left : tie.Need-sub-left Inv-loop μ-loop
 sub-left c = let l = c .before .before .before .before .loop in let t : l .left ≢ 0 = left-some (c .before .before .before .before .before .args .readers) (c .before .before .before .before .before .args .writers) (l .met) (l .met) (l .left) (l .count) (l .inv .1) (l .inv .0) (omega arith) in omega arith
 
--- src/lib.rt:39:9
 sub-count : tie.Need-sub-count Inv-loop μ-loop
 sub-count c = search needs
 
--- src/lib.rt:31:5
 loop-less : tie.Need-loop-less Inv-loop μ-loop
 loop-less c = search needs
 
--- src/lib.rt:31:5
 loop-again : tie.Need-loop-again Inv-loop μ-loop
 loop-again c = let a = c .before .before .before .before .before .args in let l = c .before .before .before .before .loop in let j = trailingZeros 64 (l .left) in let i = c .before .before .if1 in let e : i .others ≡ others (a .readers) (a .writers) j = ⊎-elim (λ y. y .1 ∙ others-all (a .readers) (a .writers) j (y .0 .taken)) (λ y. y .1 ∙ others-writers (a .readers) (a .writers) j (y .0 .left)) (i .came) in (rest-ones (a .readers) (a .writers) (a .met .now) (l .met) (l .left) (l .count) (l .inv .1) (l .inv .0) (omega arith), rest-fit (a .readers) (a .writers) (a .met .now) (l .met) (l .left) (l .count) (l .inv .1) (l .inv .0) (omega arith), sofar-turn (a .readers) (a .writers) (a .met .now) (l .met) (l .left) (l .count) (l .inv .1) (l .inv .0) (omega arith) (l .inv .2) (l .inv .2 .long ∙ c .before .before .before .before .before .pre) (i .others) e)
 
--- src/lib.rt:25:1
 returns : tie.Need-returns Inv-loop μ-loop
 returns c = let a = c .before .before .args in let l = c .before .loop in sofar-end (a .readers) (a .writers) (a .met .now) (l .met) (l .left) (l .count) (l .inv .0) (omega arith) (l .inv .2)
 

@@ -19,27 +19,21 @@ Inv-loop part all₀ i₀ all i = (i ≤ length part) × (all ≡ 0 → (k : ℕ
 abbrev μ-loop : tie.MeasureT-loop
 μ-loop part all₀ i₀ all i = length part - i
 
--- src/lib.rt:58:5
 loop-holds : tie.Need-loop-holds Inv-loop μ-loop
 loop-holds c = (search needs, λ z k h. absurd (omega arith))
 
--- src/lib.rt:59:21
 mul-all : tie.Need-mul-all Inv-loop μ-loop
 mul-all c = search needs
 
--- src/lib.rt:59:21
 shared-slice-read-all : tie.Need-shared-slice-read-all Inv-loop μ-loop
 shared-slice-read-all c = search needs
 
--- src/lib.rt:60:9
 add-i : tie.Need-add-i Inv-loop μ-loop
 add-i c = search needs
 
--- src/lib.rt:58:5
 loop-less : tie.Need-loop-less Inv-loop μ-loop
 loop-less c = search needs
 
--- src/lib.rt:58:5
 loop-again : tie.Need-loop-again Inv-loop μ-loop
 loop-again c =
     let p = c .before .before .before .args .part .now in
@@ -48,7 +42,6 @@ loop-again c =
       λ z. below-more _ _ (l .inv .1 (join-none (l .all) (getD p (l .i) 0) z .0)) (join-none (l .all) (getD p (l .i) 0) z .1),
     )
 
--- src/lib.rt:53:1
 returns : tie.Need-returns Inv-loop μ-loop
 returns c =
     let p = c .before .before .args .part .now in

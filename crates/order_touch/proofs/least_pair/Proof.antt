@@ -1,3 +1,4 @@
+-- `least_pair` meets its contract.
 use Rattle.order.proofs.Best.{Best, best-start, best-new, best-old}
 use Rattle.order_touch.proofs.Best.{pair-found, pair-none}
 use Rattle.order.specs.Pairs.{ordered-by}
@@ -26,51 +27,39 @@ Inv-loop met order m first₀ second₀ j₀ first second j = (j ≤ m) × (seco
 abbrev μ-loop : tie.MeasureT-loop
 μ-loop met order m first₀ second₀ j₀ first second j = m - j
 
--- src/lib.rt:74:5
 loop-holds : tie.Need-loop-holds Inv-loop μ-loop
 loop-holds c = (search needs, search needs, best-start _)
 
--- src/lib.rt:75:25
 mul-least-touching : tie.Need-mul-least-touching Inv-loop μ-loop
 mul-least-touching c = search needs
 
--- src/lib.rt:75:25
 element-copy-out-least-touching : tie.Need-element-copy-out-least-touching Inv-loop μ-loop
 element-copy-out-least-touching c = search needs
 
--- src/lib.rt:75:33
 mul-least-touching-2 : tie.Need-mul-least-touching-2 Inv-loop μ-loop
 mul-least-touching-2 c = search needs
 
--- src/lib.rt:75:33
 element-copy-out-least-touching-2 : tie.Need-element-copy-out-least-touching-2 Inv-loop μ-loop
 element-copy-out-least-touching-2 c = search needs
 
--- src/lib.rt:75:13
 least-touching-requires : tie.Need-least-touching-requires Inv-loop μ-loop
 least-touching-requires c κs = search needs
 
--- src/lib.rt:80:9
 add-j : tie.Need-add-j Inv-loop μ-loop
 add-j c = search needs
 
--- src/lib.rt:74:5
 loop-less : tie.Need-loop-less Inv-loop μ-loop
 loop-less c = search needs
 
--- src/lib.rt:74:5
 loop-again : tie.Need-loop-again Inv-loop μ-loop
 loop-again c = let a = c .before .before .before .before .before .before .args in let l = c .before .before .before .before .before .loop in let n = c .before .least-touching in let lim : l .j < 64 = omega arith in ⊎-elim (λ y. rw (y .1, y .2) (omega arith, omega arith, best-new (pairs (a .order .now) (a .met .now)) (l .j) (l .first) (l .second) (n .result) lim (l .inv .2) (n .ensures .hit) (n .ensures .low) (y .0 .taken))) (λ y. rw (y .1, y .2) (omega arith, l .inv .1, best-old (pairs (a .order .now) (a .met .now)) (l .j) (l .first) (l .second) (n .result) lim (l .inv .2) (n .ensures .hit) (n .ensures .low) (y .0 .left))) (c .if1 .came)
 
--- src/lib.rt:86:21
 cast-t19 : tie.Need-cast-t19 Inv-loop μ-loop
 cast-t19 c = search needs
 
--- src/lib.rt:67:1
 returns : tie.Need-returns Inv-loop μ-loop
 returns c = let a = c .before .before .before .args in let l = c .before .before .loop in let e : l .j ≡ a .m = omega arith in pair-found (pairs (a .order .now) (a .met .now)) (a .m) (l .first) (l .second) (rw e at (l .inv .2)) (c .if2 .taken)
 
--- src/lib.rt:67:1
 returns-2 : tie.Need-returns-2 Inv-loop μ-loop
 returns-2 c = let a = c .before .before .before .args in let l = c .before .before .loop in let e : l .j ≡ a .m = omega arith in pair-none (pairs (a .order .now) (a .met .now)) (a .m) (l .first) (l .second) (c .before .before .before .pre) (rw e at (l .inv .2)) (c .if2 .left)
 

@@ -1,3 +1,4 @@
+-- `least_touching` meets its contract.
 use Rattle.order_touch.proofs.Best.{shifted-pos, near-is}
 use native.Mathlib.Omega.{arith}
 use borrow.Author.Needs.{needs}
@@ -6,15 +7,12 @@ use Rattle.order_touch.proofs.least_touching.Tie as tie
 use Rattle.order_touch.proofs.least_touching.Reads as reads
 use Rattle.order_touch.proofs.least_touching.Lts as lts
 
--- src/lib.rt:62:20
 shl-earlier : tie.Need-shl-earlier
 shl-earlier c = search needs
 
--- src/lib.rt:62:19
 sub-earlier : tie.Need-sub-earlier
 sub-earlier c = shifted-pos (c .args .j) (c .pre)
 
--- src/lib.rt:58:1
 returns : tie.Need-returns
 returns c = near-is (c .args .met) (c .args .row) (c .args .j) (omega arith) (omega arith) (c .pre)
 

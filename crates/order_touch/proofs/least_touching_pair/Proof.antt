@@ -1,3 +1,4 @@
+-- `least_touching_pair` meets its contract.
 use Rattle.order_touch.proofs.Best.{all-found}
 use Prim.Native.Nat.{ℕ, min}
 use mathlib.Core.Path.{ap, _∙_}
@@ -10,27 +11,21 @@ use Rattle.order_touch.proofs.least_pair.Reads as least-pair-reads
 use Rattle.order_touch.proofs.touching_sets.Reads as touching-sets-reads
 use Rattle.text.proofs.smaller.Reads as smaller-reads
 
--- src/lib.rt:108:32
 smaller-requires : tie.Need-smaller-requires
 smaller-requires c κs = search needs
 
--- src/lib.rt:108:9
 smaller-requires-2 : tie.Need-smaller-requires-2
 smaller-requires-2 c κs = search needs
 
--- src/lib.rt:109:15
 touching-sets-requires : tie.Need-touching-sets-requires
 touching-sets-requires c κs = search needs
 
--- src/lib.rt:110:28
 smaller-requires-3 : tie.Need-smaller-requires-3
 smaller-requires-3 c κs = search needs
 
--- src/lib.rt:110:5
 least-pair-requires : tie.Need-least-pair-requires
 least-pair-requires c κs = search needs
 
--- src/lib.rt:99:1
 returns : tie.Need-returns
 returns c = let a = c .before .before .before .before .before .before .before .before .args in all-found (a .order .now) (a .readers .now) (a .writers .now) (c .before .before .before .touching-sets .result) (c .before .before .before .before .smaller2 .result) (a .locations) (c .before .smaller3 .result) (a .moves) (c .least-pair .result) (c .before .before .before .before .smaller2 .ensures ∙ ap (λ (x : ℕ). min (a .locations) x) (c .before .before .before .before .before .smaller .ensures)) (c .before .before .before .touching-sets .ensures) (c .before .smaller3 .ensures) (c .least-pair .ensures)
 

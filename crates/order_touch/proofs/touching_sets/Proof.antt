@@ -19,59 +19,45 @@ Inv-loop readers writers n met₀ a₀ met a = (a ≤ n) × TouchSets readers wr
 abbrev μ-loop : tie.MeasureT-loop
 μ-loop readers writers n met₀ a₀ met a = n - a
 
--- src/lib.rt:84:5
 loop-holds : tie.Need-loop-holds Inv-loop μ-loop
 loop-holds c = (search needs, all-start _ _)
 
--- src/lib.rt:85:38
 sub-smaller : tie.Need-sub-smaller Inv-loop μ-loop
 sub-smaller c = search needs
 
--- src/lib.rt:85:21
 smaller-requires : tie.Need-smaller-requires Inv-loop μ-loop
 smaller-requires c κs = search needs
 
--- src/lib.rt:85:17
 add-b : tie.Need-add-b Inv-loop μ-loop
 add-b c = omega (arith, c .smaller .ensures)
 
--- src/lib.rt:86:19
 mul-all-marks : tie.Need-mul-all-marks Inv-loop μ-loop
 mul-all-marks c = search needs
 
--- src/lib.rt:86:19
 sub-all-marks : tie.Need-sub-all-marks Inv-loop μ-loop
 sub-all-marks c = search needs
 
--- src/lib.rt:86:19
 part-all-marks-start : tie.Need-part-all-marks-start Inv-loop μ-loop
 part-all-marks-start c = search needs
 
--- src/lib.rt:86:19
 part-all-marks-end : tie.Need-part-all-marks-end Inv-loop μ-loop
 part-all-marks-end c = search needs
 
--- src/lib.rt:86:12
 all-marks-requires : tie.Need-all-marks-requires Inv-loop μ-loop
 all-marks-requires c κs = search needs
 
--- src/lib.rt:87:13
 add-part-requires : tie.Need-add-part-requires Inv-loop μ-loop
 add-part-requires c κs = let l = c .before .before .before .before .before .before .loop in (omega arith, omega (arith, c .before .before .before .before .smaller .ensures), omega (arith, c .before .before .before .before .smaller .ensures), l .inv .1)
 
--- src/lib.rt:84:5
 loop-less : tie.Need-loop-less Inv-loop μ-loop
 loop-less c = omega (arith, c .before .before .before .before .before .smaller .ensures)
 
--- src/lib.rt:84:5
 loop-again : tie.Need-loop-again Inv-loop μ-loop
 loop-again c = (omega (arith, c .before .before .before .before .before .smaller .ensures), c .add-part .ensures)
 
--- src/lib.rt:84:5
 loop-less-2 : tie.Need-loop-less-2 Inv-loop μ-loop
 loop-less-2 c = omega (arith, c .before .before .before .smaller .ensures)
 
--- src/lib.rt:84:5
 loop-again-2 : tie.Need-loop-again-2 Inv-loop μ-loop
 loop-again-2 c = let a = c .before .before .before .before .before .before .before .before .args in
     let l = c .before .before .before .before .before .loop in
@@ -79,7 +65,6 @@ loop-again-2 c = let a = c .before .before .before .before .before .before .befo
     let none = c .before .all-marks .ensures (c .if1 .left) in
     (omega (arith, c .before .before .before .smaller .ensures), all-unwritten (a .readers .now) (a .writers .now) (l .a) s (l .met) (λ k h. unwritten (a .writers .now) (l .a) s k h (none k)) (l .inv .1))
 
--- src/lib.rt:78:1
 returns : tie.Need-returns Inv-loop μ-loop
 returns c = let l = c .before .loop in let e : l .a ≡ c .before .before .before .before .args .n = omega arith in rw e at (l .inv .1)
 

@@ -1,3 +1,4 @@
+-- `report_on` meets its contract.
 use Rattle.report_print.proofs.Printed.{run-shown, halt-shown}
 use borrow.Author.Needs.{needs}
 use Rattle.report_print.proofs.report_on.Statement.{statement}

@@ -1,3 +1,4 @@
+-- `report_parts` meets its contract.
 use Rattle.report_print.proofs.Printed.{parts-refused, parts-passed, parts-few}
 use borrow.Author.Needs.{needs}
 use Rattle.report_print.proofs.report_parts.Statement.{statement}

@@ -1,3 +1,4 @@
+-- `all_blank` meets its contract.
 use mathlib.Core.Path.{_≡_}
 use Prim.Native.Nat.{_+_, _*_}
 use native.Mathlib.Omega.{arith}
@@ -8,31 +9,24 @@ use Rattle.text.proofs.all_blank.Tie as tie
 use Rattle.text.proofs.all_blank.Reads as reads
 use Rattle.text.proofs.all_blank.Lts as lts
 
--- src/lib.rt:143:16
 mul-result : tie.Need-mul-result
 mul-result c = search needs
 
--- src/lib.rt:143:5
 add-result : tie.Need-add-result
 add-result c = search needs
 
--- src/lib.rt:143:33
 mul-result-2 : tie.Need-mul-result-2
 mul-result-2 c = search needs
 
--- src/lib.rt:143:5
 add-result-2 : tie.Need-add-result-2
 add-result-2 c = search needs
 
--- src/lib.rt:143:52
 mul-result-3 : tie.Need-mul-result-3
 mul-result-3 c = search needs
 
--- src/lib.rt:143:5
 add-result-3 : tie.Need-add-result-3
 add-result-3 c = search needs
 
--- src/lib.rt:140:1
 returns : tie.Need-returns
 returns c = λ e. let a = c .args in let s : a .a + a .b * 256 + a .c * 65536 + a .d * 16777216 ≡ 538976288 = eqb-true _ _ e in (omega arith, omega arith, omega arith, omega arith)
 

@@ -1,3 +1,4 @@
+-- `bad_line_from` meets its contract.
 use Rattle.text.proofs.Words.{least-pass, least-stop, least-end}
 use Rattle.text.specs.Words.{least-from}
 use mathlib.Core.Path.{_≡_, refl}
@@ -16,31 +17,24 @@ Inv-loop text first end i₀ i = least-from (bad-line text) (end - i) i ≡ leas
 abbrev μ-loop : tie.MeasureT-loop
 μ-loop text first end i₀ i = end - i
 
--- src/lib.rt:139:5
 loop-holds : tie.Need-loop-holds Inv-loop μ-loop
 loop-holds c = refl
 
--- src/lib.rt:140:13
 in-form-requires : tie.Need-in-form-requires Inv-loop μ-loop
 in-form-requires c κs = search needs
 
--- src/lib.rt:141:13
 returns : tie.Need-returns Inv-loop μ-loop
 returns c = let a = c .before .before .before .before .before .args in let l = c .before .before .before .loop in least-stop (bad-line (a .text .now)) (a .end) (l .i) (c .before .before .loop-test .taken) (cc) (l .inv)
 
--- src/lib.rt:143:9
 add-i : tie.Need-add-i Inv-loop μ-loop
 add-i c = search needs
 
--- src/lib.rt:139:5
 loop-less : tie.Need-loop-less Inv-loop μ-loop
 loop-less c = search needs
 
--- src/lib.rt:139:5
 loop-again : tie.Need-loop-again Inv-loop μ-loop
 loop-again c = let a = c .before .before .before .before .before .args in let l = c .before .before .before .loop in least-pass (bad-line (a .text .now)) (a .end) (l .i) (c .before .before .loop-test .taken) (cc) (l .inv)
 
--- src/lib.rt:135:1
 returns-2 : tie.Need-returns-2 Inv-loop μ-loop
 returns-2 c = let a = c .before .before .before .args in let l = c .before .loop in least-end (bad-line (a .text .now)) (a .end) (l .i) (c .loop-test .left) (l .inv)
 

@@ -1,3 +1,4 @@
+-- `columns` meets its contract.
 use Rattle.text.proofs.Fields.{six}
 use borrow.Author.Needs.{needs}
 use Rattle.text.proofs.columns.Statement.{statement}
@@ -6,51 +7,39 @@ use Rattle.text.proofs.columns.Reads as reads
 use Rattle.text.proofs.columns.Lts as lts
 use Rattle.text.proofs.push.Reads as push-reads
 
--- src/lib.rt:172:9
 push-requires : tie.Need-push-requires
 push-requires c κs = search needs
 
--- src/lib.rt:173:24
 add-push : tie.Need-add-push
 add-push c = search needs
 
--- src/lib.rt:173:9
 push-requires-2 : tie.Need-push-requires-2
 push-requires-2 c κs = search needs
 
--- src/lib.rt:174:24
 add-push-2 : tie.Need-add-push-2
 add-push-2 c = search needs
 
--- src/lib.rt:174:9
 push-requires-3 : tie.Need-push-requires-3
 push-requires-3 c κs = search needs
 
--- src/lib.rt:175:24
 add-push-3 : tie.Need-add-push-3
 add-push-3 c = search needs
 
--- src/lib.rt:175:9
 push-requires-4 : tie.Need-push-requires-4
 push-requires-4 c κs = search needs
 
--- src/lib.rt:176:24
 add-push-4 : tie.Need-add-push-4
 add-push-4 c = search needs
 
--- src/lib.rt:176:9
 push-requires-5 : tie.Need-push-requires-5
 push-requires-5 c κs = search needs
 
--- src/lib.rt:177:16
 add-push-5 : tie.Need-add-push-5
 add-push-5 c = search needs
 
--- src/lib.rt:177:5
 push-requires-6 : tie.Need-push-requires-6
 push-requires-6 c κs = search needs
 
--- src/lib.rt:168:1
 returns : tie.Need-returns
 returns c = let a = c .before .before .before .before .before .before .before .args in (six (a .text .now) (a .at) _ _ _ _ _ _ (c .before .before .before .before .before .push .ensures .0) (c .before .before .before .before .push2 .ensures .0) (c .before .before .before .push3 .ensures .0) (c .before .before .push4 .ensures .0) (c .before .push5 .ensures .0) (c .push6 .ensures .0), search needs)
 

@@ -1,3 +1,4 @@
+-- `field` meets its contract.
 use Rattle.text.proofs.Fields.{four-before, three-before}
 use native.Mathlib.Omega.{arith}
 use borrow.Author.Needs.{needs}
@@ -11,95 +12,72 @@ use Rattle.text.proofs.last_three.Reads as last-three-reads
 use Rattle.text.proofs.three_blank.Reads as three-blank-reads
 use Rattle.text.proofs.last_two.Reads as last-two-reads
 
--- src/lib.rt:231:8
 blanks-requires : tie.Need-blanks-requires
 blanks-requires c κs = search needs
 
--- src/lib.rt:232:18
 add-last-two : tie.Need-add-last-two
 add-last-two c = search needs
 
--- src/lib.rt:232:13
 shared-slice-read-last-two : tie.Need-shared-slice-read-last-two
 shared-slice-read-last-two c = search needs
 
--- src/lib.rt:232:32
 add-last-two-2 : tie.Need-add-last-two-2
 add-last-two-2 c = search needs
 
--- src/lib.rt:232:27
 shared-slice-read-last-two-2 : tie.Need-shared-slice-read-last-two-2
 shared-slice-read-last-two-2 c = search needs
 
--- src/lib.rt:232:9
 last-two-requires : tie.Need-last-two-requires
 last-two-requires c κs = search needs
 
--- src/lib.rt:233:27
 shared-slice-read-three-blank : tie.Need-shared-slice-read-three-blank
 shared-slice-read-three-blank c = search needs
 
--- src/lib.rt:233:42
 add-three-blank : tie.Need-add-three-blank
 add-three-blank c = search needs
 
--- src/lib.rt:233:37
 shared-slice-read-three-blank-2 : tie.Need-shared-slice-read-three-blank-2
 shared-slice-read-three-blank-2 c = search needs
 
--- src/lib.rt:233:56
 add-three-blank-2 : tie.Need-add-three-blank-2
 add-three-blank-2 c = search needs
 
--- src/lib.rt:233:51
 shared-slice-read-three-blank-3 : tie.Need-shared-slice-read-three-blank-3
 shared-slice-read-three-blank-3 c = search needs
 
--- src/lib.rt:233:15
 three-blank-requires : tie.Need-three-blank-requires
 three-blank-requires c κs = search needs
 
--- src/lib.rt:234:20
 add-last-three : tie.Need-add-last-three
 add-last-three c = search needs
 
--- src/lib.rt:234:15
 shared-slice-read-last-three : tie.Need-shared-slice-read-last-three
 shared-slice-read-last-three c = search needs
 
--- src/lib.rt:234:34
 add-last-three-2 : tie.Need-add-last-three-2
 add-last-three-2 c = search needs
 
--- src/lib.rt:234:29
 shared-slice-read-last-three-2 : tie.Need-shared-slice-read-last-three-2
 shared-slice-read-last-three-2 c = search needs
 
--- src/lib.rt:234:48
 add-last-three-3 : tie.Need-add-last-three-3
 add-last-three-3 c = search needs
 
--- src/lib.rt:234:43
 shared-slice-read-last-three-3 : tie.Need-shared-slice-read-last-three-3
 shared-slice-read-last-three-3 c = search needs
 
--- src/lib.rt:234:9
 last-three-requires : tie.Need-last-three-requires
 last-three-requires c κs = search needs
 
--- src/lib.rt:236:9
 six-columns-requires : tie.Need-six-columns-requires
 six-columns-requires c κs = search needs
 
--- src/lib.rt:227:1
 returns : tie.Need-returns
 returns c = let a = c .before .before .before .before .before .before .args in four-before (a .text .now) (a .at) (c .before .before .before .before .before .before .pre .0) _ (c .before .before .before .before .blanks .ensures (c .before .before .before .if1 .taken)) (c .last-two .ensures)
 
--- src/lib.rt:227:1
 returns-2 : tie.Need-returns-2
 returns-2 c = let a = c .before .before .before .before .before .before .before .before .before .before .before .before .args in three-before (a .text .now) (a .at) (c .before .before .before .before .before .before .before .before .before .before .before .before .pre .0) _ (c .before .before .before .before .before .three-blank .ensures (c .before .before .before .before .if2 .taken)) (c .last-three .ensures)
 
--- src/lib.rt:227:1
 returns-3 : tie.Need-returns-3
 returns-3 c = search needs
 

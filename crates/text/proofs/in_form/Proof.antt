@@ -1,3 +1,4 @@
+-- `in_form` meets its contract.
 use Rattle.text.proofs.Fields.{parsed-ok}
 use native.Mathlib.Omega.{arith}
 use borrow.Author.Needs.{needs}
@@ -7,11 +8,9 @@ use Rattle.text.proofs.in_form.Reads as reads
 use Rattle.text.proofs.in_form.Lts as lts
 use Rattle.text.proofs.parse.Reads as parse-reads
 
--- src/lib.rt:280:9
 parse-requires : tie.Need-parse-requires
 parse-requires c κs = search needs
 
--- src/lib.rt:277:1
 returns : tie.Need-returns
 returns c = let a = c .before .before .args in parsed-ok (a .text .now) (a .i) _ (c .parse .ensures)
 

@@ -1,3 +1,4 @@
+-- `last_column` meets its contract.
 use Rattle.text.proofs.Fields.{digit-bounds, one-digit, no-digit}
 use mathlib.Core.Path.{sym, _∙_}
 use native.Mathlib.Omega.{arith}
@@ -8,19 +9,15 @@ use Rattle.text.proofs.last_column.Reads as reads
 use Rattle.text.proofs.last_column.Lts as lts
 use Rattle.text.proofs.is_digit.Reads as is-digit-reads
 
--- src/lib.rt:189:8
 is-digit-requires : tie.Need-is-digit-requires
 is-digit-requires c κs = search needs
 
--- src/lib.rt:189:22
 sub-result : tie.Need-sub-result
 sub-result c = let f = c .before .before .args .f in omega (arith, digit-bounds f (sym (c .before .is-digit .ensures) ∙ c .if1 .taken))
 
--- src/lib.rt:186:1
 returns : tie.Need-returns
 returns c = one-digit _ (sym (c .before .is-digit .ensures) ∙ c .if1 .taken)
 
--- src/lib.rt:186:1
 returns-2 : tie.Need-returns-2
 returns-2 c = no-digit _ (sym (c .before .is-digit .ensures) ∙ c .if1 .left)
 

@@ -1,3 +1,4 @@
+-- `last_two` meets its contract.
 use Rattle.text.proofs.Fields.{led}
 use Rattle.text.proofs.Fields.{after-blank, two-digits, no-digits}
 use borrow.Author.Tests.{ne-eqb}
@@ -12,39 +13,30 @@ use Rattle.text.proofs.is_digit.Reads as is-digit-reads
 use Rattle.text.proofs.is_leading_digit.Reads as is-leading-digit-reads
 use Rattle.text.proofs.last_column.Reads as last-column-reads
 
--- src/lib.rt:197:9
 last-column-requires : tie.Need-last-column-requires
 last-column-requires c κs = search needs
 
--- src/lib.rt:198:15
 is-leading-digit-requires : tie.Need-is-leading-digit-requires
 is-leading-digit-requires c κs = search needs
 
--- src/lib.rt:198:26
 is-digit-requires : tie.Need-is-digit-requires
 is-digit-requires c κs = search needs
 
--- src/lib.rt:199:9
 mul-result : tie.Need-mul-result
 mul-result c = search needs
 
--- src/lib.rt:199:9
 add-result : tie.Need-add-result
 add-result c = search needs
 
--- src/lib.rt:199:9
 sub-result : tie.Need-sub-result
 sub-result c = let a = c .before .before .before .before .args in let w = led (a .e) (a .f) (rw (← c .before .before .is-leading-digit .ensures, ← c .before .is-digit .ensures) (c .if2 .taken)) in omega arith
 
--- src/lib.rt:193:1
 returns : tie.Need-returns
 returns c = let e = c .before .if1 .taken in rw e (after-blank (c .last-column .ensures))
 
--- src/lib.rt:193:1
 returns-2 : tie.Need-returns-2
 returns-2 c = let a = c .before .before .before .before .args in two-digits (a .e) (a .f) (ne-eqb _ _ (c .before .before .before .if1 .left)) (rw (← c .before .before .is-leading-digit .ensures, ← c .before .is-digit .ensures) (c .if2 .taken))
 
--- src/lib.rt:193:1
 returns-3 : tie.Need-returns-3
 returns-3 c = let a = c .before .before .before .before .args in no-digits (a .e) (a .f) (ne-eqb _ _ (c .before .before .before .if1 .left)) (rw (← c .before .before .is-leading-digit .ensures, ← c .before .is-digit .ensures) (c .if2 .left))
 

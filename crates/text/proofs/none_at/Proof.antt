@@ -1,3 +1,4 @@
+-- `none_at` meets its contract.
 use Rattle.text.proofs.Checks.{none-here}
 use Rattle.text.specs.Words.{none-at}
 use borrow.Author.Needs.{needs}
@@ -6,20 +7,16 @@ use Rattle.text.proofs.none_at.Tie as tie
 use Rattle.text.proofs.none_at.Reads as reads
 use Rattle.text.proofs.none_at.Lts as lts
 
--- src/lib.rt:87:27
 enum-told : tie.Need-enum-told
 enum-told c = search needs
 
--- src/lib.rt:88:21
 enum-known-found : tie.Need-enum-known-found
 enum-known-found c = search needs
 
--- src/lib.rt:83:1
 returns : tie.Need-returns
 unfolding none-at
 returns c = rw (c .enum-told .given .1)
 
--- src/lib.rt:83:1
 returns-2 : tie.Need-returns-2
 returns-2 c = none-here _ _ _ _ (c .before .found .given .1)
 

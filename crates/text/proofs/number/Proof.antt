@@ -1,3 +1,4 @@
+-- `number` meets its contract.
 use Rattle.text.proofs.Fields.{two-value}
 use borrow.Author.Needs.{needs}
 use Rattle.text.proofs.number.Statement.{statement}
@@ -8,35 +9,27 @@ use Rattle.text.proofs.columns.Reads as columns-reads
 use Rattle.text.proofs.push.Reads as push-reads
 use Rattle.text.proofs.short.Reads as short-reads
 
--- src/lib.rt:250:8
 short-requires : tie.Need-short-requires
 short-requires c κs = search needs
 
--- src/lib.rt:251:28
 add-push : tie.Need-add-push
 add-push c = search needs
 
--- src/lib.rt:251:13
 push-requires : tie.Need-push-requires
 push-requires c κs = search needs
 
--- src/lib.rt:252:20
 add-push-2 : tie.Need-add-push-2
 add-push-2 c = search needs
 
--- src/lib.rt:252:9
 push-requires-2 : tie.Need-push-requires-2
 push-requires-2 c κs = search needs
 
--- src/lib.rt:254:9
 columns-requires : tie.Need-columns-requires
 columns-requires c κs = search needs
 
--- src/lib.rt:246:1
 returns : tie.Need-returns
 returns c = let a = c .before .before .before .before .before .args in two-value (a .text .now) (a .at) _ _ (c .before .before .before .short .ensures (c .before .before .if1 .taken)) (c .before .push .ensures .0) (c .push2 .ensures .0)
 
--- src/lib.rt:246:1
 returns-2 : tie.Need-returns-2
 returns-2 c = search needs
 

@@ -1,3 +1,4 @@
+-- `parse` meets its contract.
 use Rattle.text.proofs.Fields.{line-read, line-unread, cut-line}
 use mathlib.Core.Path.{sym, _∙_}
 use native.Mathlib.Omega.{arith}
@@ -9,67 +10,51 @@ use Rattle.text.proofs.parse.Lts as lts
 use Rattle.text.proofs.field.Reads as field-reads
 use Rattle.text.proofs.unread.Reads as unread-reads
 
--- src/lib.rt:259:14
 mul-at : tie.Need-mul-at
 mul-at c = search needs
 
--- src/lib.rt:260:8
 add-if1 : tie.Need-add-if1
 add-if1 c = search needs
 
--- src/lib.rt:261:13
 field-requires : tie.Need-field-requires
 field-requires c κs = search needs
 
--- src/lib.rt:262:29
 add-field : tie.Need-add-field
 add-field c = search needs
 
--- src/lib.rt:262:13
 field-requires-2 : tie.Need-field-requires-2
 field-requires-2 c κs = search needs
 
--- src/lib.rt:263:29
 add-field-2 : tie.Need-add-field-2
 add-field-2 c = search needs
 
--- src/lib.rt:263:13
 field-requires-3 : tie.Need-field-requires-3
 field-requires-3 c κs = search needs
 
--- src/lib.rt:264:29
 add-field-3 : tie.Need-add-field-3
 add-field-3 c = search needs
 
--- src/lib.rt:264:13
 field-requires-4 : tie.Need-field-requires-4
 field-requires-4 c κs = search needs
 
--- src/lib.rt:265:24
 add-end : tie.Need-add-end
 add-end c = search needs
 
--- src/lib.rt:265:19
 shared-slice-read-end : tie.Need-shared-slice-read-end
 shared-slice-read-end c = search needs
 
--- src/lib.rt:269:13
 unread-requires : tie.Need-unread-requires
 unread-requires c κs = search needs
 
--- src/lib.rt:272:9
 unread-requires-2 : tie.Need-unread-requires-2
 unread-requires-2 c κs = search needs
 
--- src/lib.rt:256:1
 returns : tie.Need-returns
 returns c = let a = c .before .before .before .before .before .before .before .before .args in line-read (a .text .now) (a .i) _ _ _ _ (c .before .before .before .before .before .before .if1 .taken) (c .before .before .before .before .before .field .ensures) (c .before .before .before .before .field2 .ensures) (c .before .before .before .field3 .ensures) (c .before .before .field4 .ensures) (c .if2 .taken)
 
--- src/lib.rt:256:1
 returns-2 : tie.Need-returns-2
 returns-2 c = let a = c .before .before .before .before .before .before .before .before .before .args in c .unread .ensures ∙ line-unread (a .text .now) (a .i) _ _ _ _ (c .before .before .before .before .before .before .before .if1 .taken) (c .before .before .before .before .before .before .field .ensures) (c .before .before .before .before .before .field2 .ensures) (c .before .before .before .before .field3 .ensures) (c .before .before .before .field4 .ensures) (c .before .if2 .left)
 
--- src/lib.rt:256:1
 returns-3 : tie.Need-returns-3
 returns-3 c = let a = c .before .before .before .args in c .unread2 .ensures ∙ rw (cut-line (a .text .now) (a .i) (c .before .if1 .left))
 

@@ -1,3 +1,4 @@
+-- `read_line` meets its contract.
 use Prim.Native.Nat.{_+_}
 use Rattle.text.proofs.Fields.{line-of}
 use borrow.Author.Needs.{needs}
@@ -7,43 +8,33 @@ use Rattle.text.proofs.read_line.Reads as reads
 use Rattle.text.proofs.read_line.Lts as lts
 use Rattle.text.proofs.number.Reads as number-reads
 
--- src/lib.rt:184:15
 add-at : tie.Need-add-at
 add-at c = search needs
 
--- src/lib.rt:184:14
 mul-at : tie.Need-mul-at
 mul-at c = search needs
 
--- src/lib.rt:186:12
 number-requires : tie.Need-number-requires
 number-requires c κs = search needs
 
--- src/lib.rt:187:25
 add-number : tie.Need-add-number
 add-number c = search needs
 
--- src/lib.rt:187:12
 number-requires-2 : tie.Need-number-requires-2
 number-requires-2 c κs = search needs
 
--- src/lib.rt:188:25
 add-number-2 : tie.Need-add-number-2
 add-number-2 c = search needs
 
--- src/lib.rt:188:12
 number-requires-3 : tie.Need-number-requires-3
 number-requires-3 c κs = search needs
 
--- src/lib.rt:189:25
 add-number-3 : tie.Need-add-number-3
 add-number-3 c = search needs
 
--- src/lib.rt:189:12
 number-requires-4 : tie.Need-number-requires-4
 number-requires-4 c κs = search needs
 
--- src/lib.rt:181:1
 returns : tie.Need-returns
 returns c = let a = c .before .before .before .before .before .args in line-of (a .text .now) (a .first + a .i) _ _ _ _ (c .before .before .before .number .ensures) (c .before .before .number2 .ensures) (c .before .number3 .ensures) (c .number4 .ensures)
 

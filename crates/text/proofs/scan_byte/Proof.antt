@@ -1,3 +1,4 @@
+-- `scan_byte` meets its contract.
 use mathlib.Core.Path.{_∙_}
 use Rattle.text.specs.Scan.{step-of}
 use borrow.Author.Needs.{needs}
@@ -8,44 +9,34 @@ use Rattle.text.proofs.scan_byte.Lts as lts
 use Rattle.text.proofs.scan_next.Reads as scan-next-reads
 use Rattle.text.proofs.scan_first.Reads as scan-first-reads
 
--- src/lib.rt:88:24
 enum-told : tie.Need-enum-told
 enum-told c = search needs
 
--- src/lib.rt:88:24
 scan-first-requires : tie.Need-scan-first-requires
 scan-first-requires c κs = search needs
 
--- src/lib.rt:89:23
 enum-told-2 : tie.Need-enum-told-2
 enum-told-2 c = search needs
 
--- src/lib.rt:90:25
 enum-told-3 : tie.Need-enum-told-3
 enum-told-3 c = search needs
 
--- src/lib.rt:90:25
 scan-next-requires : tie.Need-scan-next-requires
 scan-next-requires c κs = search needs
 
--- src/lib.rt:91:22
 enum-told-4 : tie.Need-enum-told-4
 enum-told-4 c = search needs
 
--- src/lib.rt:84:1
 returns : tie.Need-returns
 returns c = c .scan-first .ensures ∙ rw (c .before .enum-told .given .1)
 
--- src/lib.rt:84:1
 returns-2 : tie.Need-returns-2
 unfolding step-of
 returns-2 c = rw (c .enum-told2 .given .1)
 
--- src/lib.rt:84:1
 returns-3 : tie.Need-returns-3
 returns-3 c = c .scan-next .ensures ∙ rw (c .before .enum-told3 .given .1)
 
--- src/lib.rt:84:1
 returns-4 : tie.Need-returns-4
 unfolding step-of
 returns-4 c = rw (c .enum-told4 .given .1)

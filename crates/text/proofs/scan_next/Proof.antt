@@ -1,3 +1,4 @@
+-- `scan_next` meets its contract.
 use borrow.Author.Tests.{le-leb, lt-leb}
 use Rattle.text.specs.Scan.{step-of}
 use native.Mathlib.Omega.{arith}
@@ -6,17 +7,14 @@ use Rattle.text.proofs.scan_next.Tie as tie
 use Rattle.text.proofs.scan_next.Reads as reads
 use Rattle.text.proofs.scan_next.Lts as lts
 
--- src/lib.rt:74:1
 returns : tie.Need-returns
 unfolding step-of
 returns c = let b = c .before .before .args .b in rw (le-leb 48 b (omega arith), le-leb b 57 (omega arith))
 
--- src/lib.rt:74:1
 returns-2 : tie.Need-returns-2
 unfolding step-of
 returns-2 c = let b = c .before .args .b in rw (lt-leb 48 b (omega arith))
 
--- src/lib.rt:74:1
 returns-3 : tie.Need-returns-3
 unfolding step-of
 returns-3 c = let b = c .before .before .args .b in rw (le-leb 48 b (omega arith), lt-leb b 57 (omega arith))

@@ -1,3 +1,4 @@
+-- `scanned` meets its contract.
 use Rattle.text.proofs.Fields.{scan-end}
 use Rattle.text.proofs.Fields.{scan-field, scan-step}
 use Rattle.text.specs.Scan.{step-of, scan, ends-well}
@@ -22,39 +23,30 @@ Inv-loop text at s₀ k₀ s k =
 abbrev μ-loop : tie.MeasureT-loop
 μ-loop text at s₀ k₀ s k = 6 - k
 
--- src/lib.rt:114:5
 loop-holds : tie.Need-loop-holds Inv-loop μ-loop
 loop-holds c = let at = c .before .args .at in let e : at + 0 ≡ at = omega arith in (search needs, rw e)
 
--- src/lib.rt:115:26
 add-scan-byte : tie.Need-add-scan-byte Inv-loop μ-loop
 add-scan-byte c = search needs
 
--- src/lib.rt:115:21
 shared-slice-read-scan-byte : tie.Need-shared-slice-read-scan-byte Inv-loop μ-loop
 shared-slice-read-scan-byte c = search needs
 
--- src/lib.rt:115:9
 scan-byte-requires : tie.Need-scan-byte-requires Inv-loop μ-loop
 scan-byte-requires c κs = search needs
 
--- src/lib.rt:116:9
 add-k : tie.Need-add-k Inv-loop μ-loop
 add-k c = search needs
 
--- src/lib.rt:114:5
 loop-less : tie.Need-loop-less Inv-loop μ-loop
 loop-less c = search needs
 
--- src/lib.rt:114:5
 loop-again : tie.Need-loop-again Inv-loop μ-loop
 loop-again c = let a = c .before .before .before .before .before .args in let l = c .before .before .before .loop in (search needs, rw (c .scan-byte .ensures) (sym (scan-step (a .text .now) (a .at) (l .k) (l .s) (c .before .before .before .before .before .pre) (c .before .before .loop-test .taken)) ∙ l .inv .1))
 
--- src/lib.rt:118:5
 scan-ends-requires : tie.Need-scan-ends-requires Inv-loop μ-loop
 scan-ends-requires c κs = search needs
 
--- src/lib.rt:108:1
 returns : tie.Need-returns Inv-loop μ-loop
 returns c = let a = c .before .before .before .before .args in let l = c .before .before .loop in c .scan-ends .ensures ∙ ap ends-well (sym (scan-end (a .text .now) (a .at) (l .k) (l .s) (c .before .loop-test .left)) ∙ l .inv .1) ∙ scan-field (take 6 (drop (a .at) (a .text .now)))
 

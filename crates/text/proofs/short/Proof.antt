@@ -1,3 +1,4 @@
+-- `short` meets its contract.
 use Prim.Native.Nat.{ℕ}
 use mathlib.Core.Path.{_≡_}
 use native.Mathlib.Omega.{arith}
@@ -8,19 +9,15 @@ use Rattle.text.proofs.short.Reads as reads
 use Rattle.text.proofs.short.Lts as lts
 use Rattle.text.proofs.blanks.Reads as blanks-reads
 
--- src/lib.rt:242:8
 add-if1 : tie.Need-add-if1
 add-if1 c = search needs
 
--- src/lib.rt:242:35
 blanks-requires : tie.Need-blanks-requires
 blanks-requires c κs = search needs
 
--- src/lib.rt:238:1
 returns : tie.Need-returns
 returns c = search needs
 
--- src/lib.rt:238:1
 returns-2 : tie.Need-returns-2
 returns-2 c = λ e. let z : _≡_ {A = ℕ} 0 1 = cc in absurd (omega arith)
 

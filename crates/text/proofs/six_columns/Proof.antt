@@ -1,3 +1,4 @@
+-- `six_columns` meets its contract.
 use Rattle.text.proofs.Fields.{scanned-pushed, out-of-form}
 use mathlib.Core.Path.{sym, _∙_}
 use native.Mathlib.Omega.{arith}
@@ -9,19 +10,15 @@ use Rattle.text.proofs.six_columns.Lts as lts
 use Rattle.text.proofs.columns.Reads as columns-reads
 use Rattle.text.proofs.scanned.Reads as scanned-reads
 
--- src/lib.rt:223:8
 scanned-requires : tie.Need-scanned-requires
 scanned-requires c κs = search needs
 
--- src/lib.rt:223:28
 columns-requires : tie.Need-columns-requires
 columns-requires c κs = search needs
 
--- src/lib.rt:219:1
 returns : tie.Need-returns
 returns c = scanned-pushed _ _ _ (c .before .before .scanned .ensures) (c .before .if1 .taken) (c .columns .ensures .0) (omega (arith, c .columns .ensures .1))
 
--- src/lib.rt:219:1
 returns-2 : tie.Need-returns-2
 returns-2 c = out-of-form _ (sym (c .before .scanned .ensures) ∙ c .if1 .left)
 

@@ -1,3 +1,4 @@
+-- `three_blank` meets its contract.
 use borrow.Author.Tests.{eqb-true}
 use Prim.Native.Nat.{_+_, _*_}
 use mathlib.Core.Path.{_≡_}
@@ -8,23 +9,18 @@ use Rattle.text.proofs.three_blank.Tie as tie
 use Rattle.text.proofs.three_blank.Reads as reads
 use Rattle.text.proofs.three_blank.Lts as lts
 
--- src/lib.rt:169:16
 mul-result : tie.Need-mul-result
 mul-result c = search needs
 
--- src/lib.rt:169:5
 add-result : tie.Need-add-result
 add-result c = search needs
 
--- src/lib.rt:169:33
 mul-result-2 : tie.Need-mul-result-2
 mul-result-2 c = search needs
 
--- src/lib.rt:169:5
 add-result-2 : tie.Need-add-result-2
 add-result-2 c = search needs
 
--- src/lib.rt:166:1
 returns : tie.Need-returns
 returns c = λ e. let a = c .args in let s : a .a + a .b * 256 + a .c * 65536 ≡ 2105376 = eqb-true _ _ e in (omega arith, omega arith, omega arith)
 

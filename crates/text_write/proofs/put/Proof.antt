@@ -1,3 +1,4 @@
+-- `put` meets its contract.
 use native.Mathlib.Omega.{arith}
 use Prim.Native.Nat.{_+_}
 use mathlib.Core.Path.{sym}
@@ -8,31 +9,24 @@ use Rattle.text_write.proofs.put.Tie as tie
 use Rattle.text_write.proofs.put.Reads as reads
 use Rattle.text_write.proofs.put.Lts as lts
 
--- src/lib.rt:18:17
 sub-if2 : tie.Need-sub-if2
 sub-if2 c = search needs
 
--- src/lib.rt:19:17
 add-out : tie.Need-add-out
 add-out c = search needs
 
--- src/lib.rt:19:13
 slice-write-out : tie.Need-slice-write-out
 slice-write-out c = search needs
 
--- src/lib.rt:13:1
 same-length : tie.Need-same-length
 same-length c = search needs
 
--- src/lib.rt:13:1
 returns : tie.Need-returns
 returns c = search needs
 
--- src/lib.rt:13:1
 returns-2 : tie.Need-returns-2
 returns-2 c = let a = c .before .before .args in sym (set-out (a .out .now) (a .at + a .k) (a .b) (omega arith))
 
--- src/lib.rt:13:1
 returns-3 : tie.Need-returns-3
 returns-3 c = let a = c .before .args in sym (set-out (a .out .now) (a .at + a .k) (a .b) (omega arith))
 

@@ -1,3 +1,4 @@
+-- `write_field` meets its contract.
 use Rattle.text.specs.Text.{column-byte}
 use Rattle.text_write.proofs.Bytes.{put-six}
 use borrow.Author.Needs.{needs}
@@ -8,79 +9,60 @@ use Rattle.text_write.proofs.write_field.Lts as lts
 use Rattle.text_write.proofs.column.Reads as column-reads
 use Rattle.text_write.proofs.put.Reads as put-reads
 
--- src/lib.rt:41:21
 column-requires : tie.Need-column-requires
 column-requires c κs = search needs
 
--- src/lib.rt:41:5
 put-requires : tie.Need-put-requires
 put-requires c κs = search needs
 
--- src/lib.rt:42:18
 add-put : tie.Need-add-put
 add-put c = search needs
 
--- src/lib.rt:42:25
 column-requires-2 : tie.Need-column-requires-2
 column-requires-2 c κs = search needs
 
--- src/lib.rt:42:5
 put-requires-2 : tie.Need-put-requires-2
 put-requires-2 c κs = search needs
 
--- src/lib.rt:43:18
 add-put-2 : tie.Need-add-put-2
 add-put-2 c = search needs
 
--- src/lib.rt:43:25
 column-requires-3 : tie.Need-column-requires-3
 column-requires-3 c κs = search needs
 
--- src/lib.rt:43:5
 put-requires-3 : tie.Need-put-requires-3
 put-requires-3 c κs = search needs
 
--- src/lib.rt:44:18
 add-put-3 : tie.Need-add-put-3
 add-put-3 c = search needs
 
--- src/lib.rt:44:25
 column-requires-4 : tie.Need-column-requires-4
 column-requires-4 c κs = search needs
 
--- src/lib.rt:44:5
 put-requires-4 : tie.Need-put-requires-4
 put-requires-4 c κs = search needs
 
--- src/lib.rt:45:18
 add-put-4 : tie.Need-add-put-4
 add-put-4 c = search needs
 
--- src/lib.rt:45:25
 column-requires-5 : tie.Need-column-requires-5
 column-requires-5 c κs = search needs
 
--- src/lib.rt:45:5
 put-requires-5 : tie.Need-put-requires-5
 put-requires-5 c κs = search needs
 
--- src/lib.rt:46:18
 add-put-5 : tie.Need-add-put-5
 add-put-5 c = search needs
 
--- src/lib.rt:46:25
 column-requires-6 : tie.Need-column-requires-6
 column-requires-6 c κs = search needs
 
--- src/lib.rt:46:5
 put-requires-6 : tie.Need-put-requires-6
 put-requires-6 c κs = search needs
 
--- src/lib.rt:37:1
 same-length : tie.Need-same-length
 same-length c = search needs
 
--- src/lib.rt:37:1
 returns : tie.Need-returns
 returns c = let a = c .before .before .before .before .before .before .before .before .before .before .before .before .before .before .before .before .before .before .before .before .before .before .before .before .before .before .before .before .before .before .before .args in rw (c .before .before .put6 .ensures, c .before .before .before .column6 .ensures, c .before .before .before .before .before .before .before .put5 .ensures, c .before .before .before .before .before .before .before .before .column5 .ensures, c .before .before .before .before .before .before .before .before .before .before .before .before .put4 .ensures, c .before .before .before .before .before .before .before .before .before .before .before .before .before .column4 .ensures, c .before .before .before .before .before .before .before .before .before .before .before .before .before .before .before .before .before .put3 .ensures, c .before .before .before .before .before .before .before .before .before .before .before .before .before .before .before .before .before .before .column3 .ensures, c .before .before .before .before .before .before .before .before .before .before .before .before .before .before .before .before .before .before .before .before .before .before .put2 .ensures, c .before .before .before .before .before .before .before .before .before .before .before .before .before .before .before .before .before .before .before .before .before .before .before .column2 .ensures, c .before .before .before .before .before .before .before .before .before .before .before .before .before .before .before .before .before .before .before .before .before .before .before .before .before .before .before .put .ensures, c .before .before .before .before .before .before .before .before .before .before .before .before .before .before .before .before .before .before .before .before .before .before .before .before .before .before .before .before .column .ensures) (put-six (a .at) (a .k) (column-byte (a .n) 5) (column-byte (a .n) 4) (column-byte (a .n) 3) (column-byte (a .n) 2) (column-byte (a .n) 1) (column-byte (a .n) 0) (a .out .now))
 

@@ -1,3 +1,4 @@
+-- `write_line` meets its contract.
 use Rattle.text_write.proofs.Bytes.{put-line}
 use borrow.Author.Needs.{needs}
 use Rattle.text_write.proofs.write_line.Statement.{statement}
@@ -7,31 +8,24 @@ use Rattle.text_write.proofs.write_line.Lts as lts
 use Rattle.text_write.proofs.put.Reads as put-reads
 use Rattle.text_write.proofs.write_field.Reads as write-field-reads
 
--- src/lib.rt:53:5
 write-field-requires : tie.Need-write-field-requires
 write-field-requires c κs = search needs
 
--- src/lib.rt:54:5
 write-field-requires-2 : tie.Need-write-field-requires-2
 write-field-requires-2 c κs = search needs
 
--- src/lib.rt:55:5
 write-field-requires-3 : tie.Need-write-field-requires-3
 write-field-requires-3 c κs = search needs
 
--- src/lib.rt:56:5
 write-field-requires-4 : tie.Need-write-field-requires-4
 write-field-requires-4 c κs = search needs
 
--- src/lib.rt:57:5
 put-requires : tie.Need-put-requires
 put-requires c κs = search needs
 
--- src/lib.rt:50:1
 same-length : tie.Need-same-length
 same-length c = search needs
 
--- src/lib.rt:50:1
 returns : tie.Need-returns
 returns c = let a = c .before .before .before .before .before .before .before .before .before .before .before .before .before .before .before .before .before .before .before .before .before .args in rw (c .before .before .put .ensures, c .before .before .before .before .before .before .write-field4 .ensures, c .before .before .before .before .before .before .before .before .before .before .write-field3 .ensures, c .before .before .before .before .before .before .before .before .before .before .before .before .before .before .write-field2 .ensures, c .before .before .before .before .before .before .before .before .before .before .before .before .before .before .before .before .before .before .write-field .ensures) (put-line (a .at) (a .l) (a .out .now))
 
