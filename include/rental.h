@@ -1,5 +1,5 @@
-/* What C can call of the rule engine. A text or a table is its first element and its length; nothing is kept or freed. docs/REFUSALS.md has the
-   refusals, their numbers and their places. */
+/* What C can call of the rule engine. A text or a table is its first element and its length; nothing is kept or freed. docs/SPECIFICATION.md says
+   what each function does for every input (section 9), and docs/REFUSALS.md has the refusals, their numbers and their places. */
 #ifndef RENTAL_H
 #define RENTAL_H
 

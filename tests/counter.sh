@@ -1,5 +1,5 @@
 #!/usr/bin/env bash
-# Builds the counter's program in C over the proved book check and the single move, and runs it on a few books and moves. Its last line is
+# Builds the counter's program in C over the proved book check, single move and log, and runs it on a few books, moves and logs. Its last line is
 # 'N passed, M failed'.
 set -u
 cd "$(dirname "$0")/.." || exit 1

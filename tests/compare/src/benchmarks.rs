@@ -34,7 +34,7 @@ pub fn wanted(word: &str) -> Vec<&'static Benchmark> {
 }
 
 const BOOK_CHECKS: &[Benchmark] = &[
-    Benchmark::new("book check: 01's book", |what, meter| book_row(what, meter, &specification::book())),
+    Benchmark::new("book check: the specification's book", |what, meter| book_row(what, meter, &specification::book())),
     Benchmark::new("book check: 1,024 nodes", |what, meter| book_row(what, meter, &loads::thousand_nodes())),
     Benchmark::new("book check: 65,281 contents lines", |what, meter| {
         book_row(what, meter, &loads::full_contents())
@@ -89,7 +89,7 @@ const SINGLE_MOVES: &[Benchmark] = &[
 ];
 
 const LOGS: &[Benchmark] = &[
-    Benchmark::new("log: 01's book and log, 2 moves", |what, meter| {
+    Benchmark::new("log: the specification's book and log, 2 moves", |what, meter| {
         run_row(what, meter, &BookAndLog { book: specification::book(), log: specification::log() })
     }),
     Benchmark::new("log: the shop's book, 64 moves of 16 agents", |what, meter| {
@@ -131,7 +131,7 @@ const ORDER_CHECKS: &[Benchmark] = &[
 ];
 
 const WHOLE_RUNS: &[Benchmark] = &[
-    Benchmark::new("rental: 01's book and log", |what, meter| {
+    Benchmark::new("rental: the specification's book and log", |what, meter| {
         report_row(what, meter, &specification::book_and(specification::LOG))
     }),
     Benchmark::new("rental: the shop's book, 64 moves of 16 agents", |what, meter| {

@@ -1,4 +1,4 @@
-// BookAndLog inputs with choices: every list of picks for some rules, every small log of some agents, every two choice lines; and single moves with
+// Small inputs with choices: every list of picks for some rules, every small log of some agents, every two choice lines; and single moves with
 // picks that are no elements.
 
 use crate::book_draft::BookDraft;

@@ -15,6 +15,11 @@ fn check(name: &str, at_least: usize) {
 }
 
 #[test]
+fn specification() {
+    check("SPECIFICATION.md", 20);
+}
+
+#[test]
 fn decisions() {
     check("DECISIONS.md", 20);
 }

@@ -175,6 +175,7 @@ fn main() -> ExitCode {
     };
     let mut trial = Trial { program: program.into(), passed: 0, failed: 0 };
     trial.cases([lettered(), limits(), refusals(), idle(), picks(), releases()].concat());
+    trial.document("SPECIFICATION.md");
     trial.document("DECISIONS.md");
     trial.document("REFUSALS.md");
     trial.examples();
