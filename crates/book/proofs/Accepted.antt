@@ -26,7 +26,7 @@ use Rattle.book.specs.Sound.{Laid, Lawful}
 
 -- ---- the header
 
--- the bounds of its numbers
+-- the bounds of the header's numbers
 pub record Bounded (h : Header) : Type 0 where
   pub elements : (4 ≤ h .elements) × (h .elements ≤ 10000)
   pub permanent : (4 ≤ h .permanent) × (h .permanent ≤ h .elements)
@@ -88,7 +88,7 @@ roll-good l h = (
   eqb-true (l .b) 3 (so-true (eqb (l .b) 3) (bad-function l 0) h (λ q. simp (q, and-false))),
 )
 
--- function 0 is the roll
+-- function 0 is Reserve
 first-good : (E : ℕ) (at : ℕ → Line) (n : ℕ) → 0 < n → bad-function (at 0) 0 ≡ false
     → getD (lay-out E 0 (table at n)) 0 no-function ≡ record { first = 0; arity = 1; kind = 3 }
 unfolding lay-out table-from
@@ -109,7 +109,7 @@ agent-good B l i h = (
 
 -- ---- the book
 
--- what the checks from 4 on have passed
+-- what the checks 4 to 8 show of the lines of a book
 record Passed (h : Header) (text : List ℕ) : Type 0 where
   pub functions : (f : ℕ) → f < h .functions → bad-function (line text (first-function + f)) f ≡ false
   pub locations : L (program-of h text) ≤ 65536
@@ -145,7 +145,7 @@ passed h text b e =
       good-same (book-of h text) b (e8 .1),
     )
 
--- the book has as many of each as the header says
+-- the book has as many functions, nodes, agents and entries as the header says
 pub book-lengths : (h : Header) (text : List ℕ) → (length (program-of h text .functions) ≡ h .functions) × (length (program-of h text .nodes) ≡ h .nodes)
     × (length (program-of h text .agents) ≡ h .agents) × (length (entries-of h text) ≡ h .contents)
 unfolding program-of entries-of
@@ -189,7 +189,7 @@ book-lawful h text b p =
           (λ (r : ¬ (k < h .agents)). rw (getD-table-past (λ i. line-agent (line text (first-agent h + i))) (h .agents) k no-agent (omega arith)) (omega (arith, b .permanent .0)));
     }
 
--- the book is the one that the lines say
+-- the book that a check gives is the one that the lines say
 pub lines-book : (text : List ℕ) (h : Header) (b : Book) → check-lines h text ≡ good b → b ≡ book-of h text
 lines-book text h b e = sym (passed h text b e .1)
 
@@ -201,7 +201,7 @@ lines-lawful text h b e f =
     let r = passed h text b f in
     subst (λ (x : Book). Lawful (x .program)) (r .1) (book-lawful h text (header-bounded text h e) (r .0))
 
--- the parts of an accepted book's check
+-- the check of an accepted book: its header passes, and so do its lines
 pub accepted-lines : (text : List ℕ) (b : Book) → check-book text ≡ good b → (h : Header) × (check-header text ≡ good h) × (check-lines h text ≡ good b)
 unfolding check-book check-present check-surplus
 accepted-lines text b e =
@@ -214,7 +214,7 @@ accepted-lines text b e =
 pub accepted : (text : List ℕ) (b : Book) → check-book text ≡ good b → Lawful (b .program)
 accepted text b e = let r = accepted-lines text b e in lines-lawful text (r .0) b (r .1) (r .2)
 
--- no contents line is at fault
+-- no contents line of an accepted book is at fault
 pub accepted-entries : (text : List ℕ) (b : Book) → check-book text ≡ good b → (i : ℕ) → i < length (b .entries) → bad-entry (b .program) (b .entries) i ≡ false
 accepted-entries text b e =
     let r = accepted-lines text b e in

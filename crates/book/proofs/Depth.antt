@@ -1,4 +1,4 @@
--- What is handed down to a node: each node is used once, so a root has what it began with, and an operand what its one user gave it; depths above all.
+-- What stands around a node: each node is used once, so a root has what it began with, and an operand what its one user gave it; depths above all.
 use mathlib.Core.Path.{_≡_, refl, sym, _∙_}
 use mathlib.Core.Logic.{dite, _≢_}
 use mathlib.Core.Bool.{Bool, true, false, _&&_, and-false, or-true}
@@ -26,7 +26,7 @@ depth-at B n = getD (depths B) n 0
 
 -- ---- operands have lower numbers
 
--- operand place j, 0 to 2
+-- the operand in place j, 0 to 2, of a node
 abbrev pub operand : Node → ℕ → ℕ
 operand y zero = y .a
 operand y (suc zero) = y .b
@@ -52,7 +52,7 @@ fits-low B n s x k h =
 
 -- ---- counts of uses
 
--- node m is one of the first k
+-- node m, one of the first k, counts among the uses
 uses-one : (B : Program) (x m k : ℕ) → m < k → places (node-at B m) x ≤ uses B x k
 unfolding uses
 uses-one B x m zero h = absurd (omega arith)
@@ -75,15 +75,15 @@ one-if-at : (a : Bool) (x n : ℕ) → (a ≡ true → x ≢ n) → one-if (a &&
 one-if-at true x n h = rw (ne-eqb x n (h refl))
 one-if-at false x n h = refl
 
--- ---- one hand-over
+-- ---- what one node gives
 
-length-put-if : (on : Bool) (z v : ℕ) (s : List ℕ) → length (put-if on z v s) ≡ length s
+pub length-put-if : (on : Bool) (z v : ℕ) (s : List ℕ) → length (put-if on z v s) ≡ length s
 length-put-if true z v s = length-set s z v
 length-put-if false z v s = refl
 
-length-hand : (y : Node) (v w : ℕ) (s : List ℕ) → length (operands-given y v w s) ≡ length s
+pub length-operands-given : (y : Node) (v w : ℕ) (s : List ℕ) → length (operands-given y v w s) ≡ length s
 unfolding operands-given
-length-hand y v w s = simp length-put-if
+length-operands-given y v w s = simp length-put-if
 
 put-at : (on : Bool) (z v x : ℕ) (s : List ℕ) → x < length s → getD (put-if on z v s) x 0 ≡ (if on && eqb z x then v else getD s x 0)
 put-at false z v x s h = refl
@@ -93,10 +93,10 @@ put-at true z v x s h = go (eqb z x) refl
     go true e = let p : z ≡ x = eqb-true z x e in rw p (getD-set-same s x v 0 h)
     go false e = getD-set-other s z x v 0 (λ p. eqb-false z x e (sym p))
 
-hand-at : (y : Node) (v w x : ℕ) (s : List ℕ) → x < length s → getD (operands-given y v w s) x 0
+operands-given-at : (y : Node) (v w x : ℕ) (s : List ℕ) → x < length s → getD (operands-given y v w s) x 0
     ≡ (if is-node (y .kind) 2 && eqb (y .c) x then w else if is-node (y .kind) 1 && eqb (y .b) x then v else if is-node (y .kind) 0 && eqb (y .a) x then v else getD s x 0)
 unfolding operands-given
-hand-at y v w x s h =
+operands-given-at y v w x s h =
     let s1 = put-if (is-node (y .kind) 0) (y .a) v s in
     let s2 = put-if (is-node (y .kind) 1) (y .b) v s1 in
     let p1 : length s1 ≡ length s = length-put-if (is-node (y .kind) 0) (y .a) v s in
@@ -108,20 +108,20 @@ hand-at y v w x s h =
     )
 
 -- a node that does not have x as operand leaves what x has
-hand-past : (y : Node) (v w x : ℕ) (s : List ℕ) → x < length s → places y x ≡ 0 → getD (operands-given y v w s) x 0 ≡ getD s x 0
-hand-past y v w x s h e =
+operands-given-past : (y : Node) (v w x : ℕ) (s : List ℕ) → x < length s → places y x ≡ 0 → getD (operands-given y v w s) x 0 ≡ getD s x 0
+operands-given-past y v w x s h e =
     rw (
-      hand-at y v w x s h,
+      operands-given-at y v w x s h,
       one-if-none (is-node (y .kind) 2 && eqb (y .c) x) (omega arith),
       one-if-none (is-node (y .kind) 1 && eqb (y .b) x) (omega arith),
       one-if-none (is-node (y .kind) 0 && eqb (y .a) x) (omega arith),
     )
 
--- and one that has it once gives it v or w
-abbrev handed-by : ℕ → ℕ → ℕ → ℕ
-handed-by v w zero = v
-handed-by v w (suc zero) = v
-handed-by v w (suc (suc j)) = w
+-- what a node that has x once as operand, in place j, gives it: v or w
+abbrev all-given-by : ℕ → ℕ → ℕ → ℕ
+all-given-by v w zero = v
+all-given-by v w (suc zero) = v
+all-given-by v w (suc (suc j)) = w
 
 places-some : (y : Node) (j : ℕ) → j < 3 → is-node (y .kind) j ≡ true → 1 ≤ places y (operand y j)
 places-some y zero h e = rw (e, eq-eqb (y .a) (y .a) refl) (omega arith)
@@ -129,29 +129,29 @@ places-some y (suc zero) h e = rw (e, eq-eqb (y .b) (y .b) refl) (omega arith)
 places-some y (suc (suc zero)) h e = rw (e, eq-eqb (y .c) (y .c) refl) (omega arith)
 places-some y (suc (suc (suc j))) h e = absurd (omega arith)
 
-hand-here : (y : Node) (v w j : ℕ) (s : List ℕ) → j < 3 → is-node (y .kind) j ≡ true → operand y j < length s → places y (operand y j) ≤ 1
-    → getD (operands-given y v w s) (operand y j) 0 ≡ handed-by v w j
-hand-here y v w zero s k e h o =
+operands-given-here : (y : Node) (v w j : ℕ) (s : List ℕ) → j < 3 → is-node (y .kind) j ≡ true → operand y j < length s → places y (operand y j) ≤ 1
+    → getD (operands-given y v w s) (operand y j) 0 ≡ all-given-by v w j
+operands-given-here y v w zero s k e h o =
     let t : (is-node (y .kind) 0 && eqb (y .a) (y .a)) ≡ true = rw (e, eq-eqb (y .a) (y .a) refl) in
     let o′ : one-if (is-node (y .kind) 0 && eqb (y .a) (y .a)) ≡ 1 = rw t in
     rw (
-      hand-at y v w (y .a) s h,
+      operands-given-at y v w (y .a) s h,
       one-if-none (is-node (y .kind) 2 && eqb (y .c) (y .a)) (omega arith),
       one-if-none (is-node (y .kind) 1 && eqb (y .b) (y .a)) (omega arith),
       t,
     )
-hand-here y v w (suc zero) s k e h o =
+operands-given-here y v w (suc zero) s k e h o =
     let t : (is-node (y .kind) 1 && eqb (y .b) (y .b)) ≡ true = rw (e, eq-eqb (y .b) (y .b) refl) in
     let o′ : one-if (is-node (y .kind) 1 && eqb (y .b) (y .b)) ≡ 1 = rw t in
     rw (
-      hand-at y v w (y .b) s h,
+      operands-given-at y v w (y .b) s h,
       one-if-none (is-node (y .kind) 2 && eqb (y .c) (y .b)) (omega arith),
       t,
     )
-hand-here y v w (suc (suc zero)) s k e h o =
+operands-given-here y v w (suc (suc zero)) s k e h o =
     let t : (is-node (y .kind) 2 && eqb (y .c) (y .c)) ≡ true = rw (e, eq-eqb (y .c) (y .c) refl) in
-    rw (hand-at y v w (y .c) s h, t)
-hand-here y v w (suc (suc (suc j))) s k e h o = absurd (omega arith)
+    rw (operands-given-at y v w (y .c) s h, t)
+operands-given-here y v w (suc (suc (suc j))) s k e h o = absurd (omega arith)
 
 module _ (B : Program) (ok : Lawful B) where
   pub operand-low : (n j : ℕ) → n < length (B .nodes) → j < 3 → is-node (node-at B n .kind) j ≡ true → operand (node-at B n) j < n
@@ -194,19 +194,19 @@ module _ (B : Program) (ok : Lawful B) where
       let u : one-if (is-root B r) ≡ 1 = rw (root-used k h) in
       omega (arith, used-once r (ok .roots k h .0), uses-one B r m (length (B .nodes)) g)
 
-  -- ---- all hand-overs
+  -- ---- what all nodes give
 
   module _ (ab c : Node → ℕ → ℕ) (r : ℕ) where
-    -- the highest k nodes have handed down, each node beginning with r
+    -- the table after the highest k nodes have given their operands what stands around them, each node beginning with r
     abbrev after : ℕ → List ℕ
     after k = all-given B ab c k (replicate (length (B .nodes)) r)
 
     length-after : (k : ℕ) → length (after k) ≡ length (B .nodes)
     unfolding all-given
     length-after zero = length-replicate {A = ℕ} (length (B .nodes)) r
-    length-after (suc k) = length-hand _ _ _ _ ∙ length-after k
+    length-after (suc k) = length-operands-given _ _ _ _ ∙ length-after k
 
-    -- what x has stays if no node below has it as operand
+    -- what x has stays, if none of the nodes that come after has it as operand
     kept : (x k j : ℕ) → x < length (B .nodes) → k + j ≤ length (B .nodes) → ((m : ℕ) → m < length (B .nodes) - k → places (node-at B m) x ≡ 0)
         → getD (after (k + j)) x 0 ≡ getD (after k) x 0
     unfolding all-given
@@ -216,7 +216,7 @@ module _ (B : Program) (ok : Lawful B) where
         let m = length (B .nodes) - suc (k + j) in
         let y = node-at B m in
         let t = after (k + j) in
-        rw e (hand-past y (ab y (getD t m 0)) (c y (getD t m 0)) x t (omega (arith, length-after (k + j))) (p m (omega arith)) ∙ kept x k j h (omega arith) p)
+        rw e (operands-given-past y (ab y (getD t m 0)) (c y (getD t m 0)) x t (omega (arith, length-after (k + j))) (p m (omega arith)) ∙ kept x k j h (omega arith) p)
 
     -- a root has what it began with
     pub root-has : (k : ℕ) → k < length (B .agents) → getD (after (length (B .nodes))) (agent-at B k .root) 0 ≡ r
@@ -228,10 +228,10 @@ module _ (B : Program) (ok : Lawful B) where
         let q : getD (after (0 + length (B .nodes))) x 0 ≡ getD (after 0) x 0 = kept x 0 (length (B .nodes)) l (omega arith) (λ m g. root-unused k m h (omega arith)) in
         (rw e at q) ∙ getD-replicate {A = ℕ} (length (B .nodes)) x r 0 l
 
-    -- an operand has what its node made of its own
+    -- an operand has what its node gives it, by what the node has
     pub operand-has : (n j : ℕ) → n < length (B .nodes) → j < 3 → is-node (node-at B n .kind) j ≡ true
         → getD (after (length (B .nodes))) (operand (node-at B n) j) 0
-        ≡ handed-by (ab (node-at B n) (getD (after (length (B .nodes))) n 0)) (c (node-at B n) (getD (after (length (B .nodes))) n 0)) j
+        ≡ all-given-by (ab (node-at B n) (getD (after (length (B .nodes))) n 0)) (c (node-at B n) (getD (after (length (B .nodes))) n 0)) j
     unfolding all-given
     operand-has n j h k e =
         let y = node-at B n in
@@ -250,8 +250,8 @@ module _ (B : Program) (ok : Lawful B) where
         let later : getD (after (length (B .nodes))) x 0 ≡ getD (after (suc i)) x 0 =
         rw e1 at (kept x (suc i) n (omega arith) (omega arith)
         (λ m g. omega (arith, some, once, uses-two B x m n (length (B .nodes)) (omega arith) h (omega arith)))) in
-        let here : getD (operands-given y (ab y (getD t n 0)) (c y (getD t n 0)) t) x 0 ≡ handed-by (ab y (getD t n 0)) (c y (getD t n 0)) j =
-        hand-here y (ab y (getD t n 0)) (c y (getD t n 0)) j t k e (omega (arith, length-after i)) only in
+        let here : getD (operands-given y (ab y (getD t n 0)) (c y (getD t n 0)) t) x 0 ≡ all-given-by (ab y (getD t n 0)) (c y (getD t n 0)) j =
+        operands-given-here y (ab y (getD t n 0)) (c y (getD t n 0)) j t k e (omega (arith, length-after i)) only in
         rw (later, own) (rw e3 here)
 
   -- ---- depths
@@ -263,7 +263,7 @@ module _ (B : Program) (ok : Lawful B) where
       → (operand (node-at B n) j < n) × (depth-at B (operand (node-at B n) j) ≡ depth-at B n + 1)
   operand-depth n j h k e = (operand-low n j h k e, operand-has deeper deeper 1 n j h k e ∙ same j)
     where
-      same : (j : ℕ) → handed-by (depth-at B n + 1) (depth-at B n + 1) j ≡ depth-at B n + 1
+      same : (j : ℕ) → all-given-by (depth-at B n + 1) (depth-at B n + 1) j ≡ depth-at B n + 1
       same zero = refl
       same (suc zero) = refl
       same (suc (suc j)) = refl

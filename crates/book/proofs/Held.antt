@@ -1,4 +1,4 @@
--- What the engine takes an image to hold, against the image's program. Assumes nothing.
+-- What the engine takes an image to hold, compared with the image's program. Assumes nothing.
 use mathlib.Core.Path.{_≡_, refl, sym, _∙_, ap, ap₂}
 use mathlib.Core.List.{List, [], _∷_, map}
 use Prim.Native.Nat.{ℕ, suc, _<_, _≤_}
@@ -8,59 +8,59 @@ use lib.ListN.{length, getD, length-map, List·getD-map}
 use Rattle.book.specs.declared.Function.{Function}
 use Rattle.book.specs.declared.Agent.{Agent}
 use Rattle.book.specs.Book.{Program, function-at, node-at, agent-at, no-function, no-node, no-agent}
-use Rattle.book.specs.Image.{low-function, low-node, low-agent, low, program-in, held}
+use Rattle.book.specs.Image.{low-function, low-node, low-agent, low, program-in, low-program}
 use Rattle.book.proofs.Image.{elements-most, functions-most, agents-most}
 
 module _ (m : List ℕ) where
-  pub held-elements : held m .E ≡ program-in m .E
-  unfolding held
+  pub held-elements : low-program m .E ≡ program-in m .E
+  unfolding low-program
   held-elements = refl
 
-  pub held-permanent : held m .P ≡ low (program-in m .P)
-  unfolding held
+  pub held-permanent : low-program m .P ≡ low (program-in m .P)
+  unfolding low-program
   held-permanent = refl
 
-  pub held-functions : length (held m .functions) ≡ length (program-in m .functions)
-  unfolding held
+  pub held-functions : length (low-program m .functions) ≡ length (program-in m .functions)
+  unfolding low-program
   held-functions = length-map (program-in m .functions) low-function
 
-  pub held-agents : length (held m .agents) ≡ length (program-in m .agents)
-  unfolding held
+  pub held-agents : length (low-program m .agents) ≡ length (program-in m .agents)
+  unfolding low-program
   held-agents = length-map (program-in m .agents) low-agent
 
-  pub held-function : (f : ℕ) → function-at (held m) f ≡ low-function (function-at (program-in m) f)
-  unfolding held
+  pub held-function : (f : ℕ) → function-at (low-program m) f ≡ low-function (function-at (program-in m) f)
+  unfolding low-program
   held-function f = List·getD-map low-function (program-in m .functions) f no-function
 
-  pub held-node : (n : ℕ) → node-at (held m) n ≡ low-node (node-at (program-in m) n)
-  unfolding held
+  pub held-node : (n : ℕ) → node-at (low-program m) n ≡ low-node (node-at (program-in m) n)
+  unfolding low-program
   held-node n = List·getD-map low-node (program-in m .nodes) n no-node
 
-  pub held-agent : (i : ℕ) → agent-at (held m) i ≡ low-agent (agent-at (program-in m) i)
-  unfolding held
+  pub held-agent : (i : ℕ) → agent-at (low-program m) i ≡ low-agent (agent-at (program-in m) i)
+  unfolding low-program
   held-agent i = List·getD-map low-agent (program-in m .agents) i no-agent
 
-  pub held-agents-most : length (held m .agents) ≤ 16
+  pub held-agents-most : length (low-program m .agents) ≤ 16
   held-agents-most = rw held-agents (agents-most m)
 
-  -- what is read
-  pub function-held : (f : ℕ) (r : Function) → r ≡ function-at (program-in m) f → low-function r ≡ function-at (held m) f
+  -- a function read from the image is held with its first location in sixteen bits
+  pub function-held : (f : ℕ) (r : Function) → r ≡ function-at (program-in m) f → low-function r ≡ function-at (low-program m) f
   function-held f r e = ap low-function e ∙ sym (held-function f)
 
-  pub agent-held : (i : ℕ) (r : Agent) → r ≡ agent-at (program-in m) i → low-agent r ≡ agent-at (held m) i
+  pub agent-held : (i : ℕ) (r : Agent) → r ≡ agent-at (program-in m) i → low-agent r ≡ agent-at (low-program m) i
   agent-held i r e = ap low-agent e ∙ sym (held-agent i)
 
   module _ (r : ℕ) where
-    pub elements-held : r ≡ program-in m .E → (r ≡ held m .E) × (r ≤ 10000)
+    pub elements-held : r ≡ program-in m .E → (r ≡ low-program m .E) × (r ≤ 10000)
     elements-held e = (e ∙ sym held-elements, rw e (elements-most m))
 
-    pub functions-held : r ≡ length (program-in m .functions) → (r ≡ length (held m .functions)) × (r ≤ 32)
+    pub functions-held : r ≡ length (program-in m .functions) → (r ≡ length (low-program m .functions)) × (r ≤ 32)
     functions-held e = (e ∙ sym held-functions, rw e (functions-most m))
 
-    pub agents-held : r ≡ length (program-in m .agents) → (r ≡ length (held m .agents)) × (r ≤ 16)
+    pub agents-held : r ≡ length (program-in m .agents) → (r ≡ length (low-program m .agents)) × (r ≤ 16)
     agents-held e = (e ∙ sym held-agents, rw e (agents-most m))
 
--- ---- where all of it fits
+-- ---- an image all of whose numbers fit in sixteen bits
 
 pub map-same : {A : Type 0} (f : A → A) (d : A) (xs : List A) → ((i : ℕ) → i < length xs → f (getD xs i d) ≡ getD xs i d) → map f xs ≡ xs
 map-same f d [] h = refl
@@ -70,8 +70,8 @@ module _ (m : List ℕ) (B : Program) (is : program-in m ≡ B) (permanent : B .
     (functions : (f : ℕ) → f < length (B .functions) → low-function (function-at B f) ≡ function-at B f)
     (nodes : (n : ℕ) → n < length (B .nodes) → low-node (node-at B n) ≡ node-at B n)
     (agents : (i : ℕ) → i < length (B .agents) → low-agent (agent-at B i) ≡ agent-at B i) where
-  pub held-same : held m ≡ B
-  unfolding held
+  pub held-same : low-program m ≡ B
+  unfolding low-program
   held-same =
       rw (
         is,

@@ -22,7 +22,7 @@ use Rattle.book.specs.Book.{total, size, function-at, node-at, agent-at,
 use Rattle.book.specs.Lines.{lay-out, line-agent}
 use Rattle.book.specs.Image.{word, image-row, node-place, node-in, capped, image-function, program-in, kept-node, FitsImage, capped-header, stored, node-stored, filled, first-location, laid-row}
 
--- a count within its bound
+-- a count within its bound is not changed by the cap
 pub uncapped : (n most : ℕ) → n ≤ most → capped n most ≡ n
 uncapped n most h = go (decLt n most)
   where
@@ -37,7 +37,7 @@ capped-most n most = go (decLt n most)
     go (yes l) = rw (lt-ltb n most l) (omega arith)
     go (no l) = rw (le-ltb n most (omega arith)) (omega arith)
 
--- a header within its bounds
+-- a header within its bounds is not changed by the caps
 pub within-bounds : (h : Header) → FitsImage h → capped-header h ≡ h
 within-bounds h room =
     rw (
@@ -107,7 +107,7 @@ pub length-stored : (r : ℕ) (l : Line) (m : List ℕ) → length (stored r l m
 unfolding stored
 length-stored r l m = simp length-set
 
--- what stands in no place of the row stays
+-- a word that is none of the row's four stays
 stored-at :
     (r : ℕ) (l : Line) (m : List ℕ) (i : ℕ) → (i ≡ r * 4 → ⊥) → (i ≡ r * 4 + 1 → ⊥) → (i ≡ r * 4 + 2 → ⊥) → (i ≡ r * 4 + 3 → ⊥) →
     getD (stored r l m) i 0 ≡ getD m i 0
@@ -144,7 +144,7 @@ pub length-node-stored : (n : ℕ) (y : Node) (m : List ℕ) → length (node-st
 unfolding node-stored
 length-node-stored n y m = simp length-set
 
--- a number of k bits, above one whose bits are all those of d
+-- the number above, of two numbers put into one
 part-high : (d k x : ℕ) → 0 < d → x < d → (k * d + x) / d ≡ k
 part-high d k x p h = mul-add-div-right {m = d} p k x ∙ rw (div-eq-of-lt h) (omega arith)
 
@@ -179,7 +179,7 @@ node-stored-other n y m q e =
       node-stored-at n y m (node-place q + 1) (λ p. omega arith) (λ p. e (omega arith)),
     )
 
--- rows and nodes stand apart
+-- a row and a node stand in different words
 pub node-stored-row : (n : ℕ) (y : Node) (m : List ℕ) (r : ℕ) → r < 50 → image-row (node-stored n y m) r ≡ image-row m r
 node-stored-row n y m r h =
     rw (
@@ -196,7 +196,7 @@ stored-node r l m n h =
       stored-at r l m (node-place n + 1) (λ p. omega arith) (λ p. omega arith) (λ p. omega arith) (λ p. omega arith),
     )
 
--- ---- a run of rows filled
+-- ---- several rows filled
 
 module _ (f : ℕ → Line) (base : ℕ) where
   pub length-filled : (left i : ℕ) (m : List ℕ) → length (filled f base left i m) ≡ length m
@@ -237,7 +237,7 @@ module _ (f : ℕ → Line) (base : ℕ) where
           let e : j ≡ i = omega arith in
           rw e (filled-below left (suc i) (stored (base + i) (f i) m) (base + i) (omega arith) ∙ stored-same (base + i) (f i) m (omega arith))
 
-  -- the loop that fills them
+  -- the loop that fills rows: its start
   pub filled-start : (n : ℕ) (m : List ℕ) → filled f base (n - 0) 0 m ≡ filled f base n 0 m
   filled-start n m = let e : n - 0 ≡ n = omega arith in rw e
 
@@ -293,7 +293,7 @@ size-most E arity h = go (eqb arity 0) (eqb arity 1)
     go false true = omega arith
     go false false = square
 
--- a product of two numbers of k bits
+-- the product of two numbers of k bits has at most 2k bits
 pub below : (k : ℕ) {a b : ℕ} → a < 2 ^ k → b < 2 ^ k → a * b < 2 ^ (k + k)
 below k {a} {b} ha hb =
     rw (pow-add 2 k k) (lt-of-le-of-lt (mul-le-mul-left a (le-of-lt hb)) (mul-lt-mul-of-pos-right ha (pow-pos k)))

@@ -1,6 +1,6 @@
--- What an image keeps of a program: 5 says the same of every node, and a program whose nodes pass it is kept whole. Assumes nothing.
+-- What an image keeps of a program: check 5 says the same of every node, and a program whose nodes pass it is kept whole. Assumes nothing.
 use mathlib.Core.Path.{_≡_, refl, sym, _∙_, ap}
-use mathlib.Core.Bool.{Bool, true, false, and-false}
+use mathlib.Core.Bool.{true, false, and-false}
 use mathlib.Core.Logic.{_⊎_, inl, inr}
 use mathlib.Core.List.{List}
 use Prim.Native.Nat.{ℕ, zero, suc, _+_, _*_, _≤_, _<_}
@@ -31,7 +31,7 @@ capped-is x most = go (decLt x most)
     go (yes l) = inl (rw (lt-ltb x most l))
     go (no l) = inr ((omega arith), rw (le-ltb x most (omega arith)))
 
--- what is alike for all large numbers
+-- a function that is constant from the cap on is not changed by the cap
 same-capped : {A : Type 0} (g : ℕ → A) (d : A) (most : ℕ) → ((x : ℕ) → most ≤ x → g x ≡ d) → (x : ℕ) → g (capped x most) ≡ g x
 same-capped g d most none x = go (capped-is x most)
   where
@@ -39,7 +39,7 @@ same-capped g d most none x = go (capped-is x most)
     go (inl e) = ap g e
     go (inr (l, e)) = ap g e ∙ none most (omega arith) ∙ sym (none x l)
 
--- a range of kinds
+-- a kind that is capped is in a range of kinds exactly if it was
 within-kept : (lo hi k : ℕ) → hi < 4095 → within lo (capped k 4095) hi ≡ within lo k hi
 within-kept lo hi k l = same-capped (λ x. within lo x hi) false 4095 (λ x h. simp (lt-leb x hi (omega arith), and-false)) k
 
@@ -49,7 +49,7 @@ sort-kept j = same-capped (λ k. sort k j) 0 4095 (λ k h. let l : length sort-t
 
 -- ---- nodes
 
--- an operand that fits is small
+-- an operand that fits its sort is below 65,535
 module _ (B : Program) (n : ℕ) (p : B .P ≤ 10000) (f : length (B .functions) ≤ 32) (k : n ≤ 1024) where
   large : (s x : ℕ) → 65535 ≤ x → fits B n s x ≡ false
   unfolding fits
@@ -67,7 +67,7 @@ module _ (B : Program) (n : ℕ) (p : B .P ≤ 10000) (f : length (B .functions)
   fits-small s x e =
       ltb-true x 65535 (so-true (ltb x 65535) (fits B n s x) e (λ q. large s x (ltb-false x 65535 q)))
 
--- a node of no kind fits nothing
+-- a node whose operand a fits its sort has a kind below 29
 kind-small : (B : Program) (n kind x : ℕ) → fits B n (sort kind 0) x ≡ true → kind < 29
 unfolding fits sort
 kind-small B n kind x e =
@@ -148,7 +148,7 @@ module _ (B : Program) where
             fits-capped (sort (y .kind) 2) (y .c) 65535 (omega arith),
           )
 
-    -- a program whose nodes pass 5
+    -- a program whose nodes pass check 5 is kept whole
     pub kept-whole : length (B .nodes) ≤ 1024 → ((n : ℕ) → n < length (B .nodes) → bad-node B n ≡ false) → kept-program B ≡ B
     unfolding kept-program
     kept-whole few ok = rw (map-same kept-node no-node (B .nodes) same)

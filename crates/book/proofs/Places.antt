@@ -1,4 +1,4 @@
--- Laws of locations: each function's locations are one run of the table, a location says its function and arguments, and the first E are Reserve's.
+-- Laws of locations: each function's locations are one part of the table, a location says its function and arguments, and the first E are Reserve's.
 use mathlib.Core.Path.{_≡_, refl, sym, _∙_}
 use mathlib.Core.Logic.{_⊎_, inl, inr}
 use mathlib.Core.Bool.{Bool, true, false, _||_, false≢true, or-false}
@@ -15,7 +15,7 @@ use Rattle.book.specs.declared.Function.{Function}
 use Rattle.book.specs.Book.{Program, no-function, boolean, relation, default, size, total, L, offset, arguments, location, function-at, place-in, place}
 use Rattle.book.specs.Sound.{Laid, Lawful, Argument}
 
--- location i of function f, the functions being laid out from n on
+-- the place of location i of function f, the functions being laid out from n on
 place-laid : (E n : ℕ) (gs : List Function) → Laid E n gs → (f i : ℕ) → f < length gs → i < size E (getD gs f no-function .arity)
     → (place-in E gs (getD gs f no-function .first + i - n) ≡ record { function = getD gs f no-function; index = i })
     × (n ≤ getD gs f no-function .first) × (getD gs f no-function .first + i < n + total E gs)
@@ -30,7 +30,7 @@ place-laid E n (g ∷ gs) d (suc f) i h k =
     let e : l - n - size E (g .arity) ≡ l - (n + size E (g .arity)) = omega arith in
     (rw (le-ltb (l - n) (size E (g .arity)) (omega (arith, r .1)), e) (r .0), omega (arith, r .1), omega (arith, r .2))
 
--- all but the first come after it
+-- the first location of each function is not below that of the first function
 past-laid : (E n : ℕ) (gs : List Function) → Laid E n gs → (f : ℕ) → f < length gs → n ≤ getD gs f no-function .first
 past-laid E n [] d f h = absurd (omega arith)
 past-laid E n (g ∷ gs) d zero h = omega (arith, d .0)
@@ -78,7 +78,7 @@ argument-of E arity x y z k e = go (eqb arity 0) (eqb arity 1) e
 
 -- ---- the locations of a book
 
--- what is known of a function's location
+-- what is known of function f's location at x and y
 pub record Spot (B : Program) (f x y : ℕ) : Type 0 where
   pub where-at : place B (location B f x y) ≡ record { function = function-at B f; index = offset (B .E) (function-at B f .arity) x y }
   pub inside : location B f x y < L B
@@ -90,14 +90,14 @@ module _ (B : Program) (ok : Lawful B) where
       let e : location B f x y - 0 ≡ location B f x y = omega arith in
       record { where-at = rw e at (r .0); inside = omega (arith, r .2) }
 
-  -- its arguments
-  pub spot-argument : (f x y z : ℕ) → f < length (B .functions) → x < B .E → y < B .E → Argument B z (location B f x y) → (z ≡ x) ⊎ (z ≡ y)
-  spot-argument f x y z h a b e = argument-of (B .E) (function-at B f .arity) x y z b (rw (spot f x y h a b .where-at) at e)
+  -- the arguments of function f's location at x and y are x and y
+  pub held-argument : (f x y z : ℕ) → f < length (B .functions) → x < B .E → y < B .E → Argument B z (location B f x y) → (z ≡ x) ⊎ (z ≡ y)
+  held-argument f x y z h a b e = argument-of (B .E) (function-at B f .arity) x y z b (rw (spot f x y h a b .where-at) at e)
 
-  pub spot-first : (f x : ℕ) → f < length (B .functions) → x < B .E → function-at B f .arity ≡ 1 → Argument B x (location B f x 0)
-  spot-first f x h a e = rw (spot f x 0 h a (omega arith) .where-at, e, eq-eqb x x refl)
+  pub held-first : (f x : ℕ) → f < length (B .functions) → x < B .E → function-at B f .arity ≡ 1 → Argument B x (location B f x 0)
+  held-first f x h a e = rw (spot f x 0 h a (omega arith) .where-at, e, eq-eqb x x refl)
 
-  -- ---- Reserve's are the first E, and all others come after them
+  -- ---- Reserve's locations are the first E, and all others come after them
 
   pub roll-location : (x y : ℕ) → location B 0 x y ≡ x
   roll-location x y = rw (ok .reserve) (zero-add x)

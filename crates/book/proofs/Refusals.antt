@@ -1,4 +1,5 @@
--- A book's check refuses with 1 to 8, at a line, field, function, node or agent below 2^24, with q 0; and an accepted book has few nodes and locations, and low roots.
+-- A book's check gives refusals 1 to 8 only, at a line, field, function, node or agent below 2^24, with q 0; and an accepted book has few nodes and locations,
+-- and low roots.
 use mathlib.Core.Path.{_≡_}
 use mathlib.Core.List.{List}
 use Prim.Native.Nat.{ℕ, _^_, _≤_, _<_}
@@ -46,7 +47,7 @@ pub record Fits (B : Program) : Type 0 where
 abbrev pub FitsOf : Book → Type 0
 FitsOf b = Fits (b .program)
 
--- past the agents there is none, with root 0
+-- an agent's root is at most 1,024; past the agents there is none, with root 0
 root-fits : (B : Program) → Lawful B → length (B .nodes) ≤ 1024 → (k : ℕ) → agent-at B k .root ≤ 1024
 root-fits B ok few k =
     dite (decLt k (length (B .agents))) (λ h. omega (arith, ok .roots k h .0))
@@ -71,11 +72,11 @@ book-ends text =
     (then-ends (must-ends OfBook _ 1 (line-count h) 0 (omega arith)) (lines-ends h text b))))
     (accepted-fits text) (λ n p q r. r)
 
--- as one of the checks before the first move
+-- a book's check ends as one of the checks before the first move
 pub book-before : (text : List ℕ) → Ends FitsOf Before (check-book text)
 book-before text = also (book-ends text) (accepted-fits text) (λ n p q r. omega arith)
 
--- its answer fits one number
+-- the answer of a book's check fits one number
 pub book-answer : (text : List ℕ) → (
     let a = answer-of (check-book text) in (a .number ≤ 8) × (a .p < 2 ^ 24) × (a .q ≡ 0)
     )

@@ -1,4 +1,4 @@
--- The contents that a run of a lawful book starts from are sound: check 8 on its lines.
+-- The contents that a run of a lawful book starts from are sound, by check 8 on its contents lines.
 use mathlib.Core.Path.{_≡_, refl, sym, ap, subst, _∙_}
 use mathlib.Core.Logic.{_⊎_, inl, inr, dite, _≢_}
 use mathlib.Core.Bool.{Bool, true, false, _&&_, _||_, or-true, and-false, true≢false, false≢true}
@@ -17,11 +17,11 @@ use Rattle.book.specs.declared.Entry.{Entry}
 use Rattle.book.specs.Book.{Program, Book, L, no-entry, true-element, boolean, relation, dynamic, defaults, enter, start, location, entry-location, function-at, entry-at, place, relation-at, dynamic-at, default-at}
 use Rattle.book.specs.Contents.{in-bounds, in-form, least-location, rolled, untraced, bad-entry}
 use Rattle.book.specs.Sound.{Lawful, at, Argument, OnRoll, Sound}
-use Rattle.book.proofs.Places.{Spot, spot, spot-argument, roll-place, roll-location, past-roll, roll-argument, boolean-low, default-low}
+use Rattle.book.proofs.Places.{Spot, spot, held-argument, roll-place, roll-location, past-roll, roll-argument, boolean-low, default-low}
 
 -- ---- entry i
 
--- what check 8 shows of it
+-- what check 8 shows of entry i
 record InForm (B : Program) (es : List Entry) (i : ℕ) (e : Entry) : Type 0 where
   pub known : e .function < length (B .functions)
   pub first : e .arg1 < B .E
@@ -158,9 +158,9 @@ module _ (b : Book) (ok : Lawful (b .program)) (right : (i : ℕ) → i < length
     by-place Q j here-it other = dite (ℕ-discrete j l) (λ q. rw (q, getD-set-same c l v 0 (omega (arith, s .inside, k .sound .long))) (here-it q))
         (λ n. rw (getD-set-other c l j v 0 n) (other n))
 
-    -- the arguments of its location
+    -- the arguments of the entry's location are those of the entry
     by-argument : (y j : ℕ) → j ≡ l → Argument B y j → (y ≡ e .arg1) ⊎ (y ≡ e .arg2)
-    by-argument y j q a = spot-argument B ok (e .function) (e .arg1) (e .arg2) y (form .known) (form .first) (form .second) (rw q at a)
+    by-argument y j q a = held-argument B ok (e .function) (e .arg1) (e .arg2) y (form .known) (form .first) (form .second) (rw q at a)
 
     at-roll : e .function ≡ 0 → l ≡ e .arg1
     at-roll q = ap (λ (f : ℕ). location B f (e .arg1) (e .arg2)) q ∙ roll-location B ok (e .arg1) (e .arg2)
@@ -191,7 +191,7 @@ module _ (b : Book) (ok : Lawful (b .program)) (right : (i : ℕ) → i < length
         go (inl (z, q)) = label-of y z q (o .0)
         go (inr p) = k .sound .labels y p
 
-    -- where the roll had y before, the entry is not of its trace
+    -- where y was on the roll before, the entry's location does not have y as argument
     not-argument : (y j : ℕ) → OnRoll B c y → j ≡ l → j ≢ y → Argument B y j → ⊥
     not-argument y j p q n a = dite (ℕ-discrete (e .function) 0)
         (λ f. n (roll-argument B ok y j (omega (arith, q, at-roll f, form .first)) a))
@@ -214,7 +214,7 @@ module _ (b : Book) (ok : Lawful (b .program)) (right : (i : ℕ) → i < length
             (λ (b : ¬ (j < B .E)). k .rest j (omega (arith, o .0, form .above)) h))
         go (inr p) = by-place (λ w. w ≡ default-at B j) j (λ r. absurd (not-argument y j p r n a)) (λ r. k .sound .arguments y j p h n a)
 
-    -- while entries are Reserve's no value is a label
+    -- while all entries so far are Reserve's, no value is a label
     roll-low : (j : ℕ) → j < L B → least-location B es i ≤ B .E → at c j ≤ 2
     roll-low j h b = dite (decLt j (B .E))
         (λ q. boolean-low (at c j) (k .sound .booleans j h (rw (roll-place B ok j q, ok .reserve))))
@@ -256,9 +256,9 @@ module _ (b : Book) (ok : Lawful (b .program)) (right : (i : ℕ) → i < length
         roll y o (inr p) = rw (k .roll y p)
         roll y o (inl (z, q)) = rw (eq-eqb (e .function) 0 q, eq-eqb (e .arg1) y (sym (z ∙ reserved (rw z at (o .0)) .1))) (or-true (rolled es y i))
 
-  -- ---- all of them
+  -- ---- all entries
 
-  -- xs are the entries from i on
+  -- the contents after all entries are sound; xs are the entries from i on
   all-entered : (xs : List Entry) (i : ℕ) (c : List ℕ) → i + length xs ≡ length es → ((j : ℕ) → getD xs j no-entry ≡ entry-at es (i + j))
       → Entered i c → Sound B (enter B xs c)
   unfolding enter

@@ -39,7 +39,7 @@ module _ (B : Program) (ok : Lawful B) (c : List ℕ) where
   rolled : (x : ℕ) → OnRoll B c x → on-roll B c x ≡ true
   rolled x (h, e) = rw (lt-ltb x (B .E) h, eq-eqb (at c x) true-element e)
 
-  -- ---- what the check says of a location
+  -- ---- what check 8 shows of a location
 
   record Cell (l : ℕ) : Type 0 where
     pub small : at c l < B .E

@@ -1,4 +1,4 @@
--- The book's checks, 1 and 3 to 8, in their order (SPECIFICATION 3, 8.2); and what the exported check answers (SPECIFICATION 9.6).
+-- The checks of a book, refusals 1 and 3 to 8, in their order (SPECIFICATION 3, 8.2); and what the exported check answers (SPECIFICATION 9.6).
 use mathlib.Core.List.{List}
 use Prim.Native.Nat.{ℕ, _+_, _*_, _^_}
 use lib.Dec.{leb}
@@ -14,22 +14,22 @@ use Rattle.book.specs.Use.{bad-use}
 use Rattle.book.specs.Scopes.{bad-scope}
 use Rattle.book.specs.Contents.{bad-entry}
 
--- 1 then 3 on the two header lines
+-- Refusals 1 and 3, in this order, on the two header lines
 unfoldable pub check-header : List ℕ → Checked Header
 check-header text = do
   none-at ill-formed 0 book-text (least (bad-line text) 2)
   none-at header-bounds 0 0 (least (bad-field (line text 0) (line text 1)) 8)
   good (header-of (line text 0) (line text 1))
 
--- 1 on the lines that the header calls for
+-- Refusal 1 on the lines that the header calls for
 unfoldable pub check-present : Header → List ℕ → Checked (Unit {0})
 check-present h text = none-at ill-formed 0 book-text (least (bad-line text) (line-count h))
 
--- 1 on a line that it does not call for
+-- Refusal 1 on a line that the header does not call for
 unfoldable pub check-surplus : Header → List ℕ → Checked (Unit {0})
 check-surplus h text = must (leb (length text) (line-length * line-count h)) ill-formed (line-count h) book-text
 
--- 4, 3 for L, 5 to 7
+-- Refusal 4, refusal 3 for L, and refusals 5, 6 and 7, in this order
 unfoldable pub check-program : Header → List ℕ → Checked (Unit {0})
 check-program h text = do
   let B = program-of h text
@@ -40,13 +40,14 @@ check-program h text = do
   none-at node-use 0 0 (least (bad-scope B) (h .nodes))
   none-at agent-line 0 0 (least (λ i. bad-agent B (line text (first-agent h + i)) i) (h .agents))
 
--- and 8
+-- refusals 4, 3 for L, 5, 6 and 7, and then refusal 8, on lines that are all in form and none too many
 unfoldable pub check-lines : Header → List ℕ → Checked Book
 check-lines h text = do
   check-program h text
   none-at contents-rule (first-entry h) 0 (least (bad-entry (program-of h text) (entries-of h text)) (h .contents))
   good (book-of h text)
 
+-- the whole check of a book: the book that the text says, or the first refusal
 unfoldable pub check-book : List ℕ → Checked Book
 check-book text = do
   h ← check-header text
@@ -54,6 +55,6 @@ check-book text = do
   check-surplus h text
   check-lines h text
 
--- for C: number × 2^32 + p. Each refusal of a book has q 0
+-- the answer of the book check as one number, for C: number × 2^32 + p. Each refusal of a book has q 0
 abbrev pub packed : Answer → ℕ
 packed a = a .number * 4294967296 + a .p

@@ -15,6 +15,6 @@ use Rattle.book.specs.Sound.{Lawful, Sound}
 abbrev pub AcceptedBook : Type 0
 AcceptedBook = (text : List ℕ) (b : Book) → check-book text ≡ good b → Lawful (b .program) × Sound (b .program) (start b)
 
--- a lent table that passes 8 is sound
+-- a lent table that passes the check of refusal 8 is sound
 abbrev pub AcceptedTable : Type 0
 AcceptedTable = (B : Program) → Lawful B → (c : List ℕ) → length c ≡ L B → least (bad-value B c) (L B) ≡ Nowhere → Sound B c

@@ -1,23 +1,23 @@
--- 8: contents against the rules, line by line in a book, and location by location in a lent table
+-- Refusal 8: contents against the rules, line by line in a book, and location by location in a lent table
 -- (SPECIFICATION 3.9).
 use mathlib.Core.Bool.{Bool, true, false, _&&_, _||_, not}
 use mathlib.Core.List.{List, [], _∷_}
 use Prim.Native.Nat.{ℕ, zero, suc, _+_}
 use lib.Dec.{eqb, ltb, leb}
 use lib.ListN.{length, getD}
-use Rattle.text.specs.Words.{if_then_else_, some-below}
+use Rattle.text.specs.Words.{if_then_else_}
 use Rattle.book.specs.declared.Function.{Function}
 use Rattle.book.specs.declared.Entry.{Entry}
-use Rattle.book.specs.Book.{Program, true-element, boolean, relation, dynamic, default, function-at, entry-at, entry-location, reserve, place, dynamic-at, relation-at, default-at, arguments-at}
+use Rattle.book.specs.Book.{Program, true-element, boolean, relation, dynamic, default, function-at, entry-at, entry-location, reserve, dynamic-at, relation-at, default-at, arguments-at}
 
--- ---- a contents line: entry i of those of the book
+-- ---- a contents line: entry i of the book's entries
 
--- a function, and elements for its arguments and value
+-- the entry names a function of the book, and elements as arguments and value
 unfoldable pub in-bounds : Program → Entry → Bool
 in-bounds B e = ltb (e .function) (length (B .functions)) && ltb (e .arg1) (B .E) && ltb (e .arg2) (B .E) && ltb (e .value) (B .E)
 
--- unused arguments are 0; the value is true in a relation and not undef elsewhere, so never the default; a static function has no label;
--- Reserve holds for labels only
+-- The entry fits its function f: arguments that f has not are 0; the value is true in a relation and not undef elsewhere, so never the default; a static
+-- function has no label; Reserve holds for labels only
 unfoldable pub in-form : ℕ → Entry → Function → Bool
 in-form P e f =
     (leb 1 (f .arity) || eqb (e .arg1) 0) && (eqb (f .arity) 2 || eqb (e .arg2) 0)
@@ -25,7 +25,7 @@ in-form P e f =
     && (dynamic f || ltb (e .arg1) P && ltb (e .arg2) P && ltb (e .value) P)
     && (not (eqb (e .function) 0) || leb P (e .arg1))
 
--- one more than the location of the entry before
+-- the least location that entry i may have: one more than that of the entry before it
 unfoldable pub least-location : Program → List Entry → ℕ → ℕ
 least-location B es zero = 0
 least-location B es (suc i) = entry-location B (entry-at es i) + 1
@@ -35,13 +35,13 @@ unfoldable pub rolled : List Entry → ℕ → ℕ → Bool
 rolled es x zero = false
 rolled es x (suc i) = rolled es x i || eqb (entry-at es i .function) 0 && eqb (entry-at es i .arg1) x
 
--- it is no trace of a label that an earlier entry put on the roll. An unused argument is 0, which is no label
+-- entry i is no trace of a label that an earlier entry put on the roll. An argument that its function has not is 0, which is no label
 unfoldable pub untraced : List Entry → ℕ → Bool
 untraced es i =
     let e = entry-at es i in
     eqb (e .function) 0 || not (rolled es (e .arg1) i) && not (rolled es (e .arg2) i) && not (rolled es (e .value) i)
 
--- entry i is at fault, judged by itself and those before it
+-- Refusal 8 of a book: entry i is at fault, by itself or by the entries before it
 unfoldable pub bad-entry : Program → List Entry → ℕ → Bool
 bad-entry B es i =
     let e = entry-at es i in
@@ -53,7 +53,7 @@ bad-entry B es i =
 abbrev pub on-roll : Program → List ℕ → ℕ → Bool
 on-roll B c x = ltb x (B .E) && eqb (getD c (reserve x) 0) true-element
 
--- one of them is on the roll
+-- one of the elements xs is on the roll
 unfoldable pub some-on-roll : Program → List ℕ → List ℕ → Bool
 some-on-roll B c [] = false
 some-on-roll B c (x ∷ xs) = on-roll B c x || some-on-roll B c xs
@@ -64,12 +64,12 @@ roll-trace B c l =
     let v = getD c l 0 in
     on-roll B c v || not (eqb v (default-at B l)) && some-on-roll B c (arguments-at B l)
 
--- all of them are permanent
+-- all elements xs are permanent
 unfoldable pub all-permanent : ℕ → List ℕ → Bool
 all-permanent P [] = true
 all-permanent P (x ∷ xs) = ltb x P && all-permanent P xs
 
--- Location l is at fault. The first E locations are Reserve's own: they hold for labels only, and are no traces
+-- Refusal 8 of a lent table: location l is at fault. The first E locations are Reserve's own: they hold for labels only, and are no traces
 unfoldable pub bad-value : Program → List ℕ → ℕ → Bool
 bad-value B c l =
     let v = getD c l 0 in

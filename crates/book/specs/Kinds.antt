@@ -6,20 +6,22 @@ use lib.Dec.{eqb, leb}
 use lib.ListN.{getD}
 use Rattle.text.specs.Words.{within}
 
+-- the kind is that of a term
 abbrev pub is-term : ℕ → Bool
 is-term kind = within 1 kind 13
 
+-- the kind is that of a rule
 abbrev pub is-rule : ℕ → Bool
 is-rule kind = within 20 kind 28
 
 abbrev pub choose-kind : ℕ
 choose-kind = 28
 
--- let, forall, import; and choose
+-- the kind binds a variable: let, forall, import or choose
 abbrev pub is-binder : ℕ → Bool
 is-binder kind = within 24 kind 26 || eqb kind choose-kind
 
--- a term that names a location
+-- the kind is that of a term that names a location
 abbrev pub names-location : ℕ → Bool
 names-location kind = within 4 kind 6
 
@@ -33,36 +35,45 @@ forall-kind = 25
 abbrev pub variables : ℕ
 variables = 8
 
--- ---- what an operand may be; 0 stands for no such kind
+-- ---- sorts: what an operand may be; sort 0 is that of no kind
 
+-- a field without a use, which is 0
 abbrev pub unused : ℕ
 unused = 1
 
+-- a permanent element
 abbrev pub permanent : ℕ
 permanent = 2
 
+-- a variable
 abbrev pub variable : ℕ
 variable = 3
 
+-- a function of arity 0, not Reserve
 abbrev pub function0 : ℕ
 function0 = 4
 
+-- a function of arity 1, not Reserve
 abbrev pub function1 : ℕ
 function1 = 5
 
+-- a function of arity 2, not Reserve
 abbrev pub function2 : ℕ
 function2 = 6
 
+-- a relation of arity 1, not Reserve
 abbrev pub universe : ℕ
 universe = 7
 
+-- a dynamic relation of arity 1, not Reserve
 abbrev pub dynamic-universe : ℕ
 dynamic-universe = 8
 
--- from here on an operand is a node
+-- a node that is a term. From this sort on an operand is a node
 abbrev pub term : ℕ
 term = 9
 
+-- a node that is a rule
 abbrev pub rule : ℕ
 rule = 10
 

@@ -13,13 +13,14 @@ use Rattle.book.specs.Lines.{bad-node}
 use Rattle.book.specs.Use.{bad-use}
 use Rattle.book.specs.Scopes.{bad-scope}
 
--- functions have their locations one after the other, from that number on
+-- the functions have their locations one after the other, from location n on
 abbrev pub Laid : ℕ → ℕ → List Function → Type 0
 Laid E n [] = Unit {0}
 Laid E n (f ∷ fs) = (f .first ≡ n) × Laid E (n + size E (f .arity)) fs
 
 -- ---- what checks 3 to 7 show of a book's program
 
+-- the program has what checks 3 to 7 of a book show
 pub record Lawful (B : Program) : Type 0 where
   pub low : 4 ≤ B .P
   pub high : B .P ≤ B .E
@@ -49,8 +50,8 @@ Argument B x l = has (arguments-at B l) x ≡ true
 abbrev pub OnRoll : Program → List ℕ → ℕ → Type 0
 OnRoll B c x = (x < B .E) × (at c x ≡ true-element)
 
--- Every location has a value, a relation only true or false; static functions are non-default only at permanent arguments, with permanent values;
--- and the roll rule: Reserve holds for labels only, a label in it has the default at every other location with it as argument, and no location
+-- Contents are sound: every location has a value, a relation only true or false; static functions are non-default only at permanent arguments, with permanent
+-- values; and the roll rule: Reserve holds for labels only, a label on the roll has the default at every other location with it as argument, and no location
 -- holds it. (Such a location not at its default, or one that holds the label, is what the specification calls a trace.)
 pub record Sound (B : Program) (c : List ℕ) : Type 0 where
   pub long : length c ≡ L B

@@ -1,5 +1,5 @@
--- 6, use: each node is used exactly once, as a root or as an operand (SPECIFICATION 2.8, 3.6).
-use mathlib.Core.Bool.{Bool, false, _&&_, _||_, not}
+-- Refusal 6, use: each node is used exactly once, as a root or as an operand (SPECIFICATION 2.8, 3.6).
+use mathlib.Core.Bool.{Bool, _&&_, _||_, not}
 use Prim.Native.Nat.{ℕ, zero, suc, _+_}
 use lib.Dec.{eqb}
 use lib.ListN.{length}
@@ -12,14 +12,15 @@ use Rattle.book.specs.Kinds.{is-node}
 abbrev pub is-root : Program → ℕ → Bool
 is-root B n = some-below (λ i. eqb (agent-at B i .root) n) (length (B .agents))
 
--- in how many operand places of node y stands n
+-- how many operand places of node y have n
 abbrev pub places : Node → ℕ → ℕ
 places y n = one-if (is-node (y .kind) 0 && eqb (y .a) n) + one-if (is-node (y .kind) 1 && eqb (y .b) n) + one-if (is-node (y .kind) 2 && eqb (y .c) n)
 
--- and of the first m nodes
+-- how many operand places of the first m nodes have n
 unfoldable pub uses : Program → ℕ → ℕ → ℕ
 uses B n zero = 0
 uses B n (suc m) = uses B n m + places (node-at B m) n
 
+-- Refusal 6, use: node n is not used exactly once
 unfoldable pub bad-use : Program → ℕ → Bool
 bad-use B n = not (eqb (one-if (is-root B n) + uses B n (length (B .nodes))) 1)

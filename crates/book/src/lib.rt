@@ -1,6 +1,6 @@
-// The rule book: what its lines say.
+// The rule book: the bounds of its counts, and what its lines say.
 
-// Bounds of a book.
+// The greatest counts of a book (SPECIFICATION 11.1).
 pub const MOST_ELEMENTS: u32 = 10000;
 
 pub const MOST_FUNCTIONS: u32 = 32;
@@ -13,7 +13,7 @@ pub const MOST_CONTENTS: u32 = 65536;
 
 pub const MOST_LOCATIONS: u32 = 65536;
 
-// The image of a program, as specs/Image lays it out.
+// The image of a program: 2,248 words, laid out as specs/Image says.
 pub type Image = [u32; 2248];
 
 // The header's numbers: E, P, F, N, A and C.
@@ -47,7 +47,7 @@ pub struct Agent {
     pub element: u32,
 }
 
-// A contents line.
+// A contents line: a location, as function and arguments, and its value at the start.
 pub struct Entry {
     pub function: u32,
     pub arg1: u32,

@@ -34,7 +34,7 @@ use Rattle.book_entries.specs.Roll.{entries-from}
 use Rattle.book_entries.specs.Pass.{faults, bad-at, faults-from}
 use Rattle.book_check.specs.ImageOf.{ImageOf, check-text}
 
--- ---- one check, answered by a, and what follows
+-- ---- one check, answered by a, and the checks after it
 
 module _ {A B : Type 0} where
   pub stops : (c : Checked A) (d : Checked B) (a : Answer) → a ≡ answer-of c → a .number ≢ 0 → a ≡ answer-of (c >> d)
@@ -46,7 +46,7 @@ module _ {A B : Type 0} where
   pub after : (c : Checked A) (d : Checked B) (a r : Answer) → Numbered c → a ≡ answer-of c → a .number ≡ 0 → r ≡ answer-of d → r ≡ answer-of (c >> d)
   after c d a r k e z p = p ∙ ap answer-of (sym (goes-on c d a k e z))
 
-  -- a check whose value is let go
+  -- a check whose value is not used has the same answer
   pub last : (c : Checked A) (b : B) (a : Answer) → a ≡ answer-of c → a ≡ answer-of (c >> good b)
   unfolding _>>_
   last c b a e = e ∙ go c
@@ -55,15 +55,15 @@ module _ {A B : Type 0} where
       go (good x) = refl
       go (refused n p q) = refl
 
--- the place found is the one that is looked for
+-- an answer by a place found is that of the place that the definition finds
 pub answered : (n : ℕ) (a : Answer) (f g : Found) → a ≡ answer-of (none-at n 0 0 f) → f ≡ g → a ≡ answer-of (none-at n 0 0 g)
 answered n a f g e p = e ∙ ap (λ (x : Found). answer-of (none-at n 0 0 x)) p
 
--- a refused book leaves nothing to show
+-- of a refused book nothing is said of the image
 pub opened-refused : (m : List ℕ) (c : Checked Book) (a : Answer) → a ≡ answer-of c → a .number ≢ 0 → ImageOf m c
 opened-refused m c a e n b q = absurd (n (ap (λ (x : Answer). x .number) (e ∙ ap answer-of q)))
 
--- ---- 4 to 7, on an image
+-- ---- checks 4 to 7, on an image
 
 abbrev pub of-functions : List ℕ → Checked (Unit {0})
 of-functions m = none-at function-line 0 0 (least (λ f. bad-function (image-row m (2 + f)) f) (length (program-in m .functions)))
@@ -87,7 +87,7 @@ module _ (o : List ℕ) where
   abbrev pub from-locations : Checked (Unit {0})
   from-locations = of-locations >> (of-nodes >> (of-use >> (of-around >> of-agents)))
 
--- after a refusal nothing matters
+-- after a refusal the checks that follow make no difference
 stopped : {A : Type 0} (n p : ℕ) (c d : Checked A) → (none-at n 0 0 (Here p) >> c) ≡ (none-at n 0 0 (Here p) >> d)
 unfolding none-at _>>_
 stopped n p c d = refl
@@ -185,9 +185,9 @@ program-numbered h text =
     (then-ends (none-numbered _ _ _ _ (omega arith)) (then-ends (none-numbered _ _ _ _ (omega arith))
     (then-ends (none-numbered _ _ _ _ (omega arith)) (none-numbered _ _ _ _ (omega arith))))))
 
--- ---- 1 on the lines after the header
+-- ---- Refusal 1 on the lines after the header
 
--- the rows taken, where all were in form
+-- the rows loaded, if all lines are in form
 module _ (h : Header) (text m : List ℕ) (room : FitsImage h) (f : Found) where
   pub rows-found : f ≡ least-from (bad-line text) (first-entry (capped-header h) - 2) 2 → f ≡ least-from (bad-line text) (first-entry h - 2) 2
   rows-found e = e ∙ ap (λ (g : Header). least-from (bad-line text) (first-entry g - 2) 2) (within-bounds h room)
@@ -234,9 +234,9 @@ module _ (h : Header) (text : List ℕ) (sound : least (bad-line text) 2 ≡ Now
       ap (none-at ill-formed 0 book-text) (sym (after-header ∙ l ∙ ap (least-from (bad-line text) (h .contents)) n))
   rows-passed (Here p) e z = absurd (omega arith)
 
--- ---- 8: the pass over the contents lines
+-- ---- Refusal 8: the pass over the contents lines
 
--- a place counted from `first`
+-- a place counted from `first` is the place counted from 0, plus `first`
 shifted :
     (n q first : ℕ) (bad : ℕ → Bool) (k j : ℕ) → none-at n 0 q (least-from (λ i. bad (i - first)) k (first + j)) ≡ none-at n first q (least-from bad k j)
 unfolding least-from none-at
@@ -341,7 +341,7 @@ module _ (text : List ℕ) where
       two-lines (of-bounds >> check-text header text)
       ∙ sym (bound (none-at ill-formed 0 book-text (least (bad-line text) 2)) of-bounds header (λ h. check-text h text))
 
-  -- both lines are in form
+  -- if both header lines are in form, no header line is ill-formed
   pub lines-sound : well-formed (line-bytes text 0) ≡ true → well-formed (line-bytes text 1) ≡ true → least (bad-line text) 2 ≡ Nowhere
   unfolding least-from
   lines-sound a b = rw (a, b)
@@ -362,7 +362,7 @@ module _ (text : List ℕ) where
         contents = b .contents;
       }
 
--- what header checks that pass have passed
+-- a header line whose check passes is in form
 pub line-passed : (t : Bool) (p : ℕ) (a : Answer) → a ≡ answer-of (must t ill-formed p book-text) → a .number ≡ 0 → t ≡ true
 unfolding must
 line-passed true p a e z = refl

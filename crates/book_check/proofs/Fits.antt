@@ -7,7 +7,7 @@ use native.Mathlib.Omega.{arith}
 use lib.ListN.{length}
 use Rattle.text.specs.Words.{good}
 use Rattle.book.specs.Book.{Program, Book, function-at, node-at, agent-at}
-use Rattle.book.specs.Image.{low-function, low-node, low-agent, program-in, held}
+use Rattle.book.specs.Image.{low-function, low-node, low-agent, program-in, low-program}
 use Rattle.book.specs.Check.{check-book}
 use Rattle.book.specs.Sound.{Lawful}
 use Rattle.book.proofs.Accepted.{accepted}
@@ -50,9 +50,9 @@ module _ (m : List ℕ) (B : Program) (ok : Lawful B) (is : program-in m ≡ B) 
       let element : agent-at B i .element < 65536 = omega (arith, ok .agents i, few-permanent) in
       rw (mod-eq-of-lt root, mod-eq-of-lt element)
 
-  lawful-held : held m ≡ B
+  lawful-held : low-program m ≡ B
   lawful-held = held-same m B is (omega (arith, few-permanent)) function-same node-same agent-same
 
--- what the check of an accepted book leaves is, as the engine reads it, the book's program
-pub held-is : (text m : List ℕ) → ImageOf m (check-book text) → (b : Book) → check-book text ≡ good b → held m ≡ b .program
+-- the image that the check of an accepted book leaves holds, as the engine reads it, the book's program
+pub held-is : (text m : List ℕ) → ImageOf m (check-book text) → (b : Book) → check-book text ≡ good b → low-program m ≡ b .program
 held-is text m opened b e = lawful-held m (b .program) (accepted text b e) (opened b e .0)

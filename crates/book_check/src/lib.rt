@@ -17,9 +17,10 @@ ghost use Rattle.book.specs.Check.{check-program, check-book};
 ghost use Rattle.book_load.specs.Loaded.{functions-laid, HoldsLines};
 ghost use Rattle.book_check.specs.ImageOf.{ImageOf, check-text};
 
-// The place of L among the fields of the header.
+// The number of L among the fields of the header, as refusal 3 gives it.
 const FIELD_OF_L: u32 = 8;
 
+// The header that the two header lines say.
 fn header_of(k: Line, l: Line) -> Header
     ensures { λ r. ⌜ r ≡ header-of k l ⌝ }
 {
@@ -33,7 +34,7 @@ fn header_of(k: Line, l: Line) -> Header
     }
 }
 
-// 4, 3 for L, 5 to 7 on the rows of lines that are in form. The functions are laid out once their lines are judged.
+// Refusal 4, refusal 3 for L, and refusals 5 to 7, on the rows of lines that are in form. The functions get their first locations once their lines are checked.
 fn check_program(image: &mut Image) -> Answer
     ensures { λ r. ⌜ (now (image .exit) ≡ functions-laid (now (image .entry))) × (image-length ≤ length (now (image .entry))) × ((h : Header) (text : List ℕ) → FitsImage h → HoldsLines (now (image .entry)) h text → r ≡ answer-of (check-program h text)) ⌝ }
 {
@@ -68,7 +69,7 @@ fn check_program(image: &mut Image) -> Answer
     text::none_at(text::AGENT_LINE, 0, book_nodes::bad_agents(image))
 }
 
-// 1 on all lines after the header, and 4 to 8.
+// Refusal 1 on all lines after the header, and refusals 4 to 8.
 fn check_text(text: &[u8], h: Header, image: &mut Image) -> Answer
     requires { ⌜ (FitsImage h) × (least (bad-line (now text)) 2 ≡ Nowhere) ⌝ }
     ensures { λ r. ⌜ (r ≡ answer-of (check-text h (now (text .entry)))) × ImageOf (now (image .exit)) (check-text h (now (text .entry))) ⌝ }
@@ -101,7 +102,7 @@ fn check_text(text: &[u8], h: Header, image: &mut Image) -> Answer
     text::none_at(text::CONTENTS_RULE, 0, at_fault)
 }
 
-// The whole check of a book, which leaves the image of an accepted one.
+// The whole check of a book. It leaves the image of an accepted one.
 pub fn check_into(book: &[u8], image: &mut Image) -> Answer
     ensures { λ r. ⌜ (r ≡ answer-of (check-book (now (book .entry)))) × ImageOf (now (image .exit)) (check-book (now (book .entry))) ⌝ }
 {
@@ -126,7 +127,7 @@ pub fn check_into(book: &[u8], image: &mut Image) -> Answer
     check_text(book, header_of(k.line, l.line), image)
 }
 
-// The whole check of a book.
+// The whole check of a book, without its image.
 pub fn check_book(book: &[u8]) -> Answer
     ensures { λ r. ⌜ r ≡ answer-of (check-book (now (book .entry))) ⌝ }
 {

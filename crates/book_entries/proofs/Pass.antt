@@ -24,7 +24,7 @@ module _ (form fault : Found) where
   pub sound : form ≡ Nowhere → fault ≡ Nowhere → _≡_ {A = Faults} (record { form = Nowhere; rule = Nowhere }) (faults form fault)
   sound e f = rw (e, f)
 
--- the entry of line i
+-- the entry of line i is the one that the line says
 pub entry-line :
     (text : List ℕ) (first end i : ℕ) → first ≤ i → i < end → entry-at (entries-from text first (end - first)) (i - first) ≡ entry-of (line text i)
 entry-line text first end i l h =
@@ -51,6 +51,6 @@ module _ (B : Program) (text : List ℕ) (first end : ℕ) where
   unfolding faults-from
   all-sound e f = sound (form first) (fault first) (sym e) (sym f)
 
--- n lines from `first` on
+-- a pass up to line first + n is a pass over n lines
 pub counted : (B : Program) (text : List ℕ) (first n : ℕ) → faults-from B text first (first + n - first) ≡ faults-from B text first n
 counted B text first n = let e : first + n - first ≡ n = omega arith in rw e

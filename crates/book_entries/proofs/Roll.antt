@@ -1,4 +1,4 @@
--- The table of the roll, and what the loop over contents lines has tested. Assumes nothing.
+-- The table of the labels on the roll, and what the loop over contents lines has tested. Assumes nothing.
 use mathlib.Core.Path.{_≡_, refl, sym, _∙_}
 use mathlib.Core.Bool.{Bool, true, false, not, _&&_, _||_}
 use mathlib.Core.List.{List}
@@ -58,7 +58,7 @@ roll-at es x (suc i) s h p = marked-at (entry-at es i) (roll-of es i s) x (rolle
 roll-clear : (es : List Entry) (E x i : ℕ) (s : List ℕ) → NoneMarked E s → x < E → eqb (getD (roll-of es i s) x 0) 0 ≡ not (rolled es x i)
 roll-clear es E x i s k h = roll-at es x i s (omega (arith, k .long)) (k .empty x h)
 
--- as many zeros as there may be elements are clear
+-- a table of zeros, at least one for each element, has no label marked
 pub clear : (E k : ℕ) → E ≤ k → NoneMarked E (replicate k 0)
 clear E k h =
     record {
@@ -115,7 +115,7 @@ rest-of B es i e s at p k =
     )
 
 module _ (B : Program) (es : List Entry) (i : ℕ) (e : Entry) (at : entry-at es i ≡ e) where
-  -- the tests that the code makes of an entry
+  -- the tests that the code makes of an entry say whether it is at fault
   pub bad-tests :
       (s : List ℕ) → NoneMarked (B .E) s →
       bad-entry B es i

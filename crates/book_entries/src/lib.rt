@@ -1,4 +1,4 @@
-// 1 and 8 on the contents lines of a book, in one pass over its text and the image of its program.
+// Refusals 1 and 8 on the contents lines of a book, in one pass over its text and the image of its program.
 use book::Entry;
 use book::Function;
 use book::Image;
@@ -18,12 +18,13 @@ ghost use Rattle.book.specs.Image.{program-in, first-entry-in, entry-count-in};
 ghost use Rattle.book_entries.specs.Roll.{label-marked, untraced-by, NoneMarked};
 ghost use Rattle.book_entries.specs.Pass.{faults, faults-from};
 
-// What the pass finds: the least line out of form, and if there is none the least at fault by 8.
+// What the pass finds: the least line that is ill-formed, and if there is none the least at fault by refusal 8.
 pub struct Faults {
     pub form: Found,
     pub rule: Found,
 }
 
+// The entry that a contents line says.
 fn entry(l: Line) -> Entry
     ensures { λ r. ⌜ r ≡ entry-of l ⌝ }
 {
@@ -35,14 +36,14 @@ fn entry(l: Line) -> Entry
     }
 }
 
-// One of f functions, and for its arguments and value some of e elements.
+// The entry names one of f functions, and as its arguments and value some of e elements.
 fn in_bounds(f: u32, e: u32, x: Entry) -> bool
     ensures { λ r. ⌜ r ≡ ltb (x .function) f && ltb (x .arg1) e && ltb (x .arg2) e && ltb (x .value) e ⌝ }
 {
     (x.function < f) & (x.arg1 < e) & (x.arg2 < e) & (x.value < e)
 }
 
-// Unused arguments are 0.
+// The arguments that function f has not are 0 in the entry.
 fn arguments_fit(x: Entry, f: Function) -> bool
     ensures { λ r. ⌜ r ≡ (leb 1 (f .arity) || eqb (x .arg1) 0) && (eqb (f .arity) 2 || eqb (x .arg2) 0) ⌝ }
 {
@@ -53,7 +54,7 @@ fn arguments_fit(x: Entry, f: Function) -> bool
     }
 }
 
-// The value is true in a relation, and not undef elsewhere.
+// The entry's value is true if f is a relation, and not undef otherwise.
 fn value_fits(x: Entry, f: Function) -> bool
     ensures { λ r. ⌜ r ≡ relation f && eqb (x .value) true-element || not (relation f) && not (eqb (x .value) (default f)) ⌝ }
 {
@@ -64,7 +65,7 @@ fn value_fits(x: Entry, f: Function) -> bool
     }
 }
 
-// A static function has no label; p elements are permanent.
+// The entry has no label if f is static; p elements are permanent.
 fn static_fits(p: u32, x: Entry, f: Function) -> bool
     ensures { λ r. ⌜ r ≡ dynamic f || ltb (x .arg1) p && ltb (x .arg2) p && ltb (x .value) p ⌝ }
 {
@@ -75,21 +76,21 @@ fn static_fits(p: u32, x: Entry, f: Function) -> bool
     }
 }
 
-// Reserve holds for labels only.
+// The entry, if it is one of Reserve, has a label as argument; p elements are permanent.
 fn reserve_fits(p: u32, x: Entry) -> bool
     ensures { λ r. ⌜ r ≡ not (eqb (x .function) 0) || leb p (x .arg1) ⌝ }
 {
     if x.function == 0 { p <= x.arg1 } else { true }
 }
 
-// What an entry of function f may be, p being the number of permanent elements.
+// The entry fits its function f, p elements being permanent.
 fn in_form(p: u32, x: Entry, f: Function) -> bool
     ensures { λ r. ⌜ r ≡ in-form p x f ⌝ }
 {
     arguments_fit(x, f) & value_fits(x, f) & static_fits(p, x, f) & reserve_fits(p, x)
 }
 
-// The location of an entry of function f.
+// The location of an entry of function f, e being the number of elements.
 fn entry_location(e: u32, f: Function, x: Entry) -> u64
     requires { ⌜ e ≤ 10000 ⌝ }
     ensures { λ r. ⌜ (r ≡ f .first + offset e (f .arity) (x .arg1) (x .arg2)) × (r < 1000000000000000) ⌝ }
@@ -104,7 +105,7 @@ fn entry_location(e: u32, f: Function, x: Entry) -> u64
     }
 }
 
-// An entry of function 0 puts its label on the roll.
+// Marks the label that the entry puts on the roll, if it is an entry of Reserve.
 fn mark_label(roll: &mut [u8], x: Entry)
     ensures { λ _. ⌜ now (roll .exit) ≡ label-marked x (now (roll .entry)) ⌝ }
 {
@@ -113,7 +114,7 @@ fn mark_label(roll: &mut [u8], x: Entry)
     }
 }
 
-// It is no trace of a label on the roll.
+// The entry is no trace of a label that is marked as on the roll.
 fn no_trace(roll: &[u8], x: Entry) -> bool
     ensures { λ r. ⌜ r ≡ untraced-by (now (roll .entry)) x ⌝ }
 {
@@ -123,7 +124,7 @@ fn no_trace(roll: &[u8], x: Entry) -> bool
     (x.function == 0) | ((a == 0) & (b == 0) & (v == 0))
 }
 
-// Line i is at fault: the others up to `end` have only their form to be judged.
+// What the pass finds when line i is at fault: the lines from i up to `end` are still checked for their form.
 fn fault_at(text: &[u8], i: u32, end: u32) -> Faults
     ensures { λ r. ⌜ r ≡ faults (least-from (bad-line (now (text .entry))) (end - i) i) (Here i) ⌝ }
 {
@@ -140,8 +141,8 @@ fn fault_at(text: &[u8], i: u32, end: u32) -> Faults
     }
 }
 
-// Judges the lines from `first` up to `end`. The roll is clear to begin with.
-fn check_lines<'a>(
+// Checks the lines from `first` up to `end`, with a table of labels in which none is marked to begin with.
+fn check_entry_lines<'a>(
     text: &'a [u8],
     image: &'a Image,
     first: u32,
@@ -180,7 +181,7 @@ fn check_lines<'a>(
     }
 }
 
-// 1 and 8: the least contents line out of form, or else the least at fault. Most books have few elements, and a small roll is soon cleared.
+// Refusals 1 and 8: the least contents line that is ill-formed, or else the least at fault. Most books have few elements, and a small table is soon cleared.
 pub fn check_entries<'a>(text: &'a [u8], image: &'a Image) -> Faults
     ensures { λ r. ⌜ r ≡ faults-from (program-in (now (image .entry))) (now (text .entry)) (first-entry-in (now (image .entry))) (entry-count-in (now (image .entry))) ⌝ }
 {
@@ -188,9 +189,9 @@ pub fn check_entries<'a>(text: &'a [u8], image: &'a Image) -> Faults
     let end = first + book_image::entries(image);
     if book_image::elements(image) <= 256 {
         let mut roll = [0u8; 256];
-        check_lines(text, image, first, end, &mut roll)
+        check_entry_lines(text, image, first, end, &mut roll)
     } else {
         let mut roll = [0u8; 10000];
-        check_lines(text, image, first, end, &mut roll)
+        check_entry_lines(text, image, first, end, &mut roll)
     }
 }

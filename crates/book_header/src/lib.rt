@@ -1,4 +1,4 @@
-// 3 and 4: the fields of a book's header and the rows of its functions' lines, judged.
+// Refusals 3 and 4: the fields of a book's header, and the rows of its functions' lines, checked.
 use book::Image;
 use text::Found;
 use text::Line;
@@ -9,7 +9,7 @@ ghost use Rattle.text.specs.Words.{least};
 ghost use Rattle.book.specs.Lines.{first-function, bad-field, bad-function};
 ghost use Rattle.book.specs.Image.{image-row, program-in};
 
-// Field i of the header, whose lines are k and l, is outside its bounds.
+// Refusal 3: field i of the header, whose lines are k and l, is outside its bounds.
 fn bad_field(k: Line, l: Line, i: u32) -> bool
     ensures { λ r. ⌜ r ≡ bad-field k l i ⌝ }
 {
@@ -23,7 +23,7 @@ fn bad_field(k: Line, l: Line, i: u32) -> bool
         | ((i == 7) & !(l.d == 0))
 }
 
-// 3: the least field of the header that is outside its bounds.
+// Refusal 3: the least field of the header that is outside its bounds.
 pub fn bad_header(k: Line, l: Line) -> Found
     ensures { λ r. ⌜ r ≡ least (bad-field k l) 8 ⌝ }
 {
@@ -37,14 +37,14 @@ pub fn bad_header(k: Line, l: Line) -> Found
     Found::Nowhere
 }
 
-// 4: function line f is at fault.
+// Refusal 4: function line f is at fault.
 fn bad_function(l: Line, f: u32) -> bool
     ensures { λ r. ⌜ r ≡ bad-function l f ⌝ }
 {
     !((l.a <= 2) & (l.b <= 3) & (l.c == 0) & (l.d == 0) & (!(f == 0) | ((l.a == 1) & (l.b == 3))))
 }
 
-// 4: the least function at fault, on the rows of the functions' lines as they stand.
+// Refusal 4: the least function whose line is at fault, on the rows before the functions have first locations.
 pub fn bad_functions(image: &Image) -> Found
     ensures { λ r. ⌜ r ≡ least (λ f. bad-function (image-row (now (image .entry)) (first-function + f)) f) (length (program-in (now (image .entry)) .functions)) ⌝ }
 {

@@ -1,4 +1,4 @@
--- The length of an image, and its counts against their bounds. Assumes nothing.
+-- The length of an image, and its counts compared with their bounds. Assumes nothing.
 use mathlib.Core.Path.{_≡_, sym, _∙_}
 use mathlib.Core.List.{List, map}
 use Prim.Native.Nat.{ℕ, _≤_, _<_}
@@ -9,11 +9,11 @@ use lib.ListN.{length, length-map}
 use borrow.Author.Tests.{lt-ltb, le-ltb}
 use Rattle.book.specs.Image.{capped}
 
--- the length of an array that is lent
+-- a list has the length of the list that it was mapped to
 pub unmapped : (A B : Type 0) (f : A → B) (l : List A) (n : ℕ) → length (map f l) ≡ n → length l ≡ n
 unmapped A B f l n e = sym (length-map l f) ∙ e
 
--- a count and its bound, each passed or reached by itself
+-- a count that is below a number and below the bound is below the number capped at the bound
 pub capped-above : (n w most : ℕ) → n < w → n < most → n < capped w most
 capped-above n w most h k = go (decLt w most)
   where

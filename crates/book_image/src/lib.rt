@@ -12,22 +12,24 @@ ghost use lib.ListN.{length};
 ghost use Rattle.book.specs.Book.{size, no-node, function-at, node-at, agent-at};
 ghost use Rattle.book.specs.Image.{image-length, word, image-row, capped, program-in, first-entry-in, entry-count-in, FitsImage, capped-header, stored, node-stored};
 
-// The first row of each kind.
+// The first row of the functions.
 pub const FUNCTION_ROWS: u32 = 2;
 
+// The first row of the agents.
 pub const AGENT_ROWS: u32 = 34;
 
-// The first word of the nodes, which have two each.
+// The first word of the nodes, which have two words each.
 const NODE_WORDS: usize = 200;
 
-// In the first word of a node kind stands above a, in the second b above c.
+// The weight of the kind in a node's first word, where it stands above a.
 const ABOVE_A: u32 = 1048576;
 
+// The weight of b in a node's second word, where it stands above c.
 const ABOVE_C: u32 = 65536;
 
 // ---- rows
 
-// A row, as far as there is one.
+// Row r of the image; past its end each number is 0.
 pub fn row(image: &Image, r: u32) -> Line
     ensures { λ l. ⌜ l ≡ image-row (now (image .entry)) r ⌝ }
 {
@@ -40,7 +42,7 @@ pub fn row(image: &Image, r: u32) -> Line
     }
 }
 
-// Past the end nothing is stored. It also says how long an image is.
+// Puts l as row r; past the end nothing is put. The contract also says how long an image is.
 pub fn store(image: &mut Image, r: u32, l: Line)
     ensures { λ _. ⌜ (now (image .exit) ≡ stored r l (now (image .entry))) × (length (now (image .entry)) ≡ image-length) ⌝ }
 {
@@ -51,13 +53,14 @@ pub fn store(image: &mut Image, r: u32, l: Line)
     text::put_word(image, at + 3, l.d);
 }
 
+// n, or `most` if n is past it.
 pub fn cap(n: u32, most: u32) -> u32
     ensures { λ r. ⌜ (r ≡ capped n most) × (r ≤ most) ⌝ }
 {
     if n < most { n } else { most }
 }
 
-// Node n is stored. A field that has too few bits becomes the largest number that they hold.
+// Puts y as node n. A field that has too few bits becomes the largest number that they hold.
 pub fn store_node(image: &mut Image, n: u32, y: Node)
     ensures { λ _. ⌜ now (image .exit) ≡ node-stored n y (now (image .entry)) ⌝ }
 {
@@ -82,42 +85,42 @@ pub fn capped(h: Header) -> Header
 
 // ---- counts
 
-// E.
+// E, the number of elements.
 pub fn elements(image: &Image) -> Value
     ensures { λ r. ⌜ r ≡ program-in (now (image .entry)) .E ⌝ }
 {
     cap(image[0], book::MOST_ELEMENTS) as Value
 }
 
-// P.
+// P, the number of permanent elements.
 pub fn permanent(image: &Image) -> u32
     ensures { λ r. ⌜ r ≡ program-in (now (image .entry)) .P ⌝ }
 {
     image[1]
 }
 
-// F.
+// F, the number of functions.
 pub fn functions(image: &Image) -> u16
     ensures { λ r. ⌜ r ≡ length (program-in (now (image .entry)) .functions) ⌝ }
 {
     cap(image[2], book::MOST_FUNCTIONS) as u16
 }
 
-// N.
+// N, the number of nodes.
 pub fn nodes(image: &Image) -> u16
     ensures { λ r. ⌜ r ≡ length (program-in (now (image .entry)) .nodes) ⌝ }
 {
     cap(image[3], book::MOST_NODES) as u16
 }
 
-// A.
+// A, the number of agents.
 pub fn agents(image: &Image) -> u16
     ensures { λ r. ⌜ r ≡ length (program-in (now (image .entry)) .agents) ⌝ }
 {
     cap(image[4], book::MOST_AGENTS) as u16
 }
 
-// C.
+// C, the number of contents lines.
 pub fn entries(image: &Image) -> u32
     ensures { λ r. ⌜ r ≡ entry-count-in (now (image .entry)) ⌝ }
 {
@@ -131,7 +134,7 @@ pub fn first_entry(image: &Image) -> u32
     2 + functions(image) as u32 + nodes(image) as u32 + agents(image) as u32
 }
 
-// L, as the book check leaves it.
+// L, the number of locations, as the book check leaves it.
 pub fn locations(image: &Image) -> u32
     ensures { λ r. ⌜ r ≡ word (now (image .entry)) 6 ⌝ }
 {
@@ -140,7 +143,7 @@ pub fn locations(image: &Image) -> u32
 
 // ---- functions, nodes, agents
 
-// Function f; past the last one all 0.
+// Function f; past the last one all fields are 0.
 pub fn function_at(image: &Image, f: u32) -> Function
     ensures { λ r. ⌜ r ≡ function-at (program-in (now (image .entry))) f ⌝ }
 {
@@ -160,7 +163,7 @@ pub fn function_at(image: &Image, f: u32) -> Function
     }
 }
 
-// The node that there is not.
+// What stands past the last node: all fields are 0.
 fn no_node() -> Node
     ensures { λ r. ⌜ r ≡ no-node ⌝ }
 {
@@ -172,7 +175,7 @@ fn no_node() -> Node
     }
 }
 
-// Node n; past the last all 0. Every term and rule is read through here, so the two bounds are tested one by one.
+// Node n; past the last one all fields are 0. Every term and rule is read through here, so the two bounds are tested one by one.
 pub fn node_at(image: &Image, n: u32) -> Node
     ensures { λ r. ⌜ r ≡ node-at (program-in (now (image .entry))) n ⌝ }
 {
@@ -193,7 +196,7 @@ pub fn node_at(image: &Image, n: u32) -> Node
     }
 }
 
-// Agent i; past the last all 0.
+// Agent i; past the last one all fields are 0.
 pub fn agent_at(image: &Image, i: u32) -> Agent
     ensures { λ r. ⌜ r ≡ agent-at (program-in (now (image .entry))) i ⌝ }
 {
@@ -211,7 +214,7 @@ pub fn agent_at(image: &Image, i: u32) -> Agent
     }
 }
 
-// How many locations a function of that arity has.
+// How many locations a function of that arity has, e being the number of elements.
 pub fn size(e: Value, arity: u32) -> u32
     ensures { λ r. ⌜ r ≡ size e arity ⌝ }
 {

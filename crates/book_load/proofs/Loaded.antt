@@ -1,4 +1,4 @@
--- The rows taken from a text are its lines, and an image laid out from them holds the text's program. Assumes nothing.
+-- The rows loaded from a text are its lines, and an image laid out from them holds the text's program. Assumes nothing.
 use mathlib.Core.Path.{_≡_, refl, sym, _∙_, ap}
 use mathlib.Core.Logic.{_≢_, dite}
 use mathlib.Core.List.{List}
@@ -19,7 +19,7 @@ use Rattle.book_load.specs.Loaded.{line-loaded, head-row, tail-row, head
 -- ---- lines put one by one
 
 module _ (h : Header) where
-  -- line i is of a function, a node or an agent
+  -- line i is that of a function, of a node or of an agent
   data Stands (i : ℕ) (l : Line) (m : List ℕ) : Type 0 where
     function : i < first-node h → line-loaded h i l m ≡ stored i l m → Stands i l m
     node : first-node h ≤ i → i < first-agent h → line-loaded h i l m ≡ node-stored (i - first-node h) (node-of l) m → Stands i l m
@@ -41,7 +41,7 @@ module _ (h : Header) where
       go (node a b e) = rw e (length-node-stored (i - first-node h) (node-of l) m)
       go (agent a e) = rw e (length-stored (34 + (i - first-agent h)) l m)
 
-  -- a row that is not line i's
+  -- a row that is not that of line i stays
   row-stays :
       (i : ℕ) (l : Line) (m : List ℕ) (r : ℕ) → r < 50 → (i < first-node h → i ≢ r) → (first-agent h ≤ i → 34 + (i - first-agent h) ≢ r) →
       image-row (line-loaded h i l m) r ≡ image-row m r
@@ -52,7 +52,7 @@ module _ (h : Header) where
       go (node a c e) = rw e (node-stored-row (i - first-node h) (node-of l) m r b)
       go (agent a e) = rw e (stored-other (34 + (i - first-agent h)) l m r (λ p. g a (sym p)))
 
-  -- a node that is not line i's
+  -- a node that is not that of line i stays
   node-stays :
       FitsImage h → (i : ℕ) (l : Line) (m : List ℕ) (n : ℕ) → i < first-entry h → i ≢ first-node h + n → node-in (line-loaded h i l m) n ≡ node-in m n
   node-stays room i l m n b f = go (stands i l m)
@@ -120,7 +120,7 @@ module _ (h : Header) (room : FitsImage h) (text m : List ℕ) where
         (λ a p. omega arith)
         ∙ taken-agent k i (omega arith) (omega arith) g)
 
--- all of them
+-- all lines loaded: the image holds the lines of the text
 pub taken-rows :
     (h : Header) → FitsImage h → (text m : List ℕ) → image-length ≤ length m → HoldsLines (lines-loaded h text (first-entry h - first-function) (header-loaded h m)) h text
 unfolding header-loaded
@@ -144,7 +144,7 @@ pub length-headed : (h : Header) (m : List ℕ) → length (header-loaded h m) �
 unfolding header-loaded
 length-headed h m = length-stored 1 (tail-row (h .agents) (h .contents) 0) (stored 0 (head-row h) m) ∙ length-stored 0 (head-row h) m
 
--- one line more
+-- the lines up to i + 1 loaded are those up to i, and line i
 pub taken-step :
     (h : Header) (text m : List ℕ) (i : ℕ) → first-function ≤ i →
     lines-loaded h text (i + 1 - first-function) m ≡ line-loaded h i (line text i) (lines-loaded h text (i - first-function) m)
@@ -273,6 +273,6 @@ module _ (m : List ℕ) (h : Header) (text : List ℕ) (room : FitsImage h) (lon
   pub laid-holds : HoldsText (laid-out m) h text
   laid-holds = rw is-whole whole-holds
 
-  -- the agents' rows are left as they stand
+  -- the rows of the agents stay when the functions are laid out
   pub laid-agent : (i : ℕ) → i < h .agents → image-row (laid-out m) (34 + i) ≡ line text (first-agent h + i)
   laid-agent i l = rw is-whole (row-agent i l)

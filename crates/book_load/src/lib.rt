@@ -1,4 +1,4 @@
-// The rows and nodes of an image, taken from the text of a book: each line read once, its form and its numbers together.
+// The rows and nodes of an image, loaded from the text of a book: each line is read once, its form and its numbers together.
 use book::Header;
 use book::Image;
 use book::Node;
@@ -8,12 +8,11 @@ use text::Value;
 ghost use mathlib.Core.Path.{_≡_};
 ghost use Prim.Native.Nat.{_+_, _-_, _<_, _≤_};
 ghost use lib.ListN.{length};
-ghost use Rattle.text.specs.Words.{least-from};
-ghost use Rattle.text.specs.Text.{bad-line};
-ghost use Rattle.book.specs.Lines.{first-function, first-entry, node-of};
+ghost use Rattle.book.specs.Lines.{first-entry, node-of};
 ghost use Rattle.book.specs.Image.{image-length, image-row, FitsImage, capped-header, filled, first-location, laid-row};
-ghost use Rattle.book_load.specs.Loaded.{line-loaded, header-loaded, lines-loaded, lines-before, functions-laid};
+ghost use Rattle.book_load.specs.Loaded.{line-loaded, header-loaded, functions-laid, LinesLoaded};
 
+// The node that a node line says.
 fn node_of(l: Line) -> Node
     ensures { λ r. ⌜ r ≡ node-of l ⌝ }
 {
@@ -25,7 +24,7 @@ fn node_of(l: Line) -> Node
     }
 }
 
-// Line i is put where it belongs.
+// Puts line i of the text where the image has it: functions and agents in rows, nodes in two words.
 fn put_line(h: Header, i: u32, l: Line, image: &mut Image)
     requires { ⌜ (FitsImage h) × (i < first-entry h) ⌝ }
     ensures { λ _. ⌜ now (image .exit) ≡ line-loaded h i l (now (image .entry)) ⌝ }
@@ -41,7 +40,7 @@ fn put_line(h: Header, i: u32, l: Line, image: &mut Image)
     }
 }
 
-// The header's two rows.
+// Puts the header's two rows; L is not known yet.
 fn put_header(h: Header, image: &mut Image)
     ensures { λ _. ⌜ now (image .exit) ≡ header-loaded h (now (image .entry)) ⌝ }
 {
@@ -67,10 +66,10 @@ fn put_header(h: Header, image: &mut Image)
     );
 }
 
-// Stores the lines of functions, nodes and agents. The first that is out of form ends it.
+// Puts the lines of functions, nodes and agents, up to the first that is ill-formed, which it gives.
 fn load_lines(text: &[u8], h: Header, image: &mut Image) -> Found
     requires { ⌜ FitsImage h ⌝ }
-    ensures { λ r. ⌜ (r ≡ least-from (bad-line (now (text .entry))) (first-entry h - first-function) first-function) × (now (image .exit) ≡ lines-loaded h (now (text .entry)) (lines-before first-function (first-entry h) r) (now (image .entry))) ⌝ }
+    ensures { λ r. ⌜ LinesLoaded h (now (text .entry)) (now (image .entry)) (now (image .exit)) r ⌝ }
 {
     let end = 2 + h.functions + h.nodes + h.agents;
     let mut i: u32 = 2;
@@ -85,16 +84,16 @@ fn load_lines(text: &[u8], h: Header, image: &mut Image) -> Found
     Found::Nowhere
 }
 
-// 1 on the lines before the contents, and their rows: of functions, nodes and agents as they stand.
+// Refusal 1 on the lines of functions, nodes and agents: the least one that is ill-formed. Those before it are put into the image as they stand.
 pub fn load(text: &[u8], h: Header, image: &mut Image) -> Found
-    ensures { λ r. ⌜ (r ≡ least-from (bad-line (now (text .entry))) (first-entry (capped-header h) - first-function) first-function) × (now (image .exit) ≡ lines-loaded (capped-header h) (now (text .entry)) (lines-before first-function (first-entry (capped-header h)) r) (header-loaded (capped-header h) (now (image .entry)))) ⌝ }
+    ensures { λ r. ⌜ LinesLoaded (capped-header h) (now (text .entry)) (header-loaded (capped-header h) (now (image .entry))) (now (image .exit)) r ⌝ }
 {
     let g = book_image::capped(h);
     put_header(g, image);
     load_lines(text, g, image)
 }
 
-// Gives the rows of n functions their first locations, and says how many locations there are.
+// Gives the rows of n functions their first locations, and says how many locations the functions have together.
 fn lay_functions(e: Value, n: u32, image: &mut Image) -> u32
     requires { ⌜ (e ≤ 10000) × (n ≤ 32) ⌝ }
     ensures { λ r. ⌜ (r ≡ first-location (λ f. image-row (now (image .entry)) (2 + f)) e n) × (now (image .exit) ≡ filled (laid-row (λ f. image-row (now (image .entry)) (2 + f)) e) 2 n 0 (now (image .entry))) ⌝ }
@@ -119,7 +118,7 @@ fn lay_functions(e: Value, n: u32, image: &mut Image) -> u32
     sum
 }
 
-// Gives the functions their first locations, and the header's rows L.
+// Gives the functions of an image their first locations, and the header's second row L.
 pub fn lay_out(image: &mut Image)
     ensures { λ _. ⌜ (now (image .exit) ≡ functions-laid (now (image .entry))) × (length (now (image .entry)) ≡ image-length) ⌝ }
 {

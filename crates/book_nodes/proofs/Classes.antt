@@ -81,7 +81,7 @@ module _ (B : Program) (n s x : ℕ) where
         ne-eqb s 10 (λ e. omega arith),
       )
 
--- ---- a table that is lent
+-- ---- the table of sorts that is lent
 
 pub lent-sorts : (t : List ℕ) (kind : ℕ) (r : OperandSorts) → r ≡ sorts-in t kind → t ≡ sort-table → r ≡ sorts-of kind
 unfolding sort

@@ -16,15 +16,15 @@ sorts-in table kind =
     if ltb kind 29 then record { a = getD table (kind * 3) 0; b = getD table (kind * 3 + 1) 0; c = getD table (kind * 3 + 2) 0 }
     else record { a = 0; b = 0; c = 0 }
 
--- and those that they have
+-- the sorts that the three operands of a node kind have, by the definition
 abbrev pub sorts-of : ℕ → OperandSorts
 sorts-of kind = record { a = sort kind 0; b = sort kind 1; c = sort kind 2 }
 
--- sorts 0, 2 and 3
+-- x fits the sort s, which is 0, `permanent` or `variable`; P elements are permanent
 abbrev pub fits-plain : ℕ → ℕ → ℕ → Bool
 fits-plain s x P = eqb s permanent && ltb x P || eqb s variable && ltb x variables
 
--- sorts 4 to 8: x is function f, one of F
+-- x fits the sort s, which is that of a function or a universe: x is function f, one of F
 abbrev pub fits-function : ℕ → ℕ → ℕ → Function → Bool
 fits-function s x F f =
     eqb s function0 && (ltb 0 x && ltb x F) && eqb (f .arity) 0
@@ -33,10 +33,10 @@ fits-function s x F f =
     || eqb s universe && (ltb 0 x && ltb x F) && eqb (f .arity) 1 && relation f
     || eqb s dynamic-universe && (ltb 0 x && ltb x F) && eqb (f .arity) 1 && eqb (f .kind) dynamic-relation
 
--- sorts 9 and 10 at node n: x is a node of that kind
+-- x fits the sort s, which is `term` or `rule`, as an operand of node n: x is a node of that kind
 abbrev pub fits-node : ℕ → ℕ → ℕ → ℕ → Bool
 fits-node s x n kind = eqb s term && ltb x n && is-term kind || eqb s rule && ltb x n && is-rule kind
 
--- sorts from 11 on: x is a node of that kind, and its field a names g
+-- x fits the sort s, which is `target-sort`, as an operand of node n: x is a node of that kind, and its field a names g
 abbrev pub fits-target : ℕ → ℕ → ℕ → ℕ → Function → Bool
 fits-target s x n kind g = eqb s target-sort && ltb x n && names-location kind && dynamic g

@@ -1,4 +1,4 @@
-// 5 and 7: node lines and agent lines, over the image of a book.
+// Refusals 5 and 7: node lines and agent lines, checked over the image of a book.
 use book::Function;
 use book::Image;
 use text::Found;
@@ -112,7 +112,7 @@ pub struct OperandSorts {
     pub c: u8,
 }
 
-// The operand sorts of a node kind. The table is lent: a pass over the nodes lays it out once.
+// The operand sorts of a node kind. The caller lends the table, so that a pass over the nodes lays it out once.
 pub fn sorts_of(table: &[u8; 87], kind: u32) -> OperandSorts
     ensures { λ r. ⌜ r ≡ sorts-in (now (table .entry)) kind ⌝ }
 {
@@ -128,6 +128,7 @@ pub fn sorts_of(table: &[u8; 87], kind: u32) -> OperandSorts
     }
 }
 
+// The kind is that of a term.
 fn is_term(kind: u32) -> bool
     ensures { λ r. ⌜ r ≡ is-term kind ⌝ }
 {
@@ -137,6 +138,7 @@ fn is_term(kind: u32) -> bool
     }
 }
 
+// The kind is that of a rule.
 fn is_rule(kind: u32) -> bool
     ensures { λ r. ⌜ r ≡ is-rule kind ⌝ }
 {
@@ -146,14 +148,14 @@ fn is_rule(kind: u32) -> bool
     }
 }
 
-// x fits s, one of the sorts 0, 2 and 3; p elements are permanent.
+// x fits the sort s, which is 0, 2 (a permanent element) or 3 (a variable); p elements are permanent.
 fn fits_plain(s: u8, x: u32, p: u32) -> bool
     ensures { λ r. ⌜ r ≡ fits-plain s x p ⌝ }
 {
     ((s == 2) & (x < p)) | ((s == 3) & (x < 8))
 }
 
-// x fits s, one of the sorts 4 to 8: it is function f, one of `count`.
+// x fits the sort s, which is 4 to 8 (a function or a universe): it is function f, one of `count`.
 fn fits_function(s: u8, x: u32, count: u32, f: Function) -> bool
     ensures { λ r. ⌜ r ≡ fits-function s x count f ⌝ }
 {
@@ -165,21 +167,21 @@ fn fits_function(s: u8, x: u32, count: u32, f: Function) -> bool
         | ((s == 8) & named & (f.arity == 1) & (f.kind == 3))
 }
 
-// x fits s, sort 9 or 10, as an operand of node n: it is a node of that kind.
+// x fits the sort s, which is 9 (a term) or 10 (a rule), as an operand of node n: it is a node of that kind.
 fn fits_node(s: u8, x: u32, n: u32, kind: u32) -> bool
     ensures { λ r. ⌜ r ≡ fits-node s x n kind ⌝ }
 {
     ((s == 9) & (x < n) & is_term(kind)) | ((s == 10) & (x < n) & is_rule(kind))
 }
 
-// x fits s, a sort from 11 on, as an operand of node n: it is a node of that kind, whose field a names g.
+// x fits the sort s, which is 11 or more (a location term), as an operand of node n: it is a node of that kind, whose field a names g.
 fn fits_target(s: u8, x: u32, n: u32, kind: u32, g: Function) -> bool
     ensures { λ r. ⌜ r ≡ fits-target s x n kind g ⌝ }
 {
     (s == 11) & (x < n) & ((4 <= kind) & (kind <= 6)) & (2 <= g.kind)
 }
 
-// x fits s, any sort but 1, 9 and 10, as an operand of node n. Only what the sort asks about is loaded.
+// x fits the sort s, any but 1 (unused), 9 (a term) and 10 (a rule), as an operand of node n. Only what the sort asks about is loaded.
 fn fits_other(image: &Image, n: u32, s: u8, x: u32) -> bool
     requires { ⌜ (s ≢ 1) × (9 ≤ s → 11 ≤ s) ⌝ }
     ensures { λ r. ⌜ r ≡ fits (program-in (now (image .entry))) n s x ⌝ }
@@ -199,7 +201,7 @@ fn fits_other(image: &Image, n: u32, s: u8, x: u32) -> bool
     }
 }
 
-// x fits the sort s as an operand of node n. Most operands are unused or nodes.
+// x fits the sort s as an operand of node n. Most operands are unused or nodes, and these sorts are tested first.
 fn fits(image: &Image, n: u32, s: u8, x: u32) -> bool
     ensures { λ r. ⌜ r ≡ fits (program-in (now (image .entry))) n s x ⌝ }
 {
@@ -215,7 +217,7 @@ fn fits(image: &Image, n: u32, s: u8, x: u32) -> bool
     }
 }
 
-// 5: node n is at fault.
+// Refusal 5: node n is at fault.
 fn bad_node(image: &Image, table: &[u8; 87], n: u32) -> bool
     requires { ⌜ now table ≡ sort-table ⌝ }
     ensures { λ r. ⌜ r ≡ bad-node (program-in (now (image .entry))) n ⌝ }
@@ -228,7 +230,7 @@ fn bad_node(image: &Image, table: &[u8; 87], n: u32) -> bool
     !(a & b & c)
 }
 
-// 5: the least node at fault.
+// Refusal 5: the least node at fault.
 pub fn bad_nodes(image: &Image) -> Found
     ensures { λ r. ⌜ r ≡ least (bad-node (program-in (now (image .entry)))) (length (program-in (now (image .entry)) .nodes)) ⌝ }
 {
@@ -244,14 +246,14 @@ pub fn bad_nodes(image: &Image) -> Found
     Found::Nowhere
 }
 
-// The place before; 0 has none.
+// The number before i; 0 for 0.
 fn before(i: u32) -> u32
     ensures { λ r. ⌜ r ≡ i - 1 ⌝ }
 {
     if i == 0 { 0 } else { i - 1 }
 }
 
-// 7: agent i, whose line is l, is at fault.
+// Refusal 7: agent i, whose line is l, is at fault.
 fn bad_agent(image: &Image, l: Line, i: u32) -> bool
     ensures { λ r. ⌜ r ≡ bad-agent (program-in (now (image .entry))) l i ⌝ }
 {
@@ -267,7 +269,7 @@ fn bad_agent(image: &Image, l: Line, i: u32) -> bool
         & (l.d == 0))
 }
 
-// 7: the least agent at fault, on the rows of the agents' lines.
+// Refusal 7: the least agent at fault, on the rows of the agents' lines.
 pub fn bad_agents(image: &Image) -> Found
     ensures { λ r. ⌜ r ≡ least (λ i. bad-agent (program-in (now (image .entry))) (image-row (now (image .entry)) (34 + i)) i) (length (program-in (now (image .entry)) .agents)) ⌝ }
 {

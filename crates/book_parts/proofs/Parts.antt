@@ -35,7 +35,7 @@ module _ (E : ℕ) where
   abbrev next : ℕ → Function → ℕ
   next n f = n + size E (f .arity)
 
-  -- it starts at the location or before, whether there is such a location or not
+  -- the part p starts at location l or before, whether there is such a location or not
   record Starts (n l : ℕ) (p : Part) : Type 0 where
     pub low : n ≤ p .first
     pub reached : p .first ≤ l
@@ -51,7 +51,7 @@ module _ (E : ℕ) where
       go true e r = record { low = omega arith; reached = h; ordered = omega arith }
       go false e r = let s = r (ltb-false l (next n f) e) in record { low = omega (arith, s .low); reached = s .reached; ordered = s .ordered }
 
-  -- its locations all have the same part
+  -- all locations of a part have that part
   alike : (n : ℕ) (fs : List Function) (l k : ℕ) → n ≤ l → part-in E n fs l .first ≤ k → k < part-in E n fs l .end → part-in E n fs k ≡ part-in E n fs l
   unfolding part-in
   alike n [] l k h a b = refl
@@ -118,7 +118,7 @@ module _ (B : Program) where
       let g : p .end ≡ function-at B f .first + size (B .E) (function-at B f .arity) = omega (arith, r .long, e) in
       ap₂ (λ (u v : ℕ). record { first = u; end = v }) e g
 
--- ---- the search for l's owner: it is not among the functions before g, whose locations are those below first
+-- ---- the search for the owner of location l: it is not among the functions before g, whose locations are those below first
 
 module _ (B : Program) (l : ℕ) where
   abbrev pub Sought : ℕ → ℕ → Type 0
@@ -159,7 +159,7 @@ module _ (B : Program) (l : ℕ) where
       let none : f ≡ no-function = is ∙ List·getD-eq-default (B .functions) no-function {n = length (B .functions)} (omega arith) in
       owner-is f 0 first first (from-past B g first (at .0) done l (at .1) ∙ rw none) (sym (at .2 ∙ rw (drop-of-length-le (B .functions) {i = g} done)))
 
-  -- the location's number within its function, counted from the part's first; past L it is 0
+  -- the number of location l within its function, counted from the part's first; past L it is 0
   pub owner-index : place B l .index ≡ (if ltb l (owner-of B l .end) then l - owner-of B l .first else 0)
   owner-index = go (ltb l (L B)) refl
     where

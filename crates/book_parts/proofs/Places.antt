@@ -9,7 +9,7 @@ use lib.ListN.{length, drop, drop-of-length-le}
 use lib.Seq.{drop-cons}
 use Rattle.book.specs.declared.Function.{Function}
 use Rattle.book.specs.Book.{Program, L, size, total, no-function, function-at, place-in, place}
-use Rattle.book.specs.Image.{held}
+use Rattle.book.specs.Image.{low-program}
 use Rattle.book_parts.specs.declared.Owner.{Owner}
 use Rattle.book_parts.specs.Part.{part-from}
 use Rattle.book.proofs.Image.{size-most, elements-most, functions-most}
@@ -21,15 +21,15 @@ unfolding total place-in
 no-place E [] l h = refl
 no-place E (f ∷ fs) l h = rw (le-ltb l (size E (f .arity)) (omega arith)) (no-place E fs (l - size E (f .arity)) (omega arith))
 
--- no more locations than a word of 32 bits holds
+-- a function has at most 100,000,000 locations, so that a word of 32 bits holds how many 32 functions have
 total-most : (E : ℕ) (fs : List Function) → E ≤ 10000 → total E fs ≤ length fs * 100000000
 unfolding total
 total-most E [] h = omega arith
 total-most E (f ∷ fs) h = omega (arith, size-most E (f .arity) h, total-most E fs h)
 
 module _ (m : List ℕ) where
-  pub locations-fit : L (held m) < 2 ^ 32
-  locations-fit = omega (arith, total-most (held m .E) (held m .functions) (rw (held-elements m) (elements-most m)), held-functions m, functions-most m)
+  pub locations-fit : L (low-program m) < 2 ^ 32
+  locations-fit = omega (arith, total-most (low-program m .E) (low-program m .functions) (rw (held-elements m) (elements-most m)), held-functions m, functions-most m)
 
 module _ (B : Program) where
   pub place-past : (l : ℕ) → L B ≤ l → place B l ≡ record { function = no-function; index = 0 }
@@ -38,7 +38,7 @@ module _ (B : Program) where
   pub functions-from : (g : ℕ) → g < length (B .functions) → drop g (B .functions) ≡ function-at B g ∷ drop (g + 1) (B .functions)
   functions-from g more = drop-cons (B .functions) g no-function more ∙ rw add-one
 
-  -- the locations of the functions from g on start at first
+  -- the locations of the functions from g on start at `first`
   pub record From (g first : ℕ) : Type 0 where
     pub sum : first + total (B .E) (drop g (B .functions)) ≡ L B
     pub places : (l : ℕ) → first ≤ l → place B l ≡ place-in (B .E) (drop g (B .functions)) (l - first)
@@ -53,14 +53,14 @@ module _ (B : Program) where
     abbrev n : ℕ
     n = size (B .E) (function-at B g .arity)
 
-    -- function g's own
+    -- location first + i is location i of function g
     pub from-here : (i : ℕ) → i < n → place B (first + i) ≡ record { function = function-at B g; index = i }
     unfolding place-in
     from-here i h =
         let e : first + i - first ≡ i = omega arith in
         at .places (first + i) (omega arith) ∙ rw (e, cons, lt-ltb i n h)
 
-    -- the same, by the location's own number
+    -- location l, if it is one of function g's, is its location l - first
     pub from-at : (l : ℕ) → first ≤ l → l < first + n → place B l ≡ record { function = function-at B g; index = l - first }
     from-at l h k = let e : first + (l - first) ≡ l = omega arith in rw e at (from-here (l - first) (omega arith))
 
@@ -95,7 +95,7 @@ module _ (B : Program) where
     unfolding place-in
     from-past l h = at .places l h ∙ rw (drop-of-length-le (B .functions) {i = g} done)
 
--- function g's part, found from where the one before it ends
+-- laws of function g's part, found from where the one before it ends
 module _ (B : Program) (g first : ℕ) (own : Owner) (is : own ≡ part-from B g first) where
   pub part-ends : own .end ≡ first + size (B .E) (function-at B g .arity)
   part-ends = ap (λ (o : Owner). o .end) is
@@ -106,6 +106,6 @@ module _ (B : Program) (g first : ℕ) (own : Owner) (is : own ≡ part-from B g
   pub part-after : From B g first → g < length (B .functions) → From B (g + 1) (own .end)
   part-after at more = rw part-ends (from-next B g first at more)
 
--- in the book of an image it ends where a word of 32 bits can say
-pub part-fits : (m : List ℕ) (g first : ℕ) (own : Owner) → own ≡ part-from (held m) g first → From (held m) g first → g < length (held m .functions) → own .end < 2 ^ 32
-part-fits m g first own is at more = omega (arith, part-ends (held m) g first own is, from-fits (held m) g first at more, locations-fit m)
+-- in the program of an image function g's part ends at a number that a word of 32 bits holds
+pub part-fits : (m : List ℕ) (g first : ℕ) (own : Owner) → own ≡ part-from (low-program m) g first → From (low-program m) g first → g < length (low-program m .functions) → own .end < 2 ^ 32
+part-fits m g first own is at more = omega (arith, part-ends (low-program m) g first own is, from-fits (low-program m) g first at more, locations-fit m)

@@ -10,10 +10,11 @@ use Rattle.book.specs.Book.{Program, size, function-at, place}
 use Rattle.book_parts.specs.declared.Part.{Part}
 use Rattle.book_parts.specs.declared.Owner.{Owner}
 
+-- l is in the part from `first` up to `end`
 abbrev pub between : ℕ → ℕ → ℕ → Bool
 between first end l = leb first l && ltb l end
 
--- location l of the part from `first` to `end` gets v; outside the part nothing is put
+-- contents c with v at location l, if l is in the part from `first` up to `end`; outside it nothing is put
 abbrev pub put-in : ℕ → ℕ → ℕ → ℕ → List ℕ → List ℕ
 put-in first end l v c = if between first end l then set c l v else c
 
@@ -21,7 +22,7 @@ put-in first end l v c = if between first end l then set c l v else c
 abbrev pub part-from : Program → ℕ → ℕ → Owner
 part-from B g first = record { function = function-at B g; first = first; end = first + size (B .E) (function-at B g .arity) }
 
--- the part that l is in, the functions' parts following each other from `first` on; past the last one an empty part
+-- the part that location l is in, the functions' parts following each other from `first` on; past the last one an empty part
 unfoldable pub part-in : ℕ → ℕ → List Function → ℕ → Part
 part-in E first [] l = record { first = first; end = first }
 part-in E first (f ∷ fs) l =
@@ -29,9 +30,10 @@ part-in E first (f ∷ fs) l =
     let r = part-in E end fs l in
     if ltb l end then record { first = first; end = end } else r
 
+-- the part of the contents table that location l is in
 abbrev pub part-of : Program → ℕ → Part
 part-of B l = part-in (B .E) 0 (B .functions) l
 
--- the function that l belongs to, with that part
+-- the function that location l belongs to, with its part of the contents table
 abbrev pub owner-of : Program → ℕ → Owner
 owner-of B l = record { function = place B l .function; first = part-of B l .first; end = part-of B l .end }

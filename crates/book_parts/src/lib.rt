@@ -3,23 +3,23 @@ use book::Function;
 use book::Image;
 use text::Value;
 ghost use mathlib.Core.Path.{_≡_};
-ghost use Rattle.book.specs.Book.{relation, dynamic, default, function-at, node-at};
-ghost use Rattle.book.specs.Image.{held};
+ghost use Rattle.book.specs.Book.{boolean, relation, dynamic, default, function-at, node-at};
+ghost use Rattle.book.specs.Image.{low-program};
 ghost use Rattle.book_parts.specs.Part.{part-from, part-of, owner-of};
 ghost use Rattle.book_parts.specs.StoredNodes.{stored-node};
 
 // ---- what the engine takes from an image, in its own width
 
-// P.
+// P, the number of permanent elements.
 pub fn permanent(image: &Image) -> Value
-    ensures { λ r. ⌜ r ≡ held (now (image .entry)) .P ⌝ }
+    ensures { λ r. ⌜ r ≡ low-program (now (image .entry)) .P ⌝ }
 {
     text::low(book_image::permanent(image))
 }
 
-// Function f; past the last all 0.
+// Function f, its first location in sixteen bits; past the last one all fields are 0.
 pub fn function_at(image: &Image, f: u16) -> Function
-    ensures { λ r. ⌜ r ≡ function-at (held (now (image .entry))) f ⌝ }
+    ensures { λ r. ⌜ r ≡ function-at (low-program (now (image .entry))) f ⌝ }
 {
     let w = book_image::function_at(image, f as u32);
     Function {
@@ -29,7 +29,7 @@ pub fn function_at(image: &Image, f: u16) -> Function
     }
 }
 
-// A node in sixteen bits.
+// A node, its numbers in sixteen bits.
 pub struct StoredNode {
     pub kind: u16,
     pub a: u16,
@@ -37,9 +37,9 @@ pub struct StoredNode {
     pub c: u16,
 }
 
-// Node n; past the last all 0.
+// Node n, its numbers in sixteen bits; past the last one all fields are 0.
 pub fn node(image: &Image, n: u16) -> StoredNode
-    ensures { λ r. ⌜ stored-node r ≡ node-at (held (now (image .entry))) n ⌝ }
+    ensures { λ r. ⌜ stored-node r ≡ node-at (low-program (now (image .entry))) n ⌝ }
 {
     let w = book_image::node_at(image, n as u32);
     StoredNode {
@@ -50,20 +50,30 @@ pub fn node(image: &Image, n: u16) -> StoredNode
     }
 }
 
-// ---- kinds and parts
+// ---- kinds of functions, and parts
 
+// The function is a relation, static or dynamic.
 pub fn is_relation(f: Function) -> bool
     ensures { λ r. ⌜ r ≡ relation f ⌝ }
 {
     (f.kind == 1) | (f.kind == 3)
 }
 
+// Moves may change the function's values.
 pub fn is_dynamic(f: Function) -> bool
     ensures { λ r. ⌜ r ≡ dynamic f ⌝ }
 {
     2 <= f.kind
 }
 
+// Whether v is false or true.
+pub fn is_boolean(v: Value) -> bool
+    ensures { λ r. ⌜ r ≡ boolean v ⌝ }
+{
+    (v == 1) | (v == 2)
+}
+
+// The function's default: false in a relation, undef elsewhere.
 pub fn default_of(f: Function) -> Value
     ensures { λ r. ⌜ r ≡ default f ⌝ }
 {
@@ -76,7 +86,7 @@ pub struct Part {
     pub end: usize,
 }
 
-// A function and its part.
+// A function and its part of the contents table, from location `first` up to `end`.
 pub struct Owner {
     pub function: Function,
     pub first: usize,
@@ -85,7 +95,7 @@ pub struct Owner {
 
 // Function g and its part, which starts at `first`: where the part of the function before it ends.
 pub fn part_from(image: &Image, g: u16, first: u32) -> Owner
-    ensures { λ r. ⌜ r ≡ part-from (held (now (image .entry))) g first ⌝ }
+    ensures { λ r. ⌜ r ≡ part-from (low-program (now (image .entry))) g first ⌝ }
 {
     let f = function_at(image, g);
     let size = book_image::size(book_image::elements(image), f.arity);
@@ -98,7 +108,7 @@ pub fn part_from(image: &Image, g: u16, first: u32) -> Owner
 
 // The function that location l belongs to, and its part of the contents table; past L there is none, and the part is empty.
 pub fn owner_of(image: &Image, l: usize) -> Owner
-    ensures { λ r. ⌜ r ≡ owner-of (held (now (image .entry))) l ⌝ }
+    ensures { λ r. ⌜ r ≡ owner-of (low-program (now (image .entry))) l ⌝ }
 {
     let n = book_image::functions(image);
     let mut first: u32 = 0;
@@ -118,9 +128,9 @@ pub fn owner_of(image: &Image, l: usize) -> Owner
     }
 }
 
-// The part that location l is in.
+// The part of the contents table that location l is in.
 pub fn part_of(image: &Image, l: usize) -> Part
-    ensures { λ r. ⌜ r ≡ part-of (held (now (image .entry))) l ⌝ }
+    ensures { λ r. ⌜ r ≡ part-of (low-program (now (image .entry))) l ⌝ }
 {
     let o = owner_of(image, l);
     Part {

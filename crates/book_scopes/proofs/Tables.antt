@@ -6,11 +6,10 @@ use Prim.Native.Nat.{ℕ, zero, suc, _+_, _-_, _*_, _/_, _%_, _^_, _<_, _≤_}
 use native.Mathlib.Numerals.{add-one}
 use native.Mathlib.Omega.{arith}
 use native.Mathlib.Decide.{decLt}
-use borrow.Author.Tests.{lt-ltb, le-ltb, le-leb, ne-eqb, eqb-true, eqb-false}
+use borrow.Author.Tests.{lt-ltb, le-ltb, le-leb, ne-eqb, eqb-true}
 use lib.Bits.{bitOr, or-block, or-lt, or-zero-r}
 use lib.Dec.{eqb, ltb, leb}
 use lib.ListN.{length, getD, set, replicate, length-set, length-replicate, getD-replicate}
-use lib.Seq.{getD-set-same, getD-set-other}
 use Rattle.text.specs.Words.{if_then_else_, one-if, some-below}
 use Rattle.book.specs.declared.Node.{Node}
 use Rattle.book.specs.Book.{Program, node-at, agent-at}
@@ -18,6 +17,8 @@ use Rattle.book.specs.Kinds.{is-node, is-binder, forall-kind}
 use Rattle.book.specs.Use.{is-root, places, uses, bad-use}
 use Rattle.book.specs.Scopes.{bit-of, put-if, operands-given, all-given, deeper, as-it-is, forall-more, bound-more, depths, foralls, misplaced, bad-scope}
 use Rattle.book_scopes.specs.Tables.{one-more, use-added, operands-counted, roots-marked, uses-counted, depth-of, foralls-of, bound-of, scope-below, in-forall, in-binder, to-ab, to-c, misplaced-at}
+use Rattle.text.proofs.Words.{set-at}
+use Rattle.book.proofs.Depth.{length-put-if, length-operands-given}
 
 -- ---- one step of each loop
 
@@ -38,16 +39,16 @@ unfolding uses-counted
 tally-none B s = refl
 
 module _ (B : Program) (ab c : Node → ℕ → ℕ) (s : List ℕ) where
-  pub handed-step :
+  pub all-given-step :
       (k : ℕ) → all-given B ab c (k + 1) s
       ≡ operands-given (node-at B (length (B .nodes) - (k + 1))) (ab (node-at B (length (B .nodes) - (k + 1))) (getD (all-given B ab c k s) (length (B .nodes) - (k + 1)) 0))
       (c (node-at B (length (B .nodes) - (k + 1))) (getD (all-given B ab c k s) (length (B .nodes) - (k + 1)) 0)) (all-given B ab c k s)
   unfolding all-given
-  handed-step k = rw (add-one k)
+  all-given-step k = rw (add-one k)
 
-  pub handed-none : s ≡ all-given B ab c 0 s
+  pub all-given-none : s ≡ all-given B ab c 0 s
   unfolding all-given
-  handed-none = refl
+  all-given-none = refl
 
 -- ---- counts that stop at 2
 
@@ -75,14 +76,6 @@ cap-one k = go (decLt k 2)
     go (yes h) = rw (cap-low k h)
     go (no h) = rw (cap-high k (omega arith), ne-eqb k 1 (λ e. omega arith))
 
--- what stands at n after a store at x
-set-at : (s : List ℕ) (x n v : ℕ) → n < length s → getD (set s x v) n 0 ≡ (if eqb x n then v else getD s n 0)
-set-at s x n v h = go (eqb x n) refl
-  where
-    go : (b : Bool) → eqb x n ≡ b → getD (set s x v) n 0 ≡ (if b then v else getD s n 0)
-    go true e = let p : x ≡ n = eqb-true x n e in rw p (getD-set-same s n v 0 h)
-    go false e = getD-set-other s x n v 0 (λ p. eqb-false x n e (sym p))
-
 pub length-bump : (on : Bool) (x : ℕ) (s : List ℕ) → length (use-added on x s) ≡ length s
 length-bump true x s = length-set s x (one-more (getD s x 0))
 length-bump false x s = refl
@@ -90,7 +83,7 @@ length-bump false x s = refl
 bump-at :
     (on : Bool) (x n k : ℕ) (s : List ℕ) → n < length s → getD s n 0 ≡ cap k → getD (use-added on x s) n 0 ≡ cap (k + one-if (on && eqb x n))
 bump-at false x n k s h p = let e : k + 0 ≡ k = omega arith in rw e p
-bump-at true x n k s h p = set-at s x n (one-more (getD s x 0)) h ∙ go (eqb x n) refl
+bump-at true x n k s h p = set-at s x (one-more (getD s x 0)) n h ∙ go (eqb x n) refl
   where
     go : (b : Bool) → eqb x n ≡ b → (if b then one-more (getD s x 0) else getD s n 0) ≡ cap (k + one-if b)
     go true e = let q : x ≡ n = eqb-true x n e in rw (q, p) (more-cap k)
@@ -139,7 +132,7 @@ roots-at :
 unfolding roots-marked some-below
 roots-at B zero n s h p = p
 roots-at B (suc a) n s h p =
-    set-at (roots-marked B a s) (agent-at B a .root) n 1 (rw (length-roots B a s) h)
+    set-at (roots-marked B a s) (agent-at B a .root) 1 n (rw (length-roots B a s) h)
     ∙ go (some-below (λ i. eqb (agent-at B i .root) n) a) (eqb (agent-at B a .root) n) (roots-at B a n s h p)
   where
     go : (r b : Bool) → getD (roots-marked B a s) n 0 ≡ one-if r → (if b then 1 else getD (roots-marked B a s) n 0) ≡ one-if (r || b)
@@ -152,7 +145,7 @@ cap-bool : (b : Bool) → one-if b ≡ cap (one-if b)
 cap-bool true = refl
 cap-bool false = refl
 
--- the table of counts tells exactly whether a node is used once
+-- the table of counts says exactly whether a node is used once
 pub used-once :
     (B : Program) (n : ℕ) (s : List ℕ) → n < length s → getD s n 0 ≡ 0 →
     not (eqb (getD (uses-counted B (length (B .nodes)) (roots-marked B (length (B .agents)) s)) n 0) 1) ≡ bad-use B n
@@ -166,20 +159,12 @@ used-once B n s h p =
       cap-one (one-if r + uses B n (length (B .nodes))),
     )
 
--- ---- two tables handed down side by side: the one by ab and c, the other by ab′ and c′, with R between what they say of a node
+-- ---- two tables filled side by side, the one by ab and c, the other by ab′ and c′, with R between what they say of a node
 
-length-put-if : (on : Bool) (x v : ℕ) (s : List ℕ) → length (put-if on x v s) ≡ length s
-length-put-if true x v s = length-set s x v
-length-put-if false x v s = refl
-
-length-hand : (y : Node) (v w : ℕ) (s : List ℕ) → length (operands-given y v w s) ≡ length s
-unfolding operands-given
-length-hand y v w s = simp length-put-if
-
-length-handed : (B : Program) (ab c : Node → ℕ → ℕ) (k : ℕ) (s : List ℕ) → length (all-given B ab c k s) ≡ length s
+length-all-given : (B : Program) (ab c : Node → ℕ → ℕ) (k : ℕ) (s : List ℕ) → length (all-given B ab c k s) ≡ length s
 unfolding all-given
-length-handed B ab c zero s = refl
-length-handed B ab c (suc k) s = length-hand _ _ _ _ ∙ length-handed B ab c k s
+length-all-given B ab c zero s = refl
+length-all-given B ab c (suc k) s = length-operands-given _ _ _ _ ∙ length-all-given B ab c k s
 
 module _ (R : ℕ → ℕ → Type 0) (N : ℕ) where
   abbrev Beside : List ℕ → List ℕ → Type 0
@@ -188,16 +173,16 @@ module _ (R : ℕ → ℕ → Type 0) (N : ℕ) where
   put-beside :
       (on : Bool) (x v v′ : ℕ) (s t : List ℕ) → N ≤ length s → N ≤ length t → R v v′ → Beside s t → Beside (put-if on x v s) (put-if on x v′ t)
   put-beside false x v v′ s t hs ht e b n h = b n h
-  put-beside true x v v′ s t hs ht e b n h = rw (set-at s x n v (omega arith), set-at t x n v′ (omega arith)) (go (eqb x n))
+  put-beside true x v v′ s t hs ht e b n h = rw (set-at s x v n (omega arith), set-at t x v′ n (omega arith)) (go (eqb x n))
     where
       go : (d : Bool) → R (if d then v else getD s n 0) (if d then v′ else getD t n 0)
       go true = e
       go false = b n h
 
-  hand-beside :
+  operands-given-beside :
       (y : Node) (v w v′ w′ : ℕ) (s t : List ℕ) → N ≤ length s → N ≤ length t → R v v′ → R w w′ → Beside s t → Beside (operands-given y v w s) (operands-given y v′ w′ t)
   unfolding operands-given
-  hand-beside y v w v′ w′ s t hs ht e f b =
+  operands-given-beside y v w v′ w′ s t hs ht e f b =
       let s1 : List ℕ = put-if (is-node (y .kind) 0) (y .a) v s in
       let t1 : List ℕ = put-if (is-node (y .kind) 0) (y .a) v′ t in
       let s2 : List ℕ = put-if (is-node (y .kind) 1) (y .b) v s1 in
@@ -212,20 +197,20 @@ module _ (R : ℕ → ℕ → Type 0) (N : ℕ) where
 
   module _ (B : Program) (is : N ≡ length (B .nodes)) (ab c ab′ c′ : Node → ℕ → ℕ)
       (eab : (y : Node) (x v : ℕ) → R x v → R (ab y x) (ab′ y v)) (ec : (y : Node) (x v : ℕ) → R x v → R (c y x) (c′ y v)) where
-    handed-beside :
+    all-given-beside :
         (k : ℕ) (s t : List ℕ) → k ≤ N → N ≤ length s → N ≤ length t → Beside s t → Beside (all-given B ab c k s) (all-given B ab′ c′ k t)
     unfolding all-given
-    handed-beside zero s t hk hs ht b = b
-    handed-beside (suc k) s t hk hs ht b =
+    all-given-beside zero s t hk hs ht b = b
+    all-given-beside (suc k) s t hk hs ht b =
         let s1 : List ℕ = all-given B ab c k s in
         let t1 : List ℕ = all-given B ab′ c′ k t in
         let m : ℕ = length (B .nodes) - suc k in
         let y : Node = node-at B m in
-        let r : Beside s1 t1 = handed-beside k s t (omega arith) hs ht b in
+        let r : Beside s1 t1 = all-given-beside k s t (omega arith) hs ht b in
         let e : R (getD s1 m 0) (getD t1 m 0) = r m (omega arith) in
-        let p : length s1 ≡ length s = length-handed B ab c k s in
-        let q : length t1 ≡ length t = length-handed B ab′ c′ k t in
-        hand-beside y (ab y (getD s1 m 0)) (c y (getD s1 m 0)) (ab′ y (getD t1 m 0)) (c′ y (getD t1 m 0)) s1 t1 (omega arith) (omega arith)
+        let p : length s1 ≡ length s = length-all-given B ab c k s in
+        let q : length t1 ≡ length t = length-all-given B ab′ c′ k t in
+        operands-given-beside y (ab y (getD s1 m 0)) (c y (getD s1 m 0)) (ab′ y (getD t1 m 0)) (c′ y (getD t1 m 0)) s1 t1 (omega arith) (omega arith)
         (eab y (getD s1 m 0) (getD t1 m 0) e) (ec y (getD s1 m 0) (getD t1 m 0) e) r
 
 -- ---- what one number says of depth, foralls and bound variables
@@ -264,7 +249,7 @@ bit-shift (suc (suc (suc (suc (suc (suc zero)))))) h = refl
 bit-shift (suc (suc (suc (suc (suc (suc (suc zero))))))) h = refl
 bit-shift (suc (suc (suc (suc (suc (suc (suc (suc v)))))))) h = absurd (omega arith)
 
--- below: one deeper, and the rest as it was
+-- what `scope-below` does: one deeper, and the rest as it was
 module _ (v : ℕ) where
   below-low : v / 1024 < 32 → scope-below v ≡ v + 1024
   below-low h = simp (lt-ltb (v / 1024) 32 h)
@@ -294,7 +279,7 @@ depth-step d v e = go (decLt d 33) (decLt d 32)
     go (yes h) (yes k) = let p : depth-of v ≡ d = e ∙ low33 d h in rw (below-low v (omega arith), low33 (d + 1) (omega arith)) (omega arith)
     go (yes h) (no k) = let p : depth-of v ≡ d = e ∙ low33 d h in rw (below-low v (omega arith), high33 (d + 1) (omega arith)) (omega arith)
 
--- in-forall: one forall more, and the rest as it was
+-- what `in-forall` does: one forall more, and the rest as it was
 module _ (y : Node) (v : ℕ) where
   abbrev in-it : Bool → ℕ
   in-it b = if b then (if ltb (foralls-of v) 2 then v + 256 else v) else v
@@ -323,7 +308,7 @@ module _ (y : Node) (v : ℕ) where
       go true (yes h) = rw (lt-ltb (foralls-of v) 2 h) (omega arith)
       go true (no h) = rw (le-ltb (foralls-of v) 2 (omega arith))
 
--- in-binder: one variable more, and the rest as it was
+-- what `in-binder` does: one variable more, and the rest as it was
 or-low : (v b : ℕ) → b < 256 → bitOr v b ≡ v / 256 * 256 + bitOr (v % 256) b
 or-low v b h =
     let e : v / 256 * 256 + v % 256 ≡ v = omega arith in
@@ -357,7 +342,7 @@ module _ (y : Node) (v : ℕ) where
       go true = rw (or-low v (bit-of (y .a)) (bit-small (y .a))) (omega (arith, low))
       go false = refl
 
--- ---- what a node hands down says what the definitions hand down
+-- ---- what a node gives its operands says what the definitions give them
 
 abbrev Depth : ℕ → ℕ → Type 0
 Depth d v = depth-of v ≡ low-33 d
@@ -415,10 +400,10 @@ module _ (B : Program) (hN : length (B .nodes) ≤ 1024) where
   misplaced-same n h =
       let N : ℕ = length (B .nodes) in
       let nn : N ≤ N = omega arith in
-      let d = handed-beside Depth N B refl deeper deeper to-ab to-c (λ y x v e. depth-step x v e) depth-c N (replicate N 1) (replicate 1024 0) nn
+      let d = all-given-beside Depth N B refl deeper deeper to-ab to-c (λ y x v e. depth-step x v e) depth-c N (replicate N 1) (replicate 1024 0) nn
       (full 1) wide (roots Depth 1 refl) n h in
-      let f = handed-beside Foralls N B refl as-it-is forall-more to-ab to-c (λ y x v e. foralls-below v ∙ e) foralls-c N (replicate N 0) (replicate 1024 0) nn
+      let f = all-given-beside Foralls N B refl as-it-is forall-more to-ab to-c (λ y x v e. foralls-below v ∙ e) foralls-c N (replicate N 0) (replicate 1024 0) nn
       (full 0) wide (roots Foralls 0 refl) n h in
-      let b = handed-beside Bound N B refl as-it-is bound-more to-ab to-c (λ y x v e. bound-below v ∙ e) bound-c N (replicate N 0) (replicate 1024 0) nn
+      let b = all-given-beside Bound N B refl as-it-is bound-more to-ab to-c (λ y x v e. bound-below v ∙ e) bound-c N (replicate N 0) (replicate 1024 0) nn
       (full 0) wide (roots Bound 0 refl) n h in
       rw (d, f, b, deep33 (getD (depths B) n 0), cap-two (getD (foralls B) n 0))

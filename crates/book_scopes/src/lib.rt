@@ -1,4 +1,4 @@
-// 6: the use of nodes, and what stands around them, over the image of a book.
+// Refusal 6: the use of nodes, and what stands around them, checked over the image of a book.
 use book::Image;
 use book::Node;
 use text::Found;
@@ -13,14 +13,14 @@ ghost use Rattle.book.specs.Scopes.{bit-of, binds, put-if, operands-given, all-
 ghost use Rattle.book.specs.Image.{program-in};
 ghost use Rattle.book_scopes.specs.Tables.{one-more, use-added, operands-counted, roots-marked, uses-counted, scope-below, in-forall, in-binder, to-ab, to-c, misplaced-at};
 
-// A count stops at 2, which is already too many.
+// A count plus 1, which stops at 2: that is already too many.
 fn one_more(k: u8) -> u8
     ensures { λ r. ⌜ r ≡ one-more k ⌝ }
 {
     if k < 2 { k + 1 } else { k }
 }
 
-// One use more of x.
+// Adds one use of node x to the counts, if `on`.
 fn add_use(s: &mut [u8], on: bool, x: u32)
     ensures { λ _. ⌜ now (s .exit) ≡ use-added on x (now (s .entry)) ⌝ }
 {
@@ -30,7 +30,7 @@ fn add_use(s: &mut [u8], on: bool, x: u32)
     }
 }
 
-// The operand places of node y. From sort 9 on an operand is a node.
+// Adds the operand places of node y to the counts. From sort 9 on an operand is a node.
 fn count_operands(table: &[u8; 87], s: &mut [u8], y: Node)
     requires { ⌜ now table ≡ sort-table ⌝ }
     ensures { λ _. ⌜ now (s .exit) ≡ operands-counted y (now (s .entry)) ⌝ }
@@ -41,7 +41,7 @@ fn count_operands(table: &[u8; 87], s: &mut [u8], y: Node)
     add_use(s, 9 <= o.c, y.c);
 }
 
-// Marks the roots of the first n agents. Agents may share one.
+// Marks the roots of the first n agents in the counts. Agents may share a root.
 fn mark_roots(image: &Image, n: u32, s: &mut [u8])
     ensures { λ _. ⌜ now (s .exit) ≡ roots-marked (program-in (now (image .entry))) n (now (s .entry)) ⌝ }
 {
@@ -53,7 +53,7 @@ fn mark_roots(image: &Image, n: u32, s: &mut [u8])
     }
 }
 
-// Counts the operand places of the first n nodes.
+// Adds the operand places of the first n nodes to the counts.
 fn count_uses(image: &Image, n: u32, s: &mut [u8])
     ensures { λ _. ⌜ now (s .exit) ≡ uses-counted (program-in (now (image .entry))) n (now (s .entry)) ⌝ }
 {
@@ -66,6 +66,7 @@ fn count_uses(image: &Image, n: u32, s: &mut [u8])
     }
 }
 
+// The least of the first n nodes whose count is not 1.
 fn not_once(s: &[u8], n: u32) -> Found
     ensures { λ r. ⌜ r ≡ least (λ i. not (eqb (getD (now (s .entry)) i 0) 1)) n ⌝ }
 {
@@ -79,7 +80,7 @@ fn not_once(s: &[u8], n: u32) -> Found
     Found::Nowhere
 }
 
-// 6, use: the least node that is not used exactly once.
+// Refusal 6, use: the least node that is not used exactly once.
 pub fn bad_use(image: &Image) -> Found
     ensures { λ r. ⌜ r ≡ least (bad-use (program-in (now (image .entry)))) (length (program-in (now (image .entry)) .nodes)) ⌝ }
 {
@@ -91,6 +92,7 @@ pub fn bad_use(image: &Image) -> Found
     not_once(&counts, n)
 }
 
+// The bit of variable v.
 fn bit_of(v: u32) -> u16
     ensures { λ r. ⌜ r ≡ bit-of v ⌝ }
 {
@@ -100,14 +102,14 @@ fn bit_of(v: u32) -> u16
 // What stands around a node is one number: a bit for each variable bound there, 256 for each forall, which are counted
 // to 2, and 1024 for each node above it, which are counted to 32. A root has 0. Sixteen bits hold it.
 
-// Around the operands of a node that has v around it.
+// What stands around the operands a and b of a node that has v around it: one node more.
 fn scope_below(v: u16) -> u16
     ensures { λ r. ⌜ r ≡ scope-below v ⌝ }
 {
     if v / 1024 < 32 { v + 1024 } else { v }
 }
 
-// One forall more in the c of a forall.
+// What stands around the c of node y: one forall more if y is a forall.
 fn in_forall(y: Node, v: u16) -> u16
     ensures { λ r. ⌜ r ≡ in-forall y v ⌝ }
 {
@@ -118,7 +120,7 @@ fn in_forall(y: Node, v: u16) -> u16
     }
 }
 
-// A node kind that binds a variable.
+// The kind binds a variable.
 fn is_binder(kind: u32) -> bool
     ensures { λ r. ⌜ r ≡ is-binder kind ⌝ }
 {
@@ -129,7 +131,7 @@ fn is_binder(kind: u32) -> bool
     }
 }
 
-// One variable more in the c of a binder.
+// What stands around the c of node y: one variable more if y is a binder.
 fn in_binder(y: Node, v: u16) -> u16
     ensures { λ r. ⌜ r ≡ in-binder y v ⌝ }
 {
@@ -140,6 +142,7 @@ fn in_binder(y: Node, v: u16) -> u16
     }
 }
 
+// Puts v at place x, if `on`.
 fn put_if(s: &mut [u16], on: bool, x: u32, v: u16)
     ensures { λ _. ⌜ now (s .exit) ≡ put-if on x v (now (s .entry)) ⌝ }
 {
@@ -148,7 +151,7 @@ fn put_if(s: &mut [u16], on: bool, x: u32, v: u16)
     }
 }
 
-// Node y hands v to its operands a and b, and w to its operand c.
+// Node y gives v to its operands a and b, and w to its operand c.
 fn give_operands(table: &[u8; 87], s: &mut [u16], y: Node, v: u16, w: u16)
     requires { ⌜ now table ≡ sort-table ⌝ }
     ensures { λ _. ⌜ now (s .exit) ≡ operands-given y v w (now (s .entry)) ⌝ }
@@ -159,7 +162,7 @@ fn give_operands(table: &[u8; 87], s: &mut [u16], y: Node, v: u16, w: u16)
     put_if(s, 9 <= o.c, y.c, w);
 }
 
-// Each node, from the highest on, hands down what stands around it.
+// Each node, from the highest on, gives its operands what stands around them.
 fn give_all(image: &Image, s: &mut [u16])
     ensures { λ _. ⌜ now (s .exit) ≡ all-given (program-in (now (image .entry))) to-ab to-c (length (program-in (now (image .entry)) .nodes)) (now (s .entry)) ⌝ }
 {
@@ -183,7 +186,7 @@ fn is_bound(y: Node, bound: u16) -> bool
     !(bound & bit_of(y.a) == 0)
 }
 
-// Node y stands where it may not. Only a variable and a binder ask what is bound.
+// Node y is at fault, with this around it. Only a variable and a binder ask what is bound.
 fn is_misplaced(y: Node, depth: u16, foralls: u16, bound: u16) -> bool
     ensures { λ r. ⌜ r ≡ misplaced y depth foralls bound ⌝ }
 {
@@ -197,6 +200,7 @@ fn is_misplaced(y: Node, depth: u16, foralls: u16, bound: u16) -> bool
     deep
 }
 
+// Node i is at fault, by the table of what stands around each node.
 fn misplaced_at<'a>(image: &'a Image, s: &'a [u16], i: u32) -> bool
     ensures { λ r. ⌜ r ≡ misplaced-at (program-in (now (image .entry))) (now (s .entry)) i ⌝ }
 {
@@ -205,6 +209,7 @@ fn misplaced_at<'a>(image: &'a Image, s: &'a [u16], i: u32) -> bool
     is_misplaced(y, v / 1024 + 1, v / 256 % 4, v % 256)
 }
 
+// The least of the first n nodes that is at fault, by the table of what stands around each node.
 fn misplaced_in<'a>(image: &'a Image, s: &'a [u16], n: u32) -> Found
     ensures { λ r. ⌜ r ≡ least (misplaced-at (program-in (now (image .entry))) (now (s .entry))) n ⌝ }
 {
@@ -218,7 +223,7 @@ fn misplaced_in<'a>(image: &'a Image, s: &'a [u16], n: u32) -> Found
     Found::Nowhere
 }
 
-// 6, binding, depth and nesting: the least node at fault.
+// Refusal 6, binding, depth and nesting: the least node at fault.
 pub fn bad_scope(image: &Image) -> Found
     ensures { λ r. ⌜ r ≡ least (bad-scope (program-in (now (image .entry)))) (length (program-in (now (image .entry)) .nodes)) ⌝ }
 {

@@ -21,7 +21,7 @@ back r a b h e f =
     let g = e ∙ ap packed-answer f in
     (g, ap unpacked g ∙ whole)
 
--- the same of a book's check
+-- r is the packed answer a, which is that of a book's check
 pub back-check : (r : ℕ) (a : Answer) (text : List ℕ) → r ≡ short a → a ≡ answer-of (check-book text)
     → (r ≡ short (answer-of (check-book text))) × (unpacked-check r ≡ answer-of (check-book text))
 back-check r a text e f =

@@ -1,4 +1,4 @@
--- What the code tests of one location is what 8 says of it. Assumes nothing.
+-- What the code tests of one location is what refusal 8 says of it. Assumes nothing.
 use mathlib.Core.Path.{_≡_}
 use mathlib.Core.Bool.{Bool, true, false, _&&_, _||_, not}
 use mathlib.Core.List.{List}
@@ -17,12 +17,12 @@ module _ (B : Program) (c : List ℕ) (f : Function) (l i v : ℕ) (rel bool fin
   abbrev lawful : Bool
   lawful = ltb v (B .E) && (not rel || bool) && fine
 
-  -- one of Reserve's own
+  -- a location of Reserve is at fault exactly if the code's test says so
   pub own-cell : l < B .E → not (lawful && (not (eqb v true-element) || leb (B .P) l)) ≡ bad-value B c l
   unfolding bad-value
   own-cell h = rw (here, fine-is, bool-is, rel-is, v-is, lt-ltb l (B .E) h)
 
-  -- any other
+  -- a location of another function is at fault exactly if the code's test says so
   pub far-cell :
       (d : ℕ) (roll args : Bool) → d ≡ default f → roll ≡ (ltb v (B .E) && eqb (getD c v 0) true-element) →
       args ≡ some-on-roll B c (arguments (B .E) (f .arity) i) → B .E ≤ l → not (lawful && not (roll || not (eqb v d) && args)) ≡ bad-value B c l
@@ -30,7 +30,7 @@ module _ (B : Program) (c : List ℕ) (f : Function) (l i v : ℕ) (rel bool fin
   far-cell d roll args d-is roll-is args-is h =
       rw (here, roll-is, args-is, fine-is, bool-is, rel-is, d-is, v-is, le-ltb l (B .E) h)
 
--- one at its default, an element that is not on the roll, is not at fault
+-- a location at its default, if that is an element not on the roll, is not at fault
 pub at-rest :
     (B : Program) (c : List ℕ) (l : ℕ) (f : Function) → place B l .function ≡ f → getD c l 0 ≡ default f → default f < B .E →
     (getD c (default f) 0 ≡ true-element → ⊥) → bad-value B c l ≡ false

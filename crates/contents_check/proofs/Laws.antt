@@ -1,4 +1,4 @@
--- Laws of numbers: the row and the column of the next place, and the arguments of a location. Assumes nothing.
+-- Laws of numbers: the two arguments of the next location of a binary function, and the arguments of a location. Assumes nothing.
 use mathlib.Core.Path.{_≡_, refl, sym, ap, _∙_}
 use mathlib.Core.Bool.{Bool, true, false, _&&_, _||_}
 use Prim.Native.Nat.{ℕ, zero, suc, _+_, _*_, _/_, _%_, _<_}
@@ -14,7 +14,7 @@ pub and-one : (b : Bool) → b && true ≡ b
 and-one true = refl
 and-one false = refl
 
--- ---- the row and the column of a place, and of the next
+-- ---- the row and the column of a place, which are its two arguments, and of the next place
 
 module _ (e i : ℕ) where
   next-is : 0 < e → i + 1 ≡ i / e * e + (i % e + 1)
@@ -52,7 +52,7 @@ arguments-are e zero i row col p q = refl
 arguments-are e (suc zero) i row col p q = refl
 arguments-are e (suc (suc n)) i row col p q = rw (p (omega arith), q (omega arith))
 
--- a function that is not said to have them
+-- where the code gives no row and column to a binary function, there is no element
 no-elements : (e arity : ℕ) → ltb arity 2 || eqb e 0 ≡ true → 1 < arity → e ≡ 0
 no-elements e arity h k = eqb-true e 0 (rw (le-ltb arity 2 (omega arith)) at h)
 
@@ -62,6 +62,6 @@ no-row e arity i h k = rw (no-elements e arity h k, div-zero)
 pub no-col : (e arity i : ℕ) → ltb arity 2 || eqb e 0 ≡ true → 1 < arity → i ≡ i % e
 no-col e arity i h k = rw (no-elements e arity h k, mod-zero)
 
--- any other has an element
+-- where the code gives a row and a column, there is an element
 pub some-elements : (e arity : ℕ) → ltb arity 2 || eqb e 0 ≡ false → 0 < e
 some-elements e arity h = let n = eqb-false e 0 (or-no (ltb arity 2) (eqb e 0) h .1) in omega (arith, n)

@@ -17,7 +17,7 @@ use Rattle.book_parts.proofs.Places.{From, from-here, from-fits, part-ends}
 use Rattle.contents_check.specs.Part.{Part}
 
 module _ (bad : ℕ → Bool) where
-  -- within a part that starts at `first`, counted from there
+  -- if no place of a part is at fault, the search goes on past it; places are counted from the part's first
   part-nowhere : (n first j : ℕ) → least-from (λ i. bad (first + i)) n j ≡ Nowhere → (m : ℕ) → least-from bad (n + m) (first + j) ≡ least-from bad m (first + j + n)
   unfolding least-from
   part-nowhere zero first j e m = let p : 0 + m ≡ m = omega arith in let q : first + j + 0 ≡ first + j = omega arith in rw (p, q)
@@ -52,7 +52,7 @@ module _ (bad : ℕ → Bool) where
           let b : suc (first + j) ≡ first + suc j = omega arith in
           rw (a, q, b) (r e m)
 
-  -- a part with none at fault is passed
+  -- a part with no place at fault is passed over
   part-pass :
       (all first n : ℕ) → first + n ≤ all → least (λ i. bad (first + i)) n ≡ Nowhere → least-from bad (all - first) first ≡ least bad all →
       least-from bad (all - (first + n)) (first + n) ≡ least bad all

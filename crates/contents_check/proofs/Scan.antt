@@ -12,7 +12,7 @@ use Rattle.book.specs.Book.{Program, Place, size, place}
 use Rattle.book.specs.Contents.{bad-value}
 use Rattle.contents_check.specs.Part.{Faultless, SkippedTo, Part}
 
--- places that are not at fault are passed
+-- places that are not at fault are passed over
 least-skip :
     (bad : ℕ → Bool) (n i k : ℕ) → i + k ≤ n → ((j : ℕ) → i ≤ j → j < i + k → bad j ≡ false) → least-from bad (n - i) i ≡ least bad n →
     least-from bad (n - (i + k)) (i + k) ≡ least bad n
@@ -31,7 +31,7 @@ module _ (B : Program) (c : List ℕ) (E P : ℕ) (f : Function) (first end : �
   abbrev bad : ℕ → Bool
   bad i = bad-value B c (first + i)
 
-  -- all before l are passed
+  -- all places before l are passed over
   abbrev pub Passed : ℕ → Type 0
   Passed l = least-from bad (n - (l - first)) (l - first) ≡ least bad n
 
@@ -39,7 +39,7 @@ module _ (B : Program) (c : List ℕ) (E P : ℕ) (f : Function) (first end : �
   scan-start = let e : first - first ≡ 0 = omega arith in rw e (least-start bad n)
 
   module _ (l : ℕ) (from : first ≤ l) (p : Passed l) where
-    -- those that hold what is blameless
+    -- locations that hold a value that is not at fault are passed over
     pub scan-skip : (v r : ℕ) → Faultless c E f v → SkippedTo c v l end r → Passed r
     scan-skip v r fine h =
         let e : l - first + (r - l) ≡ r - first = omega (arith, h .from) in
@@ -53,7 +53,7 @@ module _ (B : Program) (c : List ℕ) (E P : ℕ) (f : Function) (first end : �
     place-is : l < end → place B l ≡ record { function = f; index = l - first }
     place-is h = let e : first + (l - first) ≡ l = omega arith in rw e at (part .places (l - first) (omega (arith, part .long)))
 
-    -- one that is judged
+    -- a location that is checked and is not at fault is passed over
     pub scan-pass : (r : Bool) → l < end → (place B l ≡ record { function = f; index = l - first } → r ≡ bad-value B c l) → r ≡ false → Passed (l + 1)
     scan-pass r h k q =
         let e : first + (l - first) ≡ l = omega arith in

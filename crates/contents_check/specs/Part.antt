@@ -18,13 +18,13 @@ arguments-by arity i row col = if eqb arity 0 then [] else if eqb arity 1 then i
 abbrev pub Faultless : List ℕ → ℕ → Function → ℕ → Type 0
 Faultless c E f v = (B : Program) (l : ℕ) → B .E ≡ E → place B l .function ≡ f → getD c l 0 ≡ v → bad-value B c l ≡ false
 
--- the locations from l to r hold v, and r is not past the end
+-- the locations from l up to r hold v, and r is not past `end`
 pub record SkippedTo (c : List ℕ) (v l end r : ℕ) : Type 0 where
   pub from : l ≤ r
   pub to : r ≤ end
   pub held : (k : ℕ) → l ≤ k → k < r → getD c k 0 ≡ v
 
--- in the book B, with these E and P, the locations from `first` to `end` are those of f
+-- in the book B, with these E and P, the locations from `first` up to `end` are those of f
 pub record Part (B : Program) (E P : ℕ) (f : Function) (first end : ℕ) : Type 0 where
   pub elements : B .E ≡ E
   pub permanent : B .P ≡ P

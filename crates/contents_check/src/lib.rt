@@ -1,4 +1,4 @@
-// Refusal 8 of a lent contents table.
+// Refusal 8 of a lent contents table: the least location at fault (SPECIFICATION 3.9).
 use book::Function;
 use book::Image;
 use text::Found;
@@ -9,27 +9,21 @@ ghost use Prim.Native.Nat.{_+_, _/_, _%_, _<_, _≤_};
 ghost use lib.Dec.{eqb, ltb};
 ghost use lib.ListN.{getD};
 ghost use Rattle.text.specs.Words.{least};
-ghost use Rattle.book.specs.Book.{Program, L, true-element, size, boolean, dynamic, default, place};
-ghost use Rattle.book.specs.Image.{held};
+ghost use Rattle.book.specs.Book.{Program, L, true-element, size, dynamic, default, place};
+ghost use Rattle.book.specs.Image.{low-program};
 ghost use Rattle.book.specs.Contents.{some-on-roll, all-permanent, bad-value};
 ghost use Rattle.contents_check.specs.Part.{arguments-by, Faultless, SkippedTo, Part};
 
-fn is_boolean(v: Value) -> bool
-    ensures { λ r. ⌜ r ≡ boolean v ⌝ }
-{
-    (v == 1) | (v == 2)
-}
+// ---- Refusal 8
 
-// ---- 8
-
-// x is on the roll.
+// x is an element on the roll, e being the number of elements.
 fn on_roll(contents: &[Value], e: Value, x: u32) -> bool
     ensures { λ r. ⌜ r ≡ (ltb x e && eqb (getD (now (contents .entry)) x 0) true-element) ⌝ }
 {
     (x < e as u32) & (text::fetch(contents, x as usize) == 2)
 }
 
-// The arguments are all permanent.
+// The arguments of location i of a function of that arity are all permanent; of a binary one, row and col are its arguments.
 fn all_permanent(p: Value, arity: u32, i: u32, row: u32, col: u32) -> bool
     ensures { λ r. ⌜ r ≡ all-permanent p (arguments-by arity i row col) ⌝ }
 {
@@ -42,7 +36,7 @@ fn all_permanent(p: Value, arity: u32, i: u32, row: u32, col: u32) -> bool
     (row < p as u32) & (col < p as u32)
 }
 
-// A value that f may hold if it is static: its default, or a permanent one at permanent arguments.
+// f may hold v at its location i: f is dynamic, or v is its default, or v and the arguments are permanent.
 fn is_static_fine(p: Value, f: Function, v: Value, i: u32, row: u32, col: u32) -> bool
     ensures { λ r. ⌜ r ≡ (dynamic f || eqb v (default f) || all-permanent p (arguments-by (f .arity) i row col) && ltb v p) ⌝ }
 {
@@ -52,7 +46,7 @@ fn is_static_fine(p: Value, f: Function, v: Value, i: u32, row: u32, col: u32) -
     (v == book_parts::default_of(f)) | all_permanent(p, f.arity, i, row, col) & (v < p)
 }
 
-// One of the arguments is on the roll.
+// One of the arguments of location i of a function of that arity is on the roll.
 fn some_on_roll(contents: &[Value], e: Value, arity: u32, i: u32, row: u32, col: u32) -> bool
     ensures { λ r. ⌜ ((B : Program) → B .E ≡ e → r ≡ some-on-roll B (now (contents .entry)) (arguments-by arity i row col)) ⌝ }
 {
@@ -65,8 +59,8 @@ fn some_on_roll(contents: &[Value], e: Value, arity: u32, i: u32, row: u32, col:
     on_roll(contents, e, row) | on_roll(contents, e, col)
 }
 
-// The row and the column of location i of a binary function.
-fn row_of(e: Value, arity: u32, i: u32) -> u32
+// The first argument of location i of a binary function.
+fn row_at(e: Value, arity: u32, i: u32) -> u32
     ensures { λ r. ⌜ (1 < arity → r ≡ i / e) ⌝ }
 {
     if (arity < 2) | (e == 0) {
@@ -75,7 +69,8 @@ fn row_of(e: Value, arity: u32, i: u32) -> u32
     i / e as u32
 }
 
-fn col_of(e: Value, arity: u32, i: u32) -> u32
+// The second argument of location i of a binary function.
+fn column_at(e: Value, arity: u32, i: u32) -> u32
     ensures { λ r. ⌜ (1 < arity → r ≡ i % e) ⌝ }
 {
     if (arity < 2) | (e == 0) {
@@ -84,15 +79,15 @@ fn col_of(e: Value, arity: u32, i: u32) -> u32
     i % e as u32
 }
 
-// Location l, which is number i of f, is at fault.
+// Refusal 8: location l, which is number i of f, is at fault.
 fn is_bad(contents: &[Value], e: Value, p: Value, f: Function, l: u32, i: u32) -> bool
     ensures { λ r. ⌜ ((B : Program) → B .E ≡ e → B .P ≡ p → place B l ≡ record { function = f; index = i } → r ≡ bad-value B (now (contents .entry)) l) ⌝ }
 {
-    let row = row_of(e, f.arity, i);
-    let col = col_of(e, f.arity, i);
+    let row = row_at(e, f.arity, i);
+    let col = column_at(e, f.arity, i);
     let v = text::fetch(contents, l as usize);
     let lawful = (v < e)
-        & (!book_parts::is_relation(f) | is_boolean(v))
+        & (!book_parts::is_relation(f) | book_parts::is_boolean(v))
         & is_static_fine(p, f, v, i, row, col);
     if l < e as u32 {
         return !(lawful & (!(v == 2) | (p as u32 <= l)));
@@ -102,7 +97,7 @@ fn is_bad(contents: &[Value], e: Value, p: Value, f: Function, l: u32, i: u32) -
     !(lawful & !trace)
 }
 
-// What a location of f may hold without fault: its default, if that is an element and not on the roll; else a number that none holds.
+// A value that no location of f is at fault for: its default, if that is an element and not on the roll; else a number that no location holds.
 fn faultless_value(contents: &[Value], e: Value, f: Function) -> u32
     ensures { λ r. ⌜ Faultless (now (contents .entry)) e f r ⌝ }
 {
@@ -113,7 +108,7 @@ fn faultless_value(contents: &[Value], e: Value, f: Function) -> u32
     65536
 }
 
-// A location from l to end, before which, from l on, all hold v.
+// A location from l up to `end`, before which all locations from l on hold v.
 fn skip_value(contents: &[Value], v: u32, l: u32, end: u32) -> u32
     requires { ⌜ l ≤ end ⌝ }
     ensures { λ r. ⌜ SkippedTo (now (contents .entry)) v l end r ⌝ }
@@ -129,7 +124,7 @@ fn skip_value(contents: &[Value], v: u32, l: u32, end: u32) -> u32
     k as u32
 }
 
-// The least location at fault of f's part, counted from its first. Nearly all are blameless, and only the others are judged.
+// The least location at fault of f's part, counted from its first. Nearly all hold a value that is not at fault, and only the others are checked in full.
 fn bad_part(contents: &[Value], e: Value, p: Value, f: Function, first: u32, end: u32) -> Found
     requires { ⌜ first ≤ end ⌝ }
     ensures { λ r. ⌜ ((B : Program) → Part B e p f first end → r ≡ least (λ i. bad-value B (now (contents .entry)) (first + i)) (size e (f .arity))) ⌝ }
@@ -145,9 +140,9 @@ fn bad_part(contents: &[Value], e: Value, p: Value, f: Function, first: u32, end
     Found::Nowhere
 }
 
-// 8 of a table: the least location at fault, function after function.
+// Refusal 8 of a lent table: the least location at fault, function after function.
 pub fn bad_value(image: &Image, contents: &[Value]) -> Found
-    ensures { λ r. ⌜ r ≡ least (bad-value (held (now (image .entry))) (now (contents .entry))) (L (held (now (image .entry)))) ⌝ }
+    ensures { λ r. ⌜ r ≡ least (bad-value (low-program (now (image .entry))) (now (contents .entry))) (L (low-program (now (image .entry)))) ⌝ }
 {
     let e = book_image::elements(image);
     let p = book_parts::permanent(image);

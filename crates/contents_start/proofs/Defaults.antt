@@ -31,7 +31,7 @@ module _ (v : ℕ) where
   pub fill-end : (c : List ℕ) (i n : ℕ) → length c ≡ n → i ≡ n → take i c ≡ replicate i v → c ≡ replicate n v
   fill-end c i n h k e = sym (take-all i c (omega arith)) ∙ e ∙ ap (λ (m : ℕ). replicate m v) k
 
--- ---- a run of the table filled with v
+-- ---- a part of the table filled with v
 
 module _ (first end v : ℕ) (c : List ℕ) where
   filled-long : length (function-filled first end v c) ≡ length c
@@ -90,7 +90,7 @@ module _ (a b v : ℕ) (c : List ℕ) (ordered : a ≤ b) (fits : b ≤ length c
       ∙ getD-drop a c ((b - a) + (k - b)) 0
       ∙ ap (λ (n : ℕ). getD c n 0) f
 
--- the run is lent as a part, as far as the table goes, and comes back filled
+-- the part is lent, as far as the table goes, and comes back filled
 pub run-is :
     (first end v a b : ℕ) (c ys : List ℕ) → first ≤ end → a ≡ min first (length c) → b ≡ min end (length c) → ys ≡ replicate (length (take (b - a) (drop a c))) v →
     take a c ++ (ys ++ drop (b - a) (drop a c)) ≡ function-filled first end v c
@@ -119,7 +119,7 @@ run-is first end v a b c ys o ea eb e =
 -- ---- function after function
 
 module _ (B : Program) (c₀ : List ℕ) where
-  -- the functions before g are done; their locations are those below first
+  -- the functions before g are filled; their locations are those below `first`
   pub record Filled (first g : ℕ) (c : List ℕ) : Type 0 where
     pub same : length c ≡ length c₀
     pub done : (k : ℕ) → k < length c₀ → k < first → getD c k 0 ≡ default-at B k

@@ -17,7 +17,7 @@ use Rattle.book.specs.declared.Entry.{Entry}
 use Rattle.book.specs.Book.{Program, Book, L, size, function-at, no-entry, entry-at, entry-location, default-at, defaults, enter, start}
 use Rattle.book.specs.Lines.{first-entry, entry-of, entries-of}
 use Rattle.book.specs.Contents.{in-bounds, bad-entry}
-use Rattle.book.specs.Image.{word, capped, program-in, first-entry-in, held}
+use Rattle.book.specs.Image.{word, capped, program-in, first-entry-in, low-program}
 use Rattle.book.specs.Check.{check-header, check-lines, check-book}
 use Rattle.book.specs.Sound.{Lawful}
 use Rattle.book.proofs.Accepted.{header-bounded, lines-book, book-lengths, accepted-lines, accepted, accepted-entries}
@@ -28,7 +28,7 @@ use Rattle.book.proofs.Image.{uncapped}
 use Rattle.contents_start.specs.Written.{defaults-in, entry-put, entries-put, entry-lines, started}
 use Rattle.contents_start.proofs.Defaults.{defaults-long}
 
--- ---- the loop over the lines
+-- ---- the loop over the contents lines
 
 module _ (B : Program) (at : ℕ → Line) where
   pub lines-first : (n : ℕ) (c : List ℕ) → entries-put B (table-from at 0 (n - 0)) c ≡ entries-put B (table at n) c
@@ -85,7 +85,7 @@ entries-are : (h : Header) (text : List ℕ) → entries-of h text ≡ table (λ
 unfolding entries-of
 entries-are h text = refl
 
--- m is an image that holds it
+-- m is an image that holds the book
 module _ (text : List ℕ) (b : Book) (passes : check-book text ≡ good b) (m : List ℕ) (is : program-in m ≡ b .program) (count : word m 5 ≡ length (b .entries)) where
   abbrev B : Program
   B = b .program
@@ -93,7 +93,7 @@ module _ (text : List ℕ) (b : Book) (passes : check-book text ≡ good b) (m :
   abbrev at : ℕ → Line
   at i = line text (first-entry-in m + i)
 
-  -- what its text says of it
+  -- what the text says of the book
   record Said : Type 0 where
     pub few : length (B .functions) ≤ 32
     pub lines : entry-lines m text ≡ table at (length (b .entries))
@@ -129,13 +129,13 @@ module _ (text : List ℕ) (b : Book) (passes : check-book text ≡ good b) (m :
       record { function = k .0; first = k .1; second = k .2; value = k .3 }
 
   -- what is written into a table that is long enough is the start of a run
-  pub start-is : (c : List ℕ) → held m ≡ B → L B ≤ length c → started m text c ≡ start b ++ drop (L B) c
+  pub start-is : (c : List ℕ) → low-program m ≡ B → L B ≤ length c → started m text c ≡ start b ++ drop (L B) c
   unfolding defaults start
-  start-is c held long =
+  start-is c low-program long =
       let s = said in
       let n : ℕ = length (b .entries) in
       let rest : List ℕ = drop (L B) c in
-      ap (λ (X : Program). entries-put X (entry-lines m text) (defaults-in X c)) held
+      ap (λ (X : Program). entries-put X (entry-lines m text) (defaults-in X c)) low-program
       ∙ ap (λ (ls : List Line). entries-put B ls (defaults-in B c)) (s .lines)
       ∙ ap (λ (d : List ℕ). entries-put B (table at n) d) (defaults-long B c long)
       ∙ put-all B (accepted text b passes) (s .few) rest at 0 n (defaults B) (length-table-from (default-at B) 0 (L B))

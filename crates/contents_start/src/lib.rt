@@ -6,11 +6,11 @@ ghost use mathlib.Core.Path.{_≡_};
 ghost use Prim.Native.Nat.{_+_, _≤_};
 ghost use lib.ListN.{length, set, replicate};
 ghost use Rattle.book.specs.Book.{offset};
-ghost use Rattle.book.specs.Image.{held};
+ghost use Rattle.book.specs.Image.{low-program};
 ghost use Rattle.book_parts.specs.Part.{put-in};
 ghost use Rattle.contents_start.specs.Written.{function-filled, defaults-in, entry-put, entries-put, entry-lines, started};
 
-// Every place of a part gets v.
+// Puts v at every place of a part.
 fn fill_part(part: &mut [Value], v: Value)
     ensures { λ _. ⌜ now (part .exit) ≡ replicate (length (now (part .entry))) v ⌝ }
 {
@@ -21,7 +21,7 @@ fn fill_part(part: &mut [Value], v: Value)
     }
 }
 
-// The locations from `first` to `end` get v, as far as the table goes.
+// Puts v at the locations from `first` up to `end`, as far as the table goes.
 fn fill_function(contents: &mut [Value], first: usize, end: usize, v: Value)
     requires { ⌜ first ≤ end ⌝ }
     ensures { λ _. ⌜ now (contents .exit) ≡ function-filled first end v (now (contents .entry)) ⌝ }
@@ -32,9 +32,9 @@ fn fill_function(contents: &mut [Value], first: usize, end: usize, v: Value)
     fill_part(&mut contents[a..b], v);
 }
 
-// Every location gets its default, function by function.
+// Puts its default at every location, function by function.
 fn write_defaults(image: &Image, contents: &mut [Value])
-    ensures { λ _. ⌜ now (contents .exit) ≡ defaults-in (held (now (image .entry))) (now (contents .entry)) ⌝ }
+    ensures { λ _. ⌜ now (contents .exit) ≡ defaults-in (low-program (now (image .entry))) (now (contents .entry)) ⌝ }
 {
     let n = book_image::functions(image);
     let mut first: u32 = 0;
@@ -48,7 +48,7 @@ fn write_defaults(image: &Image, contents: &mut [Value])
     }
 }
 
-// A location's number within its function.
+// The number within its function of the location at arguments x and y.
 fn offset(e: Value, arity: u32, x: Value, y: Value) -> usize
     ensures { λ r. ⌜ r ≡ offset e arity x y ⌝ }
 {
@@ -61,8 +61,8 @@ fn offset(e: Value, arity: u32, x: Value, y: Value) -> usize
     }
 }
 
-// Past the end nothing is put.
-fn put_value(part: &mut [Value], i: usize, v: Value)
+// Puts v at place i of a part; past its end nothing is put.
+fn store_value(part: &mut [Value], i: usize, v: Value)
     ensures { λ _. ⌜ now (part .exit) ≡ set (now (part .entry)) i v ⌝ }
 {
     if i < part.len() {
@@ -70,20 +70,20 @@ fn put_value(part: &mut [Value], i: usize, v: Value)
     }
 }
 
-// A function's own part is lent, from its first location, as far as the table goes; place i of it gets v.
-fn put_in_part(contents: &mut [Value], first: usize, end: usize, i: usize, v: Value)
+// Puts v at place i of the part from `first` up to `end`, as far as the table goes.
+fn store_in_part(contents: &mut [Value], first: usize, end: usize, i: usize, v: Value)
     requires { ⌜ first ≤ end ⌝ }
     ensures { λ _. ⌜ now (contents .exit) ≡ put-in first end (first + i) v (now (contents .entry)) ⌝ }
 {
     let n = contents.len();
     let a = text::smaller(first, n);
     let b = text::smaller(end, n);
-    put_value(&mut contents[a..b], i, v);
+    store_value(&mut contents[a..b], i, v);
 }
 
-// A contents line's value is put at its location.
+// Puts the value of a contents line at its location.
 fn write_entry(image: &Image, contents: &mut [Value], l: Line)
-    ensures { λ _. ⌜ now (contents .exit) ≡ entry-put (held (now (image .entry))) l (now (contents .entry)) ⌝ }
+    ensures { λ _. ⌜ now (contents .exit) ≡ entry-put (low-program (now (image .entry))) l (now (contents .entry)) ⌝ }
 {
     let f = text::low(l.a);
     let x = text::low(l.b);
@@ -92,12 +92,12 @@ fn write_entry(image: &Image, contents: &mut [Value], l: Line)
     let g = book_parts::function_at(image, f);
     let own = book_parts::part_from(image, f, g.first);
     let i = offset(e, g.arity, x, y);
-    put_in_part(contents, own.first, own.end, i, text::low(l.d));
+    store_in_part(contents, own.first, own.end, i, text::low(l.d));
 }
 
-// All contents lines, one by one, from where the image says that they are.
+// Puts the values of all contents lines, one by one, from where the image says that the lines are.
 fn write_entries(book: &[u8], image: &Image, contents: &mut [Value])
-    ensures { λ _. ⌜ now (contents .exit) ≡ entries-put (held (now (image .entry))) (entry-lines (now (image .entry)) (now (book .entry))) (now (contents .entry)) ⌝ }
+    ensures { λ _. ⌜ now (contents .exit) ≡ entries-put (low-program (now (image .entry))) (entry-lines (now (image .entry)) (now (book .entry))) (now (contents .entry)) ⌝ }
 {
     let first = book_image::first_entry(image);
     let count = book_image::entries(image);
@@ -109,7 +109,7 @@ fn write_entries(book: &[u8], image: &Image, contents: &mut [Value])
     }
 }
 
-// The start of a run of the book whose image it is: every location's default, then the contents lines.
+// Writes the start of a run of the book whose image it is: every location's default, then the contents lines.
 pub fn write_start(book: &[u8], image: &Image, contents: &mut [Value])
     ensures { λ _. ⌜ now (contents .exit) ≡ started (now (image .entry)) (now (book .entry)) (now (contents .entry)) ⌝ }
 {

@@ -7,11 +7,10 @@ use Prim.Native.Nat.{ℕ, zero, suc, _+_, _≤_, _<_}
 use native.Mathlib.Omega.{arith}
 use native.Mathlib.Decide.{ℕ-discrete}
 use Rattle.text.specs.Words.{has}
-use Rattle.text.proofs.Words.{or-cases}
+use Rattle.text.proofs.Words.{or-cases, has-append}
 use Rattle.engine.specs.Move.{append-from}
-use Rattle.engine.proofs.EqualReads.{has-append}
 
--- the numbers from i on, in two runs
+-- the lists from i on, split at i + m
 pub append-split : (f : ℕ → List ℕ) (i m n : ℕ) → append-from f i (m + n) ≡ append-from f i m ++ append-from f (i + m) n
 unfolding append-from
 append-split f i zero n =
@@ -42,11 +41,11 @@ append-none f i (suc n) h =
     ap₂ (λ (s t : List ℕ). s ++ t) (ap f (omega arith) ∙ h 0 (omega arith))
     (append-none f (suc i) n (λ k l. ap f (omega arith) ∙ h (suc k) (omega arith)))
 
--- from some number on there is nothing more
+-- where f gives nothing from a number on, the numbers from there on may be left out
 pub append-past : (f : ℕ → List ℕ) (i m n : ℕ) → ((k : ℕ) → k < n → f (i + m + k) ≡ []) → append-from f i (m + n) ≡ append-from f i m
 append-past f i m n h = append-split f i m n ∙ ap (λ (s : List ℕ). append-from f i m ++ s) (append-none f (i + m) n h) ∙ append-nil (append-from f i m)
 
--- ---- what is in them
+-- ---- what is in the appended lists
 
 -- what f gives at one of the numbers is in the list
 pub append-has : (f : ℕ → List ℕ) (i n l x : ℕ) → i ≤ l → l < i + n → has (f l) x ≡ true → has (append-from f i n) x ≡ true

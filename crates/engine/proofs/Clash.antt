@@ -1,4 +1,4 @@
--- Where a move can clash: two releases never do, so only a location that an update names.
+-- Where a move can clash: two releases never clash, so only a location that an update names can.
 use mathlib.Core.Path.{_≡_, refl, sym, _∙_}
 use mathlib.Core.Logic.{_⊎_, inl, inr, _≢_}
 use mathlib.Core.Bool.{Bool, true, false, not, or-true, false≢true}
@@ -17,12 +17,12 @@ use Rattle.engine.specs.declared.Instruction.the-variants.{Update, Relea
 use Rattle.engine.specs.Rule.{Walk}
 use Rattle.engine.specs.Move.{values, updates, values-at, other, two-values, sets-label, set-to-label, clashes}
 use Rattle.engine.proofs.Values.{Sets, Cleared, Origin, origin, updates-at}
-use Rattle.engine.proofs.Walks.{Made, frees-fine}
+use Rattle.engine.proofs.Walks.{Made, releases-fine}
 
 -- ---- two releases give a location the same
 
 module _ (B : Program) (ok : Lawful B) (c : List ℕ) (s : Sound B c) where
-  -- the Reserve entry of x is cleared by no other label
+  -- a release of another label does not clear Reserve at x
   not-own : (x y l : ℕ) → x < B .E → B .P ≤ y → x ≡ l → y ≢ l → concerns B l (at c l) y ≡ true → ⊥
   not-own x y l hx hy e n k = go (or-cases (has (arguments-at B l) y) (eqb (at c l) y) k)
     where
@@ -39,7 +39,7 @@ module _ (B : Program) (ok : Lawful B) (c : List ℕ) (s : Sound B c) where
   releases-agree x y l v w hx hy (inr (n, d, k, a)) (inl (f, b)) = absurd (not-own y x l (hy .1) (hx .0) f n k)
   releases-agree x y l v w hx hy (inr (n, d, k, a)) (inr (m, e, j, b)) = a ∙ sym b
 
--- ---- a location that clashes is an update's own
+-- ---- a location that clashes is the own location of an update
 
 other-is : (v : ℕ) (ws : List ℕ) → other v ws ≡ true → (w : ℕ) × (has ws w ≡ true) × (w ≢ v)
 unfolding other
@@ -81,8 +81,8 @@ clash-own B ok c s w m l h e = go _ (or-cases (two-values (values-at (updates B 
     from v u n (inl t) o = (v, t)
     from v u n (inr t) (inl o) = (u, o)
     from v u n (inr (x, f, a)) (inr (y, g, b)) =
-        let p = frees-fine B c (w .next) (w .made) x (m .all) f in
-        let q = frees-fine B c (w .next) (w .made) y (m .all) g in
+        let p = releases-fine B c (w .next) (w .made) x (m .all) f in
+        let q = releases-fine B c (w .next) (w .made) y (m .all) g in
         absurd (n (sym (releases-agree B ok c s x y l v u (p .0, p .1) (q .0, q .1) a b)))
 
     go : (xs : List ℕ) → (two-values (values-at (updates B c (w .made)) l) ≡ true) ⊎ (set-to-label xs l (w .made) ≡ true) → (v : ℕ) × Sets l v (w .made)

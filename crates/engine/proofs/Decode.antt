@@ -1,4 +1,4 @@
--- The trees that the nodes of a lawful book stand for are proper: what check 5 asks of their operands.
+-- The trees that the nodes of a lawful book stand for are proper: their operands are what check 5 asks for.
 use mathlib.Core.Path.{_≡_, refl, sym, ap, _∙_}
 use mathlib.Core.Logic.{dite, _≢_}
 use mathlib.Core.Bool.{Bool, true, false, _&&_, _||_, or-false}
@@ -29,7 +29,7 @@ Proper B (at2 f a b) = Proper B a × Proper B b
 Proper B (negated a) = Proper B a
 Proper B (joined o a b) = Proper B a × Proper B b
 
--- a function after Reserve of this arity
+-- f is a function after Reserve, of arity r
 abbrev pub Named : Program → ℕ → ℕ → Type 0
 Named B f r = (0 < f) × (f < length (B .functions)) × (function-at B f .arity ≡ r)
 

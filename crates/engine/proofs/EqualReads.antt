@@ -1,8 +1,8 @@
 -- Equal reads (SPECIFICATION 5.7): two contents with equal static functions that agree on what a move reads in one of them give it the same instructions
--- if none of 11 to 14, 18 and 19 is met there, and otherwise the same refusal if they agree on Reserve throughout.
+-- if it meets none of refusals 11 to 14, 18 and 19 there, and otherwise the same refusal if they agree on Reserve throughout.
 use mathlib.Core.Path.{_≡_, refl, sym, ap, _∙_}
 use mathlib.Core.Logic.{dite}
-use mathlib.Core.Bool.{Bool, true, false, _||_, or-true, or-assoc}
+use mathlib.Core.Bool.{Bool, true, false, _||_, or-true}
 use mathlib.Core.List.{List, [], _∷_, _++_}
 use Prim.Native.Nat.{ℕ, _≤_, _<_}
 use native.Mathlib.Omega.{arith}
@@ -19,18 +19,15 @@ use Rattle.engine.specs.Reader.{locations-read}
 use Rattle.engine.specs.Rule.{Walk, Walked, walking, refused-at, agent-walk}
 use Rattle.engine.specs.Claims.{SameStatic}
 use Rattle.engine.specs.Move.{Input, Fired, fires, unless-clash, clashes, walked, walk-reads, fired-of, fire-or-clash, settle, move, reads-of, reads, dynamic-among, extra-reads}
-use Rattle.engine.proofs.Reader.{Agree, local, seen-local}
+use Rattle.engine.proofs.Reader.{Agree, local, reads-local}
+use Rattle.text.proofs.Words.{has-append}
 
--- past the last location both give 0
+-- contents with equal static functions agree on every static location; past the last location both have 0
 static-agree : {B : Program} {c d : List ℕ} → SameStatic B c d → (l : ℕ) → dynamic-at B l ≡ false → at c l ≡ at d l
 static-agree {B} {c} {d} s l e = dite (decLt l (L B)) (λ h. s .static l h e)
     (λ (h : ¬ (l < L B)). List·getD-eq-default c 0 {n = l} (omega (arith, s .long)) ∙ sym (List·getD-eq-default d 0 {n = l} (omega (arith, s .as-long))))
 
-pub has-append : (p q : List ℕ) (i : ℕ) → has (p ++ q) i ≡ (has p i || has q i)
-has-append [] q i = refl
-has-append (j ∷ p) q i = rw (has-append p q i) (sym (or-assoc (eqb j i) (has p i) (has q i)))
-
--- a list's dynamic locations
+-- a dynamic location of a list is one of its dynamic locations
 has-dynamic : (B : Program) (ls : List ℕ) (l : ℕ) → has ls l ≡ true → dynamic-at B l ≡ true → has (dynamic-among B ls) l ≡ true
 unfolding dynamic-among
 has-dynamic B [] l h e = h
@@ -45,7 +42,7 @@ has-dynamic B (k ∷ ls) l h e = go (eqb k l) refl h (has-dynamic B ls l)
     go true q h r = rw (eqb-true k l q, e, eq-eqb l l refl)
     go false q h r = keep (dynamic-at B k) (r h e)
 
--- what the walk looks at is read, whatever becomes of the move
+-- what the walk reads is read by the move, whether it fires or is refused
 looked-read : (B : Program) (c : List ℕ) (i : Input) (l : ℕ) → has (walk-reads B c i) l ≡ true → has (reads B c i) l ≡ true
 unfolding reads move settle fire-or-clash
 looked-read B c i l h = go (walked B c i)
@@ -60,11 +57,11 @@ looked-read B c i l h = go (walked B c i)
         let f = fired-of B c (walk-reads B c i) (w .made) in
         judge (least (clashes (f .instructions) (f .updates)) (length (f .updates))) f (rw (has-append (walk-reads B c i) (extra-reads B c (w .made) (f .updates)) l, h))
 
--- none of 11 to 14, 18 and 19 met: the same instructions, and the same places looked at
+-- if the walk meets none of refusals 11 to 14, 18 and 19 in c, it gives the same instructions in d and reads the same
 pub same-instructions : (B : Program) (c d : List ℕ) (i : Input) → SameStatic B c d → (w : Walk) → walked B c i ≡ walking w
     → ((l : ℕ) → has (reads B c i) l ≡ true → at c l ≡ at d l) → (walked B d i ≡ walking w) × (walk-reads B d i ≡ walk-reads B c i)
 same-instructions B c d i s w e h =
-    (sym (local c d (agent-walk B (i .agent) (i .picks)) agree) ∙ e, ap (dynamic-among B) (sym (seen-local c d (agent-walk B (i .agent) (i .picks)) agree)))
+    (sym (local c d (agent-walk B (i .agent) (i .picks)) agree) ∙ e, ap (dynamic-among B) (sym (reads-local c d (agent-walk B (i .agent) (i .picks)) agree)))
   where
     by : (l : ℕ) → has (locations-read c (agent-walk B (i .agent) (i .picks))) l ≡ true → (b : Bool) → dynamic-at B l ≡ b → at c l ≡ at d l
     by l m false q = static-agree s l q
@@ -73,8 +70,8 @@ same-instructions B c d i s w e h =
     agree : Agree c d (locations-read c (agent-walk B (i .agent) (i .picks)))
     agree l m = by l m (dynamic-at B l) refl
 
--- One met: the same one, if Reserve, which is function 0, is the same throughout. The walk looks at Reserve for 12 and 13 too, so of what it reads
--- the contents need only agree past Reserve.
+-- If the walk meets a refusal in c, it meets the same in d, if Reserve, which is function 0, is the same throughout. The walk reads Reserve for refusals 12 and
+-- 13 too, so of what it reads the contents need only agree past Reserve.
 pub same-refusal : (B : Program) (c d : List ℕ) (i : Input) → SameStatic B c d → (n q : ℕ) → walked B c i ≡ refused-at n q
     → ((l : ℕ) → B .E ≤ l → has (reads B c i) l ≡ true → at c l ≡ at d l) → ((x : ℕ) → x < B .E → at c x ≡ at d x) → walked B d i ≡ refused-at n q
 same-refusal B c d i s n q e h r = sym (local c d (agent-walk B (i .agent) (i .picks)) (λ l m. by l m (dynamic-at B l) refl)) ∙ e

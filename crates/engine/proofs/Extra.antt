@@ -1,4 +1,4 @@
--- What a move reads beside what its walk looks at, one location's list at a time: what is in it.
+-- What a move reads beside what its walk reads, one location's list at a time: what is in it.
 use mathlib.Core.Path.{_≡_, refl}
 use mathlib.Core.Logic.{_⊎_, inl, inr, _≢_}
 use mathlib.Core.Bool.{Bool, true, false, _&&_, not, false≢true}

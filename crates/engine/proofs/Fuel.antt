@@ -1,4 +1,4 @@
--- The tree of a lawful book's rule is the same however far past 32 nodes one looks: the depth bound never ends a walk.
+-- The tree of a lawful book's rule is the same however much deeper than 32 nodes it is built: the depth bound never ends a walk.
 use mathlib.Core.Path.{_≡_, refl, ap}
 use mathlib.Core.Logic.{dite}
 use mathlib.Core.Bool.{true}
@@ -66,7 +66,7 @@ module _ (B : Program) (ok : Lawful B) where
       go (suc (suc (suc (suc (suc (suc (suc (suc (suc (suc (suc (suc (suc zero))))))))))))) e = two 13 e refl refl
       go (suc (suc (suc (suc (suc (suc (suc (suc (suc (suc (suc (suc (suc (suc k)))))))))))))) e = tt
 
-  -- where d nodes down are as many as the depth bound leaves, more change nothing
+  -- a term built as deep as the depth bound leaves room for is the same if it is built deeper
   pub same-term : (d e n : ℕ) → n < length (B .nodes) → 33 ≤ d + depth-at B n → d ≤ e → term-at ns e n ≡ term-at ns d n
   unfolding tree
   same-term zero e n h k l = absurd (omega (arith, depth-most B ok n h))
@@ -161,7 +161,7 @@ module _ (B : Program) (ok : Lawful B) where
       go a-skip b t r = refl
       go no-rule b t r = refl
 
-  -- so 32, which is what `rule-at` looks down, is never what ends an agent's walk
+  -- 32, which is how deep `rule-at` builds, is never what ends an agent's walk
   pub same-root : (k d : ℕ) → k < length (B .agents)
       → rule-tree (node-at B) (32 + d) (rule-shape (node-at B (agent-at B k .root))) (agent-at B k .root) (node-at B (agent-at B k .root))
       ≡ rule-at (node-at B) (agent-at B k .root)

@@ -1,5 +1,5 @@
 pub mod Reader
-pub mod Seen
+pub mod LocationsRead
 pub mod Import
 pub mod Picks
 pub mod EqualReads

@@ -1,5 +1,5 @@
--- A move that fires: its updates and no others change the contents, static locations are never written, all that sound contents have, the roll rule
--- with it, is kept; what it releases is cleared, and it reads Reserve at each label that it takes out of a location. An idle one leaves the contents as they are.
+-- A move that fires: its updates and no others change the contents, static locations are never written, and the contents after it are sound, the roll rule
+-- included; what it releases is cleared, and it reads Reserve at each label that it takes out of a location. An idle one leaves the contents as they are.
 use mathlib.Core.Path.{_≡_, refl, sym, ap, subst, _∙_}
 use mathlib.Core.Logic.{_⊎_, inl, inr, dite, _≢_}
 use mathlib.Core.Bool.{Bool, true, false, not, or-true, true≢false, false≢true}
@@ -14,7 +14,7 @@ use borrow.Author.Tests.{eq-eqb, eqb-true, not-false}
 use Rattle.text.specs.Words.{if_then_else_, has, some-below, least}
 use Rattle.text.specs.declared.Found.{Found}
 use Rattle.text.specs.declared.Found.the-variants.{Nowhere, Here}
-use Rattle.text.proofs.Words.{or-no, least-none, some-below-true, some-below-from, refuted}
+use Rattle.text.proofs.Words.{or-no, least-none, some-below-true, some-below-from, refuted, has-append}
 use Rattle.book.specs.Book.{Program, L, true-element, false-element, boolean, node-at, agent-at, place, relation-at, dynamic-at, default-at, arguments-at}
 use Rattle.book.specs.Sound.{Lawful, at, Argument, OnRoll, Sound}
 use Rattle.book.proofs.Places.{roll-place, roll-inside, roll-argument, default-low}
@@ -23,13 +23,12 @@ use Rattle.engine.specs.declared.Instruction.the-variants.{Update, Relea
 use Rattle.engine.specs.Reader.{done, value-in}
 use Rattle.engine.specs.Rule.{Walk, Walked, walking, refused-at, _then_, all-taken, walk, agent-walk, rule-at, no-variables}
 use Rattle.engine.specs.Move.{values, updates, values-at, released, other, two-values, clashes, idle, new-value, fire, is-some, writes, append-from, release-reads, changed-reads, extra-reads, Input, Fired, fires, unless-clash, walked, walk-reads, fired-of, fire-or-clash, settle, move, reads}
-use Rattle.engine.proofs.Reader.{gives-bind}
-use Rattle.engine.proofs.EqualReads.{has-append}
+use Rattle.engine.proofs.Reader.{value-bind}
 use Rattle.engine.proofs.Append.{append-has}
 use Rattle.engine.proofs.Extra.{taken-has}
 use Rattle.engine.proofs.Decode.{proper-rule}
-use Rattle.engine.proofs.Values.{Sets, Frees, frees-has, has-frees, set-to-none, Cleared, Origin, origin, sets-values, frees-values, length-updates, updates-at, updates-past, new-cases, only-value, fire-inside, fire-at}
-use Rattle.engine.proofs.Walks.{Fine, sets-fine, frees-fine, Made, Comes, walk-comes, taken-comes, low-clean}
+use Rattle.engine.proofs.Values.{Sets, Releases, releases-has, has-releases, set-to-none, Cleared, Origin, origin, sets-values, releases-values, length-updates, updates-at, updates-past, new-cases, only-value, fire-inside, fire-at}
+use Rattle.engine.proofs.Walks.{Fine, sets-fine, releases-fine, Made, Comes, walk-comes, taken-comes, low-clean}
 
 pub fire-length : (us : List (List ℕ)) (c : List ℕ) → length (fire us c) ≡ length c
 unfolding fire
@@ -119,7 +118,7 @@ module _ (B : Program) (B-ok : Lawful B) (c : List ℕ) (c-ok : Sound B c) (i : 
       let r = walk-comes B c B-ok c-ok (g .element) (B-ok .agents (i .agent)) (rule-at (node-at B) (g .root)) no-variables (record { made = []; next = B .P; left = i .picks })
       (proper-rule B B-ok (g .root)) (λ v. rw (no-value v) (low-clean B c B-ok c-ok (B .P) 0 (omega (arith, B-ok .low))))
       (record { from = omega arith; upto = B-ok .high; all = tt; taken = λ x o h. absurd (omega (arith, c-ok .labels x o)) }) in
-      let t : Comes B c (B .P) (walked B c i) = rw (gives-bind c o (λ x. done (x then λ v. all-taken (g .root) (v .left) v)))
+      let t : Comes B c (B .P) (walked B c i) = rw (value-bind c o (λ x. done (x then λ v. all-taken (g .root) (v .left) v)))
       (end (value-in c o) (g .root) r) in
       subst (Comes B c (B .P)) e t .1
     where
@@ -152,11 +151,11 @@ module _ (B : Program) (B-ok : Lawful B) (c : List ℕ) (c-ok : Sound B c) (i : 
     unfolding is
     fine l v t = sets-fine B c (s .walk .next) is l v (made .all) t
 
-    label : (x : ℕ) → Frees x is → Fine B c (s .walk .next) (Release x)
+    label : (x : ℕ) → Releases x is → Fine B c (s .walk .next) (Release x)
     unfolding is
-    label x t = frees-fine B c (s .walk .next) is x (made .all) t
+    label x t = releases-fine B c (s .walk .next) is x (made .all) t
 
-    -- a value that l is given, and where it comes from
+    -- where a value that location l is given comes from: an update or a release
     from : (l v : ℕ) → has (values-at us l) v ≡ true → (l < L B) × Origin B c is l v
     from l v m = dite (decLt l (L B)) inside (λ (k : ¬ (l < L B)). absurd (false≢true (rw (← gave, updates-past B c is l (omega arith)) at m)))
       where
@@ -190,7 +189,7 @@ module _ (B : Program) (B-ok : Lawful B) (c : List ℕ) (c-ok : Sound B c) (i : 
     unfolding us
     fired-static l e = rw (still l e)
 
-    -- contents after are the old ones with the updates and no others
+    -- the contents after the move are the old ones with its updates and no others
     pub fired-frame : (l : ℕ) → at (fire (f .updates) c) l ≡ new-value (at c l) (values-at (f .updates) l)
     fired-frame l = fire-at (f .updates) c l (omega (arith, fired-length B c i f moves, c-ok .long))
 
@@ -210,11 +209,11 @@ module _ (B : Program) (B-ok : Lawful B) (c : List ℕ) (c-ok : Sound B c) (i : 
     on-default x h = rw (roll-place B B-ok x h, B-ok .reserve)
 
     -- a label on the roll afterwards was released, or was on it before and is not taken
-    cause : (x : ℕ) → OnRoll B d x → Frees x is ⊎ (OnRoll B c x × (s .walk .next ≤ x))
+    cause : (x : ℕ) → OnRoll B d x → Releases x is ⊎ (OnRoll B c x × (s .walk .next ≤ x))
     unfolding is
-    cause x (h, e) = cases (λ v. v ≡ true-element → Frees x is ⊎ (OnRoll B c x × (s .walk .next ≤ x))) x old given e
+    cause x (h, e) = cases (λ v. v ≡ true-element → Releases x is ⊎ (OnRoll B c x × (s .walk .next ≤ x))) x old given e
       where
-        old : values-at us x ≡ [] → at c x ≡ true-element → Frees x is ⊎ (OnRoll B c x × (s .walk .next ≤ x))
+        old : values-at us x ≡ [] → at c x ≡ true-element → Releases x is ⊎ (OnRoll B c x × (s .walk .next ≤ x))
         old n q = inr (
           (h, q),
           dite (decLt x (s .walk .next))
@@ -224,23 +223,23 @@ module _ (B : Program) (B-ok : Lawful B) (c : List ℕ) (c-ok : Sound B c) (i : 
               (λ (b : ¬ (x < s .walk .next)). omega arith),
         )
 
-        given : (v : ℕ) → has (values-at us x) v ≡ true → v ≡ true-element → Frees x is ⊎ (OnRoll B c x × (s .walk .next ≤ x))
+        given : (v : ℕ) → has (values-at us x) v ≡ true → v ≡ true-element → Releases x is ⊎ (OnRoll B c x × (s .walk .next ≤ x))
         given v m q = go (from x v m .1)
           where
-            go : Origin B c is x v → Frees x is ⊎ (OnRoll B c x × (s .walk .next ≤ x))
+            go : Origin B c is x v → Releases x is ⊎ (OnRoll B c x × (s .walk .next ≤ x))
             go (inl t) = absurd (omega (arith, fine x v t .4 h))
             go (inr (y, r, inl (p, z))) = inl (rw (← p) r)
             go (inr (y, r, inr (n, a, b, z))) = absurd (omega (arith, on-default x h))
 
-    -- what a released label leaves at a dynamic location of it
-    swept : (x l v : ℕ) → Frees x is → l < L B → Cleared B c x l v → at d l ≡ v
+    -- where a label x is released, a location that concerns it has the value that clearing gives
+    swept : (x l v : ℕ) → Releases x is → l < L B → Cleared B c x l v → at d l ≡ v
     unfolding d us
-    swept x l v r h z = fired-frame l ∙ one-value B c i f moves l v (to l v h (frees-values B c is x l v r z))
+    swept x l v r h z = fired-frame l ∙ one-value B c i f moves l v (to l v h (releases-values B c is x l v r z))
 
     arguments : (x l : ℕ) → OnRoll B d x → l < L B → l ≢ x → Argument B x l → at d l ≡ default-at B l
     arguments x l o h n a = go (cause x o)
       where
-        freed : Frees x is → (b : Bool) → dynamic-at B l ≡ b → at d l ≡ default-at B l
+        freed : Releases x is → (b : Bool) → dynamic-at B l ≡ b → at d l ≡ default-at B l
         freed r false q = cases (λ v. v ≡ default-at B l) l (λ e. c-ok .fixed-arguments l x h q (label x r .0) a)
             (λ v m. absurd (false≢true (rw (still l q) at m)))
         freed r true q = swept x l (default-at B l) r h (inr ((λ z. n (sym z)), q, rw a, refl))
@@ -250,7 +249,7 @@ module _ (B : Program) (B-ok : Lawful B) (c : List ℕ) (c-ok : Sound B c) (i : 
         given b p v (inr (y, r, inl (e, z))) = absurd (n (roll-argument B B-ok x l (omega (arith, label y r .1)) a))
         given b p v (inr (y, r, inr (k, e, u, z))) = z
 
-        go : Frees x is ⊎ (OnRoll B c x × (s .walk .next ≤ x)) → at d l ≡ default-at B l
+        go : Releases x is ⊎ (OnRoll B c x × (s .walk .next ≤ x)) → at d l ≡ default-at B l
         go (inl r) = freed r (dynamic-at B l) refl
         go (inr (p, b)) = cases (λ v. v ≡ default-at B l) l (λ e. c-ok .arguments x l p h n a) (λ v m. given b p v (from l v m .1))
 
@@ -259,11 +258,11 @@ module _ (B : Program) (B-ok : Lawful B) (c : List ℕ) (c-ok : Sound B c) (i : 
     has-some (w ∷ ws) v h = refl
 
     -- a location that holds a label which is released is written
-    holder-written : (x l : ℕ) → Frees x is → l < L B → at c l ≡ x → writes us l ≡ true
+    holder-written : (x l : ℕ) → Releases x is → l < L B → at c l ≡ x → writes us l ≡ true
     holder-written x l r h e = go (dynamic-at B l) refl
       where
         by : (v : ℕ) → Cleared B c x l v → writes us l ≡ true
-        by v z = has-some (values-at us l) v (to l v h (frees-values B c is x l v r z))
+        by v z = has-some (values-at us l) v (to l v h (releases-values B c is x l v r z))
 
         go : (b : Bool) → dynamic-at B l ≡ b → writes us l ≡ true
         go false q = absurd (omega (arith, c-ok .fixed-values l h q, label x r .0))
@@ -274,7 +273,7 @@ module _ (B : Program) (B-ok : Lawful B) (c : List ℕ) (c-ok : Sound B c) (i : 
     unfolding is us clashes
     values-kept x l o h = go (cause x o)
       where
-        held : Frees x is → values-at us l ≡ [] → at c l ≡ x → ⊥
+        held : Releases x is → values-at us l ≡ [] → at c l ≡ x → ⊥
         held r n e = false≢true (rw n at (holder-written x l r h e))
 
         -- no location is set to a released label
@@ -283,26 +282,26 @@ module _ (B : Program) (B-ok : Lawful B) (c : List ℕ) (c-ok : Sound B c) (i : 
             let e = least-none (clashes (f .instructions) (f .updates)) (length (f .updates)) (s .no-clash) l (omega (arith, fired-length B c i f moves)) in
             true≢false (sym r ∙ set-to-none (released (f .instructions)) (f .instructions) l x (or-no (two-values (values-at us l)) _ e .1) (rw gave-is at t))
 
-        freed : Frees x is → (v : ℕ) → Origin B c is l v → v ≢ x
-        freed r v (inl t) e = unset (rw gave-is at (frees-has is x r)) (rw e at t)
+        freed : Releases x is → (v : ℕ) → Origin B c is l v → v ≢ x
+        freed r v (inl t) e = unset (rw gave-is at (releases-has is x r)) (rw e at t)
         freed r v (inr (y, t, z)) e = omega (arith, given-low y l v z, label x r .0)
 
         stays : s .walk .next ≤ x → OnRoll B c x → (v : ℕ) → Origin B c is l v → v ≢ x
         stays b p v (inl t) e = omega (arith, fine l v t .2 .1 (rw e p))
         stays b p v (inr (y, t, z)) e = omega (arith, given-low y l v z, c-ok .labels x p)
 
-        go : Frees x is ⊎ (OnRoll B c x × (s .walk .next ≤ x)) → at d l ≢ x
+        go : Releases x is ⊎ (OnRoll B c x × (s .walk .next ≤ x)) → at d l ≢ x
         go (inl r) = cases (λ v. v ≢ x) l (λ n e. held r n e) (λ v m. freed r v (from l v m .1))
         go (inr (p, b)) = cases (λ v. v ≢ x) l (λ n. c-ok .values x l p h) (λ v m. stays b p v (from l v m .1))
 
     labels : (x : ℕ) → OnRoll B d x → B .P ≤ x
     labels x o = go (cause x o)
       where
-        go : Frees x is ⊎ (OnRoll B c x × (s .walk .next ≤ x)) → B .P ≤ x
+        go : Releases x is ⊎ (OnRoll B c x × (s .walk .next ≤ x)) → B .P ≤ x
         go (inl r) = label x r .0
         go (inr (p, b)) = c-ok .labels x p
 
-    -- what sound contents have, the roll rule with it, is kept
+    -- the contents after the move are sound, the roll rule included
     pub fired-keep : Sound B (fire (f .updates) c)
     unfolding d us
     fired-keep = record {
@@ -327,10 +326,10 @@ module _ (B : Program) (B-ok : Lawful B) (c : List ℕ) (c-ok : Sound B c) (i : 
 
     -- ---- labels
 
-    freed-is : (x : ℕ) → has (released (f .instructions)) x ≡ true → Frees x is
-    freed-is x h = has-frees is x (rw (← gave-is) at h)
+    freed-is : (x : ℕ) → has (released (f .instructions)) x ≡ true → Releases x is
+    freed-is x h = has-releases is x (rw (← gave-is) at h)
 
-    -- what is released is a label
+    -- what a move releases is a label
     pub fired-label : (x : ℕ) → has (released (f .instructions)) x ≡ true → (B .P ≤ x) × (x < B .E)
     fired-label x h = let t = label x (freed-is x h) in (t .0, t .1)
 
@@ -340,7 +339,7 @@ module _ (B : Program) (B-ok : Lawful B) (c : List ℕ) (c-ok : Sound B c) (i : 
     fired-returns x h =
         let r = freed-is x h in
         let b : x < L B = omega (arith, label x r .1, roll-inside B B-ok) in (
-          has-some (values-at us x) true-element (to x true-element b (frees-values B c is x x true-element r (inl (refl, refl)))),
+          has-some (values-at us x) true-element (to x true-element b (releases-values B c is x x true-element r (inl (refl, refl)))),
           swept x x true-element r b (inl (refl, refl)),
         )
 
@@ -351,7 +350,7 @@ module _ (B : Program) (B-ok : Lawful B) (c : List ℕ) (c-ok : Sound B c) (i : 
         let r = freed-is x h in
         holder-written x l r (held-inside B B-ok c c-ok l (omega (arith, label x r .0))) e
 
-    -- what changes a location from a label to another value reads Reserve at the label
+    -- a move that changes a location from a label to another value reads Reserve at the label
     pub fired-takes : (l : ℕ) → B .P ≤ at c l → at (fire (f .updates) c) l ≢ at c l → has (f .reads) (at c l) ≡ true
     unfolding extra-reads
     fired-takes l p n =
@@ -386,7 +385,7 @@ other-none x [] h = refl
 other-none x (w ∷ ws) h =
     rw (eq-eqb w x (h w (rw (eq-eqb w w refl))), other-none x ws (λ v e. h v (rw e (or-true (eqb w v)))))
 
--- and those of a move that fires, if they leave them so, would change none
+-- if the updates of a move that fires leave the contents as they are, it is idle
 pub leaves-idle : (B : Program) → Lawful B → (c : List ℕ) → Sound B c → (i : Input) (f : Fired) → move B c i ≡ fires f
     → fire (f .updates) c ≡ c → idle c (f .updates) ≡ true
 unfolding idle

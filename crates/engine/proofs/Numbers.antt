@@ -1,4 +1,4 @@
--- The numbers of the refusals inside a move, 11 to 15, 18 and 19, and their q: a node of the book or a location.
+-- The numbers of the refusals inside a move, which are 11 to 15, 18 and 19, and their q: a node of the book or a location.
 use mathlib.Core.Path.{_≡_, refl, sym, subst}
 use mathlib.Core.Logic.{dite}
 use mathlib.Core.Bool.{Bool, true, false}
@@ -23,12 +23,12 @@ use Rattle.engine.specs.Term.{eval, target}
 use Rattle.engine.specs.Rule.{Rule, skip, assign, pair, test, bind, for-all, import, release, choose, Walk, Walked, walking, refused-at, _then_, after, most-instructions, emit, take-label, take-pick, refuse-if, members, each, lowest, import-of, universe-at, choose-of, all-taken, not-boolean, unreleasable, not-member, walk, rule-tree, rule-at, RuleShape, a-skip, an-assign, a-pair, a-test, a-bind, a-for-all, an-import, a-release, a-choose, no-rule, rule-shape, no-variables}
 use Rattle.engine.specs.Move.{Input, Fired, Moved, fires, move-refused, unless-clash, updates, clashes, fired-of, walked, walk-reads, fire-or-clash, settle, move}
 use Rattle.engine.specs.Claims.{Inside}
-use Rattle.engine.proofs.Reader.{gives-bind}
+use Rattle.engine.proofs.Reader.{value-bind}
 use Rattle.engine.proofs.Picks.{rule-walk, walked-ends}
 
 -- ---- the nodes that a rule can be refused at
 
--- they are below N
+-- the nodes that a rule can be refused at are below N
 abbrev Below : ℕ → Rule → Type 0
 Below N skip = Unit {0}
 Below N (assign n t u) = n < N
@@ -40,7 +40,7 @@ Below N (import n x u r) = (n < N) × Below N r
 Below N (release n t) = n < N
 Below N (choose n x u r) = (n < N) × Below N r
 
--- those of a tree are nodes of the book: past its nodes there is no rule
+-- the nodes that a tree can be refused at are nodes of the book: past its nodes there is no rule
 tree-below : (B : Program) (d n : ℕ) → Below (length (B .nodes)) (rule-tree (node-at B) d (rule-shape (node-at B n)) n (node-at B n))
 unfolding rule-tree
 tree-below B zero n = tt
@@ -63,7 +63,7 @@ tree-below B (suc (suc d)) n =
     go h a-skip r = tt
     go h no-rule r = tt
 
--- ---- 11 to 14, 18 and 19
+-- ---- the refusals of a walk: 11 to 14, 18 and 19
 
 abbrev Says : ℕ → Walked → Type 0
 Says N (walking w) = Unit {0}
@@ -99,7 +99,7 @@ module _ (N : ℕ) (B : Program) (c : List ℕ) (me : ℕ) where
   each-says : (f : ℕ → Walk → Reader Walked) (ys : List ℕ) (w : Walk) → ((y : ℕ) (v : Walk) → Says N (value-in c (f y v))) → Says N (value-in c (each f ys w))
   unfolding each value-in
   each-says f [] w k = tt
-  each-says f (y ∷ ys) w k = rw (gives-bind c (f y w) (λ o. after o (each f ys))) (after-says (value-in c (f y w)) (each f ys) (k y w) (λ v. each-says f ys v k))
+  each-says f (y ∷ ys) w k = rw (value-bind c (f y w) (λ o. after o (each f ys))) (after-says (value-in c (f y w)) (each f ys) (k y w) (λ v. each-says f ys v k))
 
   import-says : (n u : ℕ) (w : Walk) (body : ℕ → Walk → Reader Walked) (o : Found) → n < N → ((y : ℕ) (v : Walk) → Says N (value-in c (body y v)))
       → Says N (value-in c (import-of B n u w body o))
@@ -110,14 +110,14 @@ module _ (N : ℕ) (B : Program) (c : List ℕ) (me : ℕ) where
       (then-says N (emit n (Update (reserve x) false-element) (take-label x w)) (emit n (Update (location B u x 0) true-element))
       (give-says N n (Update (reserve x) false-element) (take-label x w) h) (λ v. give-says N n (Update (location B u x 0) true-element) v h)) (k x)
 
-  -- the pick is refused or the body goes on with it
+  -- a choose is refused at node n, or goes on with its body
   choose-says : (n u : ℕ) (w : Walk) (body : ℕ → Walk → Reader Walked) (ys : List ℕ) → n < N → ((y : ℕ) (v : Walk) → Says N (value-in c (body y v)))
       → Says N (value-in c (choose-of B n u w body ys))
   unfolding value-in
   choose-says n u w body [] h k = (inside-large 19 (omega arith) (omega arith), omega arith)
   choose-says n u w body (y ∷ ys) h k =
       let v = value-in c (universe-at B u y) in
-      rw (gives-bind c (universe-at B u y) (λ v. after (refuse-if (not-member v) not-in-universe n (take-pick ys w)) (body y)))
+      rw (value-bind c (universe-at B u y) (λ v. after (refuse-if (not-member v) not-in-universe n (take-pick ys w)) (body y)))
       (after-says (refuse-if (not-member v) not-in-universe n (take-pick ys w)) (body y)
       (refuse-says N (not-member v) not-in-universe n (take-pick ys w) (inside-large 18 (omega arith) (omega arith), omega arith)) (k y))
 
@@ -133,25 +133,25 @@ module _ (N : ℕ) (B : Program) (c : List ℕ) (me : ℕ) where
   unfolding walk value-in
   walk-says skip vs w h = tt
   walk-says (assign n t u) vs w h =
-      rw (gives-bind c (target B me vs t) _, gives-bind c (eval B me vs u) _)
+      rw (value-bind c (target B me vs t) _, value-bind c (eval B me vs u) _)
       (then-says N (refuse-if (not-boolean B t (value-in c (eval B me vs u))) non-boolean n w)
       (emit n (Update (value-in c (target B me vs t)) (value-in c (eval B me vs u))))
       (refuse-says N (not-boolean B t (value-in c (eval B me vs u))) non-boolean n w (inside-small 11 (omega arith) (omega arith), omega arith))
       (λ v. give-says N n (Update (value-in c (target B me vs t)) (value-in c (eval B me vs u))) v h))
-  walk-says (pair r s) vs w h = rw (gives-bind c (walk B me r vs w) (λ o. after o (walk B me s vs)))
+  walk-says (pair r s) vs w h = rw (value-bind c (walk B me r vs w) (λ o. after o (walk B me s vs)))
       (after-says (value-in c (walk B me r vs w)) (walk B me s vs) (walk-says r vs w (h .0)) (λ v. walk-says s vs v (h .1)))
   walk-says (test t r s) vs w h =
-      rw (gives-bind c (eval B me vs t) (λ x. if eqb x true-element then walk B me r vs w else walk B me s vs w))
+      rw (value-bind c (eval B me vs t) (λ x. if eqb x true-element then walk B me r vs w else walk B me s vs w))
       (if-says (eqb (value-in c (eval B me vs t)) true-element) (walk B me r vs w) (walk B me s vs w) (walk-says r vs w (h .0)) (walk-says s vs w (h .1)))
-  walk-says (bind x t r) vs w h = rw (gives-bind c (eval B me vs t) (λ y. walk B me r (set vs x y) w)) (walk-says r (set vs x (value-in c (eval B me vs t))) w h)
+  walk-says (bind x t r) vs w h = rw (value-bind c (eval B me vs t) (λ y. walk B me r (set vs x y) w)) (walk-says r (set vs x (value-in c (eval B me vs t))) w h)
   walk-says (for-all x u r) vs w h =
-      rw (gives-bind c (members B u 0 (B .E)) (λ ys. each (λ y. walk B me r (set vs x y)) ys w))
+      rw (value-bind c (members B u 0 (B .E)) (λ ys. each (λ y. walk B me r (set vs x y)) ys w))
       (each-says (λ y. walk B me r (set vs x y)) (value-in c (members B u 0 (B .E))) w (λ y v. walk-says r (set vs x y) v h))
   walk-says (import n x u r) vs w h =
-      rw (gives-bind c (lowest (w .next) (B .E - w .next)) (λ o. import-of B n u w (λ y. walk B me r (set vs x y)) o))
+      rw (value-bind c (lowest (w .next) (B .E - w .next)) (λ o. import-of B n u w (λ y. walk B me r (set vs x y)) o))
       (import-says n u w (λ y. walk B me r (set vs x y)) (value-in c (lowest (w .next) (B .E - w .next))) (h .0) (λ y v. walk-says r (set vs x y) v (h .1)))
   walk-says (release n t) vs w h =
-      rw (gives-bind c (eval B me vs t) _)
+      rw (value-bind c (eval B me vs t) _)
       (then-says N (refuse-if (unreleasable B (value-in c (eval B me vs t)) (getD c (value-in c (eval B me vs t)) 0)) not-releasable n w)
       (emit n (Release (value-in c (eval B me vs t))))
       (refuse-says N (unreleasable B (value-in c (eval B me vs t)) (getD c (value-in c (eval B me vs t)) 0)) not-releasable n w (inside-small 12 (omega arith) (omega arith), omega arith))
@@ -159,14 +159,14 @@ module _ (N : ℕ) (B : Program) (c : List ℕ) (me : ℕ) where
   walk-says (choose n x u r) vs w h =
       choose-says n u w (λ y. walk B me r (set vs x y)) (w .left) (h .0) (λ y v. walk-says r (set vs x y) v (h .1))
 
--- ---- 11 to 15, 18 and 19
+-- ---- the refusals of a move: 11 to 15, 18 and 19
 
--- q is at most N
+-- a move fires, or is refused by a refusal inside a move whose q is at most N
 abbrev Stops : ℕ → Moved → Type 0
 Stops N (fires f) = Unit {0}
 Stops N (move-refused n q) = Inside n × (q ≤ N)
 
--- the q of a move's refusals is at most this
+-- the greatest q of a refusal of the move
 abbrev pub last-place : Program → Input → ℕ
 last-place B i = length (B .nodes) + L B + agent-at B (i .agent) .root
 

@@ -1,4 +1,4 @@
--- Choices: what one reads, 19 where none is left, and that a walk to its end takes all picks.
+-- Choices: what a choose reads, refusal 19 where no pick is left, and that a walk to its end uses all picks.
 use mathlib.Core.Path.{_≡_, refl, sym, ap, subst, _∙_}
 use mathlib.Core.Logic.{_⊎_, inl, inr}
 use mathlib.Core.List.{List, [], _∷_, _++_}
@@ -20,7 +20,7 @@ use Rattle.engine.specs.Rule.{Rule, choose, Walk, Walked, walking, refus
 use Rattle.book.specs.Check.{check-book}
 use Rattle.engine.specs.Move.{Input, walked}
 use Rattle.engine.specs.Single.{bad-pick, no-pick-at, check-agent, check-picks, check-lent-step, check-contents, check-step}
-use Rattle.engine.proofs.Reader.{gives-bind, seen-bind}
+use Rattle.engine.proofs.Reader.{value-bind, reads-bind}
 
 -- ---- the universe at a pick
 
@@ -41,7 +41,7 @@ universe-member B c u y e = go (ltb y (B .E)) refl e
     go true p q = (ltb-true y (B .E) p, q)
     go false p q = absurd (omega (arith, q))
 
--- ---- a choice
+-- ---- a choose
 
 pub choice-reads : (B : Program) (c : List ℕ) (me n x u : ℕ) (r : Rule) (vs : List ℕ) (w : Walk) (y : ℕ) (ys : List ℕ) → w .left ≡ y ∷ ys → y < B .E
     → locations-read c (walk B me (choose n x u r) vs w)
@@ -50,7 +50,7 @@ unfolding walk value-in locations-read
 choice-reads B c me n x u r vs w y ys e h =
     let f : ℕ → Reader Walked = λ v. after (refuse-if (not-member v) not-in-universe n (take-pick ys w)) (walk B me r (set vs x y)) in
     ap (λ (l : List ℕ). locations-read c (choose-of B n u w (λ z. walk B me r (set vs x z)) l)) e
-    ∙ (seen-bind c (universe-at B u y) f ∙ ap (λ (p : Reader ℕ). locations-read c p ++ locations-read c (f (value-in c p))) (universe-low B u y h))
+    ∙ (reads-bind c (universe-at B u y) f ∙ ap (λ (p : Reader ℕ). locations-read c p ++ locations-read c (f (value-in c p))) (universe-low B u y h))
 
 pub choice-lacks : (B : Program) (c : List ℕ) (me n x u : ℕ) (r : Rule) (vs : List ℕ) (w : Walk) → w .left ≡ []
     → (value-in c (walk B me (choose n x u r) vs w) ≡ refused-at pick-count n) × (locations-read c (walk B me (choose n x u r) vs w) ≡ [])
@@ -73,7 +73,7 @@ ended (walking v) q w e = go (v .left) refl e
     go [] p f = (f, ap (λ (x : Walk). x .left) (sym (same v w f)) ∙ p)
     go (y ∷ ys) p f = let z : _≡_ {A = ℕ} 0 1 = cc in absurd (omega arith)
 
--- the walk of a move's rule, before what is left over is judged
+-- the walk of a move's rule, before the picks left over are checked
 abbrev pub rule-walk : Program → Input → Reader Walked
 rule-walk B i =
     let g = agent-at B (i .agent) in
@@ -81,7 +81,7 @@ rule-walk B i =
 
 pub walked-ends : (B : Program) (c : List ℕ) (i : Input) → walked B c i ≡ (value-in c (rule-walk B i) then λ w. all-taken (agent-at B (i .agent) .root) (w .left) w)
 unfolding agent-walk value-in
-walked-ends B c i = gives-bind c (rule-walk B i) (λ o. done (o then λ w. all-taken (agent-at B (i .agent) .root) (w .left) w))
+walked-ends B c i = value-bind c (rule-walk B i) (λ o. done (o then λ w. all-taken (agent-at B (i .agent) .root) (w .left) w))
 
 pub all-picks : (B : Program) (c : List ℕ) (i : Input) (w : Walk) → walked B c i ≡ walking w → w .left ≡ []
 all-picks B c i w e = ended (value-in c (rule-walk B i)) (agent-at B (i .agent) .root) w (sym (walked-ends B c i) ∙ e) .1

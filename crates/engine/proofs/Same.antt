@@ -1,5 +1,5 @@
--- The same move on contents that agree: where both hold each label that is released at the same locations, the same updates; where what is written is
--- equal too, the same reads.
+-- One move on two contents that agree: where both hold each label that is released at the same locations, it has the same updates; where they also agree on
+-- what is written, it has the same reads.
 use mathlib.Core.Path.{_≡_, refl, sym, ap, subst, _∙_}
 use mathlib.Core.Logic.{_↔_}
 use mathlib.Core.Bool.{Bool, true, false, or-true, and-false}
@@ -48,14 +48,14 @@ module _ (B : Program) (c d : List ℕ) where
   gives-same l (x ∷ xs) h =
       rw (given-same l x (h x l (rw (eq-eqb x x refl))), gives-same l xs (λ y k m. h y k (rw m (or-true (eqb x y)))))
 
-  -- both contents are equal where something is written
+  -- both contents are equal at each location that the updates write
   abbrev Written : List (List ℕ) → Type 0
   Written us = (l : ℕ) → writes us l ≡ true → at c l ≡ at d l
 
   changed-same : (us : List (List ℕ)) (l : ℕ) → Written us → changed-reads B c us l ≡ changed-reads B d us l
   changed-same us l h = go (values-at us l) refl
     where
-      -- where nothing is given, nothing is taken out
+      -- a location that keeps its value takes no label out
       untaken : (v : ℕ) → taken-reads (B .P) v v ≡ []
       untaken v = rw (eq-eqb v v refl, and-false (leb (B .P) v))
 

@@ -1,18 +1,17 @@
--- The tree that a node stands for, from its kind, one equation for each: what the arms of code that recurs on the depth left have to show.
+-- The tree that a node stands for, from its kind, one equation for each kind: what code that recurs on the depth left has to show.
 use mathlib.Core.Path.{_≡_, refl}
 use mathlib.Core.Logic.{_⊎_, inl, inr}
 use mathlib.Core.List.{List}
 use Prim.Native.Nat.{ℕ, zero, suc, _-_, _≤_, _<_}
 use native.Mathlib.Numerals.{sub-one}
 use native.Mathlib.Omega.{arith}
-use lib.Dec.{leb}
-use lib.ListN.{getD, length, List·getD-eq-default}
+use lib.ListN.{getD, List·getD-eq-default}
 use borrow.Author.Tests.{le-leb, lt-leb}
 use Rattle.book.specs.declared.Node.{Node}
 use Rattle.book.specs.Book.{undef, Program}
-use Rattle.engine.specs.Reader.{Reader, done}
-use Rattle.engine.specs.Term.{Op, equal, both, either, plus, minus, less, Term, element, variable, self, at0, at1, at2, negated, joined, Shape, no-term, shapes, shape, tree, term-at, target, function-of}
-use Rattle.engine.specs.Rule.{Rule, skip, assign, pair, test, bind, for-all, import, release, choose, RuleShape, a-skip, no-rule, rule-shapes, rule-shape, rule-tree}
+use Rattle.engine.specs.Reader.{done}
+use Rattle.engine.specs.Term.{Op, element, variable, self, at0, at1, at2, negated, joined, Shape, no-term, shapes, shape, tree, term-at, target, function-of}
+use Rattle.engine.specs.Rule.{skip, assign, pair, test, bind, for-all, import, release, choose, no-rule, rule-shapes, rule-shape, rule-tree, rule-from}
 
 -- ---- a depth of at least one, or of at least two
 
@@ -61,14 +60,14 @@ module _ (ns : ℕ → Node) (d n : ℕ) (x : Node) (some : (d ≡ 0) → ⊥) (
   unfolding tree
   term-not k = by-one (λ e f. tree ns e (shape (ns n)) (ns n) ≡ negated (term-at ns f (x .a))) (λ e. rw (← loaded, k)) d some
 
-  -- the operations, 7 and 9 to 13
+  -- a term of two operands: kinds 7 and 9 to 13
   pub term-join : (k : ℕ) (o : Op) → x .kind ≡ k → getD shapes k no-term ≡ Shape.a-join o
       → term-at ns d n ≡ joined o (term-at ns (d - 1) (x .a)) (term-at ns (d - 1) (x .b))
   unfolding tree
   term-join k o e s =
       by-one (λ g f. tree ns g (shape (ns n)) (ns n) ≡ joined o (term-at ns f (x .a)) (term-at ns f (x .b))) (λ g. rw (← loaded, e, s)) d some
 
-  -- any other kind
+  -- a node of no term kind stands for undef
   pub no-term-at : (x .kind < 1) ⊎ (14 ≤ x .kind) → term-at ns d n ≡ element undef
   unfolding tree
   no-term-at h = by-one (λ e f. tree ns e (shape (ns n)) (ns n) ≡ element undef) (λ e. rw (← loaded, shape-of h)) d some
@@ -79,10 +78,7 @@ module _ (ns : ℕ → Node) (d n : ℕ) (x : Node) (some : (d ≡ 0) → ⊥) (
 
 -- ---- rules
 
--- the rule at node n, at most d nodes down
-abbrev pub rule-from : (ℕ → Node) → ℕ → ℕ → Rule
-rule-from ns d n = rule-tree ns d (rule-shape (ns n)) n (ns n)
-
+-- the rule at node n, built at most d nodes deep
 pub rule-last : (ns : ℕ → Node) (d n : ℕ) → d < 2 → rule-from ns d n ≡ skip
 unfolding rule-tree
 rule-last ns zero n h = refl
@@ -126,16 +122,16 @@ module _ (ns : ℕ → Node) (d n : ℕ) (x : Node) (some : 2 ≤ d) (loaded : x
   rule-import k =
       by-two (λ e f. rule-from ns e n ≡ import n (x .a) (x .b) (rule-from ns f (x .c))) (λ e. rw (← loaded, k)) d some
 
-  pub rule-free : x .kind ≡ 27 → rule-from ns d n ≡ release n (term-at ns (d - 1) (x .a))
+  pub rule-release : x .kind ≡ 27 → rule-from ns d n ≡ release n (term-at ns (d - 1) (x .a))
   unfolding rule-tree
-  rule-free k = by-two (λ e f. rule-from ns e n ≡ release n (term-at ns f (x .a))) (λ e. rw (← loaded, k)) d some
+  rule-release k = by-two (λ e f. rule-from ns e n ≡ release n (term-at ns f (x .a))) (λ e. rw (← loaded, k)) d some
 
   pub rule-choose : x .kind ≡ 28 → rule-from ns d n ≡ choose n (x .a) (x .b) (rule-from ns (d - 1) (x .c))
   unfolding rule-tree
   rule-choose k =
       by-two (λ e f. rule-from ns e n ≡ choose n (x .a) (x .b) (rule-from ns f (x .c))) (λ e. rw (← loaded, k)) d some
 
-  -- any other kind
+  -- a node of no rule kind stands for skip
   pub no-rule-at : (x .kind < 20) ⊎ (29 ≤ x .kind) → rule-from ns d n ≡ skip
   unfolding rule-tree
   no-rule-at h = by-two (λ e f. rule-from ns e n ≡ skip) (λ e. rw (← loaded, shape-of h)) d some
@@ -144,7 +140,7 @@ module _ (ns : ℕ → Node) (d n : ℕ) (x : Node) (some : 2 ≤ d) (loaded : x
       shape-of (inl l) = rw (lt-leb 20 (x .kind) l)
       shape-of (inr l) = rw (le-leb 20 (x .kind) (omega arith)) (List·getD-eq-default rule-shapes no-rule {n = x .kind - 20} (omega arith))
 
--- ---- what a term of no kind 4 to 6 names
+-- ---- the function of a term that is not of kind 4 to 6
 
 module _ (B : Program) (me : ℕ) (vs : List ℕ) (ns : ℕ → Node) where
   no-aim : (k d : ℕ) (x : Node) → ((k ≡ 4) → ⊥) → ((k ≡ 5) → ⊥) → ((k ≡ 6) → ⊥)
@@ -174,7 +170,7 @@ module _ (B : Program) (me : ℕ) (vs : List ℕ) (ns : ℕ → Node) where
     pub no-function-of : function-of (term-at ns d n) ≡ 0
     no-function-of = rw (← loaded) (no-aim (x .kind) d x a b c .1)
 
--- the function of a term of kinds 4 to 6
+-- the function of a term of kind 4 to 6
 module _ (ns : ℕ → Node) (d n : ℕ) (x : Node) (some : (d ≡ 0) → ⊥) (loaded : x ≡ ns n) where
   pub function-none : x .kind ≡ 4 → function-of (term-at ns d n) ≡ x .a
   unfolding function-of

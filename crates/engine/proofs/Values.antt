@@ -9,44 +9,44 @@ use lib.Dec.{eqb}
 use lib.ListN.{length}
 use borrow.Author.Tests.{eqb-true, eqb-false, eq-eqb, ne-eqb, not-false}
 use Rattle.text.specs.Words.{if_then_else_, has}
-use Rattle.text.proofs.Words.{and-cases, or-cases, or-no, length-table-from, getD-table, getD-table-past}
+use Rattle.text.proofs.Words.{and-cases, or-cases, or-no, length-table-from, getD-table, getD-table-past, has-append}
 use Rattle.book.specs.Book.{Program, L, true-element, dynamic-at, default-at, concerns}
 use Rattle.book.specs.Sound.{at}
 use Rattle.engine.specs.declared.Instruction.{Instruction}
 use Rattle.engine.specs.declared.Instruction.the-variants.{Update, Release}
 use Rattle.engine.specs.Move.{given, values, updates, values-at, released, other, two-values, set-to-label, new-value, fire}
-use Rattle.engine.proofs.EqualReads.{has-append}
 
 -- ---- what instructions say
 
--- one of them sets l to v; one of them releases x
+-- some instruction of the list sets location l to v
 abbrev pub Sets : ℕ → ℕ → List Instruction → Type 0
 Sets l v [] = ⊥
 Sets l v (Update k w ∷ is) = ((k ≡ l) × (w ≡ v)) ⊎ Sets l v is
 Sets l v (Release x ∷ is) = Sets l v is
 
-abbrev pub Frees : ℕ → List Instruction → Type 0
-Frees x [] = ⊥
-Frees x (Update k w ∷ is) = Frees x is
-Frees x (Release y ∷ is) = (y ≡ x) ⊎ Frees x is
+-- some instruction of the list releases x
+abbrev pub Releases : ℕ → List Instruction → Type 0
+Releases x [] = ⊥
+Releases x (Update k w ∷ is) = Releases x is
+Releases x (Release y ∷ is) = (y ≡ x) ⊎ Releases x is
 
-pub frees-has : (is : List Instruction) (x : ℕ) → Frees x is → has (released is) x ≡ true
+pub releases-has : (is : List Instruction) (x : ℕ) → Releases x is → has (released is) x ≡ true
 unfolding released
-frees-has (Update k w ∷ is) x f = frees-has is x f
-frees-has (Release y ∷ is) x (inl e) = rw (eq-eqb y x e)
-frees-has (Release y ∷ is) x (inr f) = rw (frees-has is x f) (or-true (eqb y x))
+releases-has (Update k w ∷ is) x f = releases-has is x f
+releases-has (Release y ∷ is) x (inl e) = rw (eq-eqb y x e)
+releases-has (Release y ∷ is) x (inr f) = rw (releases-has is x f) (or-true (eqb y x))
 
-pub has-frees : (is : List Instruction) (x : ℕ) → has (released is) x ≡ true → Frees x is
+pub has-releases : (is : List Instruction) (x : ℕ) → has (released is) x ≡ true → Releases x is
 unfolding released
-has-frees [] x h = absurd (false≢true h)
-has-frees (Update k w ∷ is) x h = has-frees is x h
-has-frees (Release y ∷ is) x h = go (or-cases (eqb y x) (has (released is) x) h) (has-frees is x)
+has-releases [] x h = absurd (false≢true h)
+has-releases (Update k w ∷ is) x h = has-releases is x h
+has-releases (Release y ∷ is) x h = go (or-cases (eqb y x) (has (released is) x) h) (has-releases is x)
   where
-    go : (eqb y x ≡ true) ⊎ (has (released is) x ≡ true) → (has (released is) x ≡ true → Frees x is) → Frees x (Release y ∷ is)
+    go : (eqb y x ≡ true) ⊎ (has (released is) x ≡ true) → (has (released is) x ≡ true → Releases x is) → Releases x (Release y ∷ is)
     go (inl e) r = inl (eqb-true y x e)
     go (inr e) r = inr (r e)
 
--- no update sets l to a label of xs
+-- if no update sets l to a label of xs, a value that an update sets l to is none of them
 pub set-to-none : (xs : List ℕ) (is : List Instruction) (l v : ℕ) → set-to-label xs l is ≡ false → Sets l v is → has xs v ≡ false
 unfolding set-to-label
 set-to-none xs (Update k w ∷ is) l v e (inl (a, b)) = rw (← b) (rw (eq-eqb k l a) at (or-no (eqb k l && has xs w) (set-to-label xs l is) e .0))
@@ -61,9 +61,9 @@ module _ (B : Program) (c : List ℕ) where
   Cleared x l v = ((x ≡ l) × (v ≡ true-element)) ⊎ ((x ≢ l) × (dynamic-at B l ≡ true) × (concerns B l (at c l) x ≡ true) × (v ≡ default-at B l))
 
   abbrev pub Origin : List Instruction → ℕ → ℕ → Type 0
-  Origin is l v = Sets l v is ⊎ ((x : ℕ) × Frees x is × Cleared x l v)
+  Origin is l v = Sets l v is ⊎ ((x : ℕ) × Releases x is × Cleared x l v)
 
-  -- ---- each is given
+  -- ---- each value of an instruction is given
 
   cleared-given : (x l v : ℕ) → Cleared x l v → has (given B c l (Release x)) v ≡ true
   unfolding given
@@ -84,12 +84,12 @@ module _ (B : Program) (c : List ℕ) where
   sets-values (Update k w ∷ is) l v (inr s) = has-later (Update k w) is l v (sets-values is l v s)
   sets-values (Release x ∷ is) l v s = has-later (Release x) is l v (sets-values is l v s)
 
-  pub frees-values : (is : List Instruction) (x l v : ℕ) → Frees x is → Cleared x l v → has (values B c l is) v ≡ true
-  frees-values (Update k w ∷ is) x l v f h = has-later (Update k w) is l v (frees-values is x l v f h)
-  frees-values (Release y ∷ is) x l v (inl q) h = has-now (Release y) is l v (cleared-given y l v (rw q h))
-  frees-values (Release y ∷ is) x l v (inr f) h = has-later (Release y) is l v (frees-values is x l v f h)
+  pub releases-values : (is : List Instruction) (x l v : ℕ) → Releases x is → Cleared x l v → has (values B c l is) v ≡ true
+  releases-values (Update k w ∷ is) x l v f h = has-later (Update k w) is l v (releases-values is x l v f h)
+  releases-values (Release y ∷ is) x l v (inl q) h = has-now (Release y) is l v (cleared-given y l v (rw q h))
+  releases-values (Release y ∷ is) x l v (inr f) h = has-later (Release y) is l v (releases-values is x l v f h)
 
-  -- ---- and no other
+  -- ---- no other value is given
 
   given-cleared : (x l v : ℕ) → has (given B c l (Release x)) v ≡ true → Cleared x l v
   unfolding given

@@ -17,17 +17,17 @@ use Rattle.text.specs.declared.Found.the-variants.{Nowhere, Here}
 use Rattle.text.proofs.Words.{and-cases, or-no}
 use Rattle.book.specs.Book.{undef, true-element, false-element, boolean, truth, relation, dynamic, Program, L, location, reserve, function-at, place, relation-at, dynamic-at}
 use Rattle.book.specs.Sound.{Lawful, at, Argument, OnRoll, Sound}
-use Rattle.book.proofs.Places.{spot, spot-argument, spot-first, roll-place, roll-inside, roll-argument, past-roll, default-low}
+use Rattle.book.proofs.Places.{spot, held-argument, held-first, roll-place, roll-inside, roll-argument, past-roll, default-low}
 use Rattle.engine.specs.declared.Instruction.{Instruction}
 use Rattle.engine.specs.declared.Instruction.the-variants.{Update, Release}
 use Rattle.engine.specs.Reader.{Reader, done, read, value-in, _>>=_}
 use Rattle.engine.specs.Term.{Op, equal, both, either, plus, minus, less, Term, element, variable, self, at0, at1, at2, negated, joined, number, apply, negate, eval, target, function-of}
 use Rattle.engine.specs.Rule.{Rule, skip, assign, pair, test, bind, for-all, import, release, choose, Walk, Walked, walking, refused-at, _then_, after, most-instructions, emit, take-label, take-pick, refuse-if, members, each, lowest, import-of, universe-at, choose-of, all-taken, not-boolean, unreleasable, not-member, walk}
-use Rattle.engine.proofs.Reader.{gives-bind}
+use Rattle.engine.proofs.Reader.{value-bind}
 use Rattle.engine.proofs.Picks.{universe-member}
-use Rattle.engine.proofs.Seen.{names-one, names-two}
+use Rattle.engine.proofs.LocationsRead.{names-one, names-two}
 use Rattle.engine.proofs.Decode.{Proper, Named, ProperTarget, ProperRule}
-use Rattle.engine.proofs.Values.{Sets, Frees}
+use Rattle.engine.proofs.Values.{Sets, Releases}
 
 -- a value of a list with one put in is that one, or as it was
 set-cases : (vs : List ℕ) (x y v : ℕ) → (getD (set vs x y) v 0 ≡ y) ⊎ (getD (set vs x y) v 0 ≡ getD vs v 0)
@@ -40,7 +40,7 @@ set-cases (z ∷ vs) (suc x) y (suc v) = set-cases vs x y v
 -- ---- what a walk has made
 
 module _ (B : Program) (c : List ℕ) where
-  -- an element that a rule may speak of once the labels of the roll before `next` are taken: no other label of the roll
+  -- v is an element that a rule may name once the labels of the roll before `next` are taken: no other label of the roll
   abbrev pub Clean : ℕ → ℕ → Type 0
   Clean next v = (v < B .E) × (OnRoll B c v → v < next)
 
@@ -58,7 +58,7 @@ module _ (B : Program) (c : List ℕ) where
     pub from : B .P ≤ w .next
     pub upto : w .next ≤ B .E
     pub all : All (w .next) (w .made)
-    -- the labels of the roll before `next` are taken
+    -- each label of the roll before `next` is taken
     pub taken : (x : ℕ) → OnRoll B c x → x < w .next → Sets x false-element (w .made)
 
   pub sets-fine : (n : ℕ) (is : List Instruction) (l v : ℕ) → All n is → Sets l v is → Fine n (Update l v)
@@ -66,17 +66,17 @@ module _ (B : Program) (c : List ℕ) where
   sets-fine n (Update k w ∷ is) l v a (inr s) = sets-fine n is l v (a .1) s
   sets-fine n (Release x ∷ is) l v a s = sets-fine n is l v (a .1) s
 
-  pub frees-fine : (n : ℕ) (is : List Instruction) (x : ℕ) → All n is → Frees x is → Fine n (Release x)
-  frees-fine n (Update k w ∷ is) x a f = frees-fine n is x (a .1) f
-  frees-fine n (Release y ∷ is) x a (inl e) = rw e at (a .0)
-  frees-fine n (Release y ∷ is) x a (inr f) = frees-fine n is x (a .1) f
+  pub releases-fine : (n : ℕ) (is : List Instruction) (x : ℕ) → All n is → Releases x is → Fine n (Release x)
+  releases-fine n (Update k w ∷ is) x a f = releases-fine n is x (a .1) f
+  releases-fine n (Release y ∷ is) x a (inl e) = rw e at (a .0)
+  releases-fine n (Release y ∷ is) x a (inr f) = releases-fine n is x (a .1) f
 
-  -- what a walk from `next` on comes to
+  -- what a walk from `next` on comes to, if it meets no refusal, has what a walk has made
   abbrev pub Comes : ℕ → Walked → Type 0
   Comes next (refused-at n q) = Unit {0}
   Comes next (walking w) = (next ≤ w .next) × Made w
 
-  -- the variables' values
+  -- the values of the variables are elements that a rule may name
   abbrev pub Vars : ℕ → List ℕ → Type 0
   Vars next vs = (v : ℕ) → Clean next (getD vs v undef)
 
@@ -151,7 +151,7 @@ module _ (B : Program) (c : List ℕ) where
     pub low-clean : (n v : ℕ) → v < B .P → Clean n v
     low-clean n v h = (omega (arith, B-ok .high), λ r. absurd (omega (arith, c-ok .labels v r)))
 
-    -- nor is what a location holds
+    -- an element that a location holds is not on the roll
     held-clean : (n l : ℕ) → Clean n (at c l)
     held-clean n l = (c-ok .small l, λ r. absurd (go r))
       where
@@ -192,27 +192,27 @@ module _ (B : Program) (c : List ℕ) where
       eval-clean n vs self p f = low-clean n me me-low
       eval-clean n vs (at0 g) p f = held-clean n (location B g 0 0)
       eval-clean n vs (at1 g a) p f =
-          rw (gives-bind c (eval B me vs a) (λ x. read (location B g x 0))) (held-clean n (location B g (value-in c (eval B me vs a)) 0))
+          rw (value-bind c (eval B me vs a) (λ x. read (location B g x 0))) (held-clean n (location B g (value-in c (eval B me vs a)) 0))
       eval-clean n vs (at2 g a b) p f =
           rw (
-            gives-bind c (eval B me vs a) (λ x. eval B me vs b >>= λ y. read (location B g x y)),
-            gives-bind c (eval B me vs b) (λ y. read (location B g (value-in c (eval B me vs a)) y)),
+            value-bind c (eval B me vs a) (λ x. eval B me vs b >>= λ y. read (location B g x y)),
+            value-bind c (eval B me vs b) (λ y. read (location B g (value-in c (eval B me vs a)) y)),
           )
           (held-clean n (location B g (value-in c (eval B me vs a)) (value-in c (eval B me vs b))))
       eval-clean n vs (negated a) p f =
-          rw (gives-bind c (eval B me vs a) (λ x. done (negate x)))
+          rw (value-bind c (eval B me vs a) (λ x. done (negate x)))
           (low-clean n (negate (value-in c (eval B me vs a)))
           (if-low (boolean (value-in c (eval B me vs a))) (truth (not (eqb (value-in c (eval B me vs a)) 2)))
           (λ e. truth-low (not (eqb (value-in c (eval B me vs a)) 2)))))
       eval-clean n vs (joined o a b) p f =
           rw (
-            gives-bind c (eval B me vs a) (λ x. eval B me vs b >>= λ y. done (apply (B .P) o x y)),
-            gives-bind c (eval B me vs b) (λ y. done (apply (B .P) o (value-in c (eval B me vs a)) y)),
+            value-bind c (eval B me vs a) (λ x. eval B me vs b >>= λ y. done (apply (B .P) o x y)),
+            value-bind c (eval B me vs b) (λ y. done (apply (B .P) o (value-in c (eval B me vs a)) y)),
           )
           (low-clean n (apply (B .P) o (value-in c (eval B me vs a)) (value-in c (eval B me vs b)))
           (apply-low o (value-in c (eval B me vs a)) (value-in c (eval B me vs b))))
 
-      -- the location that a set names
+      -- the location l that the location term t of a set names
       abbrev Aimed : ℕ → Term → ℕ → Type 0
       Aimed n t l = (l < L B) × (B .E ≤ l) × (dynamic-at B l ≡ true) × (relation-at B l ≡ relation (function-at B (function-of t)))
           × ((x : ℕ) → Argument B x l → Clean n x)
@@ -225,7 +225,7 @@ module _ (B : Program) (c : List ℕ) where
             past-roll B B-ok f x y (h .0) (h .1),
             rw (s .where-at) d,
             rw (s .where-at, e),
-            λ z a. go z (spot-argument B B-ok f x y z (h .1) (p .0) (q .0) a),
+            λ z a. go z (held-argument B B-ok f x y z (h .1) (p .0) (q .0) a),
           )
         where
           go : (z : ℕ) → (z ≡ x) ⊎ (z ≡ y) → Clean n z
@@ -264,7 +264,7 @@ module _ (B : Program) (c : List ℕ) where
       unfolding members value-in _>>=_
       members-are u x zero h = tt
       members-are u x (suc n) h =
-          rw (gives-bind c (members B u (suc x) n) (λ ys. done (if eqb (at c (location B u x 0)) true-element then x ∷ ys else ys)))
+          rw (value-bind c (members B u (suc x) n) (λ ys. done (if eqb (at c (location B u x 0)) true-element then x ∷ ys else ys)))
           (go (eqb (at c (location B u x 0)) true-element) refl (members-are u (suc x) n (omega arith)))
         where
           go : (b : Bool) → eqb (at c (location B u x 0)) true-element ≡ b → Members u (value-in c (members B u (suc x) n))
@@ -272,7 +272,7 @@ module _ (B : Program) (c : List ℕ) where
           go true e r = ((omega arith, eqb-true (at c (location B u x 0)) true-element e), r)
           go false e r = r
 
-      -- a member is no label of the roll: there its universe would be at the default
+      -- a member of a universe is no label of the roll: there the universe would be at its default
       member-clean : (n u y : ℕ) → Named B u 1 → Member u y → Clean n y
       member-clean n u y p (h, e) = (h, λ r. absurd (go r))
         where
@@ -280,7 +280,7 @@ module _ (B : Program) (c : List ℕ) where
           go r =
               let s = spot B B-ok u y 0 (p .1) h (omega (arith, B-ok .low, B-ok .high)) in
               let d = c-ok .arguments y (location B u y 0) r (s .inside) (omega (arith, past-roll B B-ok u y 0 (p .0) (p .1)))
-              (spot-first B B-ok u y (p .1) h (p .2)) in
+              (held-first B B-ok u y (p .1) h (p .2)) in
               omega (arith, default-low (place B (location B u y 0) .function))
 
       each-comes : (f : ℕ → Walk → Reader Walked) (ys : List ℕ) (u : ℕ) → Members u ys → (w : Walk) → Made w
@@ -288,7 +288,7 @@ module _ (B : Program) (c : List ℕ) where
       unfolding each value-in
       each-comes f [] u h w m k = (omega arith, m)
       each-comes f (y ∷ ys) u h w m k =
-          rw (gives-bind c (f y w) (λ o. after o (each f ys)))
+          rw (value-bind c (f y w) (λ o. after o (each f ys)))
           (after-comes (w .next) (value-in c (f y w)) (each f ys) (k y (h .0) w (omega arith) m)
           (λ v a b. each-comes f ys u (h .1) v b (λ z hz t q r. k z hz t (omega arith) r)))
 
@@ -296,11 +296,11 @@ module _ (B : Program) (c : List ℕ) where
           → ((y : ℕ) → Member u y → (v : Walk) → w .next ≤ v .next → Made v → Comes (v .next) (value-in c (f y v)))
           → Comes (w .next) (value-in c (members B u x n >>= λ ys. each f ys w))
       for-comes f u x n h w m k =
-          rw (gives-bind c (members B u x n) (λ ys. each f ys w)) (each-comes f (value-in c (members B u x n)) u (members-are u x n h) w m k)
+          rw (value-bind c (members B u x n) (λ ys. each f ys w)) (each-comes f (value-in c (members B u x n)) u (members-are u x n h) w m k)
 
       -- ---- labels
 
-      -- the label that is found, and that none of the roll stands before it
+      -- the label that a search from x finds is on the roll, and no label from x up to it is
       abbrev Lowest : ℕ → Found → Type 0
       Lowest x Nowhere = Unit {0}
       Lowest x (Here y) = (x ≤ y) × OnRoll B c y × ((z : ℕ) → x ≤ z → z < y → at c z ≢ true-element)
@@ -319,7 +319,7 @@ module _ (B : Program) (c : List ℕ) where
           go true e r = (omega arith, (omega arith, eqb-true (at c x) true-element e), λ z p q. absurd (omega arith))
           go false e r = later (eqb-false (at c x) true-element e) (value-in c (lowest (suc x) n)) r
 
-      -- An import takes the lowest Reserve label not yet taken: `next` says which are taken.
+      -- the labels of the roll that are taken are those below `next`: an import takes the lowest one that is not taken yet
       pub taken-iff : (w : Walk) → Made w → (x : ℕ) → OnRoll B c x → (x < w .next) ↔ Sets x false-element (w .made)
       taken-iff w m x o = (
         m .taken x o,
@@ -347,7 +347,7 @@ module _ (B : Program) (c : List ℕ) where
           go true q f r = let k : _≡_ {A = ℕ} 0 1 = cc in absurd (omega arith)
           go false q f r = dite (ℕ-discrete z x) (λ i. rw i (eqb-false (at c x) true-element q)) (λ i. r f z (omega arith) (omega arith))
 
-      -- One that finds none, 13, has no Reserve label left untaken.
+      -- an import that finds no label, refusal 13, has no label of the roll left that is not taken
       pub import-none : (w : Walk) → Made w → value-in c (lowest (w .next) (B .E - w .next)) ≡ Nowhere → (x : ℕ) → OnRoll B c x
           → Sets x false-element (w .made)
       import-none w m e x o =
@@ -377,7 +377,7 @@ module _ (B : Program) (c : List ℕ) where
             low-clean n 2 (omega (arith, B-ok .low)),
             λ r. refl,
             λ r. absurd (omega (arith, past-roll B B-ok u y 0 (p .0) (p .1))),
-            λ x e. this x (spot-argument B B-ok u y 0 x (p .1) h z e),
+            λ x e. this x (held-argument B B-ok u y 0 x (p .1) h z e),
           )
         where
           this : (x : ℕ) → (x ≡ y) ⊎ (x ≡ 0) → Clean n x
@@ -426,7 +426,7 @@ module _ (B : Program) (c : List ℕ) where
       unfolding value-in
       choose-comes n u body w [] m k = tt
       choose-comes n u body w (y ∷ ys) m k =
-          rw (gives-bind c (universe-at B u y) (λ v. after (refuse-if (not-member v) not-in-universe n (take-pick ys w)) (body y)))
+          rw (value-bind c (universe-at B u y) (λ v. after (refuse-if (not-member v) not-in-universe n (take-pick ys w)) (body y)))
           (go (eqb (value-in c (universe-at B u y)) true-element) refl)
         where
           go : (b : Bool) → eqb (value-in c (universe-at B u y)) true-element ≡ b
@@ -457,8 +457,8 @@ module _ (B : Program) (c : List ℕ) where
             a .4,
           )
 
-      free-comes : (n x : ℕ) (w : Walk) → Made w → x < B .E → Comes (w .next) (refuse-if (unreleasable B x (at c x)) not-releasable n w then emit n (Release x))
-      free-comes n x w m h = go (unreleasable B x (at c x)) refl
+      release-comes : (n x : ℕ) (w : Walk) → Made w → x < B .E → Comes (w .next) (refuse-if (unreleasable B x (at c x)) not-releasable n w then emit n (Release x))
+      release-comes n x w m h = go (unreleasable B x (at c x)) refl
         where
           go : (b : Bool) → unreleasable B x (at c x) ≡ b → Comes (w .next) (refuse-if b not-releasable n w then emit n (Release x))
           go true e = tt
@@ -475,21 +475,21 @@ module _ (B : Program) (c : List ℕ) where
       walk-comes skip vs w p f m = (omega arith, m)
       walk-comes (assign n t u) vs w p f m =
           rw (
-            gives-bind c (target B me vs t) (λ l. eval B me vs u >>= λ v. done (refuse-if (not-boolean B t v) non-boolean n w then emit n (Update l v))),
-            gives-bind c (eval B me vs u) (λ v. done (refuse-if (not-boolean B t v) non-boolean n w then emit n (Update (value-in c (target B me vs t)) v))),
+            value-bind c (target B me vs t) (λ l. eval B me vs u >>= λ v. done (refuse-if (not-boolean B t v) non-boolean n w then emit n (Update l v))),
+            value-bind c (eval B me vs u) (λ v. done (refuse-if (not-boolean B t v) non-boolean n w then emit n (Update (value-in c (target B me vs t)) v))),
           )
           (assign-comes n t (value-in c (target B me vs t)) (value-in c (eval B me vs u)) w m (target-aimed (w .next) vs t (p .0) f)
           (eval-clean (w .next) vs u (p .1) f))
       walk-comes (pair r s) vs w p f m =
-          rw (gives-bind c (walk B me r vs w) (λ o. after o (walk B me s vs)))
+          rw (value-bind c (walk B me r vs w) (λ o. after o (walk B me s vs)))
           (after-comes (w .next) (value-in c (walk B me r vs w)) (walk B me s vs) (walk-comes r vs w (p .0) f m)
           (λ v a q. walk-comes s vs v (p .1) (vars-more (w .next) (v .next) vs a f) q))
       walk-comes (test t r s) vs w p f m =
-          rw (gives-bind c (eval B me vs t) (λ x. if eqb x true-element then walk B me r vs w else walk B me s vs w))
+          rw (value-bind c (eval B me vs t) (λ x. if eqb x true-element then walk B me r vs w else walk B me s vs w))
           (if-comes (eqb (value-in c (eval B me vs t)) true-element) (w .next) (walk B me r vs w) (walk B me s vs w) (walk-comes r vs w (p .1) f m)
           (walk-comes s vs w (p .2) f m))
       walk-comes (bind x t r) vs w p f m =
-          rw (gives-bind c (eval B me vs t) (λ y. walk B me r (set vs x y) w))
+          rw (value-bind c (eval B me vs t) (λ y. walk B me r (set vs x y) w))
           (walk-comes r (set vs x (value-in c (eval B me vs t))) w (p .1)
           (vars-set (w .next) vs x (value-in c (eval B me vs t)) f (eval-clean (w .next) vs t (p .0) f)) m)
       walk-comes (for-all x u r) vs w p f m =
@@ -497,19 +497,19 @@ module _ (B : Program) (c : List ℕ) where
           (λ y h v a q. walk-comes r (set vs x y) v (p .2) (vars-set (v .next) vs x y (vars-more (w .next) (v .next) vs a f)
           (member-clean (v .next) u y (p .0) h)) q)
       walk-comes (import n x u r) vs w p f m =
-          rw (gives-bind c (lowest (w .next) (B .E - w .next)) (λ o. import-of B n u w (λ y. walk B me r (set vs x y)) o))
+          rw (value-bind c (lowest (w .next) (B .E - w .next)) (λ o. import-of B n u w (λ y. walk B me r (set vs x y)) o))
           (import-comes n u (λ y. walk B me r (set vs x y)) w (value-in c (lowest (w .next) (B .E - w .next))) (p .0) (p .1) m
           (lowest-is (w .next) (B .E - w .next) (omega (arith, m .upto)))
           (λ y h v a b q. walk-comes r (set vs x y) v (p .2) (vars-set (v .next) vs x y (vars-more (w .next) (v .next) vs a f) (h, λ o. b)) q))
       walk-comes (release n t) vs w p f m =
-          rw (gives-bind c (eval B me vs t) (λ x. read (reserve x) >>= λ r. done (refuse-if (unreleasable B x r) not-releasable n w then emit n (Release x))))
-          (free-comes n (value-in c (eval B me vs t)) w m (eval-clean (w .next) vs t p f .0))
+          rw (value-bind c (eval B me vs t) (λ x. read (reserve x) >>= λ r. done (refuse-if (unreleasable B x r) not-releasable n w then emit n (Release x))))
+          (release-comes n (value-in c (eval B me vs t)) w m (eval-clean (w .next) vs t p f .0))
       walk-comes (choose n x u r) vs w p f m =
           choose-comes n u (λ y. walk B me r (set vs x y)) w (w .left) m
           (λ y h v a q. walk-comes r (set vs x y) v (p .2) (vars-set (v .next) vs x y (vars-more (w .next) (v .next) vs a f)
           (member-clean (v .next) u y (p .0) h)) q)
 
-  -- what is left over changes nothing of what is made
+  -- the check for picks left over changes nothing of what a walk has made
   pub taken-comes : (m q : ℕ) (ys : List ℕ) (w : Walk) → Comes m (walking w) → Comes m (all-taken q ys w)
   taken-comes m q [] w h = h
   taken-comes m q (y ∷ ys) w h = tt

@@ -30,9 +30,9 @@ pub record SameStatic (B : Program) (c d : List ℕ) : Type 0 where
 abbrev pub SameHolders : List ℕ → List ℕ → List ℕ → Type 0
 SameHolders c d xs = (x l : ℕ) → has xs x ≡ true → (at c l ≡ x) ↔ (at d l ≡ x)
 
--- Two contents with equal static functions that agree on what a move reads in one of them give it, with its picks, the same instructions if none of 11
--- to 14, 18 and 19 is met there, and otherwise the same refusal if they agree on Reserve throughout; what the move reads elsewhere is past Reserve's E
--- locations. For a release to give the same updates, both must also hold its label at the same locations (SPECIFICATION 5.7).
+-- Two contents c and d with equal static functions, and a move with its picks. If d agrees with c on what the move reads in c, the walk gives the same
+-- instructions in d if it meets none of refusals 11 to 14, 18 and 19 in c. If it meets one, it meets the same in d, if both agree on Reserve throughout,
+-- which is the first E locations. For a release to give the same updates, both must also hold its label at the same locations (SPECIFICATION 5.7).
 pub record EqualReads (B : Program) (c d : List ℕ) (i : Input) : Type 0 where
   pub instructions : (w : Walk) → walked B c i ≡ walking w → ((l : ℕ) → has (reads B c i) l ≡ true → at c l ≡ at d l) → walked B d i ≡ walking w
   pub refusal : (n q : ℕ) → walked B c i ≡ refused-at n q → ((l : ℕ) → B .E ≤ l → has (reads B c i) l ≡ true → at c l ≡ at d l)
@@ -42,26 +42,29 @@ pub record EqualReads (B : Program) (c d : List ℕ) (i : Input) : Type 0 where
 
 -- ---- what a move that fires leaves
 
+-- what a move that fires from the contents c leaves
 pub record Leaves (B : Program) (c : List ℕ) (f : Fired) : Type 0 where
-  -- the old contents with its updates and no others, and no location is given two values
+  -- the old contents with the move's updates and no others, and no location is given two values
   pub long : length (fire (f .updates) c) ≡ L B
   pub frame : (l : ℕ) → at (fire (f .updates) c) l ≡ new-value (at c l) (values-at (f .updates) l)
   pub single : (l v : ℕ) → has (values-at (f .updates) l) v ≡ true → at (fire (f .updates) c) l ≡ v
   -- static locations are never written
   pub static : (l : ℕ) → dynamic-at B l ≡ false → writes (f .updates) l ≡ false
-  -- values below E, Boolean relations, the static rule and the roll rule are kept
+  -- the contents after the move are sound: values below E, Boolean relations, the static rule and the roll rule
   pub sound : Sound B (fire (f .updates) c)
 
 -- ---- the claims
 
+-- each move has equal reads on contents with equal static functions
 abbrev pub MovesReadEqual : Type 0
 MovesReadEqual = (B : Program) (c d : List ℕ) (i : Input) → SameStatic B c d → EqualReads B c d i
 
--- a move that fires does the same, reads included, if both contents also agree on what it writes
+-- a move that fires does the same, reads included, on other contents that agree on what it reads and writes and hold the released labels at the same locations
 abbrev pub MovesFireEqual : Type 0
 MovesFireEqual = (B : Program) (c d : List ℕ) (i : Input) (f : Fired) → SameStatic B c d → move B c i ≡ fires f → SameHolders c d (released (f .instructions))
     → ((l : ℕ) → has (f .reads) l ≡ true → at c l ≡ at d l) → ((l : ℕ) → writes (f .updates) l ≡ true → at c l ≡ at d l) → move B d i ≡ fires f
 
+-- each move that fires from sound contents leaves what it should
 abbrev pub MovesLeave : Type 0
 MovesLeave = (B : Program) → Lawful B → (c : List ℕ) → Sound B c → (i : Input) (f : Fired) → move B c i ≡ fires f → Leaves B c f
 
@@ -70,41 +73,42 @@ abbrev pub IdleMovesLeave : Type 0
 IdleMovesLeave = (B : Program) → Lawful B → (c : List ℕ) → Sound B c → (i : Input) (f : Fired) → move B c i ≡ fires f
     → (idle c (f .updates) ≡ true) ↔ (fire (f .updates) c ≡ c)
 
--- the refusals inside a move: 11 to 15, 18 and 19
+-- n is a refusal inside a move: one of refusals 11 to 15, 18 and 19
 abbrev pub Inside : ℕ → Type 0
 Inside n = (11 ≤ n) × (n ≤ 19) × (n ≢ 16) × (n ≢ 17)
 
--- a move is refused by one of them, and no single-move call gets 16
+-- a move is refused only by a refusal inside a move
 abbrev pub MovesRefuse : Type 0
 MovesRefuse = (B : Program) (c : List ℕ) (i : Input) (n q : ℕ) → move B c i ≡ move-refused n q → Inside n
 
+-- no single-move call gets refusal 16
 abbrev pub StepsAnswer : Type 0
 StepsAnswer = (book c : List ℕ) (i : Input) (n : ℕ) → step-call book c i n .answer .number ≢ 16
 
--- an import that looks from label x on and takes y has looked at Reserve from x to y, and nowhere else
+-- an import that searches from label x on and takes y has read Reserve from x to y, and nothing else
 abbrev pub ImportsRead : Type 0
 ImportsRead = (c : List ℕ) (x n y : ℕ) → value-in c (lowest x n) ≡ Here y → locations-read c (lowest x n) ≡ table-from (λ l. l) x (suc y - x)
 
--- a choice with an element left to pick looks at its universe there, before 18 is judged, and nowhere else on its own
+-- a choose with an element as its next pick reads its universe there, before refusal 18 is checked, and nothing else of its own
 abbrev pub ChoicesRead : Type 0
 ChoicesRead = (B : Program) (c : List ℕ) (me n x u : ℕ) (r : Rule) (vs : List ℕ) (w : Walk) (y : ℕ) (ys : List ℕ) → w .left ≡ y ∷ ys → y < B .E
     → locations-read c (walk B me (choose n x u r) vs w)
     ≡ location B u y 0 ∷ locations-read c (after (refuse-if (not-member (at c (location B u y 0))) not-in-universe n (take-pick ys w)) (walk B me r (set vs x y)))
 
--- one with none left is refused with 19 at its node, whatever its universe has, and looks nowhere
+-- a choose with no pick left meets refusal 19 at its node, whatever its universe has, and reads nothing
 abbrev pub ChoicesLack : Type 0
 ChoicesLack = (B : Program) (c : List ℕ) (me n x u : ℕ) (r : Rule) (vs : List ℕ) (w : Walk) → w .left ≡ []
     → (value-in c (walk B me (choose n x u r) vs w) ≡ refused-at pick-count n) × (locations-read c (walk B me (choose n x u r) vs w) ≡ [])
 
--- a walk that comes to its end has taken all its picks
+-- a walk that meets no refusal has used all its picks
 abbrev pub PicksTaken : Type 0
 PicksTaken = (B : Program) (c : List ℕ) (i : Input) (w : Walk) → walked B c i ≡ walking w → w .left ≡ []
 
--- each pick of a single move that passes its checks is an element: there 18 is only about the universe
+-- each pick of a single move that passes its checks is an element: so refusal 18 is only about the universe
 abbrev pub PicksAreElements : Type 0
 PicksAreElements = (book c : List ℕ) (i : Input) (n : ℕ) (B : Program) → check-step book c i n ≡ good B → (y : ℕ) → has (i .picks) y ≡ true → y < B .E
 
--- looking further down than 32 nodes changes no agent's rule: 32 is never what ends a walk or an evaluation
+-- to build trees deeper than 32 nodes changes no agent's rule: the bound of 32 never ends a walk or an evaluation
 abbrev pub TreesWhole : Type 0
 TreesWhole = (B : Program) → Lawful B → (k d : ℕ) → k < length (B .agents) → (
     let n = agent-at B k .root in rule-tree (node-at B) (most-depth + d) (rule-shape (node-at B n)) n (node-at B n) ≡ rule-at (node-at B) n

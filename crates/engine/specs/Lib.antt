@@ -7,3 +7,4 @@ pub mod Open
 pub mod Examples
 pub mod Operators
 pub mod Claims
+pub mod Tables

@@ -1,4 +1,4 @@
--- One name that opens every definition of moves, and those below, on an `unfolding` line, for theorems by computation.
+-- One name that opens every definition of moves, and of all that they use, on an `unfolding` line, for theorems by computation.
 use Prim.Native.Nat.{ℕ}
 use Rattle.book.specs.Open.{open-book}
 use Rattle.engine.specs.Reader.{value-in, locations-read, _>>=_}

@@ -1,4 +1,4 @@
--- Rules: the tree that a node stands for, and the walk that gives a move's instructions or meets a refusal 11 to 14, 18 or 19
+-- Rules: the tree that a node stands for, and the walk that gives a move's instructions or meets one of refusals 11 to 14, 18 and 19
 -- (SPECIFICATION 4.2 to 4.6; Lipari Guide 3.1, 3.2, 4.1 and 5.3).
 use mathlib.Core.Bool.{Bool, true, false, _&&_, _||_, not}
 use mathlib.Core.List.{List, [], _∷_, _++_}
@@ -17,7 +17,7 @@ use Rattle.engine.specs.declared.Instruction.the-variants.{Update, Relea
 use Rattle.engine.specs.Reader.{Reader, done, read, _>>=_}
 use Rattle.engine.specs.Term.{Term, term-at, eval, target, function-of}
 
--- a rule that can be refused has its node
+-- A rule, as a tree. One that can be refused has its node first; assign is kind 21, pair 22, test 23, bind 24
 pub data Rule : Type 0 where
   skip : Rule
   assign : ℕ → Term → Term → Rule
@@ -29,17 +29,19 @@ pub data Rule : Type 0 where
   release : ℕ → Term → Rule
   choose : ℕ → ℕ → ℕ → Rule → Rule
 
+-- which rule a node is
 pub data RuleShape : Type 0 where
   a-skip an-assign a-pair a-test a-bind a-for-all an-import a-release a-choose no-rule : RuleShape
 
--- from kind 20
+-- the shapes of kinds 20 to 28
 abbrev pub rule-shapes : List RuleShape
 rule-shapes = a-skip ∷ an-assign ∷ a-pair ∷ a-test ∷ a-bind ∷ a-for-all ∷ an-import ∷ a-release ∷ a-choose ∷ []
 
+-- the shape of a node; that of no rule if its kind is none
 abbrev pub rule-shape : Node → RuleShape
 rule-shape x = if leb 20 (x .kind) then getD rule-shapes (x .kind - 20) no-rule else no-rule
 
--- The rule that node n, of this shape, stands for, looking at most d nodes down. A rule on the last of them can have no operand: it is skip.
+-- The rule that node n, of this shape, stands for, built at most d nodes deep. A rule on the last level can have no operand: it is skip.
 unfoldable pub rule-tree : (ℕ → Node) → ℕ → RuleShape → ℕ → Node → Rule
 rule-tree ns zero s n x = skip
 rule-tree ns (suc zero) s n x = skip
@@ -68,29 +70,35 @@ rule-tree ns (suc (suc d)) a-choose n x =
     let c = ns (x .c) in
     choose n (x .a) (x .b) (rule-tree ns (suc d) (rule-shape c) (x .c) c)
 
+-- the rule at node n
+abbrev pub rule-from : (ℕ → Node) → ℕ → ℕ → Rule
+rule-from ns d n = rule-tree ns d (rule-shape (ns n)) n (ns n)
+
+-- the rule that node n stands for, built as deep as a book may be
 abbrev pub rule-at : (ℕ → Node) → ℕ → Rule
-rule-at ns n = rule-tree ns most-depth (rule-shape (ns n)) n (ns n)
+rule-at ns n = rule-from ns most-depth n
 
--- ---- the walk's state, and the four ways to go on: look, give, take a label, take a pick
+-- ---- the walk's state, and the four ways to go on: read, give an instruction, take a label, take a pick
 
--- The instructions so far, in order; and the first label after those taken. Labels are taken lowest first, so those of Reserve that are not
--- yet taken are the ones from there on. And the picks that are left.
+-- How far a walk is: the instructions so far, in order; the first label after those taken (labels are taken lowest first, so those on the roll that are not
+-- yet taken are the ones from there on); and the picks that are left.
 pub record Walk : Type 0 where
   pub made : List Instruction
   pub next : ℕ
   pub left : List ℕ
 
--- a walk goes on, or has met a refusal at a node
+-- what a walk comes to: it goes on, or has met a refusal, with its number and its node
 pub data Walked : Type 0 where
   walking : Walk → Walked
   refused-at : ℕ → ℕ → Walked
 
--- go on unless refused
+-- the next step of a walk, unless it is refused
 infixl 15 _then_
 abbrev pub _then_ : Walked → (Walk → Walked) → Walked
 walking w then f = f w
 refused-at n q then f = refused-at n q
 
+-- the rest of a walk, which may read, unless it is refused
 abbrev pub after : Walked → (Walk → Reader Walked) → Reader Walked
 after (walking w) f = f w
 after (refused-at n q) f = done (refused-at n q)
@@ -99,27 +107,27 @@ after (refused-at n q) f = done (refused-at n q)
 abbrev pub most-instructions : ℕ
 most-instructions = 256
 
--- one more instruction, from node n; 14 if it does not fit
+-- one more instruction, from node n; refusal 14 if it does not fit
 abbrev pub emit : ℕ → Instruction → Walk → Walked
 emit n i w =
     if ltb (length (w .made)) most-instructions then walking (record { made = w .made ++ (i ∷ []); next = w .next; left = w .left }) else refused-at list-full n
 
--- label x is taken
+-- the walk after label x is taken
 abbrev pub take-label : ℕ → Walk → Walk
 take-label x w = record { made = w .made; next = suc x; left = w .left }
 
--- a pick is taken: these are left
+-- the walk after a pick is taken: the picks ys are left
 abbrev pub take-pick : List ℕ → Walk → Walk
 take-pick ys w = record { made = w .made; next = w .next; left = ys }
 
--- refusal r at node n if the test passes
+-- refusal r at node n if the test passes, otherwise the walk goes on
 abbrev pub refuse-if : Bool → ℕ → ℕ → Walk → Walked
 refuse-if false r n w = walking w
 refuse-if true r n w = refused-at r n
 
--- ---- what rules look for
+-- ---- what rules read and search for
 
--- the members of the universe u among the n elements from x: all n are looked at
+-- the members of the universe u among the n elements from x on: all n are read
 unfoldable pub members : Program → ℕ → ℕ → ℕ → Reader (List ℕ)
 unfolding _>>=_
 members B u x zero = done []
@@ -128,7 +136,7 @@ members B u x (suc n) = do
   ys ← members B u (suc x) n
   done (if eqb v true-element then x ∷ ys else ys)
 
--- for each element in turn
+-- walks f for each element of a list in turn
 unfoldable pub each : (ℕ → Walk → Reader Walked) → List ℕ → Walk → Reader Walked
 unfolding _>>=_
 each f [] w = done (walking w)
@@ -136,7 +144,7 @@ each f (x ∷ xs) w = do
   o ← f x w
   after o (each f xs)
 
--- the lowest Reserve label of the n from x on
+-- the lowest label on the roll of the n elements from x on
 unfoldable pub lowest : ℕ → ℕ → Reader Found
 unfolding _>>=_
 lowest x zero = done Nowhere
@@ -145,42 +153,43 @@ lowest x (suc n) = do
   let r = lowest (suc x) n
   if eqb v true-element then done (Here x) else r
 
--- an import at node n into the universe u, of the label found, or 13; body is the rest of it
+-- an import at node n into the universe u, of the label found; refusal 13 if there is none. body is the walk of its c
 abbrev pub import-of : Program → ℕ → ℕ → Walk → (ℕ → Walk → Reader Walked) → Found → Reader Walked
 import-of B n u w body Nowhere = done (refused-at no-label-left n)
 import-of B n u w body (Here x) =
     after (emit n (Update (reserve x) false-element) (take-label x w) then emit n (Update (location B u x 0) true-element)) (body x)
 
--- 11: the location's function is a relation, and v is not Boolean
+-- Refusal 11: the function of the location term t is a relation, and v is no Boolean
 abbrev pub not-boolean : Program → Term → ℕ → Bool
 not-boolean B t v = relation (function-at B (function-of t)) && not (boolean v)
 
--- 12: x is no label, or in Reserve, whose value there is r
+-- Refusal 12: x is no label, or is on the roll, Reserve at x being r
 abbrev pub unreleasable : Program → ℕ → ℕ → Bool
 unreleasable B x r = ltb x (B .P) || eqb r true-element
 
--- the value of the universe u at y. What is no element is in no universe, and nothing is looked at for it; behind 9 no pick is such
+-- the value of the universe u at y. A number that is no element is in no universe, and nothing is read for it; no pick that passes refusal 9 is such
 unfoldable pub universe-at : Program → ℕ → ℕ → Reader ℕ
 universe-at B u y = if ltb y (B .E) then read (location B u y 0) else done false-element
 
--- 18: the universe has the value v there
+-- Refusal 18: the universe has the value v at the pick, which is not true
 abbrev pub not-member : ℕ → Bool
 not-member v = not (eqb v true-element)
 
--- A choice at node n in the universe u, with these picks left: 19 if there is none, before anything is looked at; else the first is taken, and the
--- universe is looked at there before 18 is judged. body is the rest of it
+-- A choose at node n in the universe u, with the picks of the list left: refusal 19 if there is none, before anything is read; else the first is taken, and
+-- the universe is read there before refusal 18 is checked. body is the walk of its c
 abbrev pub choose-of : Program → ℕ → ℕ → Walk → (ℕ → Walk → Reader Walked) → List ℕ → Reader Walked
 choose-of B n u w body [] = done (refused-at pick-count n)
 choose-of B n u w body (y ∷ ys) =
     universe-at B u y >>= λ v. after (refuse-if (not-member v) not-in-universe n (take-pick ys w)) (body y)
 
--- 19 at the root q, if picks are left over
+-- Refusal 19 at the root q, if picks are left over
 abbrev pub all-taken : ℕ → List ℕ → Walk → Walked
 all-taken q [] w = walking w
 all-taken q (y ∷ ys) w = refused-at pick-count q
 
 -- ---- the walk of a rule by the agent whose element is me; vs are the variables' values
 
+-- the walk of a rule, from the state w
 unfoldable pub walk : Program → ℕ → Rule → List ℕ → Walk → Reader Walked
 unfolding _>>=_
 walk B me skip vs w = done (walking w)
@@ -211,10 +220,11 @@ walk B me (release n t) vs w = do
   done (refuse-if (unreleasable B x r) not-releasable n w then emit n (Release x))
 walk B me (choose n x u r) vs w = choose-of B n u w (λ y. walk B me r (set vs x y)) (w .left)
 
+-- each variable at undef
 abbrev pub no-variables : List ℕ
 no-variables = 0 ∷ 0 ∷ 0 ∷ 0 ∷ 0 ∷ 0 ∷ 0 ∷ 0 ∷ []
 
--- the walk of agent k's rule with these picks, all of which must be taken
+-- the walk of agent k's rule with these picks, all of which must be used
 unfoldable pub agent-walk : Program → ℕ → List ℕ → Reader Walked
 unfolding _>>=_
 agent-walk B k picks = do

@@ -9,9 +9,11 @@ use Rattle.book.specs.declared.Node.{Node}
 use Rattle.book.specs.Book.{undef, true-element, zero-element, boolean, truth, Program, location}
 use Rattle.engine.specs.Reader.{Reader, done, read, _>>=_}
 
+-- the operations of two operands, kinds 7 and 9 to 13
 pub data Op : Type 0 where
   equal both either plus minus less : Op
 
+-- a term, as a tree
 pub data Term : Type 0 where
   element : ℕ → Term
   variable : ℕ → Term
@@ -22,11 +24,12 @@ pub data Term : Type 0 where
   negated : Term → Term
   joined : Op → Term → Term → Term
 
--- the shape of each term kind, from 0; the kinds that are no term stand as undef
+-- which term a node is; a node of another kind counts as undef
 pub data Shape : Type 0 where
   an-element a-variable the-agent of-none of-one of-two a-not no-term : Shape
   a-join : Op → Shape
 
+-- the shapes of kinds 0 to 13
 abbrev pub shapes : List Shape
 shapes =
     no-term ∷ an-element ∷ a-variable ∷ the-agent ∷ of-none ∷ of-one ∷ of-two ∷ a-join equal ∷ a-not ∷ a-join both ∷ a-join either ∷ a-join plus
@@ -34,10 +37,11 @@ shapes =
     ∷ a-join less
     ∷ []
 
+-- the shape of a node; that of no term if its kind is none
 abbrev pub shape : Node → Shape
 shape x = getD shapes (x .kind) no-term
 
--- The term that a node of this shape stands for, looking at most d nodes down; ns gives each node by its number. In an accepted book d nodes are
+-- The term that a node of this shape stands for, built at most d nodes deep; ns gives each node by its number. In an accepted book 32 nodes are
 -- enough.
 unfoldable pub tree : (ℕ → Node) → ℕ → Shape → Node → Term
 tree ns zero s x = element undef
@@ -57,16 +61,17 @@ tree ns (suc d) (a-join o) x =
     let b = ns (x .b) in
     joined o (tree ns d (shape a) a) (tree ns d (shape b) b)
 
+-- the term that node n stands for, built at most d nodes deep
 abbrev pub term-at : (ℕ → Node) → ℕ → ℕ → Term
 term-at ns d n = tree ns d (shape (ns n)) (ns n)
 
 -- ---- values
 
--- the natural number n is element 3 + n while that is below P
+-- x is a number of the book: the number n is element 3 + n, if that is below P
 abbrev pub number : ℕ → ℕ → Bool
 number P x = leb zero-element x && ltb x P
 
--- a non-Boolean or a non-number gives undef, and so does a sum or difference that is no number of the book
+-- The value of an operation. An operand that is no Boolean or no number gives undef, and so does a sum or difference that is no number of the book
 unfoldable pub apply : ℕ → Op → ℕ → ℕ → ℕ
 apply P equal x y = truth (eqb x y)
 apply P both x y = if boolean x && boolean y then truth (eqb x true-element && eqb y true-element) else undef
@@ -75,6 +80,7 @@ apply P plus x y = if number P x && number P y && ltb (x + y - zero-element) P t
 apply P minus x y = if number P x && number P y && leb y x then zero-element + (x - y) else undef
 apply P less x y = if number P x && number P y then truth (ltb x y) else undef
 
+-- the value of not
 abbrev pub negate : ℕ → ℕ
 negate x = if boolean x then truth (not (eqb x true-element)) else undef
 
@@ -100,7 +106,7 @@ eval B me vs (joined o a b) = do
   y ← eval B me vs b
   done (apply (B .P) o x y)
 
--- The location that a term of kind 4 to 6 names: its arguments are evaluated, and it is not read. No other term is ever asked.
+-- The location that a term of kind 4 to 6 names: its arguments are evaluated, and it is not read. No other term is ever a location term.
 unfoldable pub target : Program → ℕ → List ℕ → Term → Reader ℕ
 unfolding _>>=_
 target B me vs (element x) = done 0
@@ -117,7 +123,7 @@ target B me vs (at2 f a b) = do
 target B me vs (negated a) = done 0
 target B me vs (joined o a b) = done 0
 
--- its function
+-- the function of the location that a term of kind 4 to 6 names
 unfoldable pub function-of : Term → ℕ
 function-of (element x) = 0
 function-of (variable v) = 0

@@ -1,13 +1,16 @@
-// One move of an agent: what its rule gives.
+// One move of an agent: the instructions that its rule gives, the picks that it is made with, and the records that a caller lends.
 use text::Value;
 
-// What a rule gives: a location gets a value, or a label goes back to the roll.
+// How many instructions a move may give, and how many records of them have to be lent.
+pub const MOST_INSTRUCTIONS: usize = 256;
+
+// An instruction: a location gets a value, or a label goes back to the roll.
 pub enum Instruction {
     Update { location: u32, value: Value },
     Release { label: Value },
 }
 
-// A clerk's pick: the number of an element, in 64 bits so that none is cut. One that is no element is refused.
+// A pick, made by a clerk: the number of an element, in 64 bits so that none is cut. One that is no element is refused.
 pub type Pick = u64;
 
 // A record of the instruction list that a caller lends.

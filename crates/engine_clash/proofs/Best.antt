@@ -1,4 +1,4 @@
--- The clash: the best of the instructions' own locations is the least location that clashes. Assumes nothing.
+-- The search for a clash: the least of the instructions' own locations that clash is the least location that clashes. Assumes nothing.
 use mathlib.Core.Path.{_≡_, refl, sym, ap, _∙_}
 use mathlib.Core.Bool.{Bool, true, false, _&&_, _||_, not, or-true}
 use mathlib.Core.List.{List, [], _∷_}
@@ -10,12 +10,11 @@ use lib.ListN.{length, getD}
 use Rattle.text.specs.Words.{if_then_else_, has, least}
 use Rattle.text.specs.declared.Found.{Found}
 use Rattle.text.specs.declared.Found.the-variants.{Nowhere, Here}
-use Rattle.text.proofs.Words.{refuted, or-no, least-none, least-all, least-here}
+use Rattle.text.proofs.Words.{refuted, or-no, least-none, least-all, least-here, has-append}
 use Rattle.book.specs.Book.{Program, L, dynamic-at, default-at, concerns}
 use Rattle.engine.specs.declared.Instruction.{Instruction}
 use Rattle.engine.specs.declared.Instruction.the-variants.{Update, Release}
 use Rattle.engine.specs.Move.{given, values, updates, released, other, two-values, sets-label, set-to-label, clashes}
-use Rattle.engine.proofs.EqualReads.{has-append}
 use Rattle.engine.proofs.Values.{length-updates, updates-at}
 use Rattle.engine_instruction.specs.Traces.{own, gets, any}
 use Rattle.engine_clash.specs.Against.{sets-released, clashes-by, least-with, least-clash}
@@ -23,7 +22,7 @@ use Rattle.engine_instruction.proofs.Laws.{and-none, other-append, own-given}
 
 -- ---- tests
 
--- the least place at fault, where m is at fault and none below it is
+-- a place at fault, below which none is, is the least
 pub least-is : (bad : ℕ → Bool) (n m : ℕ) → m < n → bad m ≡ true → ((l : ℕ) → l < m → bad l ≡ false) → Here m ≡ least bad n
 least-is bad n m h e none = go (least bad n) refl
   where
@@ -38,7 +37,7 @@ least-is bad n m h e none = go (least bad n) refl
 
 -- ---- at one location
 
--- any other gives it nothing, or its default
+-- an instruction that is about another location gives l nothing, or its default
 else-given : (B : Program) (c : List ℕ) (l : ℕ) (i : Instruction) → (own i ≡ l → ⊥) → other (default-at B l) (given B c l i) ≡ false
 unfolding given other
 else-given B c l (Update k v) e = rw (ne-eqb k l e)
@@ -48,7 +47,7 @@ else-given B c l (Release x) e = rw (ne-eqb x l e) (step (dynamic-at B l && conc
     step true = rw (eq-eqb (default-at B l) (default-at B l) refl)
     step false = refl
 
--- a list whose values are all v has no two
+-- a list whose values are all v has no two different values
 all-one : (v : ℕ) (vs : List ℕ) → other v vs ≡ false → two-values vs ≡ false
 unfolding other two-values
 all-one v [] e = refl
@@ -65,7 +64,7 @@ has-other v w (y ∷ ys) h n = at (eqb y v) refl h (λ g. has-other v w ys g n)
     at true f g r = rw (ne-eqb y w (λ o. n (sym o ∙ eqb-true y v f)))
     at false f g r = rw (r g) (or-true (not (eqb y w)))
 
--- where v is one of the values, two values are one other than v
+-- where v is one of the values, there are two different values exactly if one is other than v
 two-other : (v : ℕ) (vs : List ℕ) → has vs v ≡ true → other v vs ≡ two-values vs
 unfolding other two-values
 two-other v [] e = cc
@@ -90,7 +89,7 @@ sets-any xs l (i ∷ is) = rw (sets-any xs l is) (ap (λ (b : Bool). b || any (�
     step (Update k v) = refl
     step (Release x) = sym (and-none (eqb x l))
 
--- no instruction is about the location: it is given its default, or nothing
+-- if no instruction is about the location, all that it is given is its default, or nothing
 none-own : (B : Program) (c : List ℕ) (l : ℕ) (is : List Instruction) → any (λ i. eqb (own i) l) is ≡ false → other (default-at B l) (values B c l is) ≡ false
 unfolding any values other
 none-own B c l [] h = refl
@@ -102,11 +101,11 @@ none-own B c l (i ∷ is) h =
 -- ---- all instructions
 
 module _ (all : List Instruction) where
-  -- i is one of them
+  -- i is one of all the instructions
   abbrev pub Member : Instruction → Type 0
   Member i = (t : Instruction → Bool) → t i ≡ true → any t all ≡ true
 
-  -- these are some of them
+  -- these instructions are some of all
   abbrev pub Within : List Instruction → Type 0
   Within is = (t : Instruction → Bool) → any t is ≡ true → any t all ≡ true
 
@@ -138,9 +137,9 @@ module _ (B : Program) (c : List ℕ) (all : List Instruction) where
   abbrev Bad : ℕ → Bool
   Bad l = two-values (values B c l all) || set-to-label (released all) l all
 
-  -- so trouble at an instruction is a clash at its location
-  trouble-clash : (i : Instruction) → Member all i → clashes-by B c all i ≡ true → Bad (own i) ≡ true
-  trouble-clash i h e =
+  -- an instruction that clashes by its own value is a clash at its own location
+  clashes-clash : (i : Instruction) → Member all i → clashes-by B c all i ≡ true → Bad (own i) ≡ true
+  clashes-clash i h e =
       rw (← (two-other (gets i) (values B c (own i) all) (gives-own i h)))
       (step (other (gets i) (values B c (own i) all)) (sets-released (released all) i) refl e)
     where
@@ -151,13 +150,13 @@ module _ (B : Program) (c : List ℕ) (all : List Instruction) where
           ∙ h (λ j. eqb (own j) (own i) && sets-released (released all) j) (rw (eq-eqb (own i) (own i) refl, f))
       step false false f g = cc
 
-  -- trouble at an instruction about l
+  -- the instruction i is about l and clashes by its own value
   abbrev pub bad-one : ℕ → Instruction → Bool
   bad-one l i = eqb (own i) l && clashes-by B c all i
 
-  -- and a clash is trouble at some instruction about the location
-  clash-trouble : (l : ℕ) → Bad l ≡ true → any (bad-one l) all ≡ true
-  clash-trouble l e = step (two-values (values B c l all)) refl e
+  -- a clash at location l is one by some instruction that is about l
+  clash-clashes : (l : ℕ) → Bad l ≡ true → any (bad-one l) all ≡ true
+  clash-clashes l e = step (two-values (values B c l all)) refl e
     where
       about : (b : Bool) → any (λ i. eqb (own i) l) all ≡ b → two-values (values B c l all) ≡ true → b ≡ true
       about true f g = refl
@@ -179,7 +178,7 @@ module _ (B : Program) (c : List ℕ) (all : List Instruction) where
           either true b d k = rw k (or-true d)
           either false b d k = cc
 
-  -- ---- the best of them
+  -- ---- the least of the own locations that clash
 
   better-le : (i : Instruction) (b : ℕ) → least-with B c all i b ≤ b
   better-le i b = step (ltb (own i) b) (clashes-by B c all i) refl
@@ -214,12 +213,12 @@ module _ (B : Program) (c : List ℕ) (all : List Instruction) where
       step true f g r = omega (arith, best-le is (least-with B c all i b), better-here i b l f)
       step false f g r = r g
 
-  -- what is better than the start clashes
+  -- if a result below n clashes before one step of the search, so does one after it
   better-clashes : (i : Instruction) → Member all i → (b n : ℕ) → (b < n → Bad b ≡ true) → least-with B c all i b < n → Bad (least-with B c all i b) ≡ true
   better-clashes i h b n old = step (ltb (own i) b) (clashes-by B c all i) refl
     where
       step : (t u : Bool) → clashes-by B c all i ≡ u → (if t && u then own i else b) < n → Bad (if t && u then own i else b) ≡ true
-      step true true e k = trouble-clash i h e
+      step true true e k = clashes-clash i h e
       step true false e k = old k
       step false u e k = old k
 
@@ -229,30 +228,30 @@ module _ (B : Program) (c : List ℕ) (all : List Instruction) where
   best-clashes (i ∷ is) h b n old k =
       best-clashes is (rest-in all i is h) (least-with B c all i b) n (better-clashes i (first-in all i is h) b n old) k
 
-  -- what is better than the start has trouble
-  pub best-trouble : (b : ℕ) → least-clash B c all all b < b → any (bad-one (least-clash B c all all b)) all ≡ true
-  best-trouble b h = clash-trouble (least-clash B c all all b) (best-clashes all (λ t k. k) b b (λ k. absurd (omega arith)) h)
+  -- a result below the start of the search is the own location of some instruction that clashes
+  pub least-clash-by : (b : ℕ) → least-clash B c all all b < b → any (bad-one (least-clash B c all all b)) all ≡ true
+  least-clash-by b h = clash-clashes (least-clash B c all all b) (best-clashes all (λ t k. k) b b (λ k. absurd (omega arith)) h)
 
   clashes-at : (l : ℕ) → l < L B → clashes all (updates B c all) l ≡ Bad l
   unfolding clashes
   clashes-at l h = rw (updates-at B c all l h)
 
-  -- begun from a number k that is no location
+  -- the search begins from a number k that is no location
   module _ (k : ℕ) (k-high : L B ≤ k) where
     abbrev found : ℕ
     found = least-clash B c all all k
 
-    -- one below L is the least location that clashes
+    -- a result below L is the least location that clashes
     pub best-least : found < L B → Here found ≡ least (clashes all (updates B c all)) (length (updates B c all))
     best-least h =
         rw (length-updates B c all)
         (least-is (clashes all (updates B c all)) (L B) found h
         (clashes-at found h ∙ best-clashes all (λ t e. e) k k (λ e. absurd (omega arith)) (omega arith))
-        (λ l e. clashes-at l (omega arith) ∙ refuted (Bad l) (λ b. omega (arith, best-here all k l (clash-trouble l b)))))
+        (λ l e. clashes-at l (omega arith) ∙ refuted (Bad l) (λ b. omega (arith, best-here all k l (clash-clashes l b)))))
 
-    -- else none does
+    -- if the result is not below L, no location clashes
     pub best-none : L B ≤ found → Nowhere ≡ least (clashes all (updates B c all)) (length (updates B c all))
     best-none h =
         rw (length-updates B c all)
         (sym (least-all (clashes all (updates B c all)) (L B)
-        (λ l e. clashes-at l e ∙ refuted (Bad l) (λ b. omega (arith, best-here all k l (clash-trouble l b))))))
+        (λ l e. clashes-at l e ∙ refuted (Bad l) (λ b. omega (arith, best-here all k l (clash-clashes l b))))))

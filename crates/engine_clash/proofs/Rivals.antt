@@ -1,4 +1,4 @@
--- 15 of updates alone: a pass that holds each against the last one before it at its location finds the least location with two values.
+-- Refusal 15 of updates alone: a pass that compares each with the last one before it at its location finds the least location with two values.
 -- Assumes nothing.
 use mathlib.Core.Path.{_≡_, refl, sym, ap, _∙_}
 use mathlib.Core.Logic.{dite}
@@ -20,11 +20,11 @@ use Rattle.engine.specs.declared.Instruction.the-variants.{Update}
 use Rattle.engine.specs.Move.{values, label-of, released, other}
 use Rattle.engine_instruction.specs.Code.{decode-of, items}
 use Rattle.engine_instruction.specs.Traces.{any}
-use Rattle.engine_clash.specs.Against.{held-place, value-given, least-clash}
+use Rattle.engine_clash.specs.Against.{held-place, values-given, least-clash}
 use Rattle.engine_clash.specs.Steps.{releases, location-of, slot-of, Last, Linked, Chain, least-with-update}
 use Rattle.engine_instruction.proofs.Laws.{or-assoc}
 use Rattle.engine_clash.proofs.Laws.{other-any, has-any}
-use Rattle.engine_clash.proofs.Best.{bad-one, best-le, best-here, best-trouble}
+use Rattle.engine_clash.proofs.Best.{bad-one, best-le, best-here, least-clash-by}
 
 slot-low : (c : ℕ) → slot-of c < 512
 slot-low c = mod-lt (location-of c) (omega arith)
@@ -33,9 +33,9 @@ slot-low c = mod-lt (location-of c) (omega arith)
 one-slot : (c d : ℕ) → location-of c ≡ location-of d → slot-of c ≡ slot-of d
 one-slot c d e = ap (λ (l : ℕ). l % 512) e
 
--- ---- down to the last one at its location
+-- ---- down to the last update at the location of c
 
--- from i to p none has the location of c
+-- from i up to p no update has the location of c
 pub record Down (list : List ℕ) (c p i : ℕ) : Type 0 where
   pub low : i ≤ p
   pub skips : (k : ℕ) → i ≤ k → k < p → location-of (getD list k 0) ≡ location-of c → ⊥
@@ -51,7 +51,7 @@ module _ {list : List ℕ} {c p i : ℕ} (down : Down list c p i) where
   down-end h = record { low = omega arith; same = λ g. absurd (omega arith); skips = λ k g. down .skips k (omega arith) }
 
   module _ (apart : location-of (getD list (i - 1) 0) ≡ location-of c → ⊥) where
-    -- on to q, if none from there to i - 1 has it
+    -- on down to q, if no update from there up to i - 1 has the location of c
     down-to : (q : ℕ) → q < i → ((k : ℕ) → q ≤ k → k < i - 1 → location-of (getD list k 0) ≡ location-of c → ⊥) → Down list c p q
     down-to q less between = record { low = omega (arith, down .low); skips = λ k h g e. past k h g e (ltb k i) refl }
       where
@@ -64,7 +64,7 @@ module _ {list : List ℕ} {c p i : ℕ} (down : Down list c p i) where
     pub down-one : 0 < i → Down list c p (i - 1)
     down-one more = down-to (i - 1) (omega arith) (λ k h g. absurd (omega arith))
 
--- down a chain each is at the slot of c
+-- down a chain each update has the slot of c
 module _ {list prior : List ℕ} {c p i : ℕ} (chain : Chain list prior c p) (down : Down list c p i) (more : 0 < i) where
   link : Last slot-of list (getD list (i - 1) 0) (i - 1) (getD prior (i - 1) 0)
   link = chain .links (i - 1) (omega (arith, down .low))
@@ -88,7 +88,7 @@ module _ (list : List ℕ) (n : ℕ) where
   abbrev at : ℕ → ℕ
   at k = location-of (code k)
 
-  -- two of the first n give location l different values
+  -- two of the first n updates give location l different values
   pub record Rivals (l : ℕ) : Type 0 where
     pub one : ℕ
     pub two : ℕ
@@ -98,7 +98,7 @@ module _ (list : List ℕ) (n : ℕ) where
     pub two-at : at two ≡ l
     pub differ : code one ≡ code two → ⊥
 
-  -- what holds after the first j, all updates, with b at the start
+  -- what holds after the first j numbers, all of them updates, with b as the least at the start
   pub record Looked (b j least : ℕ) : Type 0 where
     pub updates : (k : ℕ) → k < j → code k < releases
     pub low : least ≤ b
@@ -148,11 +148,11 @@ module _ (list : List ℕ) (n : ℕ) where
               differ = eqb-false (code (i - 1)) (code j) r;
             }
 
-    -- an earlier one at its location with another value
+    -- an earlier update of the same location with another value has been found
     left-found : (k : ℕ) → k < j → at k ≡ at j → (code k ≡ code j → ⊥) → left ≤ at j
     left-found k h e d = go (eqb i 0) (eqb (code (i - 1)) (code j)) (leb least (at j)) refl refl refl
       where
-        -- it is no later than the last one there
+        -- the earlier update is no later than the last one at its location
         within : k < i
         within = go (ltb k i) refl
           where
@@ -191,7 +191,7 @@ module _ (list : List ℕ) (n : ℕ) where
 
 -- ---- the tables of slots
 
--- what they have after the first j
+-- what the tables of slots have after the first j updates
 pub record Tables (list : List ℕ) (j : ℕ) (last prior : List ℕ) : Type 0 where
   pub wide : (length last ≡ 512) × (length prior ≡ 256)
   pub last-is : (c : ℕ) → Last slot-of list c j (getD last (slot-of c) 0)
@@ -212,7 +212,7 @@ module _ {list : List ℕ} {j s : ℕ} {last prior : List ℕ} (so-far : Tables 
   abbrev x : ℕ
   x = getD list j 0
 
-  -- the last before at the slot
+  -- the last update before with the slot of this one
   abbrev p : ℕ
   p = getD last s 0
 
@@ -227,7 +227,7 @@ module _ {list : List ℕ} {j s : ℕ} {last prior : List ℕ} (so-far : Tables 
         same = before .same;
       }
 
-  -- the last one at its location is at its slot
+  -- the last update at a location, searched among those with its slot, is the last of all
   pub tables-held : {i : ℕ} → Last location-of list x p i → Last location-of list x j i
   tables-held {i} held =
       record {
@@ -274,7 +274,7 @@ module _ {list : List ℕ} {j s : ℕ} {last prior : List ℕ} (so-far : Tables 
           links = next-links;
         }
 
--- ---- what it found
+-- ---- what the pass found
 
 any-snoc : (p : Instruction → Bool) (cs : List ℕ) (c : ℕ) → any p (map decode-of (cs ++ (c ∷ []))) ≡ any p (map decode-of cs) || p (decode-of c)
 unfolding any
@@ -308,19 +308,19 @@ module _ (B : Program) (c : List ℕ) {list : List ℕ} {n b j least : ℕ} (fit
       false≢true (sym (ap (λ (i : Instruction). has (label-of i []) x) (is-update (s .0) (s .1))) ∙ s .2))
 
   -- an update gives a location a value other than w
-  gives-other : (l w k : ℕ) → k < n → other w (value-given (B .E) (held-place B c l) (decode-of (getD list k 0))) ≡ eqb (at list n k) l && not (eqb (val k) w)
-  unfolding value-given other
+  gives-other : (l w k : ℕ) → k < n → other w (values-given (B .E) (held-place B c l) (decode-of (getD list k 0))) ≡ eqb (at list n k) l && not (eqb (val k) w)
+  unfolding values-given other
   gives-other l w k h = rw (is-update k h) (go (eqb (at list n k) l))
     where
       go : (b : Bool) → other w (if b then val k ∷ [] else []) ≡ b && not (eqb (val k) w)
       go true = or-false (not (eqb (val k) w))
       go false = refl
 
-  others : (l w : ℕ) → other w (values B c l all) ≡ some-below (λ k. other w (value-given (B .E) (held-place B c l) (decode-of (getD list k 0)))) n
-  others l w = other-any w B c l all ∙ any-some (λ i. other w (value-given (B .E) (held-place B c l) i)) list n fits
+  others : (l w : ℕ) → other w (values B c l all) ≡ some-below (λ k. other w (values-given (B .E) (held-place B c l) (decode-of (getD list k 0)))) n
+  others l w = other-any w B c l all ∙ any-some (λ i. other w (values-given (B .E) (held-place B c l) i)) list n fits
 
-  rivals-trouble : (l : ℕ) → Rivals list n l → any (bad-one B c all l) all ≡ true
-  rivals-trouble l r =
+  rivals-clash : (l : ℕ) → Rivals list n l → any (bad-one B c all l) all ≡ true
+  rivals-clash l r =
       any-some (bad-one B c all l) list n fits
       ∙ some-below-from (λ k. bad-one B c all l (decode-of (getD list k 0))) n (r .one) (r .one-in)
       (rw (is-update (r .one) (r .one-in), eq-eqb (at list n (r .one)) l (r .one-at), two) refl)
@@ -331,17 +331,17 @@ module _ (B : Program) (c : List ℕ) {list : List ℕ} {n b j least : ℕ} (fit
       two : other (val (r .one)) (values B c (at list n (r .one)) all) ≡ true
       two =
           others (at list n (r .one)) (val (r .one))
-          ∙ some-below-from (λ k. other (val (r .one)) (value-given (B .E) (held-place B c (at list n (r .one))) (decode-of (getD list k 0)))) n (r .two) (r .two-in)
+          ∙ some-below-from (λ k. other (val (r .one)) (values-given (B .E) (held-place B c (at list n (r .one))) (decode-of (getD list k 0)))) n (r .two) (r .two-in)
           (gives-other (at list n (r .one)) (val (r .one)) (r .two) (r .two-in)
           ∙ rw (eq-eqb (at list n (r .two)) (at list n (r .one)) (r .two-at ∙ sym (r .one-at)), ne-eqb (val (r .two)) (val (r .one)) apart))
 
-  trouble-rivals : (l : ℕ) → any (bad-one B c all l) all ≡ true → Rivals list n l
-  trouble-rivals l e =
+  clash-rivals : (l : ℕ) → any (bad-one B c all l) all ≡ true → Rivals list n l
+  clash-rivals l e =
       let s = some-below-true (λ k. bad-one B c all l (decode-of (getD list k 0))) n (sym (any-some (bad-one B c all l) list n fits) ∙ e) in
       let k = s .0 in
       let t = and-cases (eqb (at list n k) l) (other (val k) (values B c (at list n k) all) || has (released all) (val k)) (sym (ap (bad-one B c all l) (is-update k (s .1))) ∙ s .2) in
       let u : other (val k) (values B c (at list n k) all) ≡ true = sym (or-false (other (val k) (values B c (at list n k) all))) ∙ (rw (none-released (val k)) at (t .1)) in
-      let v = some-below-true (λ i. other (val k) (value-given (B .E) (held-place B c (at list n k)) (decode-of (getD list i 0)))) n (sym (others (at list n k) (val k)) ∙ u) in
+      let v = some-below-true (λ i. other (val k) (values-given (B .E) (held-place B c (at list n k)) (decode-of (getD list i 0)))) n (sym (others (at list n k) (val k)) ∙ u) in
       let i = v .0 in
       let w = and-cases (eqb (at list n i) (at list n k)) (not (eqb (val i) (val k))) (sym (gives-other (at list n k) (val k) i (v .1)) ∙ v .2) in
       let same : at list n k ≡ l = eqb-true (at list n k) l (t .0) in
@@ -359,7 +359,7 @@ module _ (B : Program) (c : List ℕ) {list : List ℕ} {n b j least : ℕ} (fit
   not-above = go (ltb least b) refl
     where
       go : (t : Bool) → ltb least b ≡ t → least-clash B c all all b ≤ least
-      go true q = best-here B c all all b least (rivals-trouble least (done .bad (ltb-true least b q)))
+      go true q = best-here B c all all b least (rivals-clash least (done .bad (ltb-true least b q)))
       go false q = omega (arith, best-le B c all all b, ltb-false least b q)
 
   not-below : least ≤ least-clash B c all all b
@@ -367,11 +367,11 @@ module _ (B : Program) (c : List ℕ) {list : List ℕ} {n b j least : ℕ} (fit
     where
       go : (t : Bool) → ltb (least-clash B c all all b) b ≡ t → least ≤ least-clash B c all all b
       go true q =
-          let r = trouble-rivals (least-clash B c all all b) (best-trouble B c all b (ltb-true (least-clash B c all all b) b q)) in
+          let r = clash-rivals (least-clash B c all all b) (least-clash-by B c all b (ltb-true (least-clash B c all all b) b q)) in
           let f = done .found (r .one) (r .two) (omega (arith, r .one-in)) (omega (arith, r .two-in)) (r .one-at ∙ sym (r .two-at)) (r .differ) in
           omega (arith, f, r .two-at)
       go false q = omega (arith, done .low, ltb-false (least-clash B c all all b) b q)
 
-  -- the least location that clashes
+  -- the pass finds the least location that clashes
   pub looked-best : least ≡ least-clash B c all all b
   looked-best = omega (arith, not-above, not-below)

@@ -1,4 +1,4 @@
-// Refusal 15, the least location that clashes: each instruction held against all, and a short way for updates alone.
+// Refusal 15, the least location that clashes: each instruction compared with all, and a shorter search for updates alone.
 use book::Function;
 use book::Image;
 use engine::Instruction;
@@ -6,11 +6,11 @@ use text::Value;
 ghost use mathlib.Core.Path.{_≡_};
 ghost use mathlib.Core.List.{[]};
 ghost use Rattle.text.specs.Words.{has};
-ghost use Rattle.book.specs.Image.{held};
+ghost use Rattle.book.specs.Image.{low-program};
 ghost use Rattle.engine.specs.Move.{label-of, released, other};
 ghost use Rattle.engine_instruction.specs.Code.{items};
 ghost use Rattle.engine_instruction.specs.Traces.{any, trace-in};
-ghost use Rattle.engine_clash.specs.Against.{held-place, value-given, sets-released, least-with, least-clash};
+ghost use Rattle.engine_clash.specs.Against.{held-place, values-given, sets-released, least-with, least-clash};
 ghost use Prim.Native.Nat.{_<_, _≤_};
 ghost use lib.ListN.{length};
 ghost use Rattle.engine_clash.specs.Steps.{location-of, slot-of, Last, Chain, least-with-update};
@@ -25,7 +25,7 @@ struct HeldPlace {
 
 // ---- one location
 
-// It is a trace of x.
+// The location of s is a trace of x.
 fn is_trace(e: Value, s: HeldPlace, x: Value) -> bool
     ensures { λ r. ⌜ r ≡ trace-in e (s .function) (s .index) (s .held) x ⌝ }
 {
@@ -38,9 +38,9 @@ fn is_trace(e: Value, s: HeldPlace, x: Value) -> bool
     engine_instruction::is_trace_at(f, i, i / n, i % n, s.held, x)
 }
 
-// Location l as it stands; past the last function there is none.
+// Location l with its function and what it holds; past the last function there is none.
 fn held_place(image: &Image, contents: &[Value], l: u32) -> HeldPlace
-    ensures { λ r. ⌜ r ≡ held-place (held (now (image .entry))) (now (contents .entry)) l ⌝ }
+    ensures { λ r. ⌜ r ≡ held-place (low-program (now (image .entry))) (now (contents .entry)) l ⌝ }
 {
     let at = l as usize;
     let owner = book_parts::owner_of(image, at);
@@ -54,9 +54,9 @@ fn held_place(image: &Image, contents: &[Value], l: u32) -> HeldPlace
     }
 }
 
-// An instruction gives the location a value other than w.
+// The instruction gives the location of s a value other than w.
 fn gives_other(e: Value, s: HeldPlace, w: Value, what: Instruction) -> bool
-    ensures { λ r. ⌜ r ≡ other w (value-given e s what) ⌝ }
+    ensures { λ r. ⌜ r ≡ other w (values-given e s what) ⌝ }
 {
     match what {
         Instruction::Update { location, value } => {
@@ -77,9 +77,9 @@ fn gives_other(e: Value, s: HeldPlace, w: Value, what: Instruction) -> bool
     }
 }
 
-// An instruction of the list does.
+// Some instruction of the list gives the location of s a value other than w.
 fn some_gives_other(e: Value, list: &[u64], len: usize, s: HeldPlace, w: Value) -> bool
-    ensures { λ r. ⌜ r ≡ any (λ i. other w (value-given e s i)) (items (now (list .entry)) len) ⌝ }
+    ensures { λ r. ⌜ r ≡ any (λ i. other w (values-given e s i)) (items (now (list .entry)) len) ⌝ }
 {
     let n = text::smaller(len, list.len());
     let mut j: usize = 0;
@@ -93,7 +93,7 @@ fn some_gives_other(e: Value, list: &[u64], len: usize, s: HeldPlace, w: Value) 
     false
 }
 
-// An instruction releases the label.
+// The instruction releases the label x.
 fn releases(what: Instruction, x: Value) -> bool
     ensures { λ r. ⌜ r ≡ has (label-of what []) x ⌝ }
 {
@@ -106,7 +106,7 @@ fn releases(what: Instruction, x: Value) -> bool
     }
 }
 
-// An instruction of the list does.
+// Some instruction of the list releases the label x.
 fn is_released(list: &[u64], len: usize, x: Value) -> bool
     ensures { λ r. ⌜ r ≡ has (released (items (now (list .entry)) len)) x ⌝ }
 {
@@ -122,9 +122,9 @@ fn is_released(list: &[u64], len: usize, x: Value) -> bool
     false
 }
 
-// ---- all
+// ---- all instructions
 
-// An instruction is an update whose value the list releases.
+// The instruction is an update whose value is a label that the list releases.
 fn sets_released(list: &[u64], len: usize, what: Instruction) -> bool
     ensures { λ r. ⌜ r ≡ sets-released (released (items (now (list .entry)) len)) what ⌝ }
 {
@@ -134,7 +134,7 @@ fn sets_released(list: &[u64], len: usize, what: Instruction) -> bool
     }
 }
 
-// The location of the instruction where it is less than best and clashes; else best.
+// The own location of the instruction, if it is less than `best` and clashes; else `best`.
 fn least_with(
     image: &Image,
     contents: &[Value],
@@ -143,7 +143,7 @@ fn least_with(
     what: Instruction,
     best: u32,
 ) -> u32
-    ensures { λ r. ⌜ r ≡ least-with (held (now (image .entry))) (now (contents .entry)) (items (now (list .entry)) len) what best ⌝ }
+    ensures { λ r. ⌜ r ≡ least-with (low-program (now (image .entry))) (now (contents .entry)) (items (now (list .entry)) len) what best ⌝ }
 {
     let at = engine_instruction::own_location(what);
     if best <= at {
@@ -160,9 +160,9 @@ fn least_with(
     best
 }
 
-// The least location that clashes, or most: each instruction is held against all.
+// The least location that clashes, or `most`: each instruction is compared with all.
 pub fn least_of_all(image: &Image, contents: &[Value], list: &[u64], len: usize, most: u32) -> u32
-    ensures { λ r. ⌜ r ≡ least-clash (held (now (image .entry))) (now (contents .entry)) (items (now (list .entry)) len) (items (now (list .entry)) len) most ⌝ }
+    ensures { λ r. ⌜ r ≡ least-clash (low-program (now (image .entry))) (now (contents .entry)) (items (now (list .entry)) len) (items (now (list .entry)) len) most ⌝ }
 {
     let n = text::smaller(len, list.len());
     let mut least = most;
@@ -177,24 +177,18 @@ pub fn least_of_all(image: &Image, contents: &[Value], list: &[u64], len: usize,
 
 // ---- updates alone, as the numbers that stand for them: a location with two values
 
-// From here on a number stands for a release.
-const RELEASES: u64 = 281474976710656;
-
-// Instructions that a move can have.
-const MOST: usize = 256;
-
-// Up to so many it is faster to hold them against each other than to clear the tables.
+// For up to so many updates it is faster to compare each with all than to clear the tables.
 const FEW: usize = 8;
 
-// Updates with one location have one slot, and few others have it.
+// The slot of an update: updates with one location have one slot, and few others have it.
 fn slot(code: u64) -> usize
     ensures { λ r. ⌜ (r ≡ slot-of code) × (r < 512) ⌝ }
 {
     (code / 65536 % 512) as usize
 }
 
-// The last of the first p updates with the location of this one, counted from 1; 0 if none has it. Only those at its slot are tried: p is one, and
-// prior has the one before each.
+// The last of the first p updates with the location of this one, counted from 1; 0 if none has it. Only those with its slot are tried: p is one, and
+// `prior` has the one before each.
 fn last_at_slot(list: &[u64], prior: &[u16; 256], p: u16, code: u64) -> usize
     requires { ⌜ Chain (now list) (now prior) code p ⌝ }
     ensures { λ r. ⌜ Last location-of (now (list .entry)) code p r ⌝ }
@@ -209,7 +203,7 @@ fn last_at_slot(list: &[u64], prior: &[u16; 256], p: u16, code: u64) -> usize
     0
 }
 
-// As last_at, with all of them tried.
+// The last of the first p updates with the location of this one, counted from 1; 0 if none has it. All of them are tried.
 fn last_before(list: &[u64], p: usize, code: u64) -> usize
     requires { ⌜ p ≤ length (now list) ⌝ }
     ensures { λ r. ⌜ Last location-of (now (list .entry)) code p r ⌝ }
@@ -224,7 +218,7 @@ fn last_before(list: &[u64], p: usize, code: u64) -> usize
     0
 }
 
-// The location of an update where it is less than least and update i, counted from 1, gives it another value; else least.
+// The location of an update, if it is less than `least` and update i, counted from 1, gives it another value; else `least`.
 fn least_with_update(list: &[u64], i: usize, code: u64, least: u64) -> u64
     requires { ⌜ i ≤ length (now list) ⌝ }
     ensures { λ r. ⌜ r ≡ least-with-update (now (list .entry)) i code least ⌝ }
@@ -238,16 +232,16 @@ fn least_with_update(list: &[u64], i: usize, code: u64, least: u64) -> u64
     code / 65536
 }
 
-// The least location that clashes among the first n, or most, with no tables.
+// The least location that clashes among the first n updates, or `most`, found without tables.
 fn least_of_few(image: &Image, contents: &[Value], list: &[u64], n: usize, most: u32) -> u32
     requires { ⌜ n ≤ length (now list) ⌝ }
-    ensures { λ r. ⌜ r ≡ least-clash (held (now (image .entry))) (now (contents .entry)) (items (now (list .entry)) n) (items (now (list .entry)) n) most ⌝ }
+    ensures { λ r. ⌜ r ≡ least-clash (low-program (now (image .entry))) (now (contents .entry)) (items (now (list .entry)) n) (items (now (list .entry)) n) most ⌝ }
 {
     let mut least = most as u64;
     let mut j: usize = 0;
     while j < n {
         let code = list[j];
-        if RELEASES <= code {
+        if engine_instruction::RELEASES <= code {
             return least_of_all(image, contents, list, n, most);
         }
         least = least_with_update(list, last_before(list, j, code), code, least);
@@ -256,16 +250,16 @@ fn least_of_few(image: &Image, contents: &[Value], list: &[u64], n: usize, most:
     least as u32
 }
 
-// The least location that clashes, or most. Without a release it is enough to hold each update against the last one before it at its location.
-// Counted from 1, `last` has the last update at each slot, and `prior` the one before each update at its slot.
+// The least location that clashes, or `most`. Without a release it is enough to compare each update with the last one before it at its location.
+// Counted from 1, the code's `last` has the last update at each slot, and its `prior` the one before each update at its slot.
 pub fn least_clash(image: &Image, contents: &[Value], list: &[u64], len: usize, most: u32) -> u32
-    ensures { λ r. ⌜ r ≡ least-clash (held (now (image .entry))) (now (contents .entry)) (items (now (list .entry)) len) (items (now (list .entry)) len) most ⌝ }
+    ensures { λ r. ⌜ r ≡ least-clash (low-program (now (image .entry))) (now (contents .entry)) (items (now (list .entry)) len) (items (now (list .entry)) len) most ⌝ }
 {
     let n = text::smaller(len, list.len());
     if n <= FEW {
         return least_of_few(image, contents, list, n, most);
     }
-    if MOST < n {
+    if engine::MOST_INSTRUCTIONS < n {
         return least_of_all(image, contents, list, len, most);
     }
     let mut last = [0u16; 512];
@@ -274,7 +268,7 @@ pub fn least_clash(image: &Image, contents: &[Value], list: &[u64], len: usize, 
     let mut j: usize = 0;
     while j < n {
         let code = list[j];
-        if RELEASES <= code {
+        if engine_instruction::RELEASES <= code {
             return least_of_all(image, contents, list, len, most);
         }
         let s = slot(code);

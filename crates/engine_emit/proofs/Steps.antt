@@ -20,15 +20,15 @@ use Rattle.engine_instruction.specs.Code.{decode-of, items}
 use Rattle.engine_emit.specs.declared.Progress.{Progress}
 use Rattle.engine_emit.specs.Emit.{walk-from, reached, refused-by, setting, releasing, importing, importing-found, next-pick, picking}
 
-pub reached-going : (ys : List ℕ) (s : Progress) (l : List ℕ) → s .refused ≡ 0 → reached ys s l ≡ walking (walk-from ys s l)
+pub reached-walking : (ys : List ℕ) (s : Progress) (l : List ℕ) → s .refused ≡ 0 → reached ys s l ≡ walking (walk-from ys s l)
 unfolding reached
-reached-going ys s l e = rw (eq-eqb (s .refused) 0 e)
+reached-walking ys s l e = rw (eq-eqb (s .refused) 0 e)
 
-pub reached-met : (ys : List ℕ) (s : Progress) (l : List ℕ) → ((s .refused ≡ 0) → ⊥) → reached ys s l ≡ refused-at (s .refused) (s .node)
+pub reached-refused : (ys : List ℕ) (s : Progress) (l : List ℕ) → ((s .refused ≡ 0) → ⊥) → reached ys s l ≡ refused-at (s .refused) (s .node)
 unfolding reached
-reached-met ys s l e = rw (ne-eqb (s .refused) 0 e)
+reached-refused ys s l e = rw (ne-eqb (s .refused) 0 e)
 
--- one instruction more, or 14
+-- one instruction more, or refusal 14
 module _ (ys : List ℕ) (s : Progress) (l : List ℕ) (i : Instruction) (n : ℕ) (long : length l ≡ most-instructions) where
   pub give-room : (v : ℕ) → s .len < 256 → decode-of v ≡ i
       → walking (record { made = items (set l (s .len) v) (s .len + 1); next = s .label; left = ys }) ≡ emit n i (walk-from ys s l)
@@ -42,7 +42,7 @@ module _ (ys : List ℕ) (s : Progress) (l : List ℕ) (i : Instruction) (n : �
       let k : 256 ≤ length (items l (s .len)) = rw (length-map, length-take) (omega arith) in
       rw (le-ltb (length (items l (s .len))) 256 k)
 
--- 11 and 12, or one instruction more
+-- a set gives one instruction more, or refusal 11
 module _ (B : Program) (f l v n : ℕ) where
   pub setting-ok : (relation (function-at B f) && not (boolean v)) ≡ false → (o : Walked) → (o then setting B f l v n) ≡ (o then emit n (Update l v))
   setting-ok e (walking w) = rw e
@@ -52,6 +52,7 @@ module _ (B : Program) (f l v n : ℕ) where
   setting-bad e (walking w) = rw e
   setting-bad e (refused-at r q) = refl
 
+-- a release gives one instruction more, or refusal 12
 module _ (B : Program) (x r n : ℕ) where
   pub freeing-ok : unreleasable B x r ≡ false → (o : Walked) → (o then releasing B x r n) ≡ (o then emit n (Release x))
   freeing-ok e (walking w) = rw e
@@ -86,7 +87,7 @@ module _ (B : Program) (u x n : ℕ) where
 
 -- ---- picks
 
--- a list from one of its places on
+-- a list from place i on is its element there and the rest
 drop-at : (ys : List ℕ) (i : ℕ) → i < length ys → drop i ys ≡ getD ys i 0 ∷ drop (suc i) ys
 drop-at [] i h = absurd (omega arith)
 drop-at (y ∷ ys) zero h = refl
@@ -98,7 +99,7 @@ drop-past [] (suc i) h = refl
 drop-past (y ∷ ys) zero h = absurd (omega arith)
 drop-past (y ∷ ys) (suc i) h = drop-past ys i (omega arith)
 
--- what the code finds of the pick that is next
+-- what the code finds as the pick that is next
 module _ (E : ℕ) (ys : List ℕ) (i : ℕ) where
   pub next-low : i < length ys → getD ys i 0 < E → next-pick E (drop i ys) ≡ getD ys i 0
   next-low h l = rw (drop-at ys i h, lt-ltb (getD ys i 0) E l)
@@ -109,7 +110,7 @@ module _ (E : ℕ) (ys : List ℕ) (i : ℕ) where
   pub next-none : length ys ≤ i → next-pick E (drop i ys) ≡ E
   next-none h = rw (drop-past ys i h)
 
--- 28, by what is left
+-- Kind 28, a choose, by the picks that are left
 module _ (s : Progress) (l : List ℕ) (ys : List ℕ) (i v n : ℕ) where
   pub picking-none : length ys ≤ i → (reached (drop i ys) s l then refused-by pick-count n) ≡ (reached (drop i ys) s l then picking v n)
   unfolding reached
@@ -138,7 +139,7 @@ module _ (s : Progress) (l : List ℕ) (ys : List ℕ) (i v n : ℕ) where
       go true = rw (ne-eqb v true-element e)
       go false = refl
 
--- at the end all picks are used, or one is left
+-- at the end all picks are used, or one is left: refusal 19
 module _ (s : Progress) (l : List ℕ) (ys : List ℕ) (i q : ℕ) where
   pub taken-all : length ys ≤ i → reached [] s l ≡ (reached (drop i ys) s l then λ w. all-taken q (w .left) w)
   unfolding reached

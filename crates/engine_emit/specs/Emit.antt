@@ -1,4 +1,5 @@
--- How far a walk is, with the list of instructions as numbers and the picks left; and the steps that give an instruction, take a pick or are refused.
+-- How far a walk is, as the code holds it: the list of instructions as numbers, and the picks left; and the steps that give an instruction, take a pick or
+-- refuse.
 use mathlib.Core.Bool.{_&&_, not}
 use mathlib.Core.List.{List, [], _∷_}
 use Prim.Native.Nat.{ℕ}
@@ -12,37 +13,39 @@ use Rattle.engine.specs.Rule.{Walk, Walked, walking, refused-at, _then_, emit, 
 use Rattle.engine_instruction.specs.Code.{items}
 use Rattle.engine_emit.specs.declared.Progress.{Progress}
 
--- ---- a pace, the picks left and the list that go with it
+-- ---- the walk that the code's state stands for
 
--- the picks that are left of ys, where u, a cell, says how many are used
+-- the picks of ys that are left, where the cell u says how many are used
 abbrev pub picks-left : List ℕ → List ℕ → List ℕ
 picks-left ys u = drop (getD u 0 0) ys
 
+-- the walk that a state s, its list l and the picks left ys stand for
 abbrev pub walk-from : List ℕ → Progress → List ℕ → Walk
 walk-from ys s l = record { made = items l (s .len); next = s .label; left = ys }
 
--- a refusal's number is not 0
+-- what a walk has come to, by its state s; a refusal's number is not 0
 unfoldable pub reached : List ℕ → Progress → List ℕ → Walked
 reached ys s l = if eqb (s .refused) 0 then walking (walk-from ys s l) else refused-at (s .refused) (s .node)
 
 -- ---- steps
 
+-- the walk is refused at node n
 abbrev pub refused-by : ℕ → ℕ → Walk → Walked
 refused-by number n w = refused-at number n
 
--- 21 at node n: a location of function f is set to v
+-- Kind 21, a set, at node n: location l of function f gets v, or refusal 11
 abbrev pub setting : Program → ℕ → ℕ → ℕ → ℕ → Walk → Walked
 setting B f l v n w = refuse-if (relation (function-at B f) && not (boolean v)) non-boolean n w then emit n (Update l v)
 
--- 27 at node n: x is released, Reserve there being r
+-- Kind 27, a release, at node n: x is released, Reserve there being r, or refusal 12
 abbrev pub releasing : Program → ℕ → ℕ → ℕ → Walk → Walked
 releasing B x r n w = refuse-if (unreleasable B x r) not-releasable n w then emit n (Release x)
 
--- 26 at node n: label x is taken into the universe u
+-- Kind 26, an import, at node n: label x is taken into the universe u
 abbrev pub importing : Program → ℕ → ℕ → ℕ → Walk → Walked
 importing B u x n w = emit n (Update (reserve x) false-element) (take-label x w) then emit n (Update (location B u x 0) true-element)
 
--- the same where the search for a label came to x, past the elements if there is none
+-- Kind 26, an import, at node n: the search for a label came to x; refusal 13 if that is past the elements
 abbrev pub importing-found : Program → ℕ → ℕ → ℕ → Walk → Walked
 importing-found B u x n w = if ltb x (B .E) then importing B u x n w else refused-at no-label-left n
 
@@ -51,10 +54,11 @@ abbrev pub next-pick : ℕ → List ℕ → ℕ
 next-pick E [] = E
 next-pick E (y ∷ ys) = if ltb y E then y else E
 
--- 28 at node n with these picks left: the first is taken, the universe having the value v there
+-- Kind 28, a choose, at node n with the picks of the list left: the first is taken, the universe having the value v there, or refusal 18 or 19
 abbrev pub picked : ℕ → ℕ → Walk → List ℕ → Walked
 picked v n w [] = refused-at pick-count n
 picked v n w (y ∷ ys) = refuse-if (not-member v) not-in-universe n (take-pick ys w)
 
+-- Kind 28, a choose, at node n: the next pick of the walk is taken, the universe having the value v there
 abbrev pub picking : ℕ → ℕ → Walk → Walked
 picking v n w = picked v n w (w .left)

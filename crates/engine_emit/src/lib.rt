@@ -10,10 +10,10 @@ ghost use lib.ListN.{length, getD};
 ghost use Rattle.book.specs.Book.{node-at};
 ghost use Rattle.engine.specs.Term.{term-at, function-of};
 ghost use Rattle.engine.specs.Rule.{_then_, most-instructions, emit, all-taken};
-ghost use Rattle.book.specs.Image.{held};
+ghost use Rattle.book.specs.Image.{low-program};
 ghost use Rattle.engine_emit.specs.Emit.{reached, picks-left, refused-by, setting, releasing, importing, importing-found, next-pick, picking};
 
-// How far a walk is: how many instructions it has given, the label from which the next import looks,
+// How far a walk is: how many instructions it has given, the label from which the next import searches,
 // its refusal (0 for none) and the refusal's node. Eight bytes go from node to node in a register; how many picks it has used stands in a
 // cell that is lent beside it.
 pub struct Progress {
@@ -23,7 +23,7 @@ pub struct Progress {
     pub node: u16,
 }
 
-// A refusal at node n, unless there is one already.
+// The state with the refusal at node n, unless it has one already.
 fn refuse_at(s: Progress, number: u32, n: u16) -> Progress
     requires { ⌜ (0 < number) × (number < 65536) ⌝ }
     ensures { λ r. ⌜ ((ys l : List ℕ) → reached ys r l ≡ (reached ys s l then refused-by number n)) ⌝ }
@@ -39,7 +39,7 @@ fn refuse_at(s: Progress, number: u32, n: u16) -> Progress
     }
 }
 
-// One more instruction, which node n gives; 14 if it does not fit.
+// One more instruction, which node n gives; refusal 14 if it does not fit.
 fn emit(list: &mut [u64], s: Progress, i: Instruction, n: u16) -> Progress
     requires { ⌜ length (now list) ≡ most-instructions ⌝ }
     ensures { λ r. ⌜ ((ys : List ℕ) → reached ys r (now (list .exit)) ≡ (reached ys s (now (list .entry)) then emit n i)) ⌝ }
@@ -63,7 +63,7 @@ fn emit(list: &mut [u64], s: Progress, i: Instruction, n: u16) -> Progress
 
 // The function of the location that the term at node n names.
 pub fn target_function(image: &Image, depth: usize, n: u16) -> u16
-    ensures { λ r. ⌜ r ≡ function-of (term-at (node-at (held (now (image .entry)))) depth n) ⌝ }
+    ensures { λ r. ⌜ r ≡ function-of (term-at (node-at (low-program (now (image .entry)))) depth n) ⌝ }
 {
     if depth == 0 {
         return 0;
@@ -78,7 +78,7 @@ pub fn target_function(image: &Image, depth: usize, n: u16) -> u16
     }
 }
 
-// Sets a location of function f to x; 11 if f is a relation and x not Boolean.
+// Sets location `at` of function f to x; refusal 11 if f is a relation and x is no Boolean.
 pub fn emit_update(
     image: &Image,
     list: &mut [u64; 256],
@@ -88,10 +88,10 @@ pub fn emit_update(
     at: u32,
     x: Value,
 ) -> Progress
-    ensures { λ r. ⌜ ((ys : List ℕ) → reached ys r (now (list .exit)) ≡ (reached ys s (now (list .entry)) then setting (held (now (image .entry))) f at x n)) ⌝ }
+    ensures { λ r. ⌜ ((ys : List ℕ) → reached ys r (now (list .exit)) ≡ (reached ys s (now (list .entry)) then setting (low-program (now (image .entry))) f at x n)) ⌝ }
 {
     if book_parts::is_relation(book_image::function_at(image, f as u32)) {
-        if engine_term::is_boolean(x) {
+        if book_parts::is_boolean(x) {
             emit(
                 list,
                 s,
@@ -127,7 +127,7 @@ fn emit_import(
     x: Value,
 ) -> Progress
     requires { ⌜ x < 65535 ⌝ }
-    ensures { λ r. ⌜ ((ys : List ℕ) → reached ys r (now (list .exit)) ≡ (reached ys s (now (list .entry)) then importing (held (now (image .entry))) u x n)) ⌝ }
+    ensures { λ r. ⌜ ((ys : List ℕ) → reached ys r (now (list .exit)) ≡ (reached ys s (now (list .entry)) then importing (low-program (now (image .entry))) u x n)) ⌝ }
 {
     let r = Progress {
         len: s.len,
@@ -156,7 +156,7 @@ fn emit_import(
     )
 }
 
-// The same if x is an element; 13 if not, as no label is left.
+// An import at node n takes label x into universe u; refusal 13 if x is no element, since no label is left.
 pub fn import_label(
     image: &Image,
     list: &mut [u64; 256],
@@ -165,7 +165,7 @@ pub fn import_label(
     u: u16,
     x: Value,
 ) -> Progress
-    ensures { λ r. ⌜ ((ys : List ℕ) → reached ys r (now (list .exit)) ≡ (reached ys s (now (list .entry)) then importing-found (held (now (image .entry))) u x n)) ⌝ }
+    ensures { λ r. ⌜ ((ys : List ℕ) → reached ys r (now (list .exit)) ≡ (reached ys s (now (list .entry)) then importing-found (low-program (now (image .entry))) u x n)) ⌝ }
 {
     if x < book_image::elements(image) {
         emit_import(image, list, s, n, u, x)
@@ -174,7 +174,7 @@ pub fn import_label(
     }
 }
 
-// Releases x, Reserve there being v; 12 if x is no label or in Reserve.
+// Releases x, Reserve there being v; refusal 12 if x is no label or is on the roll.
 pub fn emit_release(
     image: &Image,
     list: &mut [u64; 256],
@@ -183,7 +183,7 @@ pub fn emit_release(
     x: Value,
     v: Value,
 ) -> Progress
-    ensures { λ r. ⌜ ((ys : List ℕ) → reached ys r (now (list .exit)) ≡ (reached ys s (now (list .entry)) then releasing (held (now (image .entry))) x v n)) ⌝ }
+    ensures { λ r. ⌜ ((ys : List ℕ) → reached ys r (now (list .exit)) ≡ (reached ys s (now (list .entry)) then releasing (low-program (now (image .entry))) x v n)) ⌝ }
 {
     if x < book_parts::permanent(image) {
         return refuse_at(s, text::NOT_RELEASABLE, n);
@@ -195,9 +195,9 @@ pub fn emit_release(
     }
 }
 
-// The pick that is next; E if there is none, or it is no element.
+// The pick that is next; E, which is no element, if there is none or it is no element.
 pub fn next_pick(image: &Image, picks: &[Pick], used: &[usize; 1]) -> Value
-    ensures { λ r. ⌜ r ≡ next-pick (held (now (image .entry)) .E) (picks-left (now (picks .entry)) (now (used .entry))) ⌝ }
+    ensures { λ r. ⌜ r ≡ next-pick (low-program (now (image .entry)) .E) (picks-left (now (picks .entry)) (now (used .entry))) ⌝ }
 {
     let e = book_image::elements(image);
     let i = used[0];
@@ -210,7 +210,7 @@ pub fn next_pick(image: &Image, picks: &[Pick], used: &[usize; 1]) -> Value
     e
 }
 
-// One pick more is used.
+// Counts one more pick as used.
 fn use_pick(used: &mut [usize])
     requires { ⌜ (0 < length (now used)) × (getD (now used) 0 0 < 18446744073709551615) ⌝ }
     ensures { λ _. ⌜ getD (now (used .exit)) 0 0 ≡ suc (getD (now (used .entry)) 0 0) ⌝ }
@@ -218,7 +218,7 @@ fn use_pick(used: &mut [usize])
     used[0] = used[0] + 1;
 }
 
-// Takes the pick that is next, the universe having the value v there; 19 if there is none, 18 if it is no member.
+// Takes the pick that is next, the universe having the value v there; refusal 19 if there is none, 18 if it is not in the universe.
 pub fn take_pick(picks: &[Pick], used: &mut [usize; 1], s: Progress, n: u16, v: Value) -> Progress
     ensures { λ r. ⌜ ((l : List ℕ) → reached (picks-left (now (picks .entry)) (now (used .exit))) r l ≡ (reached (picks-left (now (picks .entry)) (now (used .entry))) s l then picking v n)) ⌝ }
 {
@@ -233,7 +233,7 @@ pub fn take_pick(picks: &[Pick], used: &mut [usize; 1], s: Progress, n: u16, v: 
     s
 }
 
-// 19 at the root if picks are left at the walk's end.
+// Refusal 19 at the root if picks are left at the walk's end.
 pub fn all_used(picks: &[Pick], used: &[usize; 1], s: Progress, root: u16) -> Progress
     ensures { λ r. ⌜ ((l : List ℕ) → reached [] r l ≡ (reached (picks-left (now (picks .entry)) (now (used .entry))) s l then λ w. all-taken root (w .left) w)) ⌝ }
 {

@@ -14,7 +14,7 @@ use Rattle.engine_instruction.specs.Code.{items}
 use Rattle.engine_instruction.proofs.Lists.{clipped}
 use Rattle.engine_walk.specs.declared.WalkEnd.{WalkEnd}
 use Rattle.engine_walk.specs.Walk.{outcome}
-use Rattle.engine_walk.proofs.Steps.{outcome-going, outcome-met}
+use Rattle.engine_walk.proofs.Steps.{outcome-walking, outcome-refused}
 use Rattle.engine_fire.specs.Count.{instructions-given}
 
 pub given-none : (s : WalkEnd) → s .refused ≢ 0 → 0 ≡ instructions-given s
@@ -28,17 +28,17 @@ given-few s = dite (ℕ-discrete (s .refused) 0)
     (λ (h : s .refused ≡ 0). rw (eq-eqb (s .refused) 0 h) (omega arith))
     (λ (h : s .refused ≢ 0). rw (ne-eqb (s .refused) 0 h) (omega arith))
 
--- what the list holds
+-- the list holds the instructions that the walk gave
 pub made-of : (s : WalkEnd) (l : List ℕ) → length l ≡ 256 → items l (instructions-given s) ≡ made-by (outcome s l)
 made-of s l e = dite (ℕ-discrete (s .refused) 0)
-    (λ (h : s .refused ≡ 0). rw (outcome-going s l h, eq-eqb (s .refused) 0 h) (clipped l (s .len) (min (s .len) 256) (omega arith)))
-    (λ (h : s .refused ≢ 0). rw (outcome-met s l h, ne-eqb (s .refused) 0 h))
+    (λ (h : s .refused ≡ 0). rw (outcome-walking s l h, eq-eqb (s .refused) 0 h) (clipped l (s .len) (min (s .len) 256) (omega arith)))
+    (λ (h : s .refused ≢ 0). rw (outcome-refused s l h, ne-eqb (s .refused) 0 h))
 
--- and another list that holds the same
+-- another list that holds the same instructions has the same outcome
 pub same-outcome : (s : WalkEnd) (l l′ : List ℕ) → length l ≡ 256 → length l′ ≡ 256 → items l′ (instructions-given s) ≡ items l (instructions-given s) → outcome s l′ ≡ outcome s l
 same-outcome s l l′ e e′ q = dite (ℕ-discrete (s .refused) 0)
     (λ (h : s .refused ≡ 0).
     let i : items l′ (s .len) ≡ items l (s .len) =
     sym (clipped l′ (s .len) (min (s .len) 256) (omega arith)) ∙ (rw (eq-eqb (s .refused) 0 h) at q) ∙ clipped l (s .len) (min (s .len) 256) (omega arith) in
-    outcome-going s l′ h ∙ ap (λ (is : List Instruction). walking (record { made = is; next = s .label; left = [] })) i ∙ sym (outcome-going s l h))
-    (λ (h : s .refused ≢ 0). outcome-met s l′ h ∙ sym (outcome-met s l h))
+    outcome-walking s l′ h ∙ ap (λ (is : List Instruction). walking (record { made = is; next = s .label; left = [] })) i ∙ sym (outcome-walking s l h))
+    (λ (h : s .refused ≢ 0). outcome-refused s l′ h ∙ sym (outcome-refused s l h))

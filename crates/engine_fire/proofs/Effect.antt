@@ -1,4 +1,4 @@
--- A move's effect from what its walk gathered and how it was completed. Assumes nothing.
+-- A move's effect, from how its walk ended and how it was finished. Assumes nothing.
 use mathlib.Core.Path.{_≡_, refl, sym, ap, subst, _∙_}
 use mathlib.Core.Bool.{Bool, true, false, _&&_, _||_}
 use mathlib.Core.List.{List, _++_}
@@ -17,7 +17,6 @@ use Rattle.engine.specs.declared.Instruction.{Instruction}
 use Rattle.engine.specs.Rule.{Walked, walking, refused-at}
 use Rattle.engine.specs.Move.{Moved, fires, move-refused, updates, clashes, is-some, writes, extra-reads, Input, Fired, walk-reads, fired-of, fire-or-clash, settle, move}
 use Rattle.engine.proofs.Values.{updates-past}
-use Rattle.engine.proofs.EqualReads.{has-append}
 use Rattle.engine.proofs.Moves.{fired-label}
 use Rattle.engine_fire.specs.Steps.{fire-reads}
 use Rattle.engine_fire.specs.Outcome.{contents-after, write-marked, read-marked, writers-after}
@@ -26,15 +25,16 @@ use Rattle.engine_term.specs.Marks.{marked}
 use Rattle.engine_term.proofs.Leaves.{placed}
 use Rattle.engine_term.proofs.Marking.{marked-append}
 use Rattle.engine_release.specs.Marks.{mark}
-use Rattle.engine_release.proofs.Sweep.{length-each, getD-each, each-is}
+use Rattle.engine_release.proofs.ByPlace.{length-each, getD-each, each-is}
 use Rattle.engine_walk.specs.declared.WalkEnd.{WalkEnd}
 use Rattle.engine_walk.specs.Walk as walk
 use Rattle.engine_walk.specs.WalkMarks.{bits-cleared, WalkMarked}
 use Rattle.engine_walk.proofs.Kept.{taken-back}
-use Rattle.engine_fire.specs.Tables.{Tables, tables}
-use Rattle.engine_fire.specs.Effect.{marks-joined, tables-after, move-answer, MoveFits, MoveEffect, AfterWalk}
+use Rattle.engine_fire.specs.Effect.{marks-joined, tables-left, move-answer, MoveFits, MoveEffect, AfterWalk}
 use Rattle.engine_fire.specs.Close.{readers-at-end-of, MoveFinished}
 use Rattle.engine_fire.proofs.Marks.{marked-joined}
+use Rattle.engine.specs.Tables.{Tables, tables}
+use Rattle.text.proofs.Words.{has-append}
 
 joined-same : (bit : ℕ) (s t : ℕ → Bool) (ms : List ℕ) → ((k : ℕ) → s k ≡ t k) → marks-joined bit s ms ≡ marks-joined bit t ms
 joined-same bit s t ms h =
@@ -45,7 +45,7 @@ module _ (B : Program) (i : Input) (bit at : ℕ) (c rs ws : List ℕ) (fit : Mo
   abbrev ls : List ℕ
   ls = walk-reads B c i
 
-  -- the writer marks: contents of an accepted book have all its locations
+  -- the writer marks: contents of an accepted book have all its locations, so all writes are marked
   all-marked : (is : List Instruction) → write-marked bit (length c) (updates B c is) ws ≡ marks-joined bit (writes (updates B c is)) ws
   all-marked is =
       each-is (λ (l m : ℕ). mark bit (writes (updates B c is) l) m) ws (write-marked bit (length c) (updates B c is) ws)
@@ -66,14 +66,14 @@ module _ (B : Program) (i : Input) (bit at : ℕ) (c rs ws : List ℕ) (fit : Mo
     whole : (m : Moved) → settle B c ls o ≡ m → tables c″ rs″ ws″ ≡ tables (contents-after c m) (readers-at-end-of B bit c o m rs′) (writers-after bit (length c) ws m)
     whole m e = rw (done .contents ls, done .readers ls, done .writers ls, e)
 
-    -- where the move comes to m
+    -- what the move leaves, where it comes to m
     ends : (m : Moved) → settle B c ls o ≡ m
-        → tables (contents-after c m) (readers-at-end-of B bit c o m rs′) (writers-after bit (length c) ws m) ≡ tables-after bit (tables c rs ws) m
+        → tables (contents-after c m) (readers-at-end-of B bit c o m rs′) (writers-after bit (length c) ws m) ≡ tables-left bit (tables c rs ws) m
         → MoveEffect B i bit at (tables c rs ws) r (tables c″ rs″ ws″)
     ends m e t =
         record {
           answer = done .answer ls ∙ ap (move-answer at) (sym same);
-          tables = whole m e ∙ t ∙ ap (tables-after bit (tables c rs ws)) (sym (same ∙ e));
+          tables = whole m e ∙ t ∙ ap (tables-left bit (tables c rs ws)) (sym (same ∙ e));
         }
 
   pub completed-effect : (o : Walked) (rs′ : List ℕ) → WalkMarked B c bit i o rs rs′ → (r : Answer) (c″ rs″ ws″ : List ℕ)
@@ -88,14 +88,14 @@ module _ (B : Program) (i : Input) (bit at : ℕ) (c rs ws : List ℕ) (fit : Mo
       f : Fired
       f = fired-of B c ls (w .made)
 
-      -- the reader marks that it left
+      -- the walk marked what it read
       noted : rs′ ≡ marked bit ls rs
       noted = walks .fired (placed B (fit .lawful)) w refl
 
       back : bits-cleared bit rs′ ≡ rs
       back = let p = fit .power in ap (bits-cleared bit) noted ∙ taken-back bit (p .0) ls rs (p .1) (fit .unmarked)
 
-      -- and those that firing adds: what it reads is what the definition says
+      -- firing adds marks for what it reads, which is what the definition says
       rest : move B c i ≡ fires f → least (clashes (f .instructions) (f .updates)) (length (f .updates)) ≡ Nowhere
           → read-marked bit B (w .made) c rs′ ≡ marks-joined bit (has (f .reads)) rs
       rest fired e =
@@ -113,7 +113,7 @@ module _ (B : Program) (i : Input) (bit at : ℕ) (c rs ws : List ℕ) (fit : Mo
           ends (walking w) rs′ walks r c″ rs″ ws″ done (fires f) (rw e) (rw (rest fired e, all-marked (w .made)))
       go (Here l) e = ends (walking w) rs′ walks r c″ rs″ ws″ done (move-refused clash l) (rw e) (rw back)
 
--- as the code has it: the tables c, rs and ws that the walk, begun on t, left with its state s and the list l
+-- the effect of a move as the code has it: the walk, begun on t, left the tables c, rs and ws with its end s and the list l
 pub finished-effect : (B : Program) (i : Input) (bit at : ℕ) (t : Tables) (s : WalkEnd) (l c rs ws : List ℕ) → AfterWalk B i bit t s l (tables c rs ws) → (r : Answer) (u : Tables)
     → MoveFinished B bit at (walk.outcome s l) (tables c rs ws) r u → MoveEffect B i bit at t r u
 finished-effect B i bit at t s l c rs ws after r u done =

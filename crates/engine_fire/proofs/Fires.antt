@@ -4,15 +4,15 @@ use mathlib.Core.Bool.{Bool, true, false, _&&_, _||_, not, or-true, or-false}
 use mathlib.Core.List.{List, [], _∷_, _++_}
 use Prim.Native.Nat.{ℕ, _+_, _*_, _/_, _%_, _<_, _≤_, min, max}
 use native.Mathlib.Omega.{arith}
-use borrow.Author.Tests.{eqb-true, eqb-false, ltb-true, ltb-false, eq-eqb, ne-eqb, lt-ltb, le-ltb, not-false}
+use borrow.Author.Tests.{eqb-true, ltb-true, ltb-false, eq-eqb, ne-eqb, lt-ltb, le-ltb, not-false}
 use lib.Dec.{eqb, ltb}
 use lib.Bits.{bitOr, or-step, or-self}
 use lib.Arith.{bin-ind}
 use lib.ListN.{length, getD, set, length-set}
-use lib.Seq.{getD-set-same, getD-set-other, ext-getD}
+use lib.Seq.{getD-set-other, ext-getD}
 use Rattle.text.specs.Words.{if_then_else_, least}
 use Rattle.text.specs.declared.Found.the-variants.{Nowhere}
-use Rattle.text.proofs.Words.{or-no, least-none}
+use Rattle.text.proofs.Words.{or-no, least-none, set-at}
 use Rattle.book.specs.Book.{Program, L, true-element, default-at}
 use Rattle.book_parts.proofs.Places.{place-past}
 use Rattle.engine.specs.declared.Instruction.{Instruction}
@@ -20,13 +20,13 @@ use Rattle.engine.specs.declared.Instruction.the-variants.{Update, Release}
 use Rattle.engine.specs.Move.{given, values, updates, values-at, released, other, two-values, set-to-label, clashes, new-value, fire, is-some, writes}
 use Rattle.engine.proofs.Values.{length-updates, updates-at, updates-past, fire-inside}
 use Rattle.engine.proofs.Moves.{fire-length}
-use Rattle.engine_release.specs.Marks.{by-place, mark}
+use Rattle.engine_release.specs.Marks.{mark}
 use Rattle.engine_fire.specs.Outcome.{write-marked}
 use Rattle.engine_instruction.specs.Traces.{own, gets, any}
 use Rattle.engine_release.specs.Steps.{trace, value-cleared, instruction-cleared, instruction-marks, all-cleared, all-marks}
 use Rattle.engine_fire.specs.Steps.{puts, put-marks}
 use Rattle.engine_instruction.proofs.Laws.{and-none, other-append}
-use Rattle.engine_release.proofs.Sweep.{length-each, getD-each, each-is}
+use Rattle.engine_release.proofs.ByPlace.{length-each, getD-each, each-is}
 use Rattle.engine_instruction.proofs.Laws.{own-given}
 
 -- ---- marks: a bit that is there stays
@@ -56,16 +56,16 @@ module _ (B : Program) (l : ℕ) where
   abbrev pub rest : ℕ
   rest = default-at B l
 
-  abbrev wipe-of : Instruction → ℕ → ℕ
-  wipe-of (Update k w) v = v
-  wipe-of (Release x) v = value-cleared B x l v
+  abbrev clear-of-value : Instruction → ℕ → ℕ
+  clear-of-value (Update k w) v = v
+  clear-of-value (Release x) v = value-cleared B x l v
 
-  -- what clearing leaves there
-  unfoldable pub wipe-by : List Instruction → ℕ → ℕ
-  wipe-by [] v = v
-  wipe-by (i ∷ is) v = wipe-by is (wipe-of i v)
+  -- what clearing by these instructions leaves at l
+  unfoldable pub clear-by : List Instruction → ℕ → ℕ
+  clear-by [] v = v
+  clear-by (i ∷ is) v = clear-by is (clear-of-value i v)
 
-  -- what putting leaves there
+  -- what putting the instructions' own values leaves at l
   unfoldable put-by : List Instruction → ℕ → ℕ
   put-by [] v = v
   put-by (i ∷ is) v = put-by is (if eqb (own i) l then gets i else v)
@@ -73,7 +73,7 @@ module _ (B : Program) (l : ℕ) where
   abbrev pub about : Instruction → Bool
   about i = eqb (own i) l
 
-  -- a release has a trace there
+  -- the instruction is a release whose label has a trace at l
   abbrev pub trace-of : ℕ → Instruction → Bool
   trace-of v (Update k w) = false
   trace-of v (Release x) = trace B l v x
@@ -83,7 +83,7 @@ module _ (B : Program) (l : ℕ) where
 
   unfoldable note-by : ℕ → List Instruction → ℕ → ℕ → ℕ
   note-by bit [] v m = m
-  note-by bit (i ∷ is) v m = note-by bit is (wipe-of i v) (note-of bit i v m)
+  note-by bit (i ∷ is) v m = note-by bit is (clear-of-value i v) (note-of bit i v m)
 
   -- past the last location there are no traces
   past-trace : L B ≤ l → (v x : ℕ) → trace B l v x ≡ false
@@ -95,45 +95,45 @@ module _ (B : Program) (l : ℕ) where
   past-traces h v (Update k w ∷ is) = past-traces h v is
   past-traces h v (Release x ∷ is) = rw (past-trace h v x) (past-traces h v is)
 
-  past-wipe : L B ≤ l → (is : List Instruction) (v : ℕ) → wipe-by is v ≡ v
-  unfolding wipe-by
-  past-wipe h [] v = refl
-  past-wipe h (Update k w ∷ is) v = past-wipe h is v
-  past-wipe h (Release x ∷ is) v = rw (past-trace h v x) (past-wipe h is v)
+  past-clear : L B ≤ l → (is : List Instruction) (v : ℕ) → clear-by is v ≡ v
+  unfolding clear-by
+  past-clear h [] v = refl
+  past-clear h (Update k w ∷ is) v = past-clear h is v
+  past-clear h (Release x ∷ is) v = rw (past-trace h v x) (past-clear h is v)
 
-  pub wiped-true : (x v : ℕ) → trace B l v x ≡ true → value-cleared B x l v ≡ rest
-  wiped-true x v e = rw e
+  pub cleared-true : (x v : ℕ) → trace B l v x ≡ true → value-cleared B x l v ≡ rest
+  cleared-true x v e = rw e
 
-  pub wiped-false : (x v : ℕ) → trace B l v x ≡ false → value-cleared B x l v ≡ v
-  wiped-false x v e = rw e
+  pub cleared-false : (x v : ℕ) → trace B l v x ≡ false → value-cleared B x l v ≡ v
+  cleared-false x v e = rw e
 
   -- the default stays the default
-  wipe-rest : (i : Instruction) → wipe-of i rest ≡ rest
-  wipe-rest (Update k w) = refl
-  wipe-rest (Release x) = step (trace B l rest x) refl
+  clear-rest : (i : Instruction) → clear-of-value i rest ≡ rest
+  clear-rest (Update k w) = refl
+  clear-rest (Release x) = step (trace B l rest x) refl
     where
       step : (b : Bool) → trace B l rest x ≡ b → value-cleared B x l rest ≡ rest
-      step true e = wiped-true x rest e
-      step false e = wiped-false x rest e
+      step true e = cleared-true x rest e
+      step false e = cleared-false x rest e
 
-  pub wipe-by-rest : (is : List Instruction) → wipe-by is rest ≡ rest
-  unfolding wipe-by
-  wipe-by-rest [] = refl
-  wipe-by-rest (i ∷ is) = ap (wipe-by is) (wipe-rest i) ∙ wipe-by-rest is
+  pub clear-by-rest : (is : List Instruction) → clear-by is rest ≡ rest
+  unfolding clear-by
+  clear-by-rest [] = refl
+  clear-by-rest (i ∷ is) = ap (clear-by is) (clear-rest i) ∙ clear-by-rest is
 
   put-none : (is : List Instruction) (v : ℕ) → any about is ≡ false → put-by is v ≡ v
   unfolding put-by any
   put-none [] v h = refl
   put-none (i ∷ is) v h = let n = or-no (about i) (any about is) h in rw (n .0) (put-none is v (n .1))
 
-  -- ---- the mark there
+  -- ---- the mark of the location
 
   note-again : (bit : ℕ) (is : List Instruction) (v m : ℕ) → note-by bit is v (mark bit true m) ≡ mark bit true m
   unfolding note-by
   note-again bit [] v m = refl
   note-again bit (i ∷ is) v m =
-      ap (note-by bit is (wipe-of i v)) (mark-mark bit (trace-of v i) true m ∙ ap (λ (b : Bool). mark bit b m) (or-true (trace-of v i)))
-      ∙ note-again bit is (wipe-of i v) m
+      ap (note-by bit is (clear-of-value i v)) (mark-mark bit (trace-of v i) true m ∙ ap (λ (b : Bool). mark bit b m) (or-true (trace-of v i)))
+      ∙ note-again bit is (clear-of-value i v) m
 
   note-is : (bit : ℕ) (is : List Instruction) (v m : ℕ) → note-by bit is v m ≡ mark bit (any (trace-of v) is) m
   unfolding note-by any
@@ -141,16 +141,16 @@ module _ (B : Program) (l : ℕ) where
   note-is bit (i ∷ is) v m = step i (note-is bit is v m)
     where
       step : (j : Instruction) → note-by bit is v m ≡ mark bit (any (trace-of v) is) m
-          → note-by bit is (wipe-of j v) (note-of bit j v m) ≡ mark bit (trace-of v j || any (trace-of v) is) m
+          → note-by bit is (clear-of-value j v) (note-of bit j v m) ≡ mark bit (trace-of v j || any (trace-of v) is) m
       step (Update k w) r = r
       step (Release x) r = look (trace B l v x) refl
         where
           look : (b : Bool) → trace B l v x ≡ b → note-by bit is (value-cleared B x l v) (mark bit (trace B l v x) m) ≡ mark bit (trace B l v x || any (trace-of v) is) m
           look true e = rw e (note-again bit is rest m)
           look false e =
-              ap₂ (note-by bit is) (wiped-false x v e) (ap (λ (b : Bool). mark bit b m) e) ∙ r ∙ ap (λ (b : Bool). mark bit (b || any (trace-of v) is) m) (sym e)
+              ap₂ (note-by bit is) (cleared-false x v e) (ap (λ (b : Bool). mark bit b m) e) ∙ r ∙ ap (λ (b : Bool). mark bit (b || any (trace-of v) is) m) (sym e)
 
-  -- ---- what it is given in the contents c
+  -- ---- what the location is given in the contents c
 
   module _ (c : List ℕ) where
     abbrev held : ℕ
@@ -164,20 +164,20 @@ module _ (B : Program) (l : ℕ) where
     unfolding given
     given-release x b h e = rw (h, e)
 
-    -- no instruction is about it: clearing leaves the value that it is given
-    wipe-latest : (is : List Instruction) → any about is ≡ false → wipe-by is held ≡ new-value held (values B c l is)
-    unfolding wipe-by any values
-    wipe-latest [] h = refl
-    wipe-latest (i ∷ is) h = let n = or-no (about i) (any about is) h in step i (n .0) (wipe-latest is (n .1))
+    -- if no instruction is about the location, clearing leaves the value that it is given
+    clear-latest : (is : List Instruction) → any about is ≡ false → clear-by is held ≡ new-value held (values B c l is)
+    unfolding clear-by any values
+    clear-latest [] h = refl
+    clear-latest (i ∷ is) h = let n = or-no (about i) (any about is) h in step i (n .0) (clear-latest is (n .1))
       where
-        step : (j : Instruction) → about j ≡ false → wipe-by is held ≡ new-value held (values B c l is)
-            → wipe-by is (wipe-of j held) ≡ new-value held (given B c l j ++ values B c l is)
+        step : (j : Instruction) → about j ≡ false → clear-by is held ≡ new-value held (values B c l is)
+            → clear-by is (clear-of-value j held) ≡ new-value held (given B c l j ++ values B c l is)
         step (Update k w) f r = rw (given-update k w f) r
         step (Release x) f r = look (trace B l held x) refl
           where
-            look : (b : Bool) → trace B l held x ≡ b → wipe-by is (value-cleared B x l held) ≡ new-value held (given B c l (Release x) ++ values B c l is)
-            look true e = ap (wipe-by is) (wiped-true x held e) ∙ wipe-by-rest is ∙ rw (given-release x true f e)
-            look false e = ap (wipe-by is) (wiped-false x held e) ∙ r ∙ rw (given-release x false f e)
+            look : (b : Bool) → trace B l held x ≡ b → clear-by is (value-cleared B x l held) ≡ new-value held (given B c l (Release x) ++ values B c l is)
+            look true e = ap (clear-by is) (cleared-true x held e) ∙ clear-by-rest is ∙ rw (given-release x true f e)
+            look false e = ap (clear-by is) (cleared-false x held e) ∙ r ∙ rw (given-release x false f e)
 
     pub own-is : (i : Instruction) (w : ℕ) → about i ≡ true → other w (given B c l i) ≡ false → gets i ≡ w
     unfolding other
@@ -190,7 +190,7 @@ module _ (B : Program) (l : ℕ) where
     both i is w h =
         or-no (other w (given B c l i)) (other w (values B c l is)) (sym (other-append w (given B c l i) (values B c l is)) ∙ h)
 
-    -- every value is w: so is each that is put
+    -- if every value that the location is given is w, putting leaves w
     put-same : (is : List Instruction) (w : ℕ) → other w (values B c l is) ≡ false → put-by is w ≡ w
     unfolding put-by
     put-same [] w h = refl
@@ -214,7 +214,7 @@ module _ (B : Program) (l : ℕ) where
         step true f k m n r = ap (put-by is) (own-is i w f m) ∙ put-same is w n
         step false f k m n r = r k
 
-    -- ---- whether it is given a value at all
+    -- ---- whether the location is given a value at all
 
     some-append : (xs ys : List ℕ) → is-some (xs ++ ys) ≡ is-some xs || is-some ys
     some-append [] ys = refl
@@ -247,22 +247,22 @@ module _ (B : Program) (l : ℕ) where
         swap false true c d = sym (or-true c)
         swap false false c d = refl
 
-    -- ---- the contents there
+    -- ---- the contents at the location
 
-    after-is : (is : List Instruction) → two-values (values B c l is) ≡ false → put-by is (wipe-by is held) ≡ new-value held (values B c l is)
+    after-is : (is : List Instruction) → two-values (values B c l is) ≡ false → put-by is (clear-by is held) ≡ new-value held (values B c l is)
     unfolding two-values other
     after-is is m = step (any about is) refl
       where
-        one : (vs : List ℕ) → values B c l is ≡ vs → two-values vs ≡ false → any about is ≡ true → put-by is (wipe-by is held) ≡ new-value held vs
+        one : (vs : List ℕ) → values B c l is ≡ vs → two-values vs ≡ false → any about is ≡ true → put-by is (clear-by is held) ≡ new-value held vs
         one [] e n f =
             let z : is-some (values B c l is) ≡ true = some-values is ∙ rw f in
             let y : _≡_ {A = ℕ} 0 1 = cc (sym (ap is-some e) ∙ z) in
             absurd (omega arith)
-        one (w ∷ us) e n f = put-some is w (wipe-by is held) (ap (other w) e ∙ rw (eq-eqb w w refl) n) f
+        one (w ∷ us) e n f = put-some is w (clear-by is held) (ap (other w) e ∙ rw (eq-eqb w w refl) n) f
 
-        step : (b : Bool) → any about is ≡ b → put-by is (wipe-by is held) ≡ new-value held (values B c l is)
+        step : (b : Bool) → any about is ≡ b → put-by is (clear-by is held) ≡ new-value held (values B c l is)
         step true f = one (values B c l is) refl m f
-        step false f = put-none is (wipe-by is held) f ∙ wipe-latest is f
+        step false f = put-none is (clear-by is held) f ∙ clear-latest is f
 
 -- ---- the whole tables
 
@@ -300,23 +300,15 @@ unfolding put-marks
 length-put-marks bit n [] ms = refl
 length-put-marks bit n (i ∷ is) ms = length-put-marks bit n is (set ms (own i) (mark bit (ltb (own i) n) (getD ms (own i) 0))) ∙ simp length-set
 
-pub clear-of-at : (B : Program) (i : Instruction) (c : List ℕ) (l : ℕ) → l < length c → getD (instruction-cleared B i c) l 0 ≡ wipe-of B l i (getD c l 0)
+pub clear-of-at : (B : Program) (i : Instruction) (c : List ℕ) (l : ℕ) → l < length c → getD (instruction-cleared B i c) l 0 ≡ clear-of-value B l i (getD c l 0)
 clear-of-at B (Update k w) c l h = refl
 clear-of-at B (Release x) c l h = getD-each (value-cleared B x) c l h
 
-pub clears-at : (B : Program) (is : List Instruction) (c : List ℕ) (l : ℕ) → l < length c → getD (all-cleared B is c) l 0 ≡ wipe-by B l is (getD c l 0)
-unfolding all-cleared wipe-by
+pub clears-at : (B : Program) (is : List Instruction) (c : List ℕ) (l : ℕ) → l < length c → getD (all-cleared B is c) l 0 ≡ clear-by B l is (getD c l 0)
+unfolding all-cleared clear-by
 clears-at B [] c l h = refl
 clears-at B (i ∷ is) c l h =
-    clears-at B is (instruction-cleared B i c) l (omega (arith, length-clear-of B i c)) ∙ ap (wipe-by B l is) (clear-of-at B i c l h)
-
--- a store seen from one place
-pub set-at : (c : List ℕ) (k v l : ℕ) → l < length c → getD (set c k v) l 0 ≡ (if eqb k l then v else getD c l 0)
-set-at c k v l h = step (eqb k l) refl
-  where
-    step : (b : Bool) → eqb k l ≡ b → getD (set c k v) l 0 ≡ (if b then v else getD c l 0)
-    step true e = let f : l ≡ k = sym (eqb-true k l e) in rw f (getD-set-same c k v 0 (omega arith))
-    step false e = getD-set-other c k l v 0 (λ g. eqb-false k l e (sym g))
+    clears-at B is (instruction-cleared B i c) l (omega (arith, length-clear-of B i c)) ∙ ap (clear-by B l is) (clear-of-at B i c l h)
 
 puts-at : (B : Program) (n : ℕ) (is : List Instruction) (c : List ℕ) (l : ℕ) → l < length c → l < n → getD (puts n is c) l 0 ≡ put-by B l is (getD c l 0)
 unfolding puts put-by
@@ -384,7 +376,7 @@ put-marks-at bit n (i ∷ is) ms l h =
     step true e false f a = let g = eqb-true (own i) l e in rw (g, f)
     step false e t f a = refl
 
--- ---- both together
+-- ---- clearing and putting together
 
 module _ (B : Program) (is : List Instruction) (c : List ℕ) where
   pub unclashed : least (clashes is (updates B c is)) (length (updates B c is)) ≡ Nowhere → (l : ℕ) → l < L B → two-values (values B c l is) ≡ false
@@ -393,7 +385,7 @@ module _ (B : Program) (is : List Instruction) (c : List ℕ) where
       let e = least-none (clashes is (updates B c is)) (length (updates B c is)) h l (omega (arith, length-updates B c is)) in
       rw (updates-at B c is l k) at (or-no (two-values (values-at (updates B c is) l)) (set-to-label (released is) l is) e .0)
 
-  -- a move that does not clash: the contents after
+  -- the contents after a move that does not clash are what clearing and then putting leave
   pub fired-is : least (clashes is (updates B c is)) (length (updates B c is)) ≡ Nowhere → puts (L B) is (all-cleared B is c) ≡ fire (updates B c is) c
   fired-is h =
       let n : length (puts (L B) is (all-cleared B is c)) ≡ length c = length-puts (L B) is (all-cleared B is c) ∙ length-clears B is c in
@@ -412,10 +404,10 @@ module _ (B : Program) (is : List Instruction) (c : List ℕ) where
           let o : L B ≤ l = ltb-false l (L B) e in
           puts-past (L B) is (all-cleared B is c) l o
           ∙ clears-at B is c l m
-          ∙ past-wipe B l o is (getD c l 0)
+          ∙ past-clear B l o is (getD c l 0)
           ∙ rw (updates-past B c is l o)
 
-  -- and the marks
+  -- the writer marks after a move that does not clash are what clearing and then putting leave
   abbrev n : ℕ
   n = min (L B) (length (all-cleared B is c))
 

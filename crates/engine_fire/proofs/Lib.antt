@@ -1,5 +1,5 @@
 pub mod Fires
-pub mod Judged
+pub mod Outcomes
 pub mod Own
 pub mod Taken
 pub mod Marks

@@ -13,7 +13,7 @@ use Rattle.text.specs.Words.{has}
 use Rattle.engine_term.specs.Marks.{mark-one, marked}
 use Rattle.engine_term.proofs.Marking.{length-marked}
 use Rattle.engine_release.specs.Marks.{mark}
-use Rattle.engine_release.proofs.Sweep.{each-is}
+use Rattle.engine_release.proofs.ByPlace.{each-is}
 use Rattle.engine_fire.proofs.Fires.{mark-mark}
 use Rattle.engine_fire.specs.Effect.{marks-joined}
 

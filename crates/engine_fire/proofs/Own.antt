@@ -17,10 +17,10 @@ use Rattle.book_parts.proofs.Parts.{between-inside, between-after, part-starts,
 use Rattle.engine_release.specs.Marks.{mark}
 use Rattle.engine_fire.specs.Steps.{part-after}
 
--- ---- the part that is held
+-- ---- the part held from one location to the next
 
 module _ (B : Program) where
-  -- it is the part of each of its locations
+  -- p is the part of each of its locations
   abbrev pub Whole : Part → Type 0
   Whole p = (k : ℕ) → p .first ≤ k → k < p .end → part-of B k ≡ p
 
@@ -57,7 +57,7 @@ module _ (B : Program) where
           go true e false f = le-ltb l (min k n) (omega (arith, ltb-false l n f))
           go false e t f = le-ltb l (min k n) (omega (arith, ltb-false l k e))
 
-  -- ---- put in the part of a location, put in the table
+  -- ---- what is put in the part of a location is put in the table
 
   pub put-value : (l v : ℕ) (c : List ℕ) → put-in (part-of B l .first) (part-of B l .end) l v c ≡ (if ltb l (L B) then set c l v else c)
   put-value l v c = go (ltb l (L B)) refl
@@ -84,13 +84,13 @@ module _ (first end at : ℕ) (c : List ℕ) (reached : first ≤ at) (e : ℕ) 
   put-inside v h ys q =
       put-back first end (at - first) v c (omega arith) first e (omega arith) e-is ys q ∙ ap (λ (l : ℕ). put-in first end l v c) (add-sub-of-le reached)
 
-  -- what the part holds there
+  -- what the part holds at the location is what the table holds
   pub held-inside : at < e → getD (take (e - first) (drop first c)) (at - first) 0 ≡ getD c at 0
   held-inside h =
       getD-take (e - first) (drop first c) (at - first) 0 (omega arith) ∙ getD-drop first c (at - first) 0
       ∙ ap (λ (z : ℕ). getD c z 0) (add-sub-of-le reached)
 
-  -- no such place
+  -- a location past the part or past the table gets nothing
   pub put-outside : (v : ℕ) (s : List ℕ) → e ≤ at → (length c ≤ at → set s at v ≡ s) → s ≡ put-in first end at v s
   put-outside v s h out = go (ltb at end) refl
     where

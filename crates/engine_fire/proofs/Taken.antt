@@ -1,4 +1,4 @@
--- What firing reads, step by step, is what the definition says that a fired move reads beside what its walk looks at.
+-- What firing reads, step by step, is what the definition says that a fired move reads beside what its walk reads.
 use mathlib.Core.Path.{_≡_, refl, sym, ap, _∙_}
 use mathlib.Core.Logic.{_⊎_, inl, inr, dite, _≢_}
 use mathlib.Core.Bool.{Bool, true, false, _||_, or-true, false≢true, true≢false}
@@ -11,27 +11,26 @@ use lib.Dec.{eqb, ltb}
 use lib.ListN.{length, getD, set}
 use Rattle.text.specs.Words.{if_then_else_, has, least}
 use Rattle.text.specs.declared.Found.the-variants.{Nowhere}
-use Rattle.text.proofs.Words.{and-cases, or-cases}
+use Rattle.text.proofs.Words.{and-cases, or-cases, has-append, set-at, both-ways}
 use Rattle.book.specs.Book.{Program, L, true-element, dynamic-at, default-at, concerns, place}
 use Rattle.book.specs.Sound.{Lawful}
 use Rattle.book.proofs.Places.{roll-place, default-low}
 use Rattle.engine.specs.declared.Instruction.{Instruction}
 use Rattle.engine.specs.declared.Instruction.the-variants.{Update, Release}
 use Rattle.engine.specs.Move.{given, values, updates, released, other, two-values, clashes, new-value, is-some, append-from, release-gives, release-reads, taken-reads, changed-reads, extra-reads}
-use Rattle.engine.proofs.EqualReads.{has-append}
 use Rattle.engine.proofs.Append.{append-has, append-in}
 use Rattle.engine.proofs.Extra.{release-in, taken-in, taken-has}
-use Rattle.engine.proofs.Values.{Frees, updates-at, frees-values, only-value}
+use Rattle.engine.proofs.Values.{Releases, updates-at, releases-values, only-value}
 use Rattle.engine_instruction.specs.Traces.{own, gets, any}
 use Rattle.engine_release.specs.Part.{cleared-reads}
 use Rattle.engine_release.specs.Steps.{trace, value-cleared, instruction-cleared, label-reads, all-cleared, all-reads}
 use Rattle.engine_fire.specs.Steps.{put-reads, fire-reads}
-use Rattle.engine_fire.proofs.Fires.{rest, wipe-by, about, trace-of, wiped-true, wiped-false, wipe-by-rest, own-is, both, some-given, some-values, length-clear-of, length-clears, length-put, clear-of-at, clears-at, set-at, unclashed}
+use Rattle.engine_fire.proofs.Fires.{rest, clear-by, about, trace-of, cleared-true, cleared-false, clear-by-rest, own-is, both, some-given, some-values, length-clear-of, length-clears, length-put, clear-of-at, clears-at, unclashed}
 
 module _ (B : Program) where
   -- ---- traces cleared
 
-  -- why k is read where location l, which held v, is cleared
+  -- why location k is read where location l, which held v, is cleared
   abbrev Why : ℕ → ℕ → ℕ → Type 0
   Why l v k = (k ≡ l) ⊎ ((B .P ≤ v) × (default-at B l ≢ v) × (k ≡ v))
 
@@ -76,9 +75,9 @@ module _ (B : Program) where
     where
       later : (l : ℕ) → l < length c → (v : ℕ) → v ≡ value-cleared B x l (getD c l 0) → any (trace-of B l v) is ≡ true → Why l v k → (b : Bool) → trace B l (getD c l 0) x ≡ b → ClearedAt (Release x ∷ is) c k
       later l m v q a (inl e) true t = (l, m, rw t, inl e)
-      later l m v q a (inr (p, n, e)) true t = absurd (n (sym (q ∙ wiped-true B l x (getD c l 0) t)))
+      later l m v q a (inr (p, n, e)) true t = absurd (n (sym (q ∙ cleared-true B l x (getD c l 0) t)))
       later l m v q a w false t =
-          let s : v ≡ getD c l 0 = q ∙ wiped-false B l x (getD c l 0) t in
+          let s : v ≡ getD c l 0 = q ∙ cleared-false B l x (getD c l 0) t in
           (l, m, rw (rw s at a) (or-true (trace B l (getD c l 0) x)), rw s at w)
 
       go : (has (label-reads B x c) k ≡ true) ⊎ (has (all-reads B is (instruction-cleared B (Release x) c)) k ≡ true)
@@ -103,31 +102,31 @@ module _ (B : Program) where
           → (has (label-reads B x c) k || has (all-reads B is (instruction-cleared B (Release x) c)) k) ≡ true
       go true t r = rw (clear-has x c l k h t w)
       go false t r =
-          let q : getD (instruction-cleared B (Release x) c) l 0 ≡ getD c l 0 = clear-of-at B (Release x) c l h ∙ wiped-false B l x (getD c l 0) t in
+          let q : getD (instruction-cleared B (Release x) c) l 0 ≡ getD c l 0 = clear-of-at B (Release x) c l h ∙ cleared-false B l x (getD c l 0) t in
           let z : any (trace-of B l (getD c l 0)) is ≡ true = rw t at a in
           rw (r (rw q z) (rw q w)) (or-true (has (label-reads B x c) k))
 
-  -- what clearing leaves of v at l
-  wipe-is : (l : ℕ) (is : List Instruction) (v : ℕ) → wipe-by B l is v ≡ (if any (trace-of B l v) is then rest B l else v)
-  unfolding wipe-by any
-  wipe-is l [] v = refl
-  wipe-is l (Update j w ∷ is) v = wipe-is l is v
-  wipe-is l (Release x ∷ is) v = go (trace B l v x) refl (wipe-is l is v)
+  -- what clearing by these instructions leaves of v at l
+  clear-is : (l : ℕ) (is : List Instruction) (v : ℕ) → clear-by B l is v ≡ (if any (trace-of B l v) is then rest B l else v)
+  unfolding clear-by any
+  clear-is l [] v = refl
+  clear-is l (Update j w ∷ is) v = clear-is l is v
+  clear-is l (Release x ∷ is) v = go (trace B l v x) refl (clear-is l is v)
     where
-      go : (b : Bool) → trace B l v x ≡ b → wipe-by B l is v ≡ (if any (trace-of B l v) is then rest B l else v)
-          → wipe-by B l is (value-cleared B x l v) ≡ (if trace B l v x || any (trace-of B l v) is then rest B l else v)
-      go true t r = ap (wipe-by B l is) (wiped-true B l x v t) ∙ wipe-by-rest B l is ∙ rw t
-      go false t r = ap (wipe-by B l is) (wiped-false B l x v t) ∙ r ∙ rw t
+      go : (b : Bool) → trace B l v x ≡ b → clear-by B l is v ≡ (if any (trace-of B l v) is then rest B l else v)
+          → clear-by B l is (value-cleared B x l v) ≡ (if trace B l v x || any (trace-of B l v) is then rest B l else v)
+      go true t r = ap (clear-by B l is) (cleared-true B l x v t) ∙ clear-by-rest B l is ∙ rw t
+      go false t r = ap (clear-by B l is) (cleared-false B l x v t) ∙ r ∙ rw t
 
-  -- a trace is of a label that is released
-  trace-frees : (l v : ℕ) (is : List Instruction) → any (trace-of B l v) is ≡ true → (x : ℕ) × Frees x is × (trace B l v x ≡ true)
+  -- a trace that is cleared is one of a label that is released
+  trace-releases : (l v : ℕ) (is : List Instruction) → any (trace-of B l v) is ≡ true → (x : ℕ) × Releases x is × (trace B l v x ≡ true)
   unfolding any
-  trace-frees l v [] h = absurd (false≢true h)
-  trace-frees l v (Update j w ∷ is) h = trace-frees l v is h
-  trace-frees l v (Release x ∷ is) h = go (or-cases (trace B l v x) (any (trace-of B l v) is) h) (trace-frees l v is)
+  trace-releases l v [] h = absurd (false≢true h)
+  trace-releases l v (Update j w ∷ is) h = trace-releases l v is h
+  trace-releases l v (Release x ∷ is) h = go (or-cases (trace B l v x) (any (trace-of B l v) is) h) (trace-releases l v is)
     where
-      go : (trace B l v x ≡ true) ⊎ (any (trace-of B l v) is ≡ true) → (any (trace-of B l v) is ≡ true → (y : ℕ) × Frees y is × (trace B l v y ≡ true))
-          → (y : ℕ) × Frees y (Release x ∷ is) × (trace B l v y ≡ true)
+      go : (trace B l v x ≡ true) ⊎ (any (trace-of B l v) is ≡ true) → (any (trace-of B l v) is ≡ true → (y : ℕ) × Releases y is × (trace B l v y ≡ true))
+          → (y : ℕ) × Releases y (Release x ∷ is) × (trace B l v y ≡ true)
       go (inl e) r = (x, inl refl, e)
       go (inr e) r = let s = r e in (s .0, inr (s .1), s .2)
 
@@ -152,7 +151,7 @@ module _ (P n : ℕ) (w : ℕ → ℕ) where
       go true e = set-at c (own i) (gets i) l m
       go false e = rw (ne-eqb (own i) l (λ q. omega (arith, ltb-false (own i) n e)))
 
-  -- k is read where some location loses it for the value that the location gets
+  -- k is read where some location that held k gets another value
   abbrev PutAt : List ℕ → ℕ → Type 0
   PutAt c k = (l : ℕ) × (l < n) × (l < length c) × (P ≤ getD c l 0) × (k ≡ getD c l 0) × (w l ≢ getD c l 0)
 
@@ -206,12 +205,12 @@ module _ (P n : ℕ) (w : ℕ → ℕ) where
           let y : has (put-reads P n is (stored i c)) (getD c l 0) ≡ true = rw q at (r z (rw q p) (λ e. f (e ∙ q))) in
           rw y (or-true (has (put-at i c) (getD c l 0)))
 
--- ---- both together
+-- ---- clearing and putting together
 
 module _ (B : Program) (ok : Lawful B) (c : List ℕ) (long : length c ≡ L B) (is : List Instruction)
     (fired : least (clashes is (updates B c is)) (length (updates B c is)) ≡ Nowhere)
     (labels : (x : ℕ) → has (released is) x ≡ true → x < B .E) where
-  -- what a location is given, or keeps
+  -- the value that a location is given, or keeps
   abbrev new : ℕ → ℕ
   new l = new-value (getD c l 0) (values B c l is)
 
@@ -249,20 +248,20 @@ module _ (B : Program) (ok : Lawful B) (c : List ℕ) (long : length c ≡ L B) 
   gives-any l (Release x ∷ js) h =
       rw (gives-trace l x (h x (rw (eq-eqb x x refl))), gives-any l js (λ y m. h y (rw m (or-true (eqb x y)))))
 
-  -- a trace is given what is no label
+  -- a location that is a trace gets a value that is no label
   trace-new : (l : ℕ) → l < L B → any (trace-of B l (getD c l 0)) is ≡ true → new l < B .P
   trace-new l h a =
-      let s = trace-frees B l (getD c l 0) is a in
+      let s = trace-releases B l (getD c l 0) is a in
       let t = and-cases (dynamic-at B l) (concerns B l (getD c l 0) (s .0)) (s .2) in
       dite (ℕ-discrete (s .0) l)
-      (λ (e : s .0 ≡ l). omega (arith, given true-element (frees-values B c is (s .0) l true-element (s .1) (inl (e, refl))), ok .low))
-      (λ (e : s .0 ≢ l). omega (arith, given (default-at B l) (frees-values B c is (s .0) l (default-at B l) (s .1) (inr (e, t .0, t .1, refl))), low l))
+      (λ (e : s .0 ≡ l). omega (arith, given true-element (releases-values B c is (s .0) l true-element (s .1) (inl (e, refl))), ok .low))
+      (λ (e : s .0 ≢ l). omega (arith, given (default-at B l) (releases-values B c is (s .0) l (default-at B l) (s .1) (inr (e, t .0, t .1, refl))), low l))
     where
       given : (v : ℕ) → has (values B c l is) v ≡ true → new l ≡ v
       given v m = only-value (getD c l 0) (values B c l is) v (unclashed B is c fired l h) m
 
   wiped-at : (l : ℕ) → l < L B → getD (all-cleared B is c) l 0 ≡ (if any (trace-of B l (getD c l 0)) is then rest B l else getD c l 0)
-  wiped-at l h = clears-at B is c l (omega (arith, long)) ∙ wipe-is B l is (getD c l 0)
+  wiped-at l h = clears-at B is c l (omega (arith, long)) ∙ clear-is B l is (getD c l 0)
 
   changes : (l : ℕ) → l < L B → B .P ≤ getD c l 0 → new l ≢ getD c l 0 → has (append-from (changed-reads B c (updates B c is)) 0 (L B)) (getD c l 0) ≡ true
   changes l h p n =
@@ -310,7 +309,7 @@ module _ (B : Program) (ok : Lawful B) (c : List ℕ) (long : length c ≡ L B) 
       has-append (all-reads B is c) (put-reads (B .P) (L B) is (all-cleared B is c)) k
       ∙ go (or-cases (has releases k) (has changed k) (sym (has-append releases changed k) ∙ h))
     where
-      -- a label that is taken out: by a release, or else by a value that is put
+      -- a label that is taken out of a location is taken by a release, or else by a value that is put
       by-taking : (l : ℕ) → l < L B → B .P ≤ getD c l 0 → new l ≢ getD c l 0 → getD c l 0 ≡ k → (t : Bool) → any (trace-of B l (getD c l 0)) is ≡ t → Read k
       by-taking l b p n e true a = rw (clears-has B is c l k (omega (arith, long)) a (inr (p, (λ z. omega (arith, low l)), sym e)))
       by-taking l b p n e false a =
@@ -343,8 +342,3 @@ module _ (B : Program) (ok : Lawful B) (c : List ℕ) (long : length c ≡ L B) 
 
   pub fire-reads-are : (k : ℕ) → has (fire-reads B is c) k ≡ has (extra-reads B c is (updates B c is)) k
   fire-reads-are k = both-ways (has (fire-reads B is c) k) (has (extra-reads B c is (updates B c is)) k) (to k) (from k)
-    where
-      both-ways : (a b : Bool) → (a ≡ true → b ≡ true) → (b ≡ true → a ≡ true) → a ≡ b
-      both-ways true b f g = sym (f refl)
-      both-ways false true f g = g refl
-      both-ways false false f g = refl

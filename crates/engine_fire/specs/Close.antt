@@ -1,4 +1,4 @@
--- The rest of a move whose walk has ended: its answer, and what it leaves of the tables. Said of any walk's end, whatever the walk was.
+-- The rest of a move whose walk has ended: its answer, and what it leaves of the tables. It is said of any walk's end, whatever the walk was.
 use mathlib.Core.Path.{_≡_}
 use mathlib.Core.List.{List}
 use Prim.Native.Nat.{ℕ}
@@ -7,29 +7,30 @@ use Rattle.text.specs.declared.Answer.{Answer}
 use Rattle.book.specs.Book.{Program}
 use Rattle.engine.specs.Rule.{Walked, walking, refused-at}
 use Rattle.engine.specs.Move.{Moved, fires, move-refused, settle}
-use Rattle.engine_fire.specs.Tables.{Tables}
 use Rattle.engine_fire.specs.Outcome.{contents-after, readers-after, writers-after}
 use Rattle.engine_walk.specs.WalkMarks.{bits-cleared}
 use Rattle.engine_fire.specs.Effect.{move-answer}
+use Rattle.engine.specs.Tables.{Tables}
 
+-- the answer with this number and place
 abbrev pub answer-at : ℕ → ℕ → ℕ → Answer
 answer-at n p q = record { number = n; p = p; q = q }
 
--- what becomes of reader marks at the end of a move: one that is refused has its own taken back
+-- the reader marks m at the end of a move: a move that is refused has its own bit taken out
 abbrev pub readers-kept : ℕ → Moved → List ℕ → List ℕ
 readers-kept bit (fires f) m = m
 readers-kept bit (move-refused n q) m = bits-cleared bit m
 
--- what becomes of the reader marks m that a walk in the contents c left: if the move fires, what firing reads is marked too
+-- the reader marks m, which a walk in the contents c left, at the end of the move: if it fires, what firing reads is marked too
 abbrev pub readers-at-end : Program → ℕ → List ℕ → Moved → List ℕ → List ℕ
 readers-at-end B bit c o m = readers-kept bit o (readers-after bit B c m o)
 
--- a walk that was refused has taken its own back
+-- the reader marks m at the end of a move, by how its walk ended: a walk that was refused has taken its own bit out already
 abbrev pub readers-at-end-of : Program → ℕ → List ℕ → Walked → Moved → List ℕ → List ℕ
 readers-at-end-of B bit c (refused-at n q) o m = m
 readers-at-end-of B bit c (walking w) o m = readers-at-end B bit c o m
 
--- move i, whose walk came to w with the tables t, whatever it looked at: its answer r, and the tables u that it leaves
+-- move i, whose walk came to w with the tables t, whatever the walk read: its answer r, and the tables u that it leaves
 pub record MoveFinished (B : Program) (bit i : ℕ) (w : Walked) (t : Tables) (r : Answer) (u : Tables) : Type 0 where
   pub answer : (ls : List ℕ) → r ≡ move-answer i (settle B (t .contents) ls w)
   pub contents : (ls : List ℕ) → u .contents ≡ contents-after (t .contents) (settle B (t .contents) ls w)

@@ -5,6 +5,6 @@ use Rattle.text.specs.Words.{if_then_else_}
 use Rattle.engine.specs.Rule.{most-instructions}
 use Rattle.engine_walk.specs.declared.WalkEnd.{WalkEnd}
 
--- none if it was refused
+-- how many instructions a walk gave, by its end; none if it was refused
 abbrev pub instructions-given : WalkEnd → ℕ
 instructions-given s = if eqb (s .refused) 0 then min (s .len) most-instructions else 0

@@ -10,31 +10,33 @@ use Rattle.book.specs.Book.{Program}
 use Rattle.book.specs.Sound.{Lawful, Sound}
 use Rattle.engine.specs.Move.{Input, Moved, fires, move-refused, move, fire, writes}
 use Rattle.engine_release.specs.Marks.{by-place, mark}
-use Rattle.engine_fire.specs.Tables.{Tables}
+use Rattle.engine_fire.specs.declared.Begun.{Begun}
+use Rattle.engine_fire.specs.Count.{instructions-given}
 use Rattle.engine_walk.specs.declared.WalkEnd.{WalkEnd}
 use Rattle.engine_walk.specs.Walk.{outcome}
 use Rattle.engine_walk.specs.WalkMarks.{WalkMarked}
+use Rattle.engine.specs.Tables.{Tables}
 
--- marks with the bit joined wherever the test passes
+-- the marks ms with the bit wherever the test passes
 abbrev pub marks-joined : ℕ → (ℕ → Bool) → List ℕ → List ℕ
 marks-joined bit test ms = by-place (λ l m. mark bit (test l) m) 0 ms
 
--- a move that fires leaves its updates, and its bit where it reads and where it writes; a refused one leaves all as it was
-abbrev pub tables-after : ℕ → Tables → Moved → Tables
-tables-after bit t (fires f) =
+-- the tables after a move: one that fires leaves its updates, and its bit where it reads and where it writes; a refused one leaves all as it was
+abbrev pub tables-left : ℕ → Tables → Moved → Tables
+tables-left bit t (fires f) =
     record {
       contents = fire (f .updates) (t .contents);
       readers = marks-joined bit (has (f .reads)) (t .readers);
       writers = marks-joined bit (writes (f .updates)) (t .writers);
     }
-tables-after bit t (move-refused n q) = t
+tables-left bit t (move-refused n q) = t
 
--- the triple of SPECIFICATION 8.1 for move i: 0 0 0 if it fires
+-- the answer to move i (SPECIFICATION 8.1): 0 0 0 if it fires
 abbrev pub move-answer : ℕ → Moved → Answer
 move-answer i (fires f) = record { number = 0; p = 0; q = 0 }
 move-answer i (move-refused n q) = record { number = n; p = i; q = q }
 
--- What a call is made on: an accepted book, sound contents, one of its agents, and a bit above all marks so far: the moves before have lower ones
+-- What a move is made on: an accepted book, sound contents, one of its agents, and a bit above all marks so far: the moves before have lower ones
 pub record MoveFits (B : Program) (x : Input) (bit : ℕ) (t : Tables) : Type 0 where
   pub lawful : Lawful B
   pub sound : Sound B (t .contents)
@@ -45,11 +47,16 @@ pub record MoveFits (B : Program) (x : Input) (bit : ℕ) (t : Tables) : Type 0 
 -- what the move with input x, number i and marked as `bit`, gives and leaves of the tables t: its answer r, and the tables u
 pub record MoveEffect (B : Program) (x : Input) (bit i : ℕ) (t : Tables) (r : Answer) (u : Tables) : Type 0 where
   pub answer : r ≡ move-answer i (move B (t .contents) x)
-  pub tables : u ≡ tables-after bit t (move B (t .contents) x)
+  pub tables : u ≡ tables-left bit t (move B (t .contents) x)
 
--- the walk of the move with input x, made on the tables t, came to the state s with the list l, and left the tables u
+-- the walk of the move with input x, made on the tables t, ended as s says, with its instructions in the list l, and left the tables u
 pub record AfterWalk (B : Program) (x : Input) (bit : ℕ) (t : Tables) (s : WalkEnd) (l : List ℕ) (u : Tables) : Type 0 where
   pub fit : MoveFits B x bit t
   pub contents : u .contents ≡ t .contents
   pub readers : WalkMarked B (t .contents) bit x (outcome s l) (t .readers) (u .readers)
   pub writers : u .writers ≡ t .writers
+
+-- The move with input x is begun in the contents c, marked as `bit`: its walk came to b, with its instructions in the list l, and the reader marks m
+-- became n.
+abbrev pub Begins : Program → List ℕ → ℕ → Input → Begun → List ℕ → List ℕ → List ℕ → Type 0
+Begins B c bit x b l m n = WalkMarked B c bit x (outcome (b .walk) l) m n × (b .count ≡ instructions-given (b .walk)) × (length l ≡ 256)

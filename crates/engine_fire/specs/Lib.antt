@@ -1,4 +1,3 @@
-pub mod Tables
 pub mod Outcome
 pub mod Steps
 pub mod Effect

@@ -1,4 +1,4 @@
--- What becomes of a move whose walk came to its end: 15, or the contents and the marks after (SPECIFICATION 4.8, 4.9, 5.2).
+-- What becomes of a move whose walk met no refusal: refusal 15, or the contents and the marks after (SPECIFICATION 4.8, 4.9, 5.2).
 use mathlib.Core.Path.{_≡_}
 use mathlib.Core.Bool.{_&&_}
 use mathlib.Core.List.{List}
@@ -7,7 +7,7 @@ use lib.Dec.{ltb}
 use lib.ListN.{length}
 use Rattle.text.specs.Refusals.{clash}
 use Rattle.book.specs.Book.{Program}
-use Rattle.book.specs.Image.{held}
+use Rattle.book.specs.Image.{low-program}
 use Rattle.engine.specs.declared.Instruction.{Instruction}
 use Rattle.engine.specs.Move.{Moved, fires, move-refused, fire, writes, fired-of, fire-or-clash}
 use Rattle.engine.specs.Move as move
@@ -15,49 +15,52 @@ use Rattle.engine_instruction.specs.Code.{items}
 use Rattle.engine_term.specs.Marks.{marked}
 use Rattle.engine_release.specs.Marks.{by-place, mark}
 use Rattle.engine_fire.specs.Steps.{fire-reads}
-use Rattle.engine_fire.specs.Tables.{Tables}
 use Rattle.engine_fire.specs.declared.Outcome.{Outcome}
 use Rattle.engine_fire.specs.declared.Outcome.the-variants.{Fired, Clash}
+use Rattle.engine.specs.Tables.{Tables}
 
 -- ---- the move of a list, in the contents c of the book that an image holds
 
--- its walk looked at ls
+-- the move whose walk gave the first n instructions of a list and read ls
 abbrev pub move-by : List ℕ → List ℕ → List ℕ → ℕ → List ℕ → move.Fired
-move-by image c list n ls = fired-of (held image) c ls (items list n)
+move-by image c list n ls = fired-of (low-program image) c ls (items list n)
 
 -- ---- outcomes
 
--- the number and q for each (SPECIFICATION 8.1)
+-- the outcome of the move f, as the code gives it, as what becomes of a move
 abbrev pub moved-by : move.Fired → Outcome → Moved
 moved-by f Fired = fires f
 moved-by f (Clash l) = move-refused clash l
 
 -- ---- the contents and the marks after: a refused move leaves them as they were
 
+-- the contents after a move: a refused one leaves them as they were
 abbrev pub contents-after : List ℕ → Moved → List ℕ
 contents-after c (fires f) = fire (f .updates) c
 contents-after c (move-refused n q) = c
 
--- the bit is joined wherever the updates write a location of the contents, which are n long: changed or not
+-- the writer marks ms with the bit wherever the updates write a location of the contents, which are n long, changed or not
 abbrev pub write-marked : ℕ → ℕ → List (List ℕ) → List ℕ → List ℕ
 write-marked bit n us ms = by-place (λ l m. mark bit (ltb l n && writes us l) m) 0 ms
 
+-- the writer marks after a move
 abbrev pub writers-after : ℕ → ℕ → List ℕ → Moved → List ℕ
 writers-after bit n ms (fires f) = write-marked bit n (f .updates) ms
 writers-after bit n ms (move-refused k q) = ms
 
--- The bit is joined wherever firing by these instructions reads. Of an accepted book, sound contents and a move that fires this is what the move reads beside
--- what its walk looks at (`fire-reads-are`, proofs/Taken).
+-- The reader marks rs with the bit wherever firing by these instructions reads. Of an accepted book, sound contents and a move that fires this is what the
+-- move reads beside what its walk reads (`fire-reads-are`, proofs/Taken).
 abbrev pub read-marked : ℕ → Program → List Instruction → List ℕ → List ℕ → List ℕ
 read-marked bit B is c rs = marked bit (fire-reads B is c) rs
 
+-- the reader marks after a move
 abbrev pub readers-after : ℕ → Program → List ℕ → List ℕ → Moved → List ℕ
 readers-after bit B c rs (fires f) = read-marked bit B (f .instructions) c rs
 readers-after bit B c rs (move-refused k q) = rs
 
--- the move of the first n of a list, whatever its walk looked at, is settled: how, and what it leaves of the tables t
+-- the move of the first n of a list, whatever its walk read, is settled: how, and what it leaves of the tables t
 pub record Settled (image list : List ℕ) (n bit : ℕ) (t : Tables) (r : Outcome) (u : Tables) : Type 0 where
   pub outcome : (ls : List ℕ) → fire-or-clash (move-by image (t .contents) list n ls) ≡ moved-by (move-by image (t .contents) list n ls) r
   pub contents : (ls : List ℕ) → u .contents ≡ contents-after (t .contents) (fire-or-clash (move-by image (t .contents) list n ls))
-  pub readers : (ls : List ℕ) → u .readers ≡ readers-after bit (held image) (t .contents) (t .readers) (fire-or-clash (move-by image (t .contents) list n ls))
+  pub readers : (ls : List ℕ) → u .readers ≡ readers-after bit (low-program image) (t .contents) (t .readers) (fire-or-clash (move-by image (t .contents) list n ls))
   pub writers : (ls : List ℕ) → u .writers ≡ writers-after bit (length (t .contents)) (t .writers) (fire-or-clash (move-by image (t .contents) list n ls))

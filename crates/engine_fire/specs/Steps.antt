@@ -1,4 +1,4 @@
--- What the code does, step by step: each instruction's own value put, and what firing reads.
+-- What firing does, step by step: each instruction's own value put, and what firing reads.
 use mathlib.Core.List.{List, [], _∷_, _++_}
 use Prim.Native.Nat.{ℕ, min}
 use lib.Dec.{ltb}
@@ -13,27 +13,27 @@ use Rattle.engine_instruction.specs.Traces.{own, gets}
 use Rattle.engine_release.specs.Marks.{mark}
 use Rattle.engine_release.specs.Steps.{all-cleared, all-reads}
 
--- the part that l is in, the one that is held being tried first
+-- the part that l is in; the part held from the last location is tried first
 abbrev pub part-after : Program → Part → ℕ → Part
 part-after B held l = if between (held .first) (held .end) l then held else part-of B l
 
--- n: how many locations the book has
+-- the contents c with each instruction's own value put; n is how many locations the book has
 unfoldable pub puts : ℕ → List Instruction → List ℕ → List ℕ
 puts n [] c = c
 puts n (i ∷ is) c = puts n is (if ltb (own i) n then set c (own i) (gets i) else c)
 
--- n: how many of the book's locations the contents have
+-- the writer marks ms with the bit at each instruction's own location; n is how many of the book's locations the contents have
 unfoldable pub put-marks : ℕ → ℕ → List Instruction → List ℕ → List ℕ
 put-marks bit n [] ms = ms
 put-marks bit n (i ∷ is) ms = put-marks bit n is (set ms (own i) (mark bit (ltb (own i) n) (getD ms (own i) 0)))
 
--- what is read where the values are put: each may take a label out of its location. n: how many locations the book has
+-- what putting the instructions' own values reads: each may take a label out of its location. n is how many locations the book has
 unfoldable pub put-reads : ℕ → ℕ → List Instruction → List ℕ → List ℕ
 put-reads P n [] c = []
 put-reads P n (i ∷ is) c =
     (if ltb (own i) (min n (length c)) then taken-reads P (getD c (own i) 0) (gets i) else [])
     ++ put-reads P n is (if ltb (own i) n then set c (own i) (gets i) else c)
 
--- what firing reads: traces are cleared, then each own value is put
+-- what firing reads: first the traces of released labels are cleared, then each own value is put
 abbrev pub fire-reads : Program → List Instruction → List ℕ → List ℕ
 fire-reads B is c = all-reads B is c ++ put-reads (B .P) (L B) is (all-cleared B is c)

@@ -15,7 +15,7 @@ ghost use lib.ListN.{length, getD, set};
 ghost use Rattle.text.specs.Words.{if_then_else_};
 ghost use Rattle.text.specs.declared.Found.the-variants.{Nowhere};
 ghost use Rattle.book.specs.Book.{L};
-ghost use Rattle.book.specs.Image.{held};
+ghost use Rattle.book.specs.Image.{low-program};
 ghost use Rattle.book_parts.specs.Part.{put-in};
 ghost use Rattle.engine.specs.Move.{taken-reads, fire, Fired, input};
 ghost use Rattle.engine_instruction.specs.Code.{items};
@@ -24,28 +24,28 @@ ghost use Rattle.engine_term.specs.Marks.{marked};
 ghost use Rattle.engine_release.specs.Marks.{mark};
 ghost use Rattle.engine_fire.specs.Outcome.{write-marked, read-marked, Settled, moved-by};
 ghost use Rattle.engine_fire.specs.Steps.{part-after, puts, put-marks, put-reads};
-ghost use Rattle.engine_fire.specs.Tables.{tables};
 ghost use Rattle.engine.specs.Rule.{walking};
-ghost use Rattle.engine_walk.specs.WalkMarks.{bits-cleared, WalkMarked};
+ghost use Rattle.engine_walk.specs.WalkMarks.{bits-cleared};
 ghost use Rattle.engine_walk.specs.Walk.{outcome};
-ghost use Rattle.engine_fire.specs.Effect.{move-answer};
+ghost use Rattle.engine_fire.specs.Effect.{move-answer, Begins};
 ghost use Rattle.engine_fire.specs.Close.{answer-at, readers-kept, MoveFinished};
 ghost use Rattle.engine_fire.specs.Count.{instructions-given};
+ghost use Rattle.engine.specs.Tables.{tables-before, tables-after};
 
-// What becomes of a move.
+// What becomes of a move whose walk met no refusal: it fires, or clashes at a location.
 pub enum Outcome {
     Fired,
     Clash { location: u32 },
 }
 
-// ---- 15
+// ---- Refusal 15
 
 // No book has a location of this number: the search for the least clash begins from it.
 const NO_LOCATION: u32 = 4294967295;
 
 // l is one of the book's locations.
 fn is_location(image: &Image, l: u32) -> bool
-    ensures { λ r. ⌜ r ≡ ltb l (L (held (now (image .entry)))) ⌝ }
+    ensures { λ r. ⌜ r ≡ ltb l (L (low-program (now (image .entry)))) ⌝ }
 {
     if l == NO_LOCATION {
         return false;
@@ -57,7 +57,7 @@ fn is_location(image: &Image, l: u32) -> bool
 
 // ---- firing
 
-// Place i of a part gets v.
+// Puts v at place i of a part.
 fn put_value(part: &mut [Value], i: usize, v: Value)
     requires { ⌜ i < length (now part) ⌝ }
     ensures { λ _. ⌜ now (part .exit) ≡ set (now (part .entry)) i v ⌝ }
@@ -65,7 +65,7 @@ fn put_value(part: &mut [Value], i: usize, v: Value)
     part[i] = v;
 }
 
-// A function's part of the marks is lent, from its first location, as far as they go; the mark of `at` gets the bit there.
+// Puts the bit into the mark of `at`, in the function's part of the marks from `first` up to `end`, as far as they go.
 fn mark_in(writers: &mut [u64], first: usize, end: usize, at: usize, bit: u64)
     requires { ⌜ first ≤ at ⌝ }
     ensures { λ _. ⌜ now (writers .exit) ≡ put-in first end at (bitOr (getD (now (writers .entry)) at 0) bit) (now (writers .entry)) ⌝ }
@@ -76,7 +76,7 @@ fn mark_in(writers: &mut [u64], first: usize, end: usize, at: usize, bit: u64)
     }
 }
 
-// A function's own part is lent, from its first location, as far as the table goes; location `at` gets v there, and its mark the bit.
+// Puts v at location `at` and the bit into its mark, in the function's part from `first` up to `end`, as far as the tables go.
 fn put_in_part(
     contents: &mut [Value],
     writers: &mut [u64],
@@ -115,9 +115,9 @@ fn mark_put(
     }
 }
 
-// The part that location `at` is in; the last one, if that has it.
+// The part that location `at` is in; the part `last` is tried first.
 fn part_at(image: &Image, last: Part, at: usize) -> Part
-    ensures { λ r. ⌜ r ≡ part-after (held (now (image .entry))) last at ⌝ }
+    ensures { λ r. ⌜ r ≡ part-after (low-program (now (image .entry))) last at ⌝ }
 {
     if (last.first <= at) & (at < last.end) {
         last
@@ -126,7 +126,7 @@ fn part_at(image: &Image, last: Part, at: usize) -> Part
     }
 }
 
-// Each instruction's own location gets its own value, in its function's part; what that reads and writes is marked.
+// Puts each instruction's own value at its own location, in its function's part; what that reads and writes is marked.
 fn put_values(
     image: &Image,
     contents: &mut [Value],
@@ -136,9 +136,9 @@ fn put_values(
     len: usize,
     bit: u64,
 )
-    ensures { λ _. ⌜ now (contents .exit) ≡ puts (L (held (now (image .entry)))) (items (now (list .entry)) len) (now (contents .entry)) ⌝ }
-    ensures { λ _. ⌜ now (readers .exit) ≡ marked bit (put-reads (held (now (image .entry)) .P) (L (held (now (image .entry)))) (items (now (list .entry)) len) (now (contents .entry))) (now (readers .entry)) ⌝ }
-    ensures { λ _. ⌜ now (writers .exit) ≡ put-marks bit (min (L (held (now (image .entry)))) (length (now (contents .entry)))) (items (now (list .entry)) len) (now (writers .entry)) ⌝ }
+    ensures { λ _. ⌜ now (contents .exit) ≡ puts (L (low-program (now (image .entry)))) (items (now (list .entry)) len) (now (contents .entry)) ⌝ }
+    ensures { λ _. ⌜ now (readers .exit) ≡ marked bit (put-reads (low-program (now (image .entry)) .P) (L (low-program (now (image .entry)))) (items (now (list .entry)) len) (now (contents .entry))) (now (readers .entry)) ⌝ }
+    ensures { λ _. ⌜ now (writers .exit) ≡ put-marks bit (min (L (low-program (now (image .entry)))) (length (now (contents .entry)))) (items (now (list .entry)) len) (now (writers .entry)) ⌝ }
 {
     let n = text::smaller(len, list.len());
     let p = book_parts::permanent(image);
@@ -155,7 +155,7 @@ fn put_values(
     }
 }
 
-// The contents and the marks after a move that does not clash: traces of released labels go first, then each update is put.
+// The contents and the marks after a move that does not clash: first the traces of released labels are cleared, then each own value is put.
 fn fire(
     image: &Image,
     contents: &mut [Value],
@@ -166,7 +166,7 @@ fn fire(
     bit: u64,
 )
     ensures { λ _. ⌜ (clash-by (now (image .entry)) (now (contents .entry)) (now (list .entry)) len ≡ Nowhere → now (contents .exit) ≡ fire (updates-by (now (image .entry)) (now (contents .entry)) (now (list .entry)) len) (now (contents .entry))) ⌝ }
-    ensures { λ _. ⌜ now (readers .exit) ≡ read-marked bit (held (now (image .entry))) (items (now (list .entry)) len) (now (contents .entry)) (now (readers .entry)) ⌝ }
+    ensures { λ _. ⌜ now (readers .exit) ≡ read-marked bit (low-program (now (image .entry))) (items (now (list .entry)) len) (now (contents .entry)) (now (readers .entry)) ⌝ }
     ensures { λ _. ⌜ now (writers .exit) ≡ write-marked bit (length (now (contents .entry))) (updates-by (now (image .entry)) (now (contents .entry)) (now (list .entry)) len) (now (writers .entry)) ⌝ }
 {
     engine_release::clear_released(image, contents, readers, writers, list, len, bit);
@@ -175,7 +175,7 @@ fn fire(
 
 // ---- the move
 
-// 15, else it fires. A refused move leaves contents and marks as they were.
+// Refusal 15, else the move fires. A refused move leaves contents and marks as they were.
 pub fn settle(
     image: &Image,
     contents: &mut [Value],
@@ -185,7 +185,7 @@ pub fn settle(
     len: usize,
     bit: u64,
 ) -> Outcome
-    ensures { λ r. ⌜ Settled (now (image .entry)) (now (list .entry)) len bit (tables (now (contents .entry)) (now (readers .entry)) (now (writers .entry))) r (tables (now (contents .exit)) (now (readers .exit)) (now (writers .exit))) ⌝ }
+    ensures { λ r. ⌜ Settled (now (image .entry)) (now (list .entry)) len bit (tables-before contents readers writers) r (tables-after contents readers writers) ⌝ }
 {
     let at = engine_clash::least_clash(image, contents, list, len, NO_LOCATION);
     if is_location(image, at) {
@@ -197,29 +197,26 @@ pub fn settle(
 
 // ---- a move begun and finished
 
-// Instructions of a move, at most.
-const MOST_INSTRUCTIONS: usize = 256;
-
 // A move that is begun: how its walk ended, and how many instructions it gave.
 pub struct Begun {
     pub walk: WalkEnd,
     pub count: usize,
 }
 
-// How many instructions a walk gave: none if it was refused.
+// How many instructions a walk gave, by its end: none if it was refused.
 fn instructions_given(s: WalkEnd) -> usize
     ensures { λ r. ⌜ r ≡ instructions-given s ⌝ }
 {
     if s.refused != 0 {
         return 0;
     }
-    if s.len < MOST_INSTRUCTIONS {
+    if s.len < engine::MOST_INSTRUCTIONS {
         return s.len;
     }
-    MOST_INSTRUCTIONS
+    engine::MOST_INSTRUCTIONS
 }
 
-// An agent's move is begun: its rule is walked with these picks, and what the walk looks at is marked.
+// Begins an agent's move: its rule is walked with these picks, and what the walk reads is marked.
 pub fn begin_move(
     image: &Image,
     contents: &[Value],
@@ -229,7 +226,7 @@ pub fn begin_move(
     agent: u32,
     picks: &[Pick],
 ) -> Begun
-    ensures { λ r. ⌜ WalkMarked (held (now (image .entry))) (now (contents .entry)) bit (input agent (now (picks .entry))) (outcome (r .walk) (now (list .exit))) (now (readers .entry)) (now (readers .exit)) × (r .count ≡ instructions-given (r .walk)) × (length (now (list .exit)) ≡ 256) ⌝ }
+    ensures { λ r. ⌜ Begins (low-program (now (image .entry))) (now (contents .entry)) bit (input agent (now (picks .entry))) r (now (list .exit)) (now (readers .entry)) (now (readers .exit)) ⌝ }
 {
     let walk = engine_walk::walk_move(image, contents, readers, bit, list, agent, picks);
     let count = instructions_given(walk);
@@ -239,7 +236,7 @@ pub fn begin_move(
     }
 }
 
-// The answer to move `at` where it is refused; its reader marks are taken back.
+// The answer to move `at`, which is refused; its reader marks are taken out.
 fn refuse_move(readers: &mut [u64], bit: u64, number: u32, at: u32, q: u32) -> Answer
     ensures { λ r. ⌜ r ≡ answer-at number at q ⌝ }
     ensures { λ _. ⌜ now (readers .exit) ≡ bits-cleared bit (now (readers .entry)) ⌝ }
@@ -252,7 +249,7 @@ fn refuse_move(readers: &mut [u64], bit: u64, number: u32, at: u32, q: u32) -> A
     }
 }
 
-// The answer to move `at`, which is settled; if it is refused, its reader marks are taken back.
+// The answer to move `at`, which is settled; if it is refused, its reader marks are taken out.
 fn answer_move(readers: &mut [u64], bit: u64, at: u32, what: Outcome) -> Answer
     ensures { λ r. ⌜ ((f : Fired) → r ≡ move-answer at (moved-by f what)) ⌝ }
     ensures { λ _. ⌜ ((f : Fired) → now (readers .exit) ≡ readers-kept bit (moved-by f what) (now (readers .entry))) ⌝ }
@@ -267,7 +264,7 @@ fn answer_move(readers: &mut [u64], bit: u64, at: u32, what: Outcome) -> Answer
     }
 }
 
-// What is left of move `at`, whose walk gave the first len of the list.
+// Settles move `at`, whose walk gave the first `len` instructions of the list, and answers it.
 fn settle_listed(
     image: &Image,
     contents: &mut [Value],
@@ -278,13 +275,13 @@ fn settle_listed(
     len: usize,
     at: u32,
 ) -> Answer
-    ensures { λ r. ⌜ ((next : ℕ) → MoveFinished (held (now (image .entry))) bit at (walking (record { made = items (now (list .entry)) len; next = next; left = [] })) (tables (now (contents .entry)) (now (readers .entry)) (now (writers .entry))) r (tables (now (contents .exit)) (now (readers .exit)) (now (writers .exit)))) ⌝ }
+    ensures { λ r. ⌜ ((next : ℕ) → MoveFinished (low-program (now (image .entry))) bit at (walking (record { made = items (now (list .entry)) len; next = next; left = [] })) (tables-before contents readers writers) r (tables-after contents readers writers)) ⌝ }
 {
     let what = settle(image, contents, readers, writers, list, len, bit);
     answer_move(readers, bit, at, what)
 }
 
-// The rest of move `at`, whose walk came to the state s: refused as the walk was, or settled by the first s.len of the list.
+// Finishes move `at`, whose walk ended as s says: refused as the walk was, or settled by the first s.len instructions of the list.
 pub fn finish_move(
     image: &Image,
     contents: &mut [Value],
@@ -295,7 +292,7 @@ pub fn finish_move(
     s: WalkEnd,
     at: u32,
 ) -> Answer
-    ensures { λ r. ⌜ MoveFinished (held (now (image .entry))) bit at (outcome s (now (list .entry))) (tables (now (contents .entry)) (now (readers .entry)) (now (writers .entry))) r (tables (now (contents .exit)) (now (readers .exit)) (now (writers .exit))) ⌝ }
+    ensures { λ r. ⌜ MoveFinished (low-program (now (image .entry))) bit at (outcome s (now (list .entry))) (tables-before contents readers writers) r (tables-after contents readers writers) ⌝ }
 {
     if s.refused != 0 {
         return Answer {

@@ -30,7 +30,7 @@ other-append w [] ys = refl
 other-append w (x ∷ xs) ys =
     ap (λ (b : Bool). not (eqb x w) || b) (other-append w xs ys) ∙ sym (or-assoc (not (eqb x w)) (other w xs) (other w ys))
 
--- an instruction about the location gives it its own value
+-- an instruction whose own location is l gives l its own value
 pub own-given : (B : Program) (c : List ℕ) (l : ℕ) (i : Instruction) → own i ≡ l → given B c l i ≡ gets i ∷ []
 unfolding given
 own-given B c l (Update k v) e = rw (eq-eqb k l e)

@@ -9,7 +9,7 @@ use lib.ListN.{length}
 use lib.Seq.{take-all}
 use Rattle.engine_instruction.specs.Code.{decode-of, items}
 
--- a list has no more than its own
+-- the first n numbers of a list are no more than it has
 pub clipped : (l : List ℕ) (n m : ℕ) → m ≡ min n (length l) → items l m ≡ items l n
 clipped l n m e = dite (decLt n (length l))
     (λ (h : n < length l). let q : m ≡ n = omega arith in rw q)

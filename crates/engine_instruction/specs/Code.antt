@@ -7,10 +7,10 @@ use Rattle.text.specs.Words.{if_then_else_}
 use Rattle.engine.specs.declared.Instruction.{Instruction}
 use Rattle.engine.specs.declared.Instruction.the-variants.{Update, Release}
 
--- an update's location and value, or from 2^48 on a release's label
+-- the instruction that a number stands for: an update's location and value, or from 2^48 on a release's label
 unfoldable pub decode-of : ℕ → Instruction
 decode-of c = if ltb c 281474976710656 then Update (c / 65536) (c % 65536) else Release (c % 65536)
 
--- the first n of a list
+-- the instructions that the first n numbers of a list stand for
 abbrev pub items : List ℕ → ℕ → List Instruction
 items list n = map decode-of (take n list)

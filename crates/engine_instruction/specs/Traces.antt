@@ -10,23 +10,25 @@ use Rattle.engine.specs.declared.Instruction.{Instruction}
 use Rattle.engine.specs.declared.Instruction.the-variants.{Update, Release}
 use Rattle.contents_check.specs.Part.{arguments-by}
 
--- the location that an instruction is about, and the value that it gives it
+-- the location that an instruction is about: an update's, or Reserve at a release's label
 abbrev pub own : Instruction → ℕ
 own (Update l v) = l
 own (Release x) = x
 
+-- the value that an instruction gives its own location
 abbrev pub gets : Instruction → ℕ
 gets (Update l v) = v
 gets (Release x) = true-element
 
--- some instruction passes
+-- some instruction of the list passes the test p
 unfoldable pub any : (Instruction → Bool) → List Instruction → Bool
 any p [] = false
 any p (i ∷ is) = p i || any p is
 
--- location i of f, holding v, is a trace of x: dynamic, with x as argument or holding it
+-- location i of f, holding v, is a trace of x: dynamic, with x as argument or holding it; of a binary f, row and col are i's arguments
 abbrev pub trace-by : Function → ℕ → ℕ → ℕ → ℕ → ℕ → Bool
 trace-by f i row col v x = dynamic f && (has (arguments-by (f .arity) i row col) x || eqb v x)
 
+-- location i of f, holding v, is a trace of x: dynamic, with x as argument or holding it
 abbrev pub trace-in : ℕ → Function → ℕ → ℕ → ℕ → Bool
 trace-in E f i v x = dynamic f && (has (arguments E (f .arity) i) x || eqb v x)

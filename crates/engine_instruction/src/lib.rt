@@ -9,20 +9,24 @@ ghost use Rattle.text.specs.Words.{has};
 ghost use Rattle.contents_check.specs.Part.{arguments-by};
 ghost use Rattle.engine_instruction.specs.Traces.{own, gets, trace-by};
 
-// An instruction as a number, and back.
+// From here on a number stands for a release.
+pub const RELEASES: u64 = 281474976710656;
+
+// The number that stands for an instruction.
 pub fn code(what: Instruction) -> u64
     ensures { λ r. ⌜ decode-of r ≡ what ⌝ }
 {
     match what {
         Instruction::Update { location, value } => location as u64 * 65536 + value as u64,
-        Instruction::Release { label } => 281474976710656 + label as u64,
+        Instruction::Release { label } => RELEASES + label as u64,
     }
 }
 
+// The instruction that a number stands for.
 pub fn decode(c: u64) -> Instruction
     ensures { λ r. ⌜ r ≡ decode-of c ⌝ }
 {
-    if c < 281474976710656 {
+    if c < RELEASES {
         Instruction::Update {
             location: (c / 65536) as u32,
             value: (c % 65536) as Value,
@@ -34,7 +38,7 @@ pub fn decode(c: u64) -> Instruction
     }
 }
 
-// The location that an instruction is about, and the value that it gives it.
+// The location that an instruction is about: an update's, or Reserve at a release's label.
 pub fn own_location(what: Instruction) -> u32
     ensures { λ r. ⌜ r ≡ own what ⌝ }
 {
@@ -44,6 +48,7 @@ pub fn own_location(what: Instruction) -> u32
     }
 }
 
+// The value that an instruction gives its own location.
 pub fn own_value(what: Instruction) -> Value
     ensures { λ r. ⌜ r ≡ gets what ⌝ }
 {
@@ -53,7 +58,7 @@ pub fn own_value(what: Instruction) -> Value
     }
 }
 
-// x is an argument of location i of a function; row and col are those of i.
+// x is an argument of location i of a function of that arity; of a binary one, row and col are its arguments.
 fn has_argument(arity: u32, i: usize, row: usize, col: usize, x: Value) -> bool
     ensures { λ r. ⌜ r ≡ has (arguments-by arity i row col) x ⌝ }
 {
@@ -67,7 +72,7 @@ fn has_argument(arity: u32, i: usize, row: usize, col: usize, x: Value) -> bool
     (row == y) | (col == y)
 }
 
-// Location i of f, which holds the value, is a trace of x.
+// Location i of f, holding `held`, is a trace of x; of a binary f, row and col are its arguments.
 pub fn is_trace_at(f: Function, i: usize, row: usize, col: usize, held: Value, x: Value) -> bool
     ensures { λ r. ⌜ r ≡ trace-by f i row col held x ⌝ }
 {

@@ -1,4 +1,4 @@
--- What filling and scanning the lent list leave, record by record.
+-- What writing into the lent list and reading from it leave, record by record.
 use mathlib.Core.Path.{_≡_, refl, sym, _∙_, ap, subst}
 use mathlib.Core.List.{List, [], _∷_, map}
 use Prim.Native.Nat.{ℕ, zero, suc, _<_, _≤_, suc-le-suc}
@@ -9,9 +9,9 @@ use Rattle.engine.specs.declared.Instruction.{Instruction}
 use Rattle.engine.specs.declared.Instruction.the-variants.{Update}
 use Rattle.engine.specs.declared.Record.{Record}
 use Rattle.engine_instruction.specs.Code.{decode-of, items}
-use Rattle.engine_list.specs.Written.{what-of, records-written, through}
+use Rattle.engine_list.specs.Written.{what-of, records-written, through, all-records-written}
 
--- what a list is read as past its end
+-- the record that stands past the end of a list
 abbrev pub blank : Record
 blank = record { what = Update 0 0 }
 
@@ -30,7 +30,7 @@ pub none-written : (xs : List ℕ) (ys : List Record) → records-written (items
 unfolding records-written
 none-written xs ys = refl
 
--- one record more
+-- one record more is written
 pub one-written : (i : ℕ) (xs : List ℕ) (ys : List Record) → i < length xs → i < length ys
     → set (records-written (items xs i) ys) i (record-of (getD xs i 0)) ≡ records-written (items xs (suc i)) ys
 unfolding records-written
@@ -39,7 +39,7 @@ one-written i (x ∷ xs) [] hx hy = absurd (not-suc-le-zero hy)
 one-written zero (x ∷ xs) (y ∷ ys) hx hy = refl
 one-written (suc i) (x ∷ xs) (y ∷ ys) hx hy = ap (λ (zs : List Record). record-of x ∷ zs) (one-written i xs ys (le-of-suc-le-suc hx) (le-of-suc-le-suc hy))
 
--- the numbers or the records come to an end
+-- writing more instructions than there are numbers or records changes nothing
 pub all-written : (m n : ℕ) (xs : List ℕ) (ys : List Record) → m ≤ n → (m < n → m < length ys → m < length xs → ⊥) → records-written (items xs m) ys ≡ records-written (items xs n) ys
 unfolding records-written
 all-written zero zero xs ys h over = refl
@@ -52,7 +52,7 @@ all-written (suc m) (suc n) (x ∷ xs) [] h over = refl
 all-written (suc m) (suc n) (x ∷ xs) (y ∷ ys) h over =
     ap (λ (zs : List Record). record-of x ∷ zs) (all-written m n xs ys (le-of-suc-le-suc h) (λ a b c. over (suc-le-suc a) (suc-le-suc b) (suc-le-suc c)))
 
--- ---- scanning
+-- ---- reading
 
 -- the first n numbers stand for the first n records
 abbrev pub Stands : List Record → List ℕ → ℕ → Type 0
@@ -66,7 +66,7 @@ tail-of : List Instruction → List Instruction
 tail-of [] = []
 tail-of (i ∷ is) = is
 
--- one number more
+-- one number more is read
 pub one-read : (i c : ℕ) (ys : List Record) (zs : List ℕ) → i < length ys → i < length zs → decode-of c ≡ what-of (getD ys i blank) → Stands ys zs i → Stands ys (set zs i c) (suc i)
 unfolding decode-of head-of tail-of
 one-read i c [] zs hy hz e s = absurd (not-suc-le-zero hy)
@@ -84,13 +84,18 @@ read-back (suc n) [] ys hx hy = absurd (not-suc-le-zero hx)
 read-back (suc n) (x ∷ xs) [] hx hy = absurd (not-suc-le-zero hy)
 read-back (suc n) (x ∷ xs) (y ∷ ys) hx hy = ap (λ (ks : List Instruction). decode-of x ∷ ks) (read-back n xs ys (le-of-suc-le-suc hx) (le-of-suc-le-suc hy))
 
--- the same of n numbers, as many as there is room for
+-- as many of n numbers as there is room for are read back as they were written
 pub through-back : (n : ℕ) (xs : List ℕ) (ys : List Record) → map what-of (take (through n ys xs) (records-written (items xs n) ys)) ≡ items xs (through n ys xs)
 through-back n xs ys =
     ap (λ (zs : List Record). map what-of (take (through n ys xs) zs)) (sym (all-written (through n ys xs) n xs ys (omega arith) (λ a b c. omega arith)))
     ∙ read-back (through n ys xs) xs ys (omega arith) (omega arith)
 
--- all n of them, where there is room for all
+-- all n numbers are read back as they were written, where there is room for all
 pub all-through : (n : ℕ) (xs : List ℕ) (ys : List Record) (us : List ℕ) → items us (through n ys xs) ≡ items xs (through n ys xs)
     → n ≤ length ys → n ≤ length xs → items us n ≡ items xs n
 all-through n xs ys us e h k = subst (λ (j : ℕ). items us j ≡ items xs j) {x = through n ys xs} {y = n} (omega arith) e
+
+-- no list of instructions writes nothing
+pub none-left : (ys : List Record) → all-records-written [] ys ≡ ys
+unfolding all-records-written
+none-left ys = refl

@@ -7,21 +7,22 @@ use Rattle.engine.specs.declared.Instruction.{Instruction}
 use Rattle.engine.specs.declared.Record.{Record}
 use Rattle.engine_instruction.specs.Code.{items}
 
+-- the instruction of a record
 abbrev pub what-of : Record → Instruction
 what-of r = r .what
 
--- the instructions in front, as far as there are records; every other record as it was
+-- records ys with the instructions is in front, as far as there are records; every other record as it was
 unfoldable pub records-written : List Instruction → List Record → List Record
 records-written [] ys = ys
 records-written (i ∷ is) [] = []
 records-written (i ∷ is) (y ∷ ys) = record { what = i } ∷ records-written is ys
 
--- one list of instructions after the other
+-- records ys after each list of instructions has been written into them, one after the other
 unfoldable pub all-records-written : List (List Instruction) → List Record → List Record
 all-records-written [] ys = ys
 all-records-written (is ∷ iss) ys = all-records-written iss (records-written is ys)
 
--- how many of n numbers go through the list: those that have a number and a record
+-- how many of the first n numbers of xs go through the list ys: those that have a number and a record
 abbrev pub through : ℕ → List Record → List ℕ → ℕ
 through n ys xs = min n (min (length ys) (length xs))
 

@@ -1,4 +1,4 @@
-// The instruction list that a caller lends: filled from the numbers that a walk gives, and scanned into numbers again.
+// The instruction list that a caller lends: written from the numbers that a walk gives, and read into numbers again.
 use engine::Instruction;
 use engine::Record;
 ghost use mathlib.Core.Path.{_≡_};
@@ -9,7 +9,7 @@ ghost use Rattle.engine.specs.declared.Instruction.the-variants.{Release};
 ghost use Rattle.engine_instruction.specs.Code.{decode-of, items};
 ghost use Rattle.engine_list.specs.Written.{what-of, records-written, through, PassedThrough};
 
-// The record that a number stands for, and a number that stands for a record.
+// The record that a number stands for.
 fn record_of(c: u64) -> Record
     ensures { λ r. ⌜ r ≡ record { what = decode-of c } ⌝ }
 {
@@ -18,6 +18,7 @@ fn record_of(c: u64) -> Record
     }
 }
 
+// A number that stands for a record.
 fn number_of(r: Record) -> u64
     ensures { λ c. ⌜ decode-of c ≡ r .what ⌝ }
 {
@@ -25,15 +26,14 @@ fn number_of(r: Record) -> u64
     engine_instruction::code(what)
 }
 
-// The least of three.
+// The least of three numbers.
 fn least(a: usize, b: usize, c: usize) -> usize
     ensures { λ r. ⌜ r ≡ min a (min b c) ⌝ }
 {
     text::smaller(a, text::smaller(b, c))
 }
 
-// The first n records of the list are those that the first n numbers stand for; every other is as
-// it was.
+// Writes the first n numbers into the first records of the list; every other record stays as it was.
 fn write_records(list: &mut [Record], from: &[u64], n: usize)
     ensures { λ _. ⌜ now (list .exit) ≡ records-written (items (now (from .entry)) n) (now (list .entry)) ⌝ }
 {
@@ -45,7 +45,7 @@ fn write_records(list: &mut [Record], from: &[u64], n: usize)
     }
 }
 
-// The first n numbers stand for the first n records of the list, as far as both go.
+// Reads the first n records of the list into the first n numbers, as far as both go.
 fn read_records(list: &[Record], to: &mut [u64], n: usize)
     ensures { λ _. ⌜ items (now (to .exit)) (through n (now (list .entry)) (now (to .entry))) ≡ map what-of (take (through n (now (list .entry)) (now (to .entry))) (now (list .entry))) ⌝ }
 {
@@ -57,7 +57,7 @@ fn read_records(list: &[Record], to: &mut [u64], n: usize)
     }
 }
 
-// The first n numbers go through the list: they are filled in, and scanned again.
+// Passes the first n numbers through the list: they are written into it and read from it again.
 pub fn pass(list: &mut [Record], work: &mut [u64], n: usize)
     ensures { λ _. ⌜ PassedThrough n (now (list .entry)) (now (work .entry)) (now (list .exit)) (now (work .exit)) ⌝ }
 {

@@ -50,7 +50,7 @@ pub lowest-end : (c : List ℕ) (e x : ℕ) → e ≤ x → (value-in c (lowest 
 unfolding lowest value-in locations-read
 lowest-end c e x h = let z : e - x ≡ 0 = omega arith in (rw z, rw z)
 
--- what it looks at is all Reserve's
+-- all that a search for a label reads is Reserve's, and dynamic
 all-roll : (B : Program) → Placed B → (c : List ℕ) (k x : ℕ) → ((j : ℕ) → j < k → x + j < B .E) → dynamic-among B (locations-read c (lowest x k)) ≡ locations-read c (lowest x k)
 unfolding lowest locations-read dynamic-among _>>=_
 all-roll B p c zero x h = refl

@@ -1,4 +1,4 @@
--- Laws of a universe: it is looked at whole, and its members are found one after the other.
+-- Laws of a universe: it is read whole, and its members are found one after the other.
 use mathlib.Core.Path.{_≡_, refl, ap, _∙_}
 use mathlib.Core.Bool.{Bool, true, false}
 use mathlib.Core.List.{List, [], _∷_, append-nil}
@@ -14,19 +14,19 @@ use Rattle.book.specs.Book.{Program, function-at, location, dynamic-at}
 use Rattle.engine.specs.Reader.{done, value-in, locations-read, _>>=_}
 use Rattle.engine.specs.Move.{dynamic-among}
 use Rattle.engine.specs.Rule.{members}
-use Rattle.engine.proofs.Reader.{gives-bind, seen-bind}
+use Rattle.engine.proofs.Reader.{value-bind, reads-bind}
 use Rattle.engine_term.specs.Marks.{mark-one, marked, Placed}
 use Rattle.engine_term.proofs.Leaves.{one-kind, dynamic-placed}
 use Rattle.engine_reads.specs.Marking.{universe-marked, member, next-passing, members-from, first-and-rest}
 
--- ---- its marks
+-- ---- the marks of a universe
 
 seen-members : (B : Program) (c : List ℕ) (u x k : ℕ) → locations-read c (members B u x k) ≡ table-from (λ y. location B u y 0) x k
 unfolding members locations-read table-from _>>=_
 seen-members B c u x zero = refl
 seen-members B c u x (suc k) =
     ap (λ (s : List ℕ). location B u x 0 ∷ s)
-    (seen-bind c (members B u (suc x) k) (λ ys. done (if eqb (getD c (location B u x 0) 0) 2 then x ∷ ys else ys)) ∙ append-nil (locations-read c (members B u (suc x) k)) ∙ seen-members B c u (suc x) k)
+    (reads-bind c (members B u (suc x) k) (λ ys. done (if eqb (getD c (location B u x 0) 0) 2 then x ∷ ys else ys)) ∙ append-nil (locations-read c (members B u (suc x) k)) ∙ seen-members B c u (suc x) k)
 
 dynamic-run : (B : Program) → Placed B → (u x k : ℕ) → x + k ≤ B .E
     → dynamic-among B (table-from (λ y. location B u y 0) x k) ≡ (if dynamic-at B (location B u 0 0) then table-from (λ y. location B u y 0) x k else [])
@@ -44,7 +44,7 @@ dynamic-run B p u x (suc k) h = rw (one-kind B p u x (omega arith)) (go (dynamic
     go true e = ap (λ (s : List ℕ). location B u x 0 ∷ s) e
     go false e = e
 
--- where the locations are placed, what is marked for it is what a look at its members sees
+-- where the locations are placed, what is marked for a universe is what finding its members reads
 pub universe-placed : (B : Program) → Placed B → (c : List ℕ) (u bit : ℕ) (m : List ℕ)
     → universe-marked B bit u m ≡ marked bit (dynamic-among B (locations-read c (members B u 0 (B .E)))) m
 unfolding marked
@@ -55,7 +55,7 @@ universe-placed B p c u bit m =
     go true = refl
     go false = refl
 
--- marks put into a run, place after place
+-- marks put at the places from y up to e, one place after the other
 module _ (f : ℕ → ℕ) (bit e y : ℕ) (m : List ℕ) where
   pub run-more : y < e → marked bit (table-from f y (e - y)) m ≡ marked bit (table-from f (y + 1) (e - (y + 1))) (mark-one bit (f y) m)
   unfolding marked table-from
@@ -65,20 +65,20 @@ module _ (f : ℕ → ℕ) (bit e y : ℕ) (m : List ℕ) where
   unfolding marked table-from
   run-end h = let q : e - y ≡ 0 = omega arith in rw q
 
--- the places of a unary function are one part
+-- the locations of a unary function are one part
 pub run-unary : (a x k : ℕ) → table-from (λ y. a + y) x k ≡ table-from (λ l. l) (a + x) k
 unfolding table-from
 run-unary a x zero = refl
 run-unary a x (suc k) = let e : a + suc x ≡ suc (a + x) = omega arith in ap (λ (s : List ℕ). (a + x) ∷ s) (run-unary a (suc x) k ∙ rw e)
 
--- ---- its members
+-- ---- the members of a universe
 
 module _ (B : Program) (c : List ℕ) (u y : ℕ) where
   one-more : (k : ℕ) → value-in c (members B u y (suc k)) ≡ (if eqb (getD c (location B u y 0) 0) 2 then y ∷ value-in c (members B u (suc y) k) else value-in c (members B u (suc y) k))
   unfolding members value-in _>>=_
-  one-more k = gives-bind c (members B u (suc y) k) (λ ys. done (if eqb (getD c (location B u y 0) 0) 2 then y ∷ ys else ys))
+  one-more k = value-bind c (members B u (suc y) k) (λ ys. done (if eqb (getD c (location B u y 0) 0) 2 then y ∷ ys else ys))
 
-  -- y is one, or not, or no element
+  -- if y is in the universe, the members from y on are y and those after it
   pub member-here : y < B .E → getD c (location B u y 0) 0 ≡ 2 → members-from B c u y ≡ first-and-rest B c u y
   member-here h g =
       let q : B .E - y ≡ suc (B .E - suc y) = omega arith in
@@ -108,7 +108,7 @@ module _ (t : ℕ → Bool) (e y : ℕ) where
   unfolding next-passing
   next-end h = let q : e - y ≡ 0 = omega arith in rw q
 
--- a program's members, the least of them first
+-- the members from x on are the least of them and those after it
 module _ (B : Program) (c : List ℕ) (u : ℕ) where
   next-is : (k x : ℕ) → k ≡ B .E - x → members-from B c u x ≡ first-and-rest B c u (next-passing (member c (function-at B u) (B .E)) x k)
   unfolding next-passing

@@ -12,7 +12,7 @@ use Rattle.text.specs.Words.{table-from}
 use Rattle.engine_term.specs.Marks.{mark-one, marked}
 use Rattle.engine_term.proofs.Marking.{marked-append, length-marked}
 
--- k locations from a on
+-- the k locations from a on
 abbrev pub run : ℕ → ℕ → List ℕ
 run a k = table-from (λ l. l) a k
 
@@ -24,7 +24,7 @@ run-append a (suc j) i =
     let f : a + suc j ≡ suc a + j = omega arith in
     rw (e, f) (ap (λ (s : List ℕ). a ∷ s) (run-append (suc a) j i))
 
--- ---- one run
+-- ---- the locations of one part
 
 module _ (bit : ℕ) where
   abbrev pub put-bit : ℕ → ℕ

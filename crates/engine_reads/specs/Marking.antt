@@ -1,4 +1,4 @@
--- What a search among the elements comes to.
+-- What a search among the elements gives, and what a universe read at all elements marks.
 use mathlib.Core.Bool.{Bool}
 use mathlib.Core.List.{List, [], _∷_}
 use Prim.Native.Nat.{ℕ, zero, suc, _+_, _-_}
@@ -13,17 +13,17 @@ use Rattle.engine.specs.Reader.{value-in}
 use Rattle.engine.specs.Rule.{members}
 use Rattle.engine_term.specs.Marks.{marked, dynamic-of}
 
--- a search below e came to x
+-- a search below e came to x, which is e if nothing was found
 abbrev pub found-below : ℕ → ℕ → Found
 found-below e x = if ltb x e then Here x else Nowhere
 
 -- ---- universes
 
--- the marks m with this bit put in at all elements of the universe u, if it is dynamic
+-- the marks m with this bit put in at all elements of the universe u, if u is dynamic
 abbrev pub universe-marked : Program → ℕ → ℕ → List ℕ → List ℕ
 universe-marked B bit u m = if dynamic-of B u 0 0 then marked bit (table (λ y. location B u y 0) (B .E)) m else m
 
--- whether y is in the universe f: f holds there
+-- y is in the universe f: f is true there
 abbrev pub member : List ℕ → Function → ℕ → ℕ → Bool
 member c f E y = eqb (getD c (f .first + offset E (f .arity) y 0) 0) true-element
 
@@ -36,6 +36,6 @@ next-passing t x (suc k) = let r = next-passing t (suc x) k in if t x then x els
 abbrev pub members-from : Program → List ℕ → ℕ → ℕ → List ℕ
 members-from B c u y = value-in c (members B u y (B .E - y))
 
--- x and the members after it, or none if x is no element
+-- x and the members of the universe u after it, or none if x is no element
 abbrev pub first-and-rest : Program → List ℕ → ℕ → ℕ → List ℕ
 first-and-rest B c u x = if ltb x (B .E) then x ∷ members-from B c u (x + 1) else []

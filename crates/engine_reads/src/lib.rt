@@ -1,4 +1,4 @@
-// What rules look at beside their terms: labels, Reserve, universes; and the marks of it.
+// What rules read beside their terms: labels, Reserve, universes; and the marks of it.
 use book::Function;
 use book::Image;
 use text::Value;
@@ -6,17 +6,17 @@ ghost use mathlib.Core.Path.{_≡_};
 ghost use mathlib.Core.List.{map};
 ghost use Prim.Native.Nat.{_+_, _-_, _≤_};
 ghost use lib.Bits.{bitOr, bitAnd};
-ghost use Rattle.text.specs.Words.{if_then_else_, table, table-from};
+ghost use Rattle.text.specs.Words.{table, table-from};
 ghost use Rattle.book.specs.Book.{offset, reserve, dynamic-at};
 ghost use Rattle.engine.specs.Reader.{read};
 ghost use Rattle.engine.specs.Rule.{lowest, universe-at};
-ghost use Rattle.book.specs.Image.{low, low-function, held};
+ghost use Rattle.book.specs.Image.{low, low-function, low-program};
 ghost use Rattle.engine_term.specs.Marks.{marked-if-dynamic, marked, Placed, Runs};
 ghost use Rattle.engine_reads.specs.Marking.{found-below, universe-marked, member, next-passing};
 
-// ---- parts
+// ---- marks of a part
 
-// Keeps only the bits of the mask in all marks.
+// Leaves in all marks only the bits of the mask.
 pub fn mask_marks(readers: &mut [u64], mask: u64)
     ensures { λ _. ⌜ now (readers .exit) ≡ map (λ v. bitAnd v mask) (now (readers .entry)) ⌝ }
 {
@@ -27,7 +27,7 @@ pub fn mask_marks(readers: &mut [u64], mask: u64)
     }
 }
 
-// Puts a bit into all marks of a part.
+// Puts the bit into all marks of a part.
 fn mark_part(part: &mut [u64], bit: u64)
     ensures { λ _. ⌜ now (part .exit) ≡ map (λ v. bitOr v bit) (now (part .entry)) ⌝ }
 {
@@ -38,7 +38,7 @@ fn mark_part(part: &mut [u64], bit: u64)
     }
 }
 
-// Puts a bit into the marks from first to end, as far as they go.
+// Puts the bit into the marks from `first` up to `end`, as far as they go.
 fn mark_between(readers: &mut [u64], bit: u64, first: usize, end: usize)
     ensures { λ _. ⌜ now (readers .exit) ≡ marked bit (table-from (λ l. l) first (end - first)) (now (readers .entry)) ⌝ }
 {
@@ -49,7 +49,7 @@ fn mark_between(readers: &mut [u64], bit: u64, first: usize, end: usize)
 
 // ---- labels and Reserve
 
-// The lowest label of Reserve from `from` on, or E; the labels tried are marked.
+// The lowest label on the roll from `from` on, or E; Reserve is marked as read at the labels tried.
 pub fn lowest_label(
     image: &Image,
     contents: &[Value],
@@ -57,7 +57,7 @@ pub fn lowest_label(
     bit: u64,
     from: Value,
 ) -> Value
-    ensures { λ r. ⌜ Runs (held (now (image .entry))) (now (contents .entry)) bit (lowest from (held (now (image .entry)) .E - from)) (found-below (held (now (image .entry)) .E) r) (now (readers .entry)) (now (readers .exit)) ⌝ }
+    ensures { λ r. ⌜ Runs (low-program (now (image .entry))) (now (contents .entry)) bit (lowest from (low-program (now (image .entry)) .E - from)) (found-below (low-program (now (image .entry)) .E) r) (now (readers .entry)) (now (readers .exit)) ⌝ }
 {
     let e = book_image::elements(image);
     let mut x = from;
@@ -71,9 +71,9 @@ pub fn lowest_label(
     x
 }
 
-// Whether location x, Reserve's while x is an element, is dynamic.
+// Location x, which is Reserve's if x is an element, is dynamic.
 fn is_reserve_dynamic(image: &Image, x: Value) -> bool
-    ensures { λ r. ⌜ (Placed (held (now (image .entry))) → r ≡ dynamic-at (held (now (image .entry))) x) ⌝ }
+    ensures { λ r. ⌜ (Placed (low-program (now (image .entry))) → r ≡ dynamic-at (low-program (now (image .entry))) x) ⌝ }
 {
     if x < book_image::elements(image) {
         return true;
@@ -81,16 +81,16 @@ fn is_reserve_dynamic(image: &Image, x: Value) -> bool
     engine_term::dynamic_at(image, x as u32)
 }
 
-// Marks Reserve at x.
+// Marks Reserve at x as read.
 fn mark_reserve(image: &Image, readers: &mut [u64], bit: u64, x: Value)
-    ensures { λ _. ⌜ (Placed (held (now (image .entry))) → now (readers .exit) ≡ marked-if-dynamic (held (now (image .entry))) bit x (now (readers .entry))) ⌝ }
+    ensures { λ _. ⌜ (Placed (low-program (now (image .entry))) → now (readers .exit) ≡ marked-if-dynamic (low-program (now (image .entry))) bit x (now (readers .entry))) ⌝ }
 {
     if is_reserve_dynamic(image, x) {
         engine_term::mark(readers, bit, x as usize);
     }
 }
 
-// The value of Reserve at x.
+// The value of Reserve at x, which is marked as read.
 pub fn read_reserve(
     image: &Image,
     contents: &[Value],
@@ -98,7 +98,7 @@ pub fn read_reserve(
     bit: u64,
     x: Value,
 ) -> Value
-    ensures { λ r. ⌜ Runs (held (now (image .entry))) (now (contents .entry)) bit (read (reserve x)) r (now (readers .entry)) (now (readers .exit)) ⌝ }
+    ensures { λ r. ⌜ Runs (low-program (now (image .entry))) (now (contents .entry)) bit (read (reserve x)) r (now (readers .entry)) (now (readers .exit)) ⌝ }
 {
     mark_reserve(image, readers, bit, x);
     text::fetch(contents, x as usize)
@@ -106,7 +106,7 @@ pub fn read_reserve(
 
 // ---- universes
 
-// Marks a function at the elements below e, location by location.
+// Marks the function as read at the elements below e, location by location.
 fn mark_each(readers: &mut [u64], bit: u64, f: Function, e: Value)
     ensures { λ _. ⌜ now (readers .exit) ≡ marked bit (table (λ y. low (f .first) + offset e (f .arity) y 0) e) (now (readers .entry)) ⌝ }
 {
@@ -118,7 +118,7 @@ fn mark_each(readers: &mut [u64], bit: u64, f: Function, e: Value)
     }
 }
 
-// The same; the locations of a unary function, as every universe is, are one part.
+// Marks the function as read at the elements below e. The locations of a unary function, as every universe is, are one part.
 fn mark_function(readers: &mut [u64], bit: u64, f: Function, e: Value)
     ensures { λ _. ⌜ now (readers .exit) ≡ marked bit (table (λ y. low (f .first) + offset e (f .arity) y 0) e) (now (readers .entry)) ⌝ }
 {
@@ -130,9 +130,9 @@ fn mark_function(readers: &mut [u64], bit: u64, f: Function, e: Value)
     }
 }
 
-// Marks the universe u at all elements if it is dynamic.
+// Marks the universe u as read at all elements, if it is dynamic.
 pub fn mark_universe(image: &Image, readers: &mut [u64], bit: u64, u: u16)
-    ensures { λ _. ⌜ now (readers .exit) ≡ universe-marked (held (now (image .entry))) bit u (now (readers .entry)) ⌝ }
+    ensures { λ _. ⌜ now (readers .exit) ≡ universe-marked (low-program (now (image .entry))) bit u (now (readers .entry)) ⌝ }
 {
     if engine_term::dynamic(image, u, 0, 0) {
         mark_function(
@@ -144,7 +144,7 @@ pub fn mark_universe(image: &Image, readers: &mut [u64], bit: u64, u: u16)
     }
 }
 
-// The value of the universe u at x; of what is no element it is false, and nothing is read.
+// The value of the universe u at x, which is marked as read; of a number that is no element it is false, and nothing is read.
 pub fn read_universe(
     image: &Image,
     contents: &[Value],
@@ -153,7 +153,7 @@ pub fn read_universe(
     u: u16,
     x: Value,
 ) -> Value
-    ensures { λ r. ⌜ Runs (held (now (image .entry))) (now (contents .entry)) bit (universe-at (held (now (image .entry))) u x) r (now (readers .entry)) (now (readers .exit)) ⌝ }
+    ensures { λ r. ⌜ Runs (low-program (now (image .entry))) (now (contents .entry)) bit (universe-at (low-program (now (image .entry))) u x) r (now (readers .entry)) (now (readers .exit)) ⌝ }
 {
     if x < book_image::elements(image) {
         return engine_term::read(image, contents, readers, bit, u, x, 0);
@@ -161,7 +161,7 @@ pub fn read_universe(
     1
 }
 
-// The least member of a universe from `from` on, or e; f is the universe.
+// The least member of the universe f from `from` on, or e if there is none.
 pub fn next_member(contents: &[Value], f: Function, e: Value, from: Value) -> Value
     ensures { λ r. ⌜ (from ≤ r) × (r ≡ next-passing (member (now (contents .entry)) (low-function f) e) from (e - from)) ⌝ }
 {

@@ -1,5 +1,5 @@
 pub mod Next
-pub mod Sweep
+pub mod ByPlace
 pub mod Row
 pub mod Upto
 pub mod Runs

@@ -24,7 +24,7 @@ use Rattle.engine_release.specs.Steps.{function-cleared, function-marked
 use Rattle.engine_instruction.proofs.Laws.{and-none}
 use Rattle.engine.proofs.Append.{append-split, append-same, append-past}
 use Rattle.engine_term.proofs.Marking.{marked-on}
-use Rattle.engine_release.proofs.Sweep.{Swept, sweep-start, sweep-run, sweep-end, part-back}
+use Rattle.engine_release.proofs.ByPlace.{Swept, sweep-start, sweep-run, sweep-end, part-back}
 
 cut-length : (a b : ℕ) (c : List ℕ) → b ≤ length c → length (take (b - a) (drop a c)) ≡ b - a
 cut-length a b c h = rw (length-take, length-drop) (omega arith)
@@ -47,7 +47,7 @@ module _ (E : ℕ) (f : Function) (x bit first end : ℕ) (c ms : List ℕ) (ord
   abbrev part : List ℕ
   part = take (b - a) (drop a c)
 
-  -- a place of the run, seen in the part
+  -- a location of the function is a place of its part
   part-at : (k : ℕ) → first ≤ k → k < end → k < length c → getD part (k - first) 0 ≡ getD c k 0
   part-at k h l i = getD-take (b - a) (drop a c) (k - first) 0 (omega arith) ∙ getD-drop a c (k - first) 0 ∙ ap (λ (z : ℕ). getD c z 0) (omega arith)
 
@@ -76,7 +76,7 @@ module _ (E : ℕ) (f : Function) (x bit first end : ℕ) (c ms : List ℕ) (ord
       (λ k h l v. rw (between-after first end k (omega arith)))
       q
 
-  -- the part ends where the contents do; there the run has no traces
+  -- the part ends where the contents do; past them the function has no traces
   pub run-read : (P : ℕ) → part-reads E P f x first (take (b - a) (drop a c)) ≡ function-reads E P f x first end c
   run-read P =
       let n : length part ≡ b - a = cut-length a b c (omega arith) in
@@ -102,8 +102,8 @@ module _ (E : ℕ) (f : Function) (x bit first end : ℕ) (c ms : List ℕ) (ord
           rw (le-ltb (first + length part + k) (length c) (omega arith))
 
 module _ (B : Program) (x bit : ℕ) (c₀ ms₀ rs₀ : List ℕ) where
-  abbrev wipe : ℕ → ℕ → ℕ
-  wipe l v = value-cleared B x l v
+  abbrev clear-value : ℕ → ℕ → ℕ
+  clear-value l v = value-cleared B x l v
 
   abbrev note : ℕ → ℕ → ℕ
   note l m = mark bit (ltb l (length c₀) && trace B l (getD c₀ l 0) x) m
@@ -111,26 +111,26 @@ module _ (B : Program) (x bit : ℕ) (c₀ ms₀ rs₀ : List ℕ) where
   abbrev read : ℕ → List ℕ
   read l = if ltb l (length c₀) && trace B l (getD c₀ l 0) x then cleared-reads (B .P) (default-at B l) l (getD c₀ l 0) else []
 
-  -- the functions before g are done; their locations are those below first
+  -- the functions before g are cleared; their locations are those below `first`
   pub record Upto (first g : ℕ) (c ms rs : List ℕ) : Type 0 where
-    pub contents : Swept wipe first c₀ c
+    pub contents : Swept clear-value first c₀ c
     pub marks : Swept note first ms₀ ms
     pub reads : rs ≡ marked bit (append-from read 0 first) rs₀
     pub at : From B g first
 
   pub upto-start : Upto 0 0 c₀ ms₀ rs₀
   unfolding append-from marked
-  upto-start = record { contents = sweep-start wipe c₀; marks = sweep-start note ms₀; reads = refl; at = from-start B }
+  upto-start = record { contents = sweep-start clear-value c₀; marks = sweep-start note ms₀; reads = refl; at = from-start B }
 
   module _ (first g : ℕ) (c ms rs : List ℕ) (u : Upto first g c ms rs) (more : g < length (B .functions)) where
     abbrev end : ℕ
     end = first + size (B .E) (function-at B g .arity)
 
-    -- a location of the run stands in this function
+    -- a location from `first` up to `end` is one of this function
     here : (k : ℕ) → first ≤ k → k < end → place B k ≡ record { function = function-at B g; index = k - first }
     here k h l = from-at B g first (u .at) more k h (omega arith)
 
-    -- what the run reads
+    -- what clearing this function reads
     run-here : function-reads (B .E) (B .P) (function-at B g) x first end c ≡ append-from read (0 + first) (end - first)
     run-here =
         append-same (λ (l : ℕ). if ltb l (length c) && trace-in (B .E) (function-at B g) (l - first) (getD c l 0) x then cleared-reads (B .P) (default (function-at B g)) l (getD c l 0) else [])
@@ -146,7 +146,7 @@ module _ (B : Program) (x bit : ℕ) (c₀ ms₀ rs₀ : List ℕ) where
     upto-function c′ ms′ rs′ p q r =
         record {
           contents =
-              sweep-run wipe (λ (l v : ℕ). if between first end l then value-cleared-in (B .E) (function-at B g) x (l - first) v else v) first end c₀ c c′
+              sweep-run clear-value (λ (l v : ℕ). if between first end l then value-cleared-in (B .E) (function-at B g) x (l - first) v else v) first end c₀ c c′
               (omega arith) (u .contents) p
               (λ k h l v. rw (between-before first end k h))
               (λ k h l m. rw (between-inside first end k h l, here k h l))
@@ -183,7 +183,7 @@ module _ (B : Program) (x bit : ℕ) (c₀ ms₀ rs₀ : List ℕ) where
 
     pub upto-end : (c ≡ label-cleared B x c₀) × (ms ≡ label-marks bit B x c₀ ms₀) × (rs ≡ marked bit (label-reads B x c₀) rs₀)
     upto-end = (
-      sweep-end wipe first c₀ c (u .contents) (λ k h l. rw (from-past B g first (u .at) done k h)),
+      sweep-end clear-value first c₀ c (u .contents) (λ k h l. rw (from-past B g first (u .at) done k h)),
       sweep-end note first ms₀ ms (u .marks) (λ k h l. rw (from-past B g first (u .at) done k h, and-none)),
       u .reads ∙ ap (λ (s : List ℕ). marked bit s rs₀) all-read,
     )

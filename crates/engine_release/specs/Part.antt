@@ -1,4 +1,4 @@
--- The traces of a label x cleared in a function's part, and what that reads.
+-- The traces of a label x cleared in a function's part, and what clearing them reads.
 use mathlib.Core.Bool.{_&&_}
 use mathlib.Core.List.{List, [], _∷_}
 use Prim.Native.Nat.{ℕ, _+_}
@@ -11,27 +11,28 @@ use Rattle.engine.specs.Move.{append-from, taken-reads}
 use Rattle.engine_instruction.specs.Traces.{trace-in}
 use Rattle.engine_release.specs.Marks.{by-place, mark}
 
--- what that leaves of v at location i of f
+-- what location i of f, holding v, has after the traces of x are cleared
 abbrev pub value-cleared-in : ℕ → Function → ℕ → ℕ → ℕ → ℕ
 value-cleared-in E f x i v = if trace-in E f i v x then default f else v
 
--- the whole part
+-- the part after the traces of x in it are cleared
 abbrev pub part-cleared : ℕ → Function → ℕ → List ℕ → List ℕ
 part-cleared E f x part = by-place (value-cleared-in E f x) 0 part
 
+-- the writer marks of the part after the traces of x in it are cleared
 abbrev pub part-marked : ℕ → ℕ → Function → ℕ → List ℕ → List ℕ → List ℕ
 part-marked bit E f x part ms = by-place (λ i m. mark bit (ltb i (length part) && trace-in E f i (getD part i 0) x) m) 0 ms
 
--- ---- what it reads
+-- ---- what clearing reads
 
--- clearing location l, which holds v and gets d: l itself, and Reserve at v if v is a label other than d
+-- what clearing location l reads, which holds v and gets d: l itself, and Reserve at v if v is a label other than d
 abbrev pub cleared-reads : ℕ → ℕ → ℕ → ℕ → List ℕ
 cleared-reads P d l v = l ∷ taken-reads P v d
 
--- location i of f, holding v, where f's part starts at location `first`
+-- what clearing the traces of x reads at location i of f, holding v, where f's part starts at location `first`
 abbrev pub reads-in : ℕ → ℕ → Function → ℕ → ℕ → ℕ → ℕ → List ℕ
 reads-in E P f x first i v = if trace-in E f i v x then cleared-reads P (default f) (first + i) v else []
 
--- the whole part
+-- what clearing the traces of x reads in the whole part
 abbrev pub part-reads : ℕ → ℕ → Function → ℕ → ℕ → List ℕ → List ℕ
 part-reads E P f x first part = append-from (λ i. reads-in E P f x first i (getD part i 0)) 0 (length part)

@@ -17,7 +17,7 @@ ghost use Rattle.engine_term.specs.Marks.{marked};
 ghost use Rattle.engine_instruction.specs.Traces.{trace-in};
 ghost use Rattle.engine_release.specs.Marks.{mark};
 ghost use Rattle.engine_release.specs.Part.{value-cleared-in, part-cleared, part-marked, cleared-reads, reads-in, part-reads};
-ghost use Rattle.book.specs.Image.{held};
+ghost use Rattle.book.specs.Image.{low-program};
 ghost use Rattle.engine_instruction.specs.Code.{items};
 ghost use Rattle.engine_release.specs.Steps.{function-cleared, function-marked, function-reads, label-cleared, label-marks, label-reads, instruction-cleared, instruction-marks, instruction-reads, all-cleared, all-marks, all-reads};
 
@@ -31,7 +31,7 @@ pub struct Released {
     pub bit: u64,
 }
 
-// A location that held a value gets v: if that was a label other than v, Reserve at it is marked as read.
+// A location that held a value gets v: if the value held was a label other than v, Reserve at that label is marked as read.
 pub fn mark_taken(readers: &mut [u64], p: Value, held: Value, v: Value, bit: u64)
     ensures { λ _. ⌜ now (readers .exit) ≡ marked bit (taken-reads p held v) (now (readers .entry)) ⌝ }
 {
@@ -52,7 +52,7 @@ fn mark_cleared(readers: &mut [u64], r: Released, i: usize, held: Value)
 
 // ---- places passed over
 
-// The row and the column of place i.
+// The first argument of place i of a binary function.
 fn row_of(e: Value, i: usize) -> usize
     ensures { λ r. ⌜ r ≡ i / e ⌝ }
 {
@@ -62,6 +62,7 @@ fn row_of(e: Value, i: usize) -> usize
     i / e as usize
 }
 
+// The second argument of place i of a binary function.
 fn column_of(e: Value, i: usize) -> usize
     ensures { λ r. ⌜ r ≡ i % e ⌝ }
 {
@@ -127,7 +128,7 @@ fn pass_values(part: &[Value], x: Value, i: usize, stop: usize) -> usize
     k
 }
 
-// A place from i on up to which none is a trace of the label: most of a part is passed over in this way.
+// A place from i on up to which none is a trace of the label: most of a part is passed over.
 fn pass_over(part: &[Value], r: Released, i: usize) -> usize
     requires { ⌜ i ≤ length (now part) ⌝ }
     ensures { λ j. ⌜ (i ≤ j) × (j ≤ length (now (part .entry))) × ((k : ℕ) → i ≤ k → k < j → trace-in (r .elements) (r .function) k (getD (now (part .entry)) k 0) (r .label) ≡ false) ⌝ }
@@ -175,7 +176,7 @@ pub fn clear_part(part: &mut [Value], readers: &mut [u64], writers: &mut [u64], 
 
 // ---- function after function
 
-// The function's own part is lent, from its first location up to `end`; so are its writer marks.
+// Clears the traces of the label in the function's part, from its first location up to `end`. Only the part and its writer marks are lent on.
 fn clear_function(
     contents: &mut [Value],
     readers: &mut [u64],
@@ -198,7 +199,7 @@ fn clear_function(
     clear_part(&mut contents[a..b], readers, &mut writers[p..q], r);
 }
 
-// The traces of x in all functions.
+// Clears the traces of x in all functions.
 fn clear_label(
     image: &Image,
     contents: &mut [Value],
@@ -207,9 +208,9 @@ fn clear_label(
     x: Value,
     bit: u64,
 )
-    ensures { λ _. ⌜ now (contents .exit) ≡ label-cleared (held (now (image .entry))) x (now (contents .entry)) ⌝ }
-    ensures { λ _. ⌜ now (writers .exit) ≡ label-marks bit (held (now (image .entry))) x (now (contents .entry)) (now (writers .entry)) ⌝ }
-    ensures { λ _. ⌜ now (readers .exit) ≡ marked bit (label-reads (held (now (image .entry))) x (now (contents .entry))) (now (readers .entry)) ⌝ }
+    ensures { λ _. ⌜ now (contents .exit) ≡ label-cleared (low-program (now (image .entry))) x (now (contents .entry)) ⌝ }
+    ensures { λ _. ⌜ now (writers .exit) ≡ label-marks bit (low-program (now (image .entry))) x (now (contents .entry)) (now (writers .entry)) ⌝ }
+    ensures { λ _. ⌜ now (readers .exit) ≡ marked bit (label-reads (low-program (now (image .entry))) x (now (contents .entry))) (now (readers .entry)) ⌝ }
 {
     let e = book_image::elements(image);
     let p = book_parts::permanent(image);
@@ -233,6 +234,7 @@ fn clear_label(
     }
 }
 
+// Clears the traces of the label that the instruction releases, if it is a release.
 fn clear_instruction(
     image: &Image,
     contents: &mut [Value],
@@ -241,9 +243,9 @@ fn clear_instruction(
     what: Instruction,
     bit: u64,
 )
-    ensures { λ _. ⌜ now (contents .exit) ≡ instruction-cleared (held (now (image .entry))) what (now (contents .entry)) ⌝ }
-    ensures { λ _. ⌜ now (writers .exit) ≡ instruction-marks bit (held (now (image .entry))) what (now (contents .entry)) (now (writers .entry)) ⌝ }
-    ensures { λ _. ⌜ now (readers .exit) ≡ marked bit (instruction-reads (held (now (image .entry))) what (now (contents .entry))) (now (readers .entry)) ⌝ }
+    ensures { λ _. ⌜ now (contents .exit) ≡ instruction-cleared (low-program (now (image .entry))) what (now (contents .entry)) ⌝ }
+    ensures { λ _. ⌜ now (writers .exit) ≡ instruction-marks bit (low-program (now (image .entry))) what (now (contents .entry)) (now (writers .entry)) ⌝ }
+    ensures { λ _. ⌜ now (readers .exit) ≡ marked bit (instruction-reads (low-program (now (image .entry))) what (now (contents .entry))) (now (readers .entry)) ⌝ }
 {
     match what {
         Instruction::Update {
@@ -256,7 +258,7 @@ fn clear_instruction(
     }
 }
 
-// The traces of every label that is released.
+// Clears the traces of every label that the list releases.
 pub fn clear_released(
     image: &Image,
     contents: &mut [Value],
@@ -266,9 +268,9 @@ pub fn clear_released(
     len: usize,
     bit: u64,
 )
-    ensures { λ _. ⌜ now (contents .exit) ≡ all-cleared (held (now (image .entry))) (items (now (list .entry)) len) (now (contents .entry)) ⌝ }
-    ensures { λ _. ⌜ now (writers .exit) ≡ all-marks bit (held (now (image .entry))) (items (now (list .entry)) len) (now (contents .entry)) (now (writers .entry)) ⌝ }
-    ensures { λ _. ⌜ now (readers .exit) ≡ marked bit (all-reads (held (now (image .entry))) (items (now (list .entry)) len) (now (contents .entry))) (now (readers .entry)) ⌝ }
+    ensures { λ _. ⌜ now (contents .exit) ≡ all-cleared (low-program (now (image .entry))) (items (now (list .entry)) len) (now (contents .entry)) ⌝ }
+    ensures { λ _. ⌜ now (writers .exit) ≡ all-marks bit (low-program (now (image .entry))) (items (now (list .entry)) len) (now (contents .entry)) (now (writers .entry)) ⌝ }
+    ensures { λ _. ⌜ now (readers .exit) ≡ marked bit (all-reads (low-program (now (image .entry))) (items (now (list .entry)) len) (now (contents .entry))) (now (readers .entry)) ⌝ }
 {
     let n = text::smaller(len, list.len());
     let mut j: usize = 0;

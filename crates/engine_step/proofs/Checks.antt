@@ -1,4 +1,4 @@
--- The checks 9, 2 and 8: what each answers, what they answer in turn, and what they show when all pass.
+-- Refusals 9, 2 and 8 of a single-move call: what each check answers, what they answer in turn, and what they show when all pass.
 use mathlib.Core.Path.{_≡_, sym, ap, _∙_}
 use mathlib.Core.Logic.{_≢_}
 use mathlib.Core.List.{List}
@@ -18,7 +18,7 @@ use Rattle.book.specs.Contents.{bad-value}
 use Rattle.engine.specs.Move.{Input}
 use Rattle.engine.specs.Single.{pick-place, bad-pick, check-picks, check-agent, check-step-lengths, check-lent-step, check-contents}
 use Rattle.engine_step.specs.Call.{check-call}
-use Rattle.engine_step.proofs.Numbered.{Numbered, accepts, agent-numbered, picks-numbered, lengths-numbered}
+use Rattle.engine_step.proofs.UpToTen.{UpToTen, accepts, agent-numbered, picks-numbered, lengths-numbered}
 
 abbrev pub Refusal : ℕ → ℕ → ℕ → Answer
 Refusal n p q = record { number = n; p = p; q = q }
@@ -72,10 +72,10 @@ taken k n c e =
     (λ h f. ap (λ (i : ℕ). take i c) (e ∙ f))
     (λ h f. take-all n c (omega (arith, e, f)) ∙ sym (take-all k c h))
 
--- ---- one after the other
+-- ---- one check after the other
 
 module _ {A B : Type 0} (r : Answer) (x : Checked A) (y : Checked B) where
-  -- the first refuses
+  -- if the first check refuses, its answer is that of both
   stops : r ≡ answer-of x → r .number ≢ 0 → r ≡ answer-of (x >> y)
   unfolding _>>_
   stops e h = go x e
@@ -84,8 +84,8 @@ module _ {A B : Type 0} (r : Answer) (x : Checked A) (y : Checked B) where
       go (good a) f = absurd (h (ap (λ (a : Answer). a .number) f))
       go (refused n p q) f = f
 
-  -- the first passes
-  goes : (s : Answer) → s ≡ answer-of x → Numbered x → s .number ≡ 0 → r ≡ answer-of y → r ≡ answer-of (x >> y)
+  -- if the first check passes, the answer of the second is that of both
+  goes : (s : Answer) → s ≡ answer-of x → UpToTen x → s .number ≡ 0 → r ≡ answer-of y → r ≡ answer-of (x >> y)
   unfolding _>>_
   goes s e h z f = rw (accepts x h (ap (λ (a : Answer). a .number) (sym e) ∙ z) .1) f
 
@@ -113,12 +113,12 @@ module _ (B : Program) (locations : ℕ) (c : List ℕ) (i : Input) (n : ℕ) (n
       pub eight-last : two .number ≡ 0 → (r : Answer) → r ≡ answer-of (check-contents B (take locations c)) → r ≡ answer-of (check-call B locations c i n)
       eight-last z r e = after-picks r (goes r _ _ two is-two (lengths-numbered locations c n) z e)
 
--- where they are the book's locations, 2 is that of the book
+-- if they are the book's locations, refusal 2 is that of the book
 pub lengths-are : (B : Program) (locations : ℕ) (c : List ℕ) (n : ℕ) → locations ≡ L B → check-step-lengths locations c n ≡ check-lent-step B c n
 unfolding check-lent-step
 lengths-are B locations c n e = ap (λ (i : ℕ). check-step-lengths i c n) e
 
--- ---- what they show
+-- ---- what the checks show when all pass
 
 pub record Passed (B : Program) (c : List ℕ) (i : Input) (n : ℕ) : Type 0 where
   pub agent : i .agent < length (B .agents)

@@ -13,7 +13,7 @@ use Rattle.engine.proofs.Moves.{fire-length}
 use Rattle.engine_fire.specs.Outcome.{contents-after}
 use Rattle.engine_fire.specs.Effect.{move-answer}
 
--- the contents d are those that it leaves there, with the rest of the table
+-- the contents d are those that the move leaves on the first records, with the rest of the table
 pub moved-step : (B : Program) (c : List ℕ) (k : Input) → L B ≤ length c → (r : Answer) (d : List ℕ)
     → r ≡ move-answer 0 (move B (take (L B) c) k)
     → d ≡ contents-after (take (L B) c) (move B (take (L B) c) k) ++ drop (L B) c

@@ -1,4 +1,4 @@
-pub mod Numbered
+pub mod UpToTen
 pub mod Checks
 pub mod Fired
 pub mod Whole

@@ -4,16 +4,16 @@ use mathlib.Core.List.{List}
 use Prim.Native.Nat.{ℕ, min}
 use lib.Dec.{leb}
 use lib.ListN.{take}
-use native.Mathlib.Omega.{arith, min-cases}
+use native.Mathlib.Omega.{min-cases}
 use borrow.Author.Tests.{le-leb}
-use Rattle.text.specs.Words.{Checked, good, must, _>>_, _>>=_}
+use Rattle.text.specs.Words.{Checked, good, _>>_, _>>=_}
 use Rattle.book.specs.Book.{Program, L}
 use Rattle.book.specs.Check.{check-book}
 use Rattle.engine.specs.Rule.{most-instructions}
 use Rattle.engine.specs.Move.{Input}
 use Rattle.engine.specs.Single.{check-picks, check-agent, check-lent-step, check-contents, check-step, step-answer, step-call}
 
--- what 2 tests of the list
+-- refusal 2 tests the same of a list cut to 256 records
 pub enough : (n : ℕ) → leb most-instructions (min n 256) ≡ leb most-instructions n
 enough n = min-cases n 256 (leb most-instructions (min n 256) ≡ leb most-instructions n) (λ h e. rw e refl) (λ h e. rw e rw (le-leb 256 n h) refl)
 

@@ -1,4 +1,4 @@
--- The whole call from its stages: a refusal of the book, a refusal of 9, 2 or 8, and the move.
+-- The whole call from its stages: a refusal of the book, refusal 9, 2 or 8, and the move.
 use mathlib.Core.Path.{_≡_, refl, sym, ap, _∙_}
 use mathlib.Core.Logic.{_≢_}
 use mathlib.Core.List.{List}
@@ -8,17 +8,17 @@ use Rattle.text.specs.declared.Answer.{Answer}
 use Rattle.text.specs.Words.{Checked, good, refused, _>>=_, _>>_, answer-of}
 use Rattle.book.specs.Book.{Program, Book, L}
 use Rattle.book.specs.Check.{check-book}
-use Rattle.book.specs.Image.{word, held}
+use Rattle.book.specs.Image.{word, low-program}
 use Rattle.engine.specs.Move.{Input}
 use Rattle.engine.specs.Single.{check-agent, check-picks, check-step-lengths, check-contents, check-step, step-move, step-answer, step-call}
 use Rattle.engine_step.specs.Call.{check-call}
 use Rattle.engine_step.specs.Leaves.{CallLeaves}
 use Rattle.book_check.specs.ImageOf.{ImageOf}
 use Rattle.book_check.proofs.Fits.{held-is}
-use Rattle.engine_step.proofs.Numbered.{book-numbered, call-numbered, accepts}
+use Rattle.engine_step.proofs.UpToTen.{book-numbered, call-numbered, accepts}
 use Rattle.engine_step.proofs.Checks.{lengths-are, Passed, call-passed}
 
--- a refusal before the move: no instruction, and the contents as they were
+-- a call that is refused before its move leaves no instruction, and the contents as they were
 module _ (c l : List ℕ) (k : Input) where
   book-stops : (x : Checked Book) (f : Book → Checked Program) → answer-of x .number ≢ 0 → CallLeaves (answer-of x) 0 l c (step-answer c k (x >>= f))
   unfolding _>>=_
@@ -36,9 +36,9 @@ module _ (c l : List ℕ) (k : Input) where
 
 -- what a call has passed before its move, whose image is m, and that the move is all that is left of it
 pub record Cleared (text c : List ℕ) (k : Input) (n : ℕ) (m : List ℕ) : Type 0 where
-  pub passed : Passed (held m) c k n
-  pub locations : word m 6 ≡ L (held m)
-  pub moved : step-move (held m) c k ≡ step-call text c k n
+  pub passed : Passed (low-program m) c k n
+  pub locations : word m 6 ≡ L (low-program m)
+  pub moved : step-move (low-program m) c k ≡ step-call text c k n
 
 joined : {A : Type 0} (x y z v : Checked (Unit {0})) (w : Checked A) → (x >> (y >> (z >> (v >> w)))) ≡ ((x >> (y >> (z >> v))) >> w)
 unfolding _>>_
@@ -65,14 +65,14 @@ module _ (text c l : List ℕ) (k : Input) (n : ℕ) where
       (ap (step-answer c k) (joined (check-agent B (k .agent)) (check-picks B (k .picks)) (check-step-lengths i c n) (check-contents B (take i c)) (good B)))
 
   module _ (m : List ℕ) (opened : ImageOf m (check-book text)) (a : Answer) (told : a ≡ answer-of (check-book text)) (zero-a : a .number ≡ 0)
-      (b : Answer) (call : b ≡ answer-of (check-call (held m) (word m 6) c k n)) where
+      (b : Answer) (call : b ≡ answer-of (check-call (low-program m) (word m 6) c k n)) where
     accepted-as : (b : Book) × (check-book text ≡ good b)
     accepted-as = accepts (check-book text) (book-numbered text) (sym (ap (λ (r : Answer). r .number) told) ∙ zero-a)
 
     abbrev B : Program
     B = accepted-as .0 .program
 
-    is-held : held m ≡ B
+    is-held : low-program m ≡ B
     is-held = held-is text m opened (accepted-as .0) (accepted-as .1)
 
     located : word m 6 ≡ L B
@@ -81,7 +81,7 @@ module _ (text c l : List ℕ) (k : Input) (n : ℕ) where
     whole : step-call text c k n ≡ step-answer c k (check-call B (word m 6) c k n >> good B)
     whole = step-good (accepted-as .0) (accepted-as .1) (word m 6) located
 
-    call-held : check-call (held m) (word m 6) c k n ≡ check-call B (word m 6) c k n
+    call-held : check-call (low-program m) (word m 6) c k n ≡ check-call B (word m 6) c k n
     call-held = ap (λ (A : Program). check-call A (word m 6) c k n) is-held
 
     pub refused-call : b .number ≢ 0 → CallLeaves b 0 l c (step-call text c k n)
@@ -90,16 +90,16 @@ module _ (text c l : List ℕ) (k : Input) (n : ℕ) where
         rw (e, whole) (call-stops c l k (check-call B (word m 6) c k n) B (λ z. h (ap (λ (r : Answer). r .number) e ∙ z)))
 
     module _ (zero-b : b .number ≡ 0) where
-      goes : (u : Unit {0}) × (check-call (held m) (word m 6) c k n ≡ good u)
-      goes = accepts (check-call (held m) (word m 6) c k n) (call-numbered (held m) (word m 6) c k n) (sym (ap (λ (r : Answer). r .number) call) ∙ zero-b)
+      goes : (u : Unit {0}) × (check-call (low-program m) (word m 6) c k n ≡ good u)
+      goes = accepts (check-call (low-program m) (word m 6) c k n) (call-numbered (low-program m) (word m 6) c k n) (sym (ap (λ (r : Answer). r .number) call) ∙ zero-b)
 
-      locations : word m 6 ≡ L (held m)
+      locations : word m 6 ≡ L (low-program m)
       locations = located ∙ ap L (sym is-held)
 
-      shown : Passed (held m) c k n
-      shown = call-passed (held m) (word m 6) c k n locations (goes .0) (goes .1)
+      shown : Passed (low-program m) c k n
+      shown = call-passed (low-program m) (word m 6) c k n locations (goes .0) (goes .1)
 
-      moved : step-move (held m) c k ≡ step-call text c k n
+      moved : step-move (low-program m) c k ≡ step-call text c k n
       moved =
           ap (λ (A : Program). step-move A c k) is-held
           ∙ sym (call-goes c l k (check-call B (word m 6) c k n) (goes .0) B (sym call-held ∙ goes .1))

@@ -1,4 +1,4 @@
--- The checks of a call after the book's (SPECIFICATION 9.2).
+-- The checks of a single-move call after those of the book (SPECIFICATION 9.2).
 use mathlib.Core.List.{List}
 use Prim.Native.Nat.{ℕ}
 use lib.ListN.{take}
@@ -7,7 +7,7 @@ use Rattle.book.specs.Book.{Program}
 use Rattle.engine.specs.Move.{Input}
 use Rattle.engine.specs.Single.{check-agent, check-picks, check-step-lengths, check-contents}
 
--- 9, 2 and 8 of a book that is said to have so many locations
+-- Refusal 9 for the agent and for the picks, then refusals 2 and 8, of a book that is said to have so many locations
 unfoldable pub check-call : Program → ℕ → List ℕ → Input → ℕ → Checked (Unit {0})
 check-call B locations c i n = do
   check-agent B (i .agent)

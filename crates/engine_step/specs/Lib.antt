@@ -1,3 +1,4 @@
 pub mod Call
 pub mod Leaves
 pub mod Stages
+pub mod Entry

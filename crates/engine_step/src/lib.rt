@@ -1,5 +1,5 @@
-// A single move: its call's checks after the book's (9 of the agent and of the picks, then 2, then 8); the call in stages; and the entry, through
-// an instruction list that the caller lends or with one of its own.
+// A single move: the checks of its call after those of the book (refusal 9 for the agent and the picks, then 2, then 8); the call in stages; and the entry,
+// through an instruction list that the caller lends or with one of its own.
 use book::Image;
 use engine::Pick;
 use engine::Record;
@@ -9,94 +9,76 @@ use text::Answer;
 use text::Found;
 use text::Value;
 ghost use mathlib.Core.Path.{_≡_};
-ghost use lib.ListN.{take, length};
+ghost use lib.ListN.{take};
 ghost use Rattle.text.specs.Words.{answer-of};
-ghost use Rattle.book.specs.Image.{word, held};
+ghost use Rattle.book.specs.Image.{word, low-program};
 ghost use Rattle.engine.specs.Move.{input};
-ghost use Rattle.engine.specs.Single.{pick-place, check-agent, check-picks, check-step-lengths, check-contents, step-call};
+ghost use Rattle.engine.specs.Single.{pick-place, check-agent, check-picks, check-step-lengths, check-contents};
 ghost use Rattle.engine_step.specs.Call.{check-call};
 ghost use Rattle.engine_step.specs.Stages.{MoveWalked, CallBegun, CallFinished};
-ghost use Rattle.engine_list.specs.Written.{records-written};
+ghost use Rattle.engine_step.specs.Entry.{StepMade, StepMadeOwn};
 
-// Records in a list of instructions.
-const MOST_INSTRUCTIONS: usize = 256;
-
-// The lent tables, as the q of 2.
-const CONTENTS: u32 = 0;
-
-const INSTRUCTIONS: u32 = 3;
-
-fn answer(number: u32, p: u32, q: u32) -> Answer
-    ensures { λ r. ⌜ r ≡ record { number = number; p = p; q = q } ⌝ }
-{
-    Answer {
-        number: number,
-        p: p,
-        q: q,
-    }
-}
-
-// The place of pick j, no more than what C's one number holds.
+// The place of pick j: its index + 1, but no more than C's one number holds.
 fn place_of(j: usize) -> u32
     ensures { λ r. ⌜ r ≡ pick-place j ⌝ }
 {
     if j < 16777215 { j as u32 + 1 } else { 16777215 }
 }
 
-// 9.
+// Refusal 9: no such agent.
 fn check_agent(image: &Image, agent: usize) -> Answer
-    ensures { λ r. ⌜ r ≡ answer-of (check-agent (held (now (image .entry))) agent) ⌝ }
+    ensures { λ r. ⌜ r ≡ answer-of (check-agent (low-program (now (image .entry))) agent) ⌝ }
 {
     if agent < book_image::agents(image) as usize {
-        answer(0, 0, 0)
+        text::answer_at(0, 0, 0)
     } else {
-        answer(text::LOG_LINE, 0, 0)
+        text::answer_at(text::LOG_LINE, 0, 0)
     }
 }
 
-// 9 of the picks: the least that is no element.
+// Refusal 9 for the picks: the least that is no element.
 fn check_picks(image: &Image, picks: &[Pick]) -> Answer
-    ensures { λ r. ⌜ r ≡ answer-of (check-picks (held (now (image .entry))) (now (picks .entry))) ⌝ }
+    ensures { λ r. ⌜ r ≡ answer-of (check-picks (low-program (now (image .entry))) (now (picks .entry))) ⌝ }
 {
     let e = book_image::elements(image) as u64;
     let n = picks.len();
     let mut j: usize = 0;
     while j < n {
         if e <= picks[j] {
-            return answer(text::LOG_LINE, place_of(j), 0);
+            return text::answer_at(text::LOG_LINE, place_of(j), 0);
         }
         j += 1;
     }
-    answer(0, 0, 0)
+    text::answer_at(0, 0, 0)
 }
 
-// 2, of contents and then of instructions.
+// Refusal 2: the contents table is too short, or else the list of instructions.
 fn check_lent(image: &Image, contents: &[Value], lent: usize) -> Answer
     ensures { λ r. ⌜ r ≡ answer-of (check-step-lengths (word (now (image .entry)) 6) (now (contents .entry)) lent) ⌝ }
 {
     let locations = book_image::locations(image);
     if contents.len() < locations as usize {
-        return answer(text::LENT_SHORT, locations, CONTENTS);
+        return text::answer_at(text::LENT_SHORT, locations, text::CONTENTS_TABLE);
     }
-    if lent < MOST_INSTRUCTIONS {
-        return answer(text::LENT_SHORT, 256, INSTRUCTIONS);
+    if lent < engine::MOST_INSTRUCTIONS {
+        return text::answer_at(text::LENT_SHORT, 256, text::INSTRUCTIONS_TABLE);
     }
-    answer(0, 0, 0)
+    text::answer_at(0, 0, 0)
 }
 
-// 8, of as many records as there are locations.
+// Refusal 8 of a lent table, on as many records as there are locations.
 fn check_contents(image: &Image, contents: &[Value]) -> Answer
-    ensures { λ r. ⌜ r ≡ answer-of (check-contents (held (now (image .entry))) (take (word (now (image .entry)) 6) (now (contents .entry)))) ⌝ }
+    ensures { λ r. ⌜ r ≡ answer-of (check-contents (low-program (now (image .entry))) (take (word (now (image .entry)) 6) (now (contents .entry)))) ⌝ }
 {
     let n = text::smaller(book_image::locations(image) as usize, contents.len());
     let found = contents_check::bad_value(image, &contents[..n]);
     match found {
-        Found::Here(l) => answer(text::CONTENTS_RULE, l, 0),
-        Found::Nowhere => answer(0, 0, 0),
+        Found::Here(l) => text::answer_at(text::CONTENTS_RULE, l, 0),
+        Found::Nowhere => text::answer_at(0, 0, 0),
     }
 }
 
-// 9 of the agent and of the picks, then 2, then 8, which reads the whole table.
+// Refusal 9 for the agent and for the picks, then refusal 2, then refusal 8, which reads the whole table.
 pub fn check_call(
     image: &Image,
     contents: &[Value],
@@ -104,7 +86,7 @@ pub fn check_call(
     picks: &[Pick],
     lent: usize,
 ) -> Answer
-    ensures { λ r. ⌜ r ≡ answer-of (check-call (held (now (image .entry))) (word (now (image .entry)) 6) (now (contents .entry)) (input agent (now (picks .entry))) lent) ⌝ }
+    ensures { λ r. ⌜ r ≡ answer-of (check-call (low-program (now (image .entry))) (word (now (image .entry)) 6) (now (contents .entry)) (input agent (now (picks .entry))) lent) ⌝ }
 {
     let nine = check_agent(image, agent);
     if nine.number != 0 {
@@ -123,13 +105,13 @@ pub fn check_call(
 
 // ---- the call in stages: the checks and the move begun, then the move finished; in between its instructions may go through a lent list
 
-// A call up to the list: the answer of its checks, and its move begun if they pass.
+// A call up to the lent list: the answer of its checks, and its move begun if they pass.
 pub struct BegunCall {
     pub answer: Answer,
     pub begun: Begun,
 }
 
-// No move is begun.
+// A call that its checks refuse: no move is begun.
 fn refused_call(answer: Answer) -> BegunCall
     ensures { λ r. ⌜ (r .answer ≡ answer) × (r .begun .count ≡ 0) ⌝ }
 {
@@ -149,7 +131,7 @@ fn refused_call(answer: Answer) -> BegunCall
     }
 }
 
-// The move is begun, on the records of a lent table that the book has locations for.
+// Begins the move, on the records of a lent table that the book has locations for.
 fn walk_call(
     image: &Image,
     contents: &[Value],
@@ -157,7 +139,7 @@ fn walk_call(
     picks: &[Pick],
     work: &mut [u64; 256],
 ) -> Begun
-    ensures { λ r. ⌜ MoveWalked (held (now (image .entry))) (take (word (now (image .entry)) 6) (now (contents .entry))) (input agent (now (picks .entry))) (now (work .exit)) r ⌝ }
+    ensures { λ r. ⌜ MoveWalked (low-program (now (image .entry))) (take (word (now (image .entry)) 6) (now (contents .entry))) (input agent (now (picks .entry))) (now (work .exit)) r ⌝ }
 {
     let all = book_image::locations(image) as usize;
     let n = text::smaller(all, contents.len());
@@ -173,7 +155,7 @@ fn walk_call(
     )
 }
 
-// The checks, and the move begun.
+// Makes the checks, and begins the move if they pass.
 pub fn begin_call(
     book: &[u8],
     contents: &[Value],
@@ -200,7 +182,7 @@ pub fn begin_call(
     }
 }
 
-// The move is finished, by the instructions that came back from the list.
+// Finishes the move, by the instructions that came back from the lent list.
 pub fn finish_call(contents: &mut [Value], image: &Image, work: &[u64; 256], p: BegunCall) -> Answer
     ensures { λ r. ⌜ CallFinished (now (image .entry)) (now (contents .entry)) (now (work .entry)) p r (now (contents .exit)) ⌝ }
 {
@@ -237,7 +219,7 @@ pub fn step(
     picks: &[Pick],
     instructions: &mut [Record],
 ) -> Answer
-    ensures { λ r. ⌜ (r ≡ step-call (now (book .entry)) (now (contents .entry)) (input agent (now (picks .entry))) (length (now (instructions .entry))) .answer) × (now (contents .exit) ≡ step-call (now (book .entry)) (now (contents .entry)) (input agent (now (picks .entry))) (length (now (instructions .entry))) .contents) × (now (instructions .exit) ≡ records-written (step-call (now (book .entry)) (now (contents .entry)) (input agent (now (picks .entry))) (length (now (instructions .entry))) .instructions) (now (instructions .entry))) ⌝ }
+    ensures { λ r. ⌜ StepMade (now (book .entry)) (now (contents .entry)) (input agent (now (picks .entry))) (now (instructions .entry)) r (now (contents .exit)) (now (instructions .exit)) ⌝ }
 {
     let lent = instructions.len();
     let mut image = [0u32; 2248];
@@ -248,7 +230,7 @@ pub fn step(
     finish_call(contents, &image, &work, p)
 }
 
-// The single-move entry with a list of `lent` records. It lends 256 at most; a longer list makes no difference.
+// The single-move entry with a list of `lent` records of its own. It has 256 at most; a longer list makes no difference.
 pub fn step_own_list(
     book: &[u8],
     contents: &mut [Value],
@@ -256,7 +238,7 @@ pub fn step_own_list(
     picks: &[Pick],
     lent: usize,
 ) -> Answer
-    ensures { λ r. ⌜ (r ≡ step-call (now (book .entry)) (now (contents .entry)) (input agent (now (picks .entry))) lent .answer) × (now (contents .exit) ≡ step-call (now (book .entry)) (now (contents .entry)) (input agent (now (picks .entry))) lent .contents) ⌝ }
+    ensures { λ r. ⌜ StepMadeOwn (now (book .entry)) (now (contents .entry)) (input agent (now (picks .entry))) lent r (now (contents .exit)) ⌝ }
 {
     let none = engine_list::blank();
     let mut list = [none; 256];

@@ -1,4 +1,4 @@
--- Laws of the book that an image holds: a lawful one has its locations placed; what that says of them; and the scope.
+-- Laws of the program that an image holds: a lawful one has its locations placed, and what that says of them; and of the scope.
 use mathlib.Core.Path.{_≡_, refl, sym}
 use mathlib.Core.Logic.{dite}
 use mathlib.Core.Bool.{Bool, true, false, _&&_}

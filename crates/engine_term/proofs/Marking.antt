@@ -1,4 +1,4 @@
--- Laws of marks made while looking: a look runs as its parts run, one after the other.
+-- Laws of marks made while reading: a computation and its marks run as its parts run, one after the other.
 use mathlib.Core.Path.{_≡_, refl, ap, sym, _∙_}
 use mathlib.Core.Bool.{Bool, true, false}
 use mathlib.Core.List.{List, [], _∷_, _++_}
@@ -9,7 +9,7 @@ use Rattle.text.specs.Words.{if_then_else_}
 use Rattle.book.specs.Book.{Program, dynamic-at}
 use Rattle.engine.specs.Reader.{Reader, done, read, value-in, locations-read, _>>=_}
 use Rattle.engine.specs.Move.{dynamic-among}
-use Rattle.engine.proofs.Reader.{gives-bind, seen-bind}
+use Rattle.engine.proofs.Reader.{value-bind, reads-bind}
 use Rattle.engine_term.specs.Marks.{mark-one, marked, marked-if-dynamic, Placed, Runs}
 
 pub dynamic-append : (B : Program) (ls ks : List ℕ) → dynamic-among B (ls ++ ks) ≡ dynamic-among B ls ++ dynamic-among B ks
@@ -27,7 +27,7 @@ unfolding marked
 marked-append bit [] ys m = refl
 marked-append bit (x ∷ xs) ys m = marked-append bit xs ys (mark-one bit x m)
 
--- one list after the other
+-- marks of one list and then of another are the marks of both lists together
 pub marked-on : (bit : ℕ) (xs ys m n o : List ℕ) → n ≡ marked bit xs m → o ≡ marked bit ys n → o ≡ marked bit (xs ++ ys) m
 marked-on bit xs ys m n o p q = q ∙ ap (marked bit ys) p ∙ sym (marked-append bit xs ys m)
 
@@ -36,7 +36,7 @@ unfolding marked
 length-marked bit [] m = refl
 length-marked bit (l ∷ ls) m = length-marked bit ls (mark-one bit l m) ∙ length-set m l (bitOr (getD m l 0) bit)
 
--- one location more
+-- marks of a list with one location more
 pub marked-noted : (B : Program) (bit l : ℕ) (ls m : List ℕ) → marked bit (dynamic-among B (l ∷ ls)) m ≡ marked bit (dynamic-among B ls) (marked-if-dynamic B bit l m)
 unfolding marked dynamic-among
 marked-noted B bit l ls m = go (dynamic-at B l)
@@ -50,8 +50,8 @@ module _ (B : Program) (c : List ℕ) (bit : ℕ) where
   unfolding value-in locations-read dynamic-among marked
   runs-done a m = record { value = refl; marks = λ p. refl }
 
-  pub runs-gives : {A : Type 0} (a b : A) (m : List ℕ) → a ≡ b → Runs B c bit (done b) a m m
-  runs-gives a b m e = rw e (runs-done b m)
+  pub runs-value : {A : Type 0} (a b : A) (m : List ℕ) → a ≡ b → Runs B c bit (done b) a m m
+  runs-value a b m e = rw e (runs-done b m)
 
   pub runs-read : (l v : ℕ) (m n : List ℕ) → v ≡ getD c l 0 → (Placed B → n ≡ marked-if-dynamic B bit l m) → Runs B c bit (read l) v m n
   unfolding value-in locations-read marked dynamic-among
@@ -61,10 +61,10 @@ module _ (B : Program) (c : List ℕ) (bit : ℕ) where
       → Runs B c bit w a m n → Runs B c bit (f a) z n o → Runs B c bit (w >>= f) z m o
   runs-bind w f a z m n o h k =
       record {
-        value = k .value ∙ rw (h .value) (sym (gives-bind c w f));
-        marks = λ p. k .marks p ∙ rw (h .marks p, h .value, seen-bind c w f, dynamic-append B (locations-read c w) (locations-read c (f (value-in c w)))) (sym (marked-append bit (dynamic-among B (locations-read c w)) (dynamic-among B (locations-read c (f (value-in c w)))) m));
+        value = k .value ∙ rw (h .value) (sym (value-bind c w f));
+        marks = λ p. k .marks p ∙ rw (h .marks p, h .value, reads-bind c w f, dynamic-append B (locations-read c w) (locations-read c (f (value-in c w)))) (sym (marked-append bit (dynamic-among B (locations-read c w)) (dynamic-among B (locations-read c (f (value-in c w)))) m));
       }
 
-  -- the look may be put in another form
+  -- a computation may be put in another, equal form
   pub runs-as : {A : Type 0} (v w : Reader A) (a : A) (m n : List ℕ) → v ≡ w → Runs B c bit w a m n → Runs B c bit v a m n
   runs-as v w a m n e h = rw e h

@@ -13,11 +13,11 @@ use Rattle.book.specs.Book.{undef, boolean, truth}
 use Rattle.engine.specs.Term.{Op, equal, both, either, plus, minus, less, number, shapes, no-term, a-join}
 use Rattle.engine_term.specs.Held.{operator-value}
 
--- the product of two numbers up to m
+-- the product of two numbers up to m is at most m × m
 pub product : (m : ℕ) {a b : ℕ} → a ≤ m → b ≤ m → a * b ≤ m * m
 product m {a} {b} ha hb = le-trans (mul-le-mul-left a hb) (mul-le-mul-right m ha)
 
--- a Boolean is its own truth
+-- a Boolean is the truth of being true
 pub truth-boolean : (y : ℕ) → boolean y ≡ true → truth (eqb y 2) ≡ y
 truth-boolean y e = go (or-cases (eqb y 1) (eqb y 2) e)
   where
@@ -31,7 +31,7 @@ number-least P x e = leb-true 3 x (and-cases (leb 3 x) (ltb x P) e .0)
 pub number-most : (P x : ℕ) → number P x ≡ true → x < P
 number-most P x e = ltb-true x P (and-cases (leb 3 x) (ltb x P) e .1)
 
--- the kinds of operations: 7 and 9 to 13
+-- each kind from 7 to 13 but 8 is that of an operation of two operands
 pub join-kind : (k : ℕ) → 7 ≤ k → k < 14 → ((k ≡ 8) → ⊥) → (o : Op) × (getD shapes k no-term ≡ a-join o)
 join-kind zero a b n = absurd (omega arith)
 join-kind (suc zero) a b n = absurd (omega arith)

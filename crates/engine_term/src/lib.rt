@@ -1,19 +1,19 @@
-// Terms: their values in the book that an image holds, and the marks of what they read.
+// Terms: their values in the program that an image holds, and the marks of what they read.
 use book::Function;
 use book::Image;
 use text::Value;
 ghost use mathlib.Core.Path.{_≡_};
 ghost use Prim.Native.Nat.{_+_};
 ghost use lib.ListN.{getD};
-ghost use Rattle.book.specs.Book.{undef, boolean, truth, offset, location, dynamic-at};
+ghost use Rattle.book.specs.Book.{undef, truth, offset, location, dynamic-at};
 ghost use Rattle.text.specs.Words.{if_then_else_};
 ghost use Rattle.engine.specs.Reader.{read};
 ghost use Rattle.engine.specs.Term.{both, either, plus, minus, less, number, negate, apply, shapes, no-term};
 ghost use Rattle.engine_term.specs.Held.{variables-of, value-at, target-at, operator-value};
-ghost use Rattle.book.specs.Image.{low, held};
+ghost use Rattle.book.specs.Image.{low, low-program};
 ghost use Rattle.engine_term.specs.Marks.{mark-one, dynamic-of, Runs};
 
-// The location of a function at x and y: counted from its first, the argument, or first × E + second.
+// The location of the function at x and y: its first location plus its own number, which is the argument, or x × E + y.
 pub fn locate(f: Function, e: Value, x: Value, y: Value) -> u32
     ensures { λ r. ⌜ r ≡ low (f .first) + offset e (f .arity) x y ⌝ }
 {
@@ -26,9 +26,9 @@ pub fn locate(f: Function, e: Value, x: Value, y: Value) -> u32
     }
 }
 
-// The location of function f at x and y.
+// The location of function f of the image at x and y.
 pub fn location(image: &Image, f: u16, x: Value, y: Value) -> u32
-    ensures { λ r. ⌜ r ≡ location (held (now (image .entry))) f x y ⌝ }
+    ensures { λ r. ⌜ r ≡ location (low-program (now (image .entry))) f x y ⌝ }
 {
     locate(
         book_image::function_at(image, f as u32),
@@ -38,17 +38,17 @@ pub fn location(image: &Image, f: u16, x: Value, y: Value) -> u32
     )
 }
 
-// Whether a location is dynamic.
+// Location l is dynamic.
 pub fn dynamic_at(image: &Image, l: u32) -> bool
-    ensures { λ r. ⌜ r ≡ dynamic-at (held (now (image .entry))) l ⌝ }
+    ensures { λ r. ⌜ r ≡ dynamic-at (low-program (now (image .entry))) l ⌝ }
 {
     let owner = book_parts::owner_of(image, l as usize);
     book_parts::is_dynamic(owner.function)
 }
 
-// The same of function f's location at x and y, which its kind tells if they are elements.
+// Function f's location at x and y is dynamic; its kind says so if x and y are elements.
 pub fn dynamic(image: &Image, f: u16, x: Value, y: Value) -> bool
-    ensures { λ r. ⌜ r ≡ dynamic-of (held (now (image .entry))) f x y ⌝ }
+    ensures { λ r. ⌜ r ≡ dynamic-of (low-program (now (image .entry))) f x y ⌝ }
 {
     if book_image::functions(image) <= f {
         return dynamic_at(image, location(image, f, x, y));
@@ -63,7 +63,7 @@ pub fn dynamic(image: &Image, f: u16, x: Value, y: Value) -> bool
     book_parts::is_dynamic(book_image::function_at(image, f as u32))
 }
 
-// Puts a bit into the mark of a location, if there is one.
+// Puts the bit into the mark of a location; past the end nothing is put.
 pub fn mark(readers: &mut [u64], bit: u64, at: usize)
     ensures { λ _. ⌜ now (readers .exit) ≡ mark-one bit at (now (readers .entry)) ⌝ }
 {
@@ -82,14 +82,14 @@ fn mark_if_dynamic(
     y: Value,
     at: u32,
 )
-    ensures { λ _. ⌜ now (readers .exit) ≡ (if dynamic-of (held (now (image .entry))) f x y then mark-one bit at (now (readers .entry)) else now (readers .entry)) ⌝ }
+    ensures { λ _. ⌜ now (readers .exit) ≡ (if dynamic-of (low-program (now (image .entry))) f x y then mark-one bit at (now (readers .entry)) else now (readers .entry)) ⌝ }
 {
     if dynamic(image, f, x, y) {
         mark(readers, bit, at as usize);
     }
 }
 
-// The value of function f at x and y.
+// The value of function f at x and y, which is marked as read.
 pub fn read(
     image: &Image,
     contents: &[Value],
@@ -99,37 +99,28 @@ pub fn read(
     x: Value,
     y: Value,
 ) -> Value
-    ensures { λ r. ⌜ Runs (held (now (image .entry))) (now (contents .entry)) bit (read (location (held (now (image .entry))) f x y)) r (now (readers .entry)) (now (readers .exit)) ⌝ }
+    ensures { λ r. ⌜ Runs (low-program (now (image .entry))) (now (contents .entry)) bit (read (location (low-program (now (image .entry))) f x y)) r (now (readers .entry)) (now (readers .exit)) ⌝ }
 {
     let at = location(image, f, x, y);
     mark_if_dynamic(image, readers, bit, f, x, y, at);
     text::fetch(contents, at as usize)
 }
 
+// A test as a Boolean of the book.
 fn truth(t: bool) -> Value
     ensures { λ r. ⌜ r ≡ truth t ⌝ }
 {
     if t { 2 } else { 1 }
 }
 
-// Whether x is false or true.
-pub fn is_boolean(x: Value) -> bool
-    ensures { λ r. ⌜ r ≡ boolean x ⌝ }
-{
-    match x {
-        1 => true,
-        2 => true,
-        _ => false,
-    }
-}
-
-// Whether x is a number of the book.
+// x is a number of the book, p elements being permanent.
 fn is_number(p: Value, x: Value) -> bool
     ensures { λ r. ⌜ r ≡ number p x ⌝ }
 {
     if 3 <= x { x < p } else { false }
 }
 
+// The value of not.
 fn not(x: Value) -> Value
     ensures { λ r. ⌜ r ≡ negate x ⌝ }
 {
@@ -140,11 +131,12 @@ fn not(x: Value) -> Value
     }
 }
 
+// The value of and.
 fn and(x: Value, y: Value) -> Value
     ensures { λ r. ⌜ r ≡ apply 0 both x y ⌝ }
 {
-    if is_boolean(x) {
-        if is_boolean(y) {
+    if book_parts::is_boolean(x) {
+        if book_parts::is_boolean(y) {
             if x == 2 { y } else { 1 }
         } else {
             0
@@ -154,11 +146,12 @@ fn and(x: Value, y: Value) -> Value
     }
 }
 
+// The value of or.
 fn or(x: Value, y: Value) -> Value
     ensures { λ r. ⌜ r ≡ apply 0 either x y ⌝ }
 {
-    if is_boolean(x) {
-        if is_boolean(y) {
+    if book_parts::is_boolean(x) {
+        if book_parts::is_boolean(y) {
             if x == 2 { 2 } else { y }
         } else {
             0
@@ -168,6 +161,7 @@ fn or(x: Value, y: Value) -> Value
     }
 }
 
+// The value of plus.
 fn plus(p: Value, x: Value, y: Value) -> Value
     ensures { λ r. ⌜ r ≡ apply p plus x y ⌝ }
 {
@@ -183,6 +177,7 @@ fn plus(p: Value, x: Value, y: Value) -> Value
     }
 }
 
+// The value of minus.
 fn minus(p: Value, x: Value, y: Value) -> Value
     ensures { λ r. ⌜ r ≡ apply p minus x y ⌝ }
 {
@@ -197,6 +192,7 @@ fn minus(p: Value, x: Value, y: Value) -> Value
     }
 }
 
+// The value of less.
 fn less(p: Value, x: Value, y: Value) -> Value
     ensures { λ r. ⌜ r ≡ apply p less x y ⌝ }
 {
@@ -207,7 +203,7 @@ fn less(p: Value, x: Value, y: Value) -> Value
     }
 }
 
-// The value of a term of two operands from theirs.
+// The value of a term of kind k from those of its two operands.
 fn operate(p: Value, k: u16, x: Value, y: Value) -> Value
     ensures { λ r. ⌜ r ≡ operator-value p (getD shapes k no-term) x y ⌝ }
 {
@@ -229,7 +225,7 @@ fn variable(scope: &[Value; 9], a: u16) -> Value
     if a < 8 { scope[a as usize] } else { 0 }
 }
 
-// The value of the term at node n, looking at most `depth` nodes down; what it reads is marked.
+// The value of the term at node n, at most `depth` nodes deep; what it reads is marked.
 pub fn eval(
     image: &Image,
     contents: &[Value],
@@ -239,7 +235,7 @@ pub fn eval(
     depth: usize,
     n: u16,
 ) -> Value
-    ensures { λ r. ⌜ Runs (held (now (image .entry))) (now (contents .entry)) bit (value-at (now (image .entry)) (now (scope .entry)) depth n) r (now (readers .entry)) (now (readers .exit)) ⌝ }
+    ensures { λ r. ⌜ Runs (low-program (now (image .entry))) (now (contents .entry)) bit (value-at (now (image .entry)) (now (scope .entry)) depth n) r (now (readers .entry)) (now (readers .exit)) ⌝ }
 {
     if depth == 0 {
         return 0;
@@ -273,7 +269,7 @@ pub fn eval(
     }
 }
 
-// The location that the term at node n names; its arguments are read.
+// The location that the term at node n names, at most `depth` nodes deep; what its arguments read is marked.
 pub fn target_location(
     image: &Image,
     contents: &[Value],
@@ -283,7 +279,7 @@ pub fn target_location(
     depth: usize,
     n: u16,
 ) -> u32
-    ensures { λ r. ⌜ Runs (held (now (image .entry))) (now (contents .entry)) bit (target-at (now (image .entry)) (now (scope .entry)) depth n) r (now (readers .entry)) (now (readers .exit)) ⌝ }
+    ensures { λ r. ⌜ Runs (low-program (now (image .entry))) (now (contents .entry)) bit (target-at (now (image .entry)) (now (scope .entry)) depth n) r (now (readers .entry)) (now (readers .exit)) ⌝ }
 {
     if depth == 0 {
         return 0;

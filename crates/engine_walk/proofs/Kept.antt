@@ -1,4 +1,4 @@
--- Laws of what a move's walk leaves: a refused one, none of its marks.
+-- Laws of what a move's walk leaves: a refused one leaves none of its marks.
 use mathlib.Core.Path.{_≡_, refl, sym, ap, _∙_}
 use mathlib.Core.Bool.{Bool, true, false}
 use mathlib.Core.List.{List, [], _∷_}
@@ -15,15 +15,14 @@ use Rattle.book.specs.declared.Agent.{Agent}
 use Rattle.book.specs.Book.{Program, node-at, agent-at}
 use Rattle.engine.specs.Reader.{done}
 use Rattle.engine.specs.Move.{Input, walk-reads}
-use Rattle.engine.specs.Rule.{Walk, Walked, walking, refused-at, _then_, all-taken, walk, no-variables, agent-walk}
+use Rattle.engine.specs.Rule.{Walk, Walked, walking, refused-at, _then_, all-taken, walk, no-variables, agent-walk, rule-from}
 use Rattle.engine_term.specs.Marks.{mark-one, marked, Runs}
-use Rattle.engine_term.proofs.Marking.{runs-bind, runs-gives}
-use Rattle.engine_walk.specs.Walk.{rule-from}
+use Rattle.engine_term.proofs.Marking.{runs-bind, runs-value}
 use Rattle.engine_walk.specs.WalkMarks.{masked, bits-cleared, LowerBits, WalkMarked}
 
--- ---- marks taken back
+-- ---- marks taken out
 
--- nothing is marked with no bit
+-- to mark with bit 0 changes nothing
 pub marked-zero : (ls m : List ℕ) → marked 0 ls m ≡ m
 unfolding marked
 marked-zero [] m = refl
@@ -63,7 +62,7 @@ module _ (B : Program) (c : List ℕ) (bit : ℕ) (z : Walked) (m n : List ℕ) 
       → Runs B c bit (walk B (h .element) (rule-from (node-at B) 32 (h .root)) no-variables (record { made = []; next = q; left = ys })) z m n
   started p q g h ys e f r = rw (← e, ← f) r
 
-  -- z is what the walk came to, y that with the picks left over judged
+  -- the walk of a move's rule runs: z is what it came to, and y what it came to after the picks left over are checked
   pub runs-agent : (agent p : ℕ) (ys : List ℕ) (g : Agent) (y : Walked) → g ≡ agent-at B agent → p ≡ B .P
       → Runs B c bit (walk B (g .element) (rule-from (node-at B) 32 (g .root)) no-variables (record { made = []; next = p; left = ys })) z m n
       → y ≡ (z then λ w. all-taken (g .root) (w .left) w) → Runs B c bit (agent-walk B agent ys) y m n
@@ -73,7 +72,7 @@ module _ (B : Program) (c : List ℕ) (bit : ℕ) (z : Walked) (m n : List ℕ) 
       let w = walk B (h .element) (rule-from (node-at B) 32 (h .root)) no-variables (record { made = []; next = B .P; left = ys }) in
       let same : (z then λ w. all-taken (g .root) (w .left) w) ≡ (z then λ w. all-taken (h .root) (w .left) w) = ap (λ (a : Agent). z then λ w. all-taken (a .root) (w .left) w) e in
       runs-bind B c bit w (λ o. done (o then λ w. all-taken (h .root) (w .left) w)) z y m n n (started p (B .P) g h ys e f r)
-      (runs-gives B c bit y (z then λ w. all-taken (h .root) (w .left) w) n (t ∙ same))
+      (runs-value B c bit y (z then λ w. all-taken (h .root) (w .left) w) n (t ∙ same))
 
 module _ (B : Program) (c : List ℕ) (bit : ℕ) (i : Input) (o : Walked) (m n : List ℕ) (h : Runs B c bit (agent-walk B (i .agent) (i .picks)) o m n) where
   pub gathered : (w : Walk) → o ≡ walking w → WalkMarked B c bit i o m n
@@ -88,8 +87,8 @@ module _ (B : Program) (c : List ℕ) (bit : ℕ) (i : Input) (o : Walked) (m n 
         silent = λ p q. h .marks p ∙ rw q (marked-zero (walk-reads B c i) m);
       }
 
-  pub gathered-back : (r q : ℕ) (k : List ℕ) → o ≡ refused-at r q → k ≡ bits-cleared bit n → WalkMarked B c bit i o m k
-  gathered-back r q k e t =
+  pub walk-marked-back : (r q : ℕ) (k : List ℕ) → o ≡ refused-at r q → k ≡ bits-cleared bit n → WalkMarked B c bit i o m k
+  walk-marked-back r q k e t =
       record {
         outcome = h .value;
         fired = λ p w u.

@@ -1,3 +1,3 @@
 pub mod Steps
-pub mod Sweep
+pub mod Forall
 pub mod Kept

@@ -17,7 +17,7 @@ use Rattle.book.specs.declared.Node.{Node}
 use Rattle.book.specs.Book.{Program}
 use Rattle.engine.specs.Reader.{Reader, done, value-in, _>>=_}
 use Rattle.engine.specs.Term.{term-at, eval}
-use Rattle.engine.specs.Rule.{Rule, skip, pair, test, Walk, Walked, walking, refused-at, after, take-pick, refuse-if, universe-at, not-member, import-of, choose-of, walk}
+use Rattle.engine.specs.Rule.{Rule, skip, pair, test, Walk, Walked, walking, refused-at, after, take-pick, refuse-if, universe-at, not-member, import-of, choose-of, walk, rule-from}
 use Rattle.engine.proofs.Steps.{rule-pair, rule-test, rule-skip, no-rule-at}
 use Rattle.engine_term.specs.Held.{variables-of, agent-of}
 use Rattle.engine_term.specs.Marks.{Runs}
@@ -25,20 +25,20 @@ use Rattle.engine.proofs.Picks.{universe-high}
 use Rattle.engine_term.proofs.Marking.{runs-done, runs-bind, runs-as}
 use Rattle.engine_emit.specs.declared.Progress.{Progress}
 use Rattle.engine_emit.specs.Emit.{walk-from, reached, importing, importing-found, next-pick, picked}
-use Rattle.engine_emit.proofs.Steps.{reached-going}
+use Rattle.engine_emit.proofs.Steps.{reached-walking}
 use Rattle.engine_reads.specs.Marking.{found-below}
 use Rattle.engine_walk.specs.declared.WalkEnd.{WalkEnd}
-use Rattle.engine_walk.specs.Walk.{walk-of, outcome, rule-from}
+use Rattle.engine_walk.specs.Walk.{walk-of, outcome}
 
 -- ---- what a walk came to
 
-pub outcome-going : (s : WalkEnd) (l : List ℕ) → s .refused ≡ 0 → outcome s l ≡ walking (walk-of s l)
+pub outcome-walking : (s : WalkEnd) (l : List ℕ) → s .refused ≡ 0 → outcome s l ≡ walking (walk-of s l)
 unfolding outcome
-outcome-going s l e = rw (eq-eqb (s .refused) 0 e)
+outcome-walking s l e = rw (eq-eqb (s .refused) 0 e)
 
-pub outcome-met : (s : WalkEnd) (l : List ℕ) → ((s .refused ≡ 0) → ⊥) → outcome s l ≡ refused-at (s .refused) (s .node)
+pub outcome-refused : (s : WalkEnd) (l : List ℕ) → ((s .refused ≡ 0) → ⊥) → outcome s l ≡ refused-at (s .refused) (s .node)
 unfolding outcome
-outcome-met s l e = rw (ne-eqb (s .refused) 0 e)
+outcome-refused s l e = rw (ne-eqb (s .refused) 0 e)
 
 pub outcome-reached : (s : Progress) (l : List ℕ) → outcome (record { len = s .len; label = s .label; refused = s .refused; node = s .node }) l ≡ reached [] s l
 unfolding outcome reached
@@ -57,23 +57,23 @@ module _ (s : List ℕ) (a x : ℕ) where
   bind-agent h = getD-set-other s a 8 x 0 (omega arith)
 
 module _ (B : Program) (c : List ℕ) (bit : ℕ) where
-  -- a scope that has these variables and this agent
+  -- a walk in a scope that has these variables and this agent
   pub runs-scope : (t vs : List ℕ) (me : ℕ) (r : Rule) (o z : Walked) (m n : List ℕ) → variables-of t ≡ vs → agent-of t ≡ me
       → Runs B c bit (after o (walk B (agent-of t) r (variables-of t))) z m n → Runs B c bit (after o (walk B me r vs)) z m n
   runs-scope t vs me r o z m n e f h = rw (← e, ← f) h
 
-  -- ---- what follows a pace
+  -- ---- what follows a step of the walk
 
   module _ (f : Walk → Reader Walked) (ys : List ℕ) (s : Progress) (l : List ℕ) (h : s .refused ≡ 0) (z : Walked) (m n : List ℕ) where
     pub runs-from : Runs B c bit (after (reached ys s l) f) z m n → Runs B c bit (f (walk-from ys s l)) z m n
-    runs-from k = rw (reached-going ys s l h) at k
+    runs-from k = rw (reached-walking ys s l h) at k
 
     pub runs-after : Runs B c bit (f (walk-from ys s l)) z m n → Runs B c bit (after (reached ys s l) f) z m n
-    runs-after k = rw (reached-going ys s l h) k
+    runs-after k = rw (reached-walking ys s l h) k
 
-  -- nothing more is done
-  pub runs-met : (f : Walk → Reader Walked) (o : Walked) (r q : ℕ) (m : List ℕ) → o ≡ refused-at r q → Runs B c bit (after o f) o m m
-  runs-met f o r q m e = rw e (runs-done B c bit (refused-at r q) m)
+  -- after a refusal nothing more is done
+  pub runs-refused : (f : Walk → Reader Walked) (o : Walked) (r q : ℕ) (m : List ℕ) → o ≡ refused-at r q → Runs B c bit (after o f) o m m
+  runs-refused f o r q m e = rw e (runs-done B c bit (refused-at r q) m)
 
   pub runs-skip : (me : ℕ) (vs : List ℕ) (r : Rule) (o : Walked) (m : List ℕ) → r ≡ skip → Runs B c bit (after o (walk B me r vs)) o m m
   unfolding walk
@@ -83,7 +83,7 @@ module _ (B : Program) (c : List ℕ) (bit : ℕ) where
       go (walking w) = runs-done B c bit (walking w) m
       go (refused-at a q) = runs-done B c bit (refused-at a q) m
 
-  -- the rule t, known to be r
+  -- a walk of the rule t is a walk of r, which t is known to be
   pub runs-rule : (me : ℕ) (vs : List ℕ) (t r : Rule) (ys : List ℕ) (s : Progress) (l : List ℕ) (z : Walked) (m n : List ℕ) → s .refused ≡ 0 → t ≡ r
       → Runs B c bit (walk B me r vs (walk-from ys s l)) z m n → Runs B c bit (after (reached ys s l) (walk B me t vs)) z m n
   runs-rule me vs t r ys s l z m n h e k = rw e (runs-after (walk B me r vs) ys s l h z m n k)
@@ -125,9 +125,9 @@ import-as B n u x w body = go (ltb x (B .E))
     go true = refl
     go false = refl
 
--- a choice, by the pick that is next and the value of the universe there
+-- a choose, by the pick that is next and the value of the universe there
 module _ (B : Program) (c : List ℕ) (bit n u : ℕ) (w : Walk) (body : ℕ → Walk → Reader Walked) (v : ℕ) (z : Walked) (j m k : List ℕ) where
-  -- with none left nothing is looked at
+  -- with no pick left nothing is read
   choose-none : Runs B c bit (universe-at B u (B .E)) v j m → Runs B c bit (done (refused-at pick-count n)) z m k → Runs B c bit (done (refused-at pick-count n)) z j k
   unfolding _>>=_
   choose-none r t =
@@ -139,11 +139,11 @@ module _ (B : Program) (c : List ℕ) (bit n u : ℕ) (w : Walk) (body : ℕ →
     abbrev next : ℕ → Reader Walked
     next v = after (refuse-if (not-member v) not-in-universe n (take-pick ys w)) (body y)
 
-    -- an element
+    -- the pick is an element
     choose-low : y < B .E → Runs B c bit (universe-at B u y) v j m → Runs B c bit (next v) z m k → Runs B c bit (universe-at B u y >>= next) z j k
     choose-low h r t = runs-bind B c bit (universe-at B u y) next v z j m k r t
 
-    -- none: it is not in the universe
+    -- the pick is no element, so it is not in the universe
     choose-high : B .E ≤ y → Runs B c bit (universe-at B u (B .E)) v j m
         → Runs B c bit (after (refuse-if (not-member v) not-in-universe n (take-pick ys w)) (body (B .E))) z m k
         → Runs B c bit (universe-at B u y >>= next) z j k
@@ -165,14 +165,14 @@ module _ (B : Program) (c : List ℕ) (bit n u : ℕ) (w : Walk) (body : ℕ →
       (λ h. let e : next-pick (B .E) (y ∷ ys) ≡ y = rw (lt-ltb y (B .E) h) in choose-low y ys h (rw e at r) (rw e at t))
       (λ (h : ¬ (y < B .E)). let e : next-pick (B .E) (y ∷ ys) ≡ B .E = rw (le-ltb y (B .E) (omega arith)) in choose-high y ys (omega arith) (rw e at r) (rw e at t))
 
--- one place less
+-- a number below m + 1 that is not m is below m
 less-by : (k m : ℕ) → k < suc m → ((k ≡ m) → ⊥) → k < m
 less-by k m h n = omega arith
 
 exact : (k : ℕ) → 20 ≤ k → k < 21 → k ≡ 20
 exact k h i = omega arith
 
--- of the kinds 20 to 28, the one that is none of 21 to 28
+-- of the kinds 20 to 28, the one that is none of 21 to 28 is skip
 only-skip : (k : ℕ) → 20 ≤ k → k < 29 → ((k ≡ 21) → ⊥) → ((k ≡ 22) → ⊥) → ((k ≡ 23) → ⊥) → ((k ≡ 24) → ⊥) → ((k ≡ 25) → ⊥) → ((k ≡ 26) → ⊥) → ((k ≡ 27) → ⊥) → ((k ≡ 28) → ⊥) → k ≡ 20
 only-skip k h i a b c d e f g p =
     exact k h (less-by k 21 (less-by k 22 (less-by k 23 (less-by k 24 (less-by k 25 (less-by k 26 (less-by k 27 (less-by k 28 i p) g) f) e) d) c) b) a)

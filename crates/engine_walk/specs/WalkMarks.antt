@@ -11,15 +11,15 @@ use Rattle.engine.specs.Rule.{Walk, Walked, walking, refused-at}
 use Rattle.engine.specs.Move.{Input, walked, walk-reads}
 use Rattle.engine_term.specs.Marks.{marked, Placed}
 
--- the marks without the bits that this mask lacks
+-- the marks m without the bits that the mask lacks
 abbrev pub masked : ℕ → List ℕ → List ℕ
 masked mask m = map (λ v. bitAnd v mask) m
 
--- the marks without this bit and the higher ones
+-- the marks m without this bit and the higher ones
 abbrev pub bits-cleared : ℕ → List ℕ → List ℕ
 bits-cleared bit m = if eqb bit 0 then m else masked (bit - 1) m
 
--- marks of moves with lower bits only
+-- the marks m are of moves with lower bits than this one
 abbrev pub LowerBits : ℕ → List ℕ → Type 0
 LowerBits bit m = (i : ℕ) → getD m i 0 < bit
 

@@ -10,18 +10,15 @@ ghost use Prim.Native.Nat.{ℕ};
 ghost use lib.Dec.{eqb};
 ghost use lib.ListN.{length, set};
 ghost use Rattle.text.specs.Words.{if_then_else_};
-ghost use Rattle.book.specs.Book.{node-at};
 ghost use Rattle.engine.specs.Move.{input};
-ghost use Rattle.engine.specs.Term.{term-at};
-ghost use Rattle.engine.specs.Rule.{assign, bind, for-all, import, release, choose, after, most-instructions, walk};
+ghost use Rattle.engine.specs.Rule.{import, after, most-instructions, walk};
 ghost use Rattle.engine_term.specs.Held.{variables-of, agent-of};
-ghost use Rattle.book.specs.Image.{held};
-ghost use Rattle.engine_term.specs.Marks.{Runs};
-ghost use Rattle.engine_emit.specs.Emit.{picks-left, walk-from, reached};
+ghost use Rattle.book.specs.Image.{low-program};
+ghost use Rattle.engine_emit.specs.Emit.{reached};
 ghost use Rattle.engine_walk.specs.WalkMarks.{bits-cleared, WalkMarked};
-ghost use Rattle.engine_walk.specs.Walk.{outcome, rule-from, walk-at, body-at};
+ghost use Rattle.engine_walk.specs.Walk.{outcome, assign-rule, let-rule, forall-rule, import-rule, release-rule, choose-rule, frame, state-before, state-after, state-before-with, state-after-with, RuleWalked, NodeWalked, BodyWalked};
 
-// How far a walk came: how many instructions it has given, the label from which the next import looks,
+// How a walk ended: how many instructions it has given, the label from which the next import would search,
 // its refusal (0 for none) and the refusal's node.
 pub struct WalkEnd {
     pub len: usize,
@@ -30,7 +27,7 @@ pub struct WalkEnd {
     pub node: u16,
 }
 
-// Puts variable a at x.
+// Puts variable a of the scope at x.
 fn bind_variable(scope: &mut [Value; 9], a: u16, x: Value)
     ensures { λ _. ⌜ (variables-of (now (scope .exit)) ≡ set (variables-of (now (scope .entry))) a x) × (agent-of (now (scope .exit)) ≡ agent-of (now (scope .entry))) ⌝ }
 {
@@ -39,14 +36,14 @@ fn bind_variable(scope: &mut [Value; 9], a: u16, x: Value)
     }
 }
 
-// The branch that a guard takes: b where it is true, else c.
+// The branch that a guard with the value x takes: b if it is true, else c.
 fn branch(x: Value, b: u16, c: u16) -> u16
     ensures { λ r. ⌜ r ≡ (if eqb x 2 then b else c) ⌝ }
 {
     if x == 2 { b } else { c }
 }
 
-// Rule 21: the location that node a names gets the value of term b.
+// Kind 21, a set: the location that node a names gets the value of term b.
 fn walk_assign(
     image: &Image,
     contents: &[Value],
@@ -60,7 +57,7 @@ fn walk_assign(
     row: StoredNode,
 ) -> Progress
     requires { ⌜ s .refused ≡ 0 ⌝ }
-    ensures { λ r. ⌜ ((ys : List ℕ) → Runs (held (now (image .entry))) (now (contents .entry)) bit (walk (held (now (image .entry))) (agent-of (now (scope .entry))) (assign n (term-at (node-at (held (now (image .entry)))) depth (row .a)) (term-at (node-at (held (now (image .entry)))) depth (row .b))) (variables-of (now (scope .entry))) (walk-from ys s (now (list .entry)))) (reached ys r (now (list .exit))) (now (readers .entry)) (now (readers .exit))) ⌝ }
+    ensures { λ r. ⌜ ((ys : List ℕ) → RuleWalked (frame image contents bit scope) (assign-rule (now (image .entry)) depth n row) (state-before-with ys s list readers) (state-after-with ys r list readers)) ⌝ }
 {
     let at = engine_term::target_location(image, contents, readers, bit, scope, depth, row.a);
     let x = engine_term::eval(image, contents, readers, bit, scope, depth, row.b);
@@ -68,7 +65,7 @@ fn walk_assign(
     engine_emit::emit_update(image, list, s, n, f, at, x)
 }
 
-// Rule 27: the label that term a gives goes back to the roll.
+// Kind 27, a release: the label that term a gives goes back to the roll.
 fn walk_release(
     image: &Image,
     contents: &[Value],
@@ -82,15 +79,15 @@ fn walk_release(
     row: StoredNode,
 ) -> Progress
     requires { ⌜ s .refused ≡ 0 ⌝ }
-    ensures { λ r. ⌜ ((ys : List ℕ) → Runs (held (now (image .entry))) (now (contents .entry)) bit (walk (held (now (image .entry))) (agent-of (now (scope .entry))) (release n (term-at (node-at (held (now (image .entry)))) depth (row .a))) (variables-of (now (scope .entry))) (walk-from ys s (now (list .entry)))) (reached ys r (now (list .exit))) (now (readers .entry)) (now (readers .exit))) ⌝ }
+    ensures { λ r. ⌜ ((ys : List ℕ) → RuleWalked (frame image contents bit scope) (release-rule (now (image .entry)) depth n row) (state-before-with ys s list readers) (state-after-with ys r list readers)) ⌝ }
 {
     let x = engine_term::eval(image, contents, readers, bit, scope, depth, row.a);
     let v = engine_reads::read_reserve(image, contents, readers, bit, x);
     engine_emit::emit_release(image, list, s, n, x, v)
 }
 
-// The rule at node n, looking at most `depth` nodes down; after a refusal nothing more is done.
-// Its kind decides: a pair's second part and a test's branch take the node's place, with no call; the other kinds end the walk.
+// Walks the rule at node n, at most `depth` nodes deep; after a refusal nothing more is done.
+// The second rule of a both and the branch of an if take the place of node n in the loop, with no call; each other kind ends the loop.
 fn walk(
     image: &Image,
     contents: &[Value],
@@ -104,7 +101,7 @@ fn walk(
     s: Progress,
     n: u16,
 ) -> Progress
-    ensures { λ r. ⌜ Runs (held (now (image .entry))) (now (contents .entry)) bit (after (reached (picks-left (now (picks .entry)) (now (used .entry))) s (now (list .entry))) (walk-at (now (image .entry)) (now (scope .entry)) depth n)) (reached (picks-left (now (picks .entry)) (now (used .exit))) r (now (list .exit))) (now (readers .entry)) (now (readers .exit)) ⌝ }
+    ensures { λ r. ⌜ NodeWalked (frame image contents bit scope) depth n (state-before picks used s list readers) (state-after picks used r list readers) ⌝ }
 {
     let mut left = depth;
     let mut at = n;
@@ -225,7 +222,7 @@ fn walk(
     r
 }
 
-// The body c of a row that binds variable a, with a at x.
+// Walks the c of a binder that binds variable a, with a at x.
 fn walk_body(
     image: &Image,
     contents: &[Value],
@@ -240,7 +237,7 @@ fn walk_body(
     row: StoredNode,
     x: Value,
 ) -> Progress
-    ensures { λ r. ⌜ Runs (held (now (image .entry))) (now (contents .entry)) bit (after (reached (picks-left (now (picks .entry)) (now (used .entry))) s (now (list .entry))) (body-at (now (image .entry)) (now (scope .entry)) depth (row .c) (row .a) x)) (reached (picks-left (now (picks .entry)) (now (used .exit))) r (now (list .exit))) (now (readers .entry)) (now (readers .exit)) ⌝ }
+    ensures { λ r. ⌜ BodyWalked (frame image contents bit scope) depth row x (state-before picks used s list readers) (state-after picks used r list readers) ⌝ }
 {
     let mut inner = *scope;
     bind_variable(&mut inner, row.a, x);
@@ -259,7 +256,7 @@ fn walk_body(
     )
 }
 
-// Rule 24: the body c with variable a at the value of term b.
+// Kind 24, a let: the body c is walked with variable a at the value of term b.
 fn walk_let(
     image: &Image,
     contents: &[Value],
@@ -274,7 +271,7 @@ fn walk_let(
     row: StoredNode,
 ) -> Progress
     requires { ⌜ s .refused ≡ 0 ⌝ }
-    ensures { λ r. ⌜ Runs (held (now (image .entry))) (now (contents .entry)) bit (walk (held (now (image .entry))) (agent-of (now (scope .entry))) (bind (row .a) (term-at (node-at (held (now (image .entry)))) depth (row .b)) (rule-from (node-at (held (now (image .entry)))) depth (row .c))) (variables-of (now (scope .entry))) (walk-from (picks-left (now (picks .entry)) (now (used .entry))) s (now (list .entry)))) (reached (picks-left (now (picks .entry)) (now (used .exit))) r (now (list .exit))) (now (readers .entry)) (now (readers .exit)) ⌝ }
+    ensures { λ r. ⌜ RuleWalked (frame image contents bit scope) (let-rule (now (image .entry)) depth row) (state-before picks used s list readers) (state-after picks used r list readers) ⌝ }
 {
     let x = engine_term::eval(image, contents, readers, bit, scope, depth, row.b);
     walk_body(
@@ -293,7 +290,7 @@ fn walk_let(
     )
 }
 
-// Rule 25: the body c with variable a at each member of the universe b, ascending.
+// Kind 25, a forall: the body c is walked with variable a at each member of the universe b, ascending.
 fn walk_forall(
     image: &Image,
     contents: &[Value],
@@ -308,7 +305,7 @@ fn walk_forall(
     row: StoredNode,
 ) -> Progress
     requires { ⌜ s .refused ≡ 0 ⌝ }
-    ensures { λ r. ⌜ Runs (held (now (image .entry))) (now (contents .entry)) bit (walk (held (now (image .entry))) (agent-of (now (scope .entry))) (for-all (row .a) (row .b) (rule-from (node-at (held (now (image .entry)))) depth (row .c))) (variables-of (now (scope .entry))) (walk-from (picks-left (now (picks .entry)) (now (used .entry))) s (now (list .entry)))) (reached (picks-left (now (picks .entry)) (now (used .exit))) r (now (list .exit))) (now (readers .entry)) (now (readers .exit)) ⌝ }
+    ensures { λ r. ⌜ RuleWalked (frame image contents bit scope) (forall-rule (now (image .entry)) depth row) (state-before picks used s list readers) (state-after picks used r list readers) ⌝ }
 {
     engine_reads::mark_universe(image, readers, bit, row.b);
     let e = book_image::elements(image);
@@ -338,7 +335,7 @@ fn walk_forall(
     r
 }
 
-// Rule 26: the lowest label of the roll enters the universe b; the body c with variable a at it.
+// Kind 26, an import: the lowest label of the roll is put into the universe b, and the body c is walked with variable a at it.
 fn walk_import(
     image: &Image,
     contents: &[Value],
@@ -354,7 +351,7 @@ fn walk_import(
     row: StoredNode,
 ) -> Progress
     requires { ⌜ s .refused ≡ 0 ⌝ }
-    ensures { λ r. ⌜ Runs (held (now (image .entry))) (now (contents .entry)) bit (walk (held (now (image .entry))) (agent-of (now (scope .entry))) (import n (row .a) (row .b) (rule-from (node-at (held (now (image .entry)))) depth (row .c))) (variables-of (now (scope .entry))) (walk-from (picks-left (now (picks .entry)) (now (used .entry))) s (now (list .entry)))) (reached (picks-left (now (picks .entry)) (now (used .exit))) r (now (list .exit))) (now (readers .entry)) (now (readers .exit)) ⌝ }
+    ensures { λ r. ⌜ RuleWalked (frame image contents bit scope) (import-rule (now (image .entry)) depth n row) (state-before picks used s list readers) (state-after picks used r list readers) ⌝ }
 {
     let x = engine_reads::lowest_label(image, contents, readers, bit, s.label);
     let t = engine_emit::import_label(image, list, s, n, row.b, x);
@@ -374,7 +371,7 @@ fn walk_import(
     )
 }
 
-// Rule 28: the move's next pick, a member of the universe b; the body c with variable a at it.
+// Kind 28, a choose: the move's next pick must be in the universe b, and the body c is walked with variable a at it.
 fn walk_choose(
     image: &Image,
     contents: &[Value],
@@ -390,7 +387,7 @@ fn walk_choose(
     row: StoredNode,
 ) -> Progress
     requires { ⌜ s .refused ≡ 0 ⌝ }
-    ensures { λ r. ⌜ Runs (held (now (image .entry))) (now (contents .entry)) bit (walk (held (now (image .entry))) (agent-of (now (scope .entry))) (choose n (row .a) (row .b) (rule-from (node-at (held (now (image .entry)))) depth (row .c))) (variables-of (now (scope .entry))) (walk-from (picks-left (now (picks .entry)) (now (used .entry))) s (now (list .entry)))) (reached (picks-left (now (picks .entry)) (now (used .exit))) r (now (list .exit))) (now (readers .entry)) (now (readers .exit)) ⌝ }
+    ensures { λ r. ⌜ RuleWalked (frame image contents bit scope) (choose-rule (now (image .entry)) depth n row) (state-before picks used s list readers) (state-after picks used r list readers) ⌝ }
 {
     let x = engine_emit::next_pick(image, picks, used);
     let v = engine_reads::read_universe(image, contents, readers, bit, row.b, x);
@@ -420,7 +417,7 @@ pub fn clear_marks(readers: &mut [u64], bit: u64)
     }
 }
 
-// Where a walk with that list ended, as others see it.
+// How a walk ended, from its state.
 fn walk_end(s: Progress, list: &[u64]) -> WalkEnd
     ensures { λ r. ⌜ outcome r (now (list .entry)) ≡ reached [] s (now (list .entry)) ⌝ }
 {
@@ -432,7 +429,7 @@ fn walk_end(s: Progress, list: &[u64]) -> WalkEnd
     }
 }
 
-// The walk of an agent's rule with the move's picks, and its marks; a refused one leaves none. The list keeps its length.
+// Walks an agent's rule with the move's picks, and marks what it reads; a walk that is refused leaves no marks. The list keeps its length.
 pub fn walk_move(
     image: &Image,
     contents: &[Value],
@@ -442,7 +439,7 @@ pub fn walk_move(
     agent: u32,
     picks: &[Pick],
 ) -> WalkEnd
-    ensures { λ r. ⌜ WalkMarked (held (now (image .entry))) (now (contents .entry)) bit (input agent (now (picks .entry))) (outcome r (now (list .exit))) (now (readers .entry)) (now (readers .exit)) ⌝ }
+    ensures { λ r. ⌜ WalkMarked (low-program (now (image .entry))) (now (contents .entry)) bit (input agent (now (picks .entry))) (outcome r (now (list .exit))) (now (readers .entry)) (now (readers .exit)) ⌝ }
     ensures { λ _. ⌜ length (now (list .exit)) ≡ most-instructions ⌝ }
 {
     let who = book_image::agent_at(image, agent);

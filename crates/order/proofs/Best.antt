@@ -1,4 +1,4 @@
--- The least pair of moves that passes a test, kept while the second moves go by: for each the nearest first move.
+-- The least pair of moves that passes a test, found while the second moves are tried one by one: for each the least first move.
 use mathlib.Core.Path.{_≡_, _∙_}
 use mathlib.Core.Logic.{_⊎_, inl, inr, dite, _≢_}
 use mathlib.Core.Bool.{Bool, true}
@@ -8,7 +8,7 @@ use native.Mathlib.Decide.{ℕ-discrete, decLt}
 use Rattle.order.specs.Pairs.{no-pair, a-pair, least-pair}
 use Rattle.order.proofs.Pairs.{Passing, two-none, two-least}
 
--- of the pairs whose second move is below k the least is a, b; a is 64 for none
+-- of the pairs whose second move is below k the least that passes f is (a, b); a is 64 for none
 pub record Best (f : ℕ → ℕ → Bool) (k a b : ℕ) : Type 0 where
   pub top : a ≤ 64
   pub hit : a < 64 → Passing f k a b
@@ -18,7 +18,7 @@ module _ (f : ℕ → ℕ → Bool) where
   pub best-start : Best f 0 64 0
   best-start = record { top = omega arith; hit = λ h. absurd (omega arith); low = λ x y p. absurd (omega (arith, p .1)) }
 
-  -- one second move more: r is its nearest first
+  -- one second move more, whose least first move is r
   module _ (k a b r : ℕ) (lim : k < 64) (s : Best f k a b) (hit : r < 64 → (r < k) × (f r k ≡ true)) (low : (i : ℕ) → i < k → f i k ≡ true → r ≤ i) where
     below : (x y : ℕ) → Passing f (k + 1) x y → y ≢ k → Passing f k x y
     below x y p n = let h : y < k + 1 = p .1 in (p .0, omega arith, p .2)

@@ -1,4 +1,4 @@
--- Demand 3 holds.
+-- Demand 3, freedom of order, holds.
 use mathlib.Core.Path.{_≡_, refl, sym, ap, ap₂, subst, _∙_}
 use mathlib.Core.Logic.{_↔_, _⊎_, inl, inr}
 use mathlib.Core.Bool.{Bool, true, false, not, true≢false}
@@ -19,7 +19,7 @@ use Rattle.order.specs.Pairs.{predecessors, ordered-by, PairFound, no-pa
 use Rattle.order.specs.declared.Lengths.{Lengths}
 use Rattle.order.specs.Log.{Log, move-at, check-log}
 use Rattle.order.specs.Run.{Run, RunOutcome, ran, halted, run, touch, fired-at, unordered-touching, LogAnswer, order-checked, finish, run-from, run-log}
-use Rattle.order.specs.Call.{Tables, lengths, check-lent, check-all, left-past, log-answer, log-call}
+use Rattle.order.specs.Call.{lengths, check-lent, check-all, left-past, log-answer, log-call}
 use Rattle.order.specs.Orders.{Moves, listed, one, more, from, Keeps, Agrees, LeastPair}
 use Rattle.order.specs.Demand.{PairOf, moves-of, count, OrderedByPairs, Does, AllFire, UnorderedTouch, Passes, Demand3}
 use Rattle.order.proofs.Listed.{agrees}
@@ -30,8 +30,9 @@ use Rattle.order.proofs.Log.{Passed, passed}
 use Rattle.order.proofs.Numbers.{Early, on, off, all-early}
 use Rattle.order.proofs.Swap.{act-fires, laws}
 use Rattle.order.proofs.Touching.{touch-iff}
+use Rattle.engine.specs.Tables.{Tables}
 
--- 17, at the place (i, j)
+-- the answer is refusal 17, at the place (i, j)
 abbrev Is17 : LogAnswer → ℕ → ℕ → Type 0
 Is17 a i j = (a .answer .number ≡ 17) × (a .answer .p ≡ i) × (a .answer .q ≡ j)
 
@@ -53,7 +54,7 @@ module _ (B : Program) (g : Log) (c : List ℕ) where
     before-up (one {a} {b} p) = up a b p
     before-up (more {a} {b} {c} f p) = omega (arith, before-up f, up b c p)
 
-    -- what 17 looks for
+    -- the test of refusal 17
     abbrev test : Run → ℕ → ℕ → Bool
     test s = unordered-touching (predecessors (g .pairs) m) (L B) (s .fired)
 
@@ -61,7 +62,7 @@ module _ (B : Program) (g : Log) (c : List ℕ) where
       all-fire : AllFire B g c m
       all-fire i h = (fired-at (s .fired) i, k .fired i h)
 
-      -- what move i does
+      -- the move i that a run has is what it does in the listed order
       is-act : (i : ℕ) (f : Fired) → i < m → Does B g c i f → fired-at (s .fired) i ≡ f
       is-act i f h e = let q = k .fired i h in cc
 
@@ -157,7 +158,7 @@ module _ (B : Program) (g : Log) (c : List ℕ) where
         let k = run-left B g c m (t .0) (t .1) in
         rw (t .1, two-least (test (t .0)) m i j .1 (least-iff (t .0) k i j .1 n)) (refl, refl, refl)
 
-    -- whichever pair it is
+    -- if some two unordered moves touch, whichever they are, the run gets refusal 17
     seventeen-from : (i j : ℕ) → AllFire B g c m → UnorderedTouch B g c i j → run-from B g c .answer .number ≡ 17
     unfolding run-from finish
     seventeen-from i j f n =
@@ -196,7 +197,7 @@ module _ (book log : List ℕ) (t : Tables) (n : ℕ) where
   abbrev checks : Checked (Book × Log)
   checks = check-all book log (lengths t n)
 
-  -- a call that is accepted, or refused by 17, has passed the checks
+  -- a call that is accepted, or gets refusal 17, has passed the checks
   passes : (k : ℕ) → (k ≡ 0) ⊎ (10 < k) → log-call book log t n .answer .number ≡ k → (b : Book) × (g : Log) × (checks ≡ good (b, g))
   unfolding log-call
   passes k h e = go checks refl (all-early book log (lengths t n)) e
@@ -209,12 +210,12 @@ module _ (book log : List ℕ) (t : Tables) (n : ℕ) where
       go (good x) q (on f) e = (x .0, x .1, q)
       go (refused a p r) q (off f) e = absurd (far a (f .0, f .1) h e)
 
-  -- and its answer is the run's
+  -- the answer of a call that has passed the checks is that of its run
   as-run : (b : Book) (g : Log) → checks ≡ good (b, g) → log-call book log t n ≡ left-past t (run-log b g)
   unfolding log-call
   as-run b g e = rw e
 
-  -- a call refused by 17 names the least pair
+  -- a call that gets refusal 17 names the least pair
   refuse : (i j : ℕ) → Is17 (log-call book log t n) i j → (b : Book) × (g : Log) × Passes book log t n b g × LeastPair (UnorderedTouch (b .program) g (start b)) i j
   refuse i j e = let r = passes 17 (inr (omega arith)) (e .0) in go (r .0) (r .1) (r .2) (rw (as-run (r .0) (r .1) (r .2)) at e)
     where

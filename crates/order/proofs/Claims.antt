@@ -13,7 +13,7 @@ use Rattle.order.specs.Log.{Log}
 use Rattle.order.specs.Run.{Run, RunOutcome, ran, halted, run, reads-at, writes-at, fired-at}
 use Rattle.order.specs.Orders.{Reads, Writes, listed}
 use Rattle.order.specs.Demand.{moves-of}
-use Rattle.order.specs.Claims.{OrdersAgree, MovesSwap, TakingTouches, RowsAreOrder, Did, Marked, RunsLeave, RunsAnswer, PicksAreElements}
+use Rattle.order.specs.Claims.{OrdersAgree, MovesSwap, TakingTouches, RowsAreOrder, Did, Marked, RunsLeave, RunsAnswer, LogPicksAreElements}
 use Rattle.order.specs.Claims as claims
 use Rattle.order.proofs.Log.{passed}
 use Rattle.order.proofs.Listed.{agrees}
@@ -43,7 +43,7 @@ module _ (B : Program) (g : Log) (c : List ℕ) (n : ℕ) (s : Run) (k : Left B 
       one : (a b : Fired) → some a ≡ some b → a ≡ b
       one a b q = cc
 
-  -- a fact of the act in the list is one of the act in the listed order
+  -- a fact about what move i did in the run is one about what it does in the listed order
   did : (i : ℕ) (Q R : Fired → Type 0) → ((f : Fired) → Q f ↔ R f) → ((i < length (s .fired)) × Q (fired-at (s .fired) i)) ↔ Did B g c n i R
   did i Q R same = (
     λ h. (omega (arith, h .0, k .long), (fired-at (s .fired) i, k .fired i (omega (arith, h .0, k .long)), same (fired-at (s .fired) i) .0 (h .1))),
@@ -75,5 +75,5 @@ runs-leave B g c n = go (run B g c n) refl
 pub runs-answer : RunsAnswer
 runs-answer book log t n = log-small book log t n .not-16
 
-pub picks-are-elements : PicksAreElements
+pub picks-are-elements : LogPicksAreElements
 picks-are-elements B text g e = passed B text g e .picks

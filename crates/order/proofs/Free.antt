@@ -1,4 +1,4 @@
--- Order freedom from the swap of two moves: where all moves of a log fire and no two that the pairs leave unordered touch, every order that keeps the
+-- Freedom of order from the swap of two moves: where all moves of a log fire and no two that the pairs leave unordered touch, every order that keeps the
 -- pairs does the same.
 use mathlib.Core.Path.{_≡_, refl, sym, ap, subst, _∙_}
 use mathlib.Core.Logic.{inl, inr, _≢_}
@@ -9,7 +9,7 @@ use Prim.Native.Nat.{ℕ}
 use lib.Dec.{eqb}
 use borrow.Author.Tests.{eqb-true, eq-eqb, ne-eqb}
 use Rattle.text.specs.Words.{has}
-use Rattle.order.specs.Orders.{Moves, Laws, value-after, Touch, contents-after, step, run-in-order, Before, Keeps}
+use Rattle.order.specs.Orders.{Moves, Laws, value-after, Touch, after-act, step, run-in-order, Before, Keeps}
 use Rattle.order.proofs.Order.{has-here, has-at, has-right, has-left, has-split, Upward, Up, upward-drop, upward-before, upward, left-same}
 
 -- ---- what a move does in a run
@@ -24,23 +24,23 @@ module _ (S : Moves) where
   act c [] i = none
   act c (j ∷ is) i = choose (eqb j i) (S .does j c) (act (step S c j) is i)
 
--- What the run of the log as listed has to show.
+-- What the run of a log in the listed order has to show.
 pub record Accepted (S : Moves) (start : S .Con) (log : List ℕ) (pair : ℕ → ℕ → Type 0) : Type 0 where
   pub good : S .Good start
   pub keeps : Keeps log pair log
-  -- all moves fire
+  -- all moves of the log fire
   pub fires : (i : ℕ) → has log i ≡ true → (a : S .Act) × (act S start log i ≡ some a)
-  -- no two that the pairs leave unordered touch
+  -- no two moves that the pairs leave unordered touch
   pub apart : (i j : ℕ) (a b : S .Act) → i ≢ j → act S start log i ≡ some a → act S start log j ≡ some b
       → ¬ Before pair i j → ¬ Before pair j i → ¬ Touch S a b
 
--- What then holds of an order of the log's moves.
+-- What then holds of an order of the log's moves, compared with the listed order.
 pub record Same (S : Moves) (start : S .Con) (log is : List ℕ) : Type 0 where
   -- each move does what it does in the listed order: it fires, with the same act
   pub acts : (i : ℕ) → act S start is i ≡ act S start log i
-  -- the end is the listed order's
+  -- the end is that of the listed order
   pub ends : run-in-order S start is ≡ run-in-order S start log
-  -- at the start and after each move the contents are good
+  -- the contents are good at the start and after each move
   pub good : (p q : List ℕ) → is ≡ p ++ q → S .Good (run-in-order S start p)
 
 -- ---- a run in which each move does what f says
@@ -72,7 +72,7 @@ module _ (S : Moves) (f : ℕ → Option (S .Act)) where
     fires i (has-here i is) .0,
     g i (has-here i is) ∙ fires i (has-here i is) .1,
     first,
-    subst (λ (x : S .Con). Runs x is (run-in-order S (step S c i) is)) (ap (λ o. contents-after S c o) first)
+    subst (λ (x : S .Con). Runs x is (run-in-order S (step S c i) is)) (ap (λ o. after-act S c o) first)
         (runs-from pair is (step S c i) (u .1)
         (λ j h. (fires j (has-right (i ∷ []) is j h) .0, sym (rest j h) ∙ fires j (has-right (i ∷ []) is j h) .1))
         (λ j h. g j (has-right (i ∷ []) is j h) ∙ rest j h)),
@@ -92,7 +92,7 @@ act-none S (j ∷ is) c i h = go (eqb j i) h (act-none S is (step S c j) i)
     go true h k = absurd (false≢true (sym h))
     go false h k = k h
 
--- what a move does in a run is what it does in its turn
+-- what a move does in a run is what it does on the contents that the moves before it leave
 act-turn : (S : Moves) (c : S .Con) (p : List ℕ) (i : ℕ) (q : List ℕ) → has p i ≡ false → act S c (p ++ i ∷ q) i ≡ S .does i (run-in-order S c p)
 act-turn S c [] i q h = rw (eq-eqb i i refl)
 act-turn S c (j ∷ p) i q h = go (eqb j i) h (act-turn S (step S c j) p i q)
@@ -168,7 +168,7 @@ module _ (S : Moves) (law : Laws S) (start : S .Con) (log : List ℕ) (pair : �
       (acc .good) (upward k) (upward (acc .keeps)) (k .all)
       (runs-from S (act S start log) pair log start (upward (acc .keeps)) (acc .fires) (λ i h. refl))
 
-  -- Every order that keeps the pairs does the same.
+  -- Every order that keeps the pairs does the same as the listed one.
   pub free : (is : List ℕ) → Keeps log pair is → Same S start log is
   free is k = record {
     acts = λ i. go i (has is i) refl;
@@ -180,7 +180,7 @@ module _ (S : Moves) (law : Laws S) (start : S .Con) (log : List ℕ) (pair : �
       go i true h = runs-act S (act S start log) is start (run-in-order S start log) (ordered is k) i h
       go i false h = act-none S is start i h ∙ sym (act-none S log start i (sym (k .all i) ∙ h))
 
-  -- No move is refused in its turn, and each does there what it does in the listed run.
+  -- In every order that keeps the pairs no move is refused, and each does what it does in the listed run.
   pub in-turn : (is : List ℕ) → Keeps log pair is → (p : List ℕ) (i : ℕ) (q : List ℕ) → is ≡ p ++ i ∷ q
       → (a : S .Act) × (S .does i (run-in-order S start p) ≡ some a) × (act S start log i ≡ some a)
   in-turn is k p i q e =

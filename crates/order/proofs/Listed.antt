@@ -106,7 +106,7 @@ module _ (S : Moves) (start : S .Con) (m : ℕ) (pair : ℕ → ℕ → Type 0) 
           dite (decLt i j) (λ (h : i < j). log .apart i j a b h q da db x t)
           (λ (h : ¬ (i < j)). log .apart j i b a (omega arith) p db da y (touch-sym S a b t))
 
--- The whole-order theorem for a log as listed.
+-- Freedom of order for a log as listed: every order that keeps the pairs agrees with the listed one.
 pub agrees : (S : Moves) → Laws S → (start : S .Con) (m : ℕ) (pair : ℕ → ℕ → Type 0) → Listing S start m pair
     → (is : List ℕ) → Keeps (from 0 m) pair is → Agrees S start m is
 agrees S law start m pair log is k =

@@ -25,12 +25,12 @@ pub record Passed (A E : ℕ) (g : Log) : Type 0 where
   pub few : count g ≤ most-moves
   -- the agent of each move is one of the A
   pub agents : (i : ℕ) → i < count g → move-at g i .agent < A
-  -- pairs go upwards, and are of the log's moves
+  -- pairs go upwards, and are pairs of the log's moves
   pub up : (a b : ℕ) → PairOf (g .pairs) a b → (a < b) × (b < count g)
-  -- picks are elements
+  -- the picks of each move are elements
   pub picks : (i y : ℕ) → has (move-at g i .picks) y ≡ true → y < E
 
--- a pair of a list made by place has its place
+-- a pair of a list made by place has a place in it
 pair-in : (f : ℕ → Pair) (i n a b : ℕ) → PairOf (table-from f i n) a b → (j : ℕ) × (j < n) × (f (i + j) .earlier ≡ a) × (f (i + j) .later ≡ b)
 unfolding table-from
 pair-in f i zero a b p = absurd p
@@ -58,7 +58,7 @@ agent-low A l e =
     let t1 = and-cases (ltb (l .a) A && eqb (l .b) 0) (eqb (l .c) 0) t2 .0 in
     ltb-true (l .a) A (and-cases (ltb (l .a) A) (eqb (l .b) 0) t1 .0)
 
--- a pick of a list made by place has its place
+-- a pick of a list made by place has a place in it
 pick-in : (f : ℕ → Choice) (k n i y : ℕ) → has (picks-of (table-from f k n) i) y ≡ true → (j : ℕ) × (j < n) × (f (k + j) .element ≡ y)
 unfolding table-from picks-of
 pick-in f k zero i y h = absurd (false≢true h)
@@ -79,7 +79,7 @@ pick-in f k (suc n) i y h = go (eqb (f k .move) i) h (pick-in f (suc k) n i y)
     go false p r = later (r p)
     go true p r = here (or-cases (eqb (f k .element) y) (has (picks-of (table-from f (suc k) n) i) y) p) r
 
--- a choice line that is not at fault: its move, its element, and the order of the lines
+-- what a choice line that is not at fault has: its move, its element, and the order of the lines
 pub choice-low : (E m : ℕ) (k l : Line) (i : ℕ) → bad-choice E m k l i ≡ false → (l .a < m) × (l .b < E) × ((eqb i 0 || leb (k .a) (l .a)) ≡ true)
 choice-low E m k l i e =
     let low = ltb (l .a) m && ltb (l .b) E in
@@ -91,7 +91,7 @@ choice-low E m k l i e =
     let t0 = and-cases (ltb (l .a) m) (ltb (l .b) E) (t1 .0) in
     (ltb-true (l .a) m (t0 .0), ltb-true (l .b) E (t0 .1), t1 .1)
 
--- the bounds of the log's header
+-- the bounds of the numbers in a log's header
 pub header-few : (text : List ℕ) (h : Line) → check-log-header text ≡ good h → (h .a ≤ most-moves) × (h .b ≤ most-pairs) × (h .c ≤ most-picks)
 unfolding check-log-header
 header-few text h e =
@@ -104,12 +104,12 @@ header-few text h e =
     subst (λ (x : Line). (x .a ≤ most-moves) × (x .b ≤ most-pairs) × (x .c ≤ most-picks)) (good-same l h (e9 .1))
     (leb-true (l .a) most-moves (t0 .0), leb-true (l .b) most-pairs (t0 .1), leb-true (l .c) most-picks (t1 .1))
 
--- the input of move i
+-- the input of move i, as the lines say it
 abbrev pub input-at : Line → List ℕ → ℕ → Input
 input-at h text i = input-of (line text (1 + i)) (picks-of (choices-of h text) i)
 
 module _ (A E : ℕ) (h : Line) (text : List ℕ) (u : Unit {0}) (e : check-log-lines A E h text ≡ good u) where
-  -- no line is at fault
+  -- no line of the log is at fault
   no-fault : (least (bad-move-at A text) (h .a) ≡ Nowhere) × (least (bad-pair-at (h .a) text) (h .b) ≡ Nowhere)
       × (least (bad-choice-at E (h .a) (h .a + h .b) text) (h .c) ≡ Nowhere)
   unfolding check-log-lines
@@ -159,7 +159,7 @@ module _ (A E : ℕ) (h : Line) (text : List ℕ) (u : Unit {0}) (e : check-log-
       inside : i < h .a → y < E
       inside k = choices-low i y (rw (getD-table (input-at h text) (h .a) i no-input k) at p)
 
--- 1 and 9 passed
+-- what a log that passes refusals 1 and 9 has
 pub read-passed : (A E : ℕ) (text : List ℕ) (g : Log) → read-log A E text ≡ good g → Passed A E g
 unfolding read-log log-of
 read-passed A E text g e =
@@ -175,7 +175,7 @@ read-passed A E text g e =
       picks = picks-low A E h text (u .0) (u .1);
     })
 
--- and 10
+-- a log that passes refusals 1, 9 and 10 passes 1 and 9
 pub log-read : (B : Program) (text : List ℕ) (g : Log) → check-log B text ≡ good g → read-log (length (B .agents)) (B .E) text ≡ good g
 unfolding check-log
 log-read B text g e =

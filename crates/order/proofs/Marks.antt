@@ -27,7 +27,7 @@ use Rattle.order.proofs.Sets.{bit-with, bit-empty}
 -- ---- marks
 
 module _ (t : Fired → Bool) where
-  -- move i, the list beginning with move k, passes the test
+  -- move i passes the test t, the list beginning with move k
   abbrev Passes : ℕ → List Fired → ℕ → Type 0
   Passes k fs i = (k ≤ i) × (i < k + length fs) × (t (fired-at fs (i - k)) ≡ true)
 
@@ -72,7 +72,7 @@ module _ (t : Fired → Bool) where
       let r = moves-bit 0 fs i in
       (λ e. let p = r .0 e in (omega (arith, p .1), (rw z at (p .2))), λ p. r .1 (omega arith, omega (arith, p .0), rw z (p .1)))
 
--- of the moves fs, those that read location l, and those that write it
+-- of the moves fs, those that read location l are the bits of its reader mark
 pub readers-bit : (n : ℕ) (fs : List Fired) (l i : ℕ) → l < n → (bit (getD (readers n fs) l 0) i ≡ true) ↔ ((i < length fs) × (reads-at l (fired-at fs i) ≡ true))
 unfolding readers
 readers-bit n fs l i h = rw (getD-table (λ l. moves-that (reads-at l) 0 fs) n l 0 h) (marks (reads-at l) fs i)
@@ -105,7 +105,7 @@ module _ (B : Program) (g : Log) (c : List ℕ) where
             (λ q. rw (List·getD-append (s .fired) (f ∷ []) no-fired i (omega (arith, k .long))) (k .fired i (omega arith)));
       }
 
-  -- A run that goes through leaves this.
+  -- A run in which no move is refused leaves what the moves leave when all have fired.
   pub run-left : (n : ℕ) (s : Run) → run B g c n ≡ ran s → Left n s
   unfolding run
   run-left zero s e = let z : record { contents = c; fired = [] } ≡ s = cc in rw (← z) (record { contents = refl; long = refl; fired = λ i h. absurd (omega arith) })
@@ -119,7 +119,7 @@ module _ (B : Program) (g : Log) (c : List ℕ) where
       go (ran t) q e k = one t (k t q) (move B (t .contents) (move-at g n)) refl e
       go (halted a b d t) q e k = let z : _≡_ {A = ℕ} 0 1 = cc in absurd (omega arith)
 
-  -- It goes through where all fire.
+  -- If all moves fire, no move of the run is refused.
   pub run-through : (n : ℕ) → ((i : ℕ) → i < n → (f : Fired) × (S .does i (listed S c i) ≡ some f)) → (s : Run) × (run B g c n ≡ ran s)
   unfolding run
   run-through zero f = (record { contents = c; fired = [] }, refl)
@@ -132,7 +132,7 @@ module _ (B : Program) (g : Log) (c : List ℕ) where
       go : ((t : Run) × (run B g c n ≡ ran t)) → (s : Run) × (next-move B n (move-at g n) (run B g c n) ≡ ran s)
       go (t, q) = let k = f n (omega arith) in rw q (one t (move B (t .contents) (move-at g n)) (k .0) (rw (run-left n t q .contents) (k .1)))
 
-  -- A run that is refused has all moves before the refused one, which is refused there, and leaves what they left.
+  -- In a run in which a move is refused all moves before it have fired, it is refused on what they left, and the run leaves that.
   pub run-halted : (n a p q : ℕ) (s : Run) → run B g c n ≡ halted a p q s → (p < n) × Left p s × (move B (listed S c p) (move-at g p) ≡ move-refused a q)
   unfolding run
   run-halted zero a p q s e = let z : _≡_ {A = ℕ} 0 1 = cc in absurd (omega arith)
@@ -153,6 +153,6 @@ module _ (B : Program) (g : Log) (c : List ℕ) where
       go (ran t) k e r = one t (run-left n t k) (move B (t .contents) (move-at g n)) refl e
       go (halted b x d t) k e r = let h = r (k ∙ e) in (omega (arith, h .0), h .1, h .2)
 
-  -- The number of a move's refusal is one of 11 to 15, 18 and 19, and its q a node or a location.
+  -- The number of a move's refusal is one of refusals 11 to 15, 18 and 19, and its q a node or a location.
   pub halted-number : (n a p q : ℕ) (s : Run) → run B g c n ≡ halted a p q s → Inside a × (q ≤ last-place B (move-at g p))
   halted-number n a p q s e = move-number B (listed S c p) (move-at g p) a q (run-halted n a p q s e .2)

@@ -1,7 +1,7 @@
 -- Sets of moves as 64-bit words: intersection, complement, the least move (trailing zeros), how many there are (ones), and the set without its least.
 use mathlib.Core.Path.{_≡_, refl, sym, _∙_}
 use mathlib.Core.Logic.{dite, _≢_}
-use mathlib.Core.Bool.{Bool, true, false, not, _&&_, and-true, true≢false}
+use mathlib.Core.Bool.{true, false, not, _&&_, and-true, true≢false}
 use Prim.Native.Nat.{ℕ, zero, suc, _+_, _-_, _*_, _/_, _%_, _^_, _≤_, _<_}
 use native.Mathlib.Omega.{arith}
 use native.Mathlib.Decide.{ℕ-discrete, decLt}
@@ -17,17 +17,17 @@ use Rattle.order.proofs.Sets.{bit-low, bit-suc, bit-empty}
 
 -- ---- what the code's words are
 
--- the set of one move, as it is shifted
+-- the set of move j alone, as the code shifts it
 pub shl-one : (j : ℕ) → j < 64 → (1 * 2 ^ j) % 2 ^ 64 ≡ 2 ^ j
 shl-one j h = shl-exact {a = 1} 1 j 64 (omega arith) (omega arith) ∙ omega arith
 
--- a table of empty sets
+-- each word of a table of empty sets is the empty set
 pub row-none : (n j : ℕ) → getD (replicate n zero) j zero ≡ zero
 row-none zero j = refl
 row-none (suc n) zero = refl
 row-none (suc n) (suc j) = row-none n j
 
--- the test of a move
+-- the code's test of a move in a set
 pub test-in : (s i : ℕ) → bitAnd (s / 2 ^ i) 1 ≡ 1 → bit s i ≡ true
 unfolding bit
 test-in s i e = eq-eqb (s / 2 ^ i % 2) 1 (sym (and-mask (s / 2 ^ i) 1) ∙ e)
@@ -37,12 +37,6 @@ unfolding bit
 test-out s i n = ne-eqb (s / 2 ^ i % 2) 1 (λ e. n (and-mask (s / 2 ^ i) 1 ∙ e))
 
 -- ---- sets with the same moves are equal
-
--- two tests are equal where each passes with the other
-pub both-ways : (a b : Bool) → (a ≡ true → b ≡ true) → (b ≡ true → a ≡ true) → a ≡ b
-both-ways true b f g = sym (f refl)
-both-ways false true f g = g refl
-both-ways false false f g = refl
 
 no-moves : (s : ℕ) → ((i : ℕ) → bit s i ≡ false) → s ≡ 0
 no-moves s = bin-ind (λ (s : ℕ). ((i : ℕ) → bit s i ≡ false) → s ≡ 0) (λ h. refl) turn s
@@ -88,7 +82,7 @@ digit-not zero h = refl
 digit-not (suc zero) h = refl
 digit-not (suc (suc a)) h = absurd (omega arith)
 
--- the moves below w that are not in s
+-- a move below w is in the complement of s exactly if it is not in s
 pub bit-not : (w s i : ℕ) → s < 2 ^ w → i < w → bit ((2 ^ w - 1) - s) i ≡ not (bit s i)
 bit-not zero s i h k = absurd (omega arith)
 bit-not (suc w) s zero h k =
@@ -107,7 +101,7 @@ bit-high (suc w) s (suc i) h k = bit-suc s i ∙ bit-high w (s / 2) i (omega ari
 pub bit-lt : (w s i : ℕ) → s < 2 ^ w → bit s i ≡ true → i < w
 bit-lt w s i h e = dite (decLt i w) (λ y. y) (λ (x : ¬ (i < w)). absurd (true≢false (sym e ∙ bit-high w s i h (omega arith))))
 
--- the moves below j
+-- each move below j is in the set of the moves below j
 pub bit-below : (j i : ℕ) → i < j → bit (2 ^ j - 1) i ≡ true
 bit-below zero i h = absurd (omega arith)
 bit-below (suc j) zero h = let e : (2 ^ suc j - 1) % 2 ≡ 1 = omega (arith, pow-pos j) in bit-low (2 ^ suc j - 1) ∙ rw e
@@ -118,7 +112,7 @@ below-bit j i e = bit-lt j (2 ^ j - 1) i (omega (arith, pow-pos j)) e
 
 -- ---- the least move of a set: `trailing_zeros`
 
--- none below it is in the set
+-- no move below the least is in the set
 pub least-below : (w s i : ℕ) → i < trailingZeros w s → bit s i ≡ false
 unfolding trailingZeros
 least-below zero s i h = absurd (omega arith)
@@ -130,7 +124,7 @@ least-below (suc w) s i h = go (s % 2) i refl h (least-below w (s / 2))
     go zero (suc i) e h k = bit-suc s i ∙ k i (omega arith)
     go (suc r) i e h k = absurd (omega arith)
 
--- it is, if it is below w
+-- the least is in the set, if it is below w
 pub least-in : (w s : ℕ) → trailingZeros w s < w → bit s (trailingZeros w s) ≡ true
 unfolding trailingZeros
 least-in zero s h = absurd (omega arith)
@@ -170,7 +164,7 @@ rest-even s e =
 ones-double : (s : ℕ) → ones (s * 2) ≡ ones s
 ones-double s = let a : s * 2 % 2 ≡ 0 = omega arith in let b : s * 2 / 2 ≡ s = omega arith in ones-step (s * 2) ∙ rw (a, b) (omega arith)
 
--- it has one move less
+-- the set without its least move has one move less
 pub ones-rest : (s : ℕ) → s ≢ 0 → ones s ≡ ones (rest s) + 1
 ones-rest s = bin-ind (λ (s : ℕ). s ≢ 0 → ones s ≡ ones (rest s) + 1) (λ n. absurd (n refl)) turn s
   where
@@ -183,7 +177,7 @@ pub ones-nonempty : (s : ℕ) → ones s ≢ 0 → s ≢ 0
 unfolding ones
 ones-nonempty s h e = h (rw e)
 
--- none are left: the set is empty
+-- a set that has no moves is empty
 pub ones-none : (s : ℕ) → ones s ≡ 0 → s ≡ 0
 ones-none s e = dite (ℕ-discrete s 0) (λ z. z) (λ (n : s ≢ 0). absurd (omega (arith, ones-rest s n)))
 
@@ -193,7 +187,7 @@ bit-double s i = let b : s * 2 / 2 ≡ s = omega arith in bit-suc (s * 2) i ∙ 
 bit-double-low : (s : ℕ) → bit (s * 2) 0 ≡ false
 bit-double-low s = let b : s * 2 % 2 ≡ 0 = omega arith in bit-low (s * 2) ∙ rw b
 
--- all but the least
+-- the set without its least move has all its other moves
 pub bit-rest : (w s i : ℕ) → s < 2 ^ w → bit (rest s) i ≡ (bit s i && not (eqb (trailingZeros w s) i))
 unfolding trailingZeros
 bit-rest zero s i h = let e : s ≡ 0 = omega arith in rw (e, bit-empty)

@@ -1,4 +1,4 @@
--- The checks before the first move refuse with 1 to 10; and the answer of a log's call fits one number, for all inputs: its number is at most 19
+-- The checks before the first move give refusals 1 to 10 only; and the answer of a log call fits one number, for all inputs: its number is at most 19
 -- and never 16, its p and its q are below 2^24.
 use mathlib.Core.Path.{_≡_, refl}
 use mathlib.Core.Bool.{Bool}
@@ -18,11 +18,12 @@ use Rattle.order.specs.Pairs.{PairFound, no-pair, a-pair, least-pair, no
 use Rattle.order.specs.declared.Lengths.{Lengths}
 use Rattle.order.specs.Log.{Log, move-at, log-lines, log-of, check-agents, check-log-header, check-log-text, check-log-lines, read-log, check-log}
 use Rattle.order.specs.Run.{Run, RunOutcome, ran, halted, run, touching, order-checked, finish, run-from}
-use Rattle.order.specs.Call.{Tables, lengths, check-lengths, check-lent, check-all, log-answer, log-call}
+use Rattle.order.specs.Call.{lengths, check-lengths, check-lent, check-all, log-answer, log-call}
 use Rattle.order.specs.Demand.{count}
 use Rattle.order.proofs.Pairs.{two-least}
 use Rattle.order.proofs.Marks.{run-halted, halted-number}
 use Rattle.order.proofs.Log.{header-few, input-at}
+use Rattle.engine.specs.Tables.{Tables}
 
 -- a pair of moves that is found is of the m moves
 found-pair : (f : ℕ → ℕ → Bool) (m i j : ℕ) → least-pair f m ≡ a-pair i j → (i < m) × (j < m)
@@ -30,7 +31,7 @@ found-pair f m i j e = let r = two-least f m i j .0 e .holds in (omega (arith, r
 
 -- ---- the log
 
--- the bounds of its header
+-- the bounds of the numbers in a log's header
 abbrev LogBounded : Line → Type 0
 LogBounded h = (h .a ≤ 64) × (h .b ≤ 2016) × (h .c ≤ 256)
 
@@ -81,7 +82,7 @@ lent-ends B n fits =
     then-ends (must-ends Before _ 2 (L B) 0 (omega arith)) (then-ends (must-ends Before _ 2 (L B) 1 (omega arith))
     (then-ends (must-ends Before _ 2 (L B) 2 (omega arith)) (must-ends Before _ 2 256 3 (omega arith))))
 
--- what passes them is a book and a log in their bounds
+-- what passes all checks is a book and a log in their bounds; a refusal has number 1 to 10, and its place fits
 abbrev pub Early : Checked (Book × Log) → Type 0
 Early = Ends (λ x. Fits (x .0 .program) × (count (x .1) ≤ 64)) Before
 

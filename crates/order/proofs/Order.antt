@@ -2,19 +2,15 @@
 use mathlib.Core.Path.{_≡_, refl, sym, ap, _∙_}
 use mathlib.Core.Logic.{_⊎_, inl, inr, _≢_}
 use mathlib.Core.List.{List, [], _∷_, _++_, append-assoc}
-use mathlib.Core.Bool.{Bool, true, false, _||_, or-assoc, or-true, false≢true}
+use mathlib.Core.Bool.{Bool, true, false, _||_, or-true, false≢true}
 use Prim.Native.Nat.{ℕ}
 use lib.Dec.{eqb}
 use borrow.Author.Tests.{eqb-true, eq-eqb}
 use Rattle.text.specs.Words.{has}
 use Rattle.order.specs.Orders.{Before, one, more, Keeps}
-use Rattle.text.proofs.Words.{refuted, or-cases}
+use Rattle.text.proofs.Words.{refuted, or-cases, has-append}
 
 -- ---- what a list has
-
-has-append : (p q : List ℕ) (i : ℕ) → has (p ++ q) i ≡ (has p i || has q i)
-has-append [] q i = refl
-has-append (j ∷ p) q i = rw (has-append p q i) (sym (or-assoc (eqb j i) (has p i) (has q i)))
 
 pub has-left : (p q : List ℕ) (i : ℕ) → has p i ≡ true → has (p ++ q) i ≡ true
 has-left p q i h = rw (has-append, h)
@@ -83,7 +79,7 @@ abbrev pub Up : (pair : ℕ → ℕ → Type 0) → ℕ → ℕ → Type 0
 Up pair i j = (i ≢ j) × ¬ Before pair j i
 
 module _ {log : List ℕ} {pair : ℕ → ℕ → Type 0} {is : List ℕ} (k : Keeps log pair is) where
-  -- a prefix has, with a move, all that come before it
+  -- the first part of an order has, with a move, all moves that come before it by a pair
   closed : (p q : List ℕ) → is ≡ p ++ q → (a b : ℕ) → pair a b → has p b ≡ true → has p a ≡ true
   closed p q e a b r h = go (has-split p b h)
     where
@@ -121,7 +117,7 @@ module _ {log : List ℕ} {pair : ℕ → ℕ → Type 0} {is : List ℕ} (k : K
   pub upward : Upward (Up pair) is
   upward = upward-from [] is refl
 
--- a move taken out of both lists leaves the same moves
+-- a move taken out of both lists leaves lists of the same moves
 module _ (pair : ℕ → ℕ → Type 0) (p : List ℕ) (i : ℕ) (q ys : List ℕ) (ux : Upward (Up pair) (p ++ i ∷ q)) (uy : Upward (Up pair) (i ∷ ys))
     (e : (k : ℕ) → has (i ∷ ys) k ≡ has (p ++ i ∷ q) k) where
   gone : ¬ (has (p ++ q) i ≡ true)

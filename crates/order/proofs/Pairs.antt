@@ -13,7 +13,7 @@ use Rattle.order.specs.Pairs.{PairFound, no-pair, a-pair, or-else, least
 use Rattle.order.specs.Orders.{LeastPair}
 
 module _ (f : ℕ → ℕ → Bool) where
-  -- what is found when the first moves are the n from i on
+  -- what a search finds when the first moves are the n from i on
   abbrev Two : ℕ → ℕ → PairFound → Type 0
   Two i n no-pair = (x y : ℕ) → i ≤ x → x < y → y < i + n → f x y ≡ false
   Two i n (a-pair a b) = (i ≤ a) × (a < b) × (b < i + n) × (f a b ≡ true) × ((x y : ℕ) → i ≤ x → x < y → y < i + n → f x y ≡ true → (a < x) ⊎ ((a ≡ x) × (b ≤ y)))

@@ -1,4 +1,4 @@
--- The choice lines of a move stand together: its picks are the elements of that run of lines, which is how the table of a log has them. Assumes nothing.
+-- The choice lines of a move stand together: its picks are the elements of those lines, which is how the table of a log has them. Assumes nothing.
 use mathlib.Core.Path.{_≡_, refl, ap}
 use mathlib.Core.Logic.{_≢_}
 use mathlib.Core.List.{List, [], _∷_}
@@ -12,13 +12,13 @@ module _ (f : ℕ → Choice) (i : ℕ) where
   abbrev elements : ℕ → ℕ → List ℕ
   elements a n = table-from (λ j. f j .element) a n
 
-  -- no line of the move: no picks
+  -- if no line is of move i, it has no picks
   none-of : (k n : ℕ) → ((j : ℕ) → k ≤ j → j < k + n → f j .move ≢ i) → picks-of (table-from f k n) i ≡ []
   unfolding table-from picks-of
   none-of k zero h = refl
   none-of k (suc n) h = rw (ne-eqb (f k .move) i (h k (omega arith) (omega arith))) (none-of (suc k) n (λ j a b. h j (omega arith) (omega arith)))
 
-  -- m lines of it first
+  -- if m lines of move i stand first and no others of it follow, its picks are theirs
   first-of : (k m n : ℕ) → ((j : ℕ) → k ≤ j → j < k + m → f j .move ≡ i) → ((j : ℕ) → k + m ≤ j → j < k + m + n → f j .move ≢ i)
       → picks-of (table-from f k (m + n)) i ≡ elements k m
   unfolding table-from picks-of
@@ -28,7 +28,7 @@ module _ (f : ℕ → Choice) (i : ℕ) where
       rw (y, eq-eqb (f k .move) i (h k (omega arith) (omega arith)))
       (ap (λ (r : List ℕ). f k .element ∷ r) (first-of (suc k) m n (λ j a b. h j (omega arith) (omega arith)) (λ j a b. g j (omega arith) (omega arith))))
 
-  -- l lines of other moves before them
+  -- if l lines of other moves stand before the m lines of move i, its picks are those of the m
   run-of : (k l m n : ℕ) → ((j : ℕ) → k ≤ j → j < k + l → f j .move ≢ i) → ((j : ℕ) → k + l ≤ j → j < k + l + m → f j .move ≡ i)
       → ((j : ℕ) → k + l + m ≤ j → j < k + l + m + n → f j .move ≢ i) → picks-of (table-from f k (l + (m + n))) i ≡ elements (k + l) m
   unfolding table-from picks-of
@@ -42,7 +42,7 @@ module _ (f : ℕ → Choice) (i : ℕ) where
       rw (z, y, ne-eqb (f k .move) i (e k (omega arith) (omega arith)))
       (run-of (suc k) l m n (λ j a b. e j (omega arith) (omega arith)) (λ j a b. h j (omega arith) (omega arith)) (λ j a b. g j (omega arith) (omega arith)))
 
--- of the first n choices: those of move i are the ones from a up to e
+-- of the first n choices, those of move i are the ones from a up to e
 pub picks-run : (f : ℕ → Choice) (i a e n : ℕ) → a ≤ e → e ≤ n → ((j : ℕ) → j < a → f j .move ≢ i) → ((j : ℕ) → a ≤ j → j < e → f j .move ≡ i)
     → ((j : ℕ) → e ≤ j → j < n → f j .move ≢ i) → picks-of (table f n) i ≡ table-from (λ j. f j .element) a (e - a)
 picks-run f i a e n p q before inside after =

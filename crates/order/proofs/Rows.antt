@@ -1,4 +1,4 @@
--- The rows of sets are exactly the order by chaining.
+-- The sets of predecessors are exactly the order by chaining.
 use mathlib.Core.Path.{_≡_, refl, sym, ap, _∙_}
 use mathlib.Core.Logic.{_↔_, _⊎_, inl, inr, dite}
 use mathlib.Core.Bool.{Bool, true, false, _||_, or-true, true≢false}
@@ -23,11 +23,11 @@ length-rows ps zero = refl
 length-rows ps (suc n) = length-append (predecessors ps n) (predecessors-of (predecessors ps n) n ps ∷ []) ∙ rw (length-rows ps n) (omega arith)
 
 module _ (rs : List ℕ) (j i : ℕ) where
-  -- i is before j by one of the pairs, through the rows rs
+  -- i comes before j by one of the pairs and through the sets of predecessors rs
   abbrev Through : List Pair → Type 0
   Through ps = (a : ℕ) × PairOf ps a j × ((bit (getD rs a 0) i ≡ true) ⊎ (a ≡ i))
 
-  -- what one pair adds
+  -- what one pair adds to the predecessors of j
   module _ (p : Pair) (ps : List Pair) where
     added : eqb (p .later) j ≡ true → bit (predecessors-of rs j (p ∷ ps)) i ≡ ((bit (getD rs (p .earlier) 0) i || eqb (p .earlier) i) || bit (predecessors-of rs j ps) i)
     unfolding predecessors-of
@@ -68,7 +68,7 @@ module _ (rs : List ℕ) (j i : ℕ) where
       go false q k = (λ e. let r = k .0 (sym (not-added p ps q) ∙ e) in (r .0, inr (r .1), r .2), λ t. not-added p ps q ∙ k .1 (only q t))
 
 module _ (ps : List Pair) (up : (a b : ℕ) → PairOf ps a b → a < b) where
-  -- the rows of the first n moves say what comes before each
+  -- the sets of predecessors of the first n moves say what comes before each
   abbrev Say : ℕ → Type 0
   Say n = (j i : ℕ) → j < n → (bit (getD (predecessors ps n) j 0) i ≡ true) ↔ Before (PairOf ps) i j
 

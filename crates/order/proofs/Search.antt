@@ -9,7 +9,7 @@ use Rattle.text.specs.Words.{least-from}
 use Rattle.order.specs.Pairs.{PairFound, no-pair, a-pair, or-else, least-pair-from, least-pair}
 use Rattle.order.proofs.Pairs.{Passing, two-none, two-least}
 
--- ---- by tests that the same pairs pass
+-- ---- two tests that the same pairs pass
 
 module _ (f g : ℕ → ℕ → Bool) (m n : ℕ)
     (to : (i j : ℕ) → Passing f m i j → Passing g n i j) (from : (i j : ℕ) → Passing g n i j → Passing f m i j) where
@@ -22,11 +22,11 @@ module _ (f g : ℕ → ℕ → Bool) (m n : ℕ)
           let l = two-least g n i j .0 e in
           two-least f m i j .1 (record { holds = from i j (l .holds); least = λ a b p. l .least a b (to a b p) })
 
--- the tests agree on the pairs i < j < m
+-- two tests that agree on the pairs i < j < m find the same least pair
 pub two-same : (f g : ℕ → ℕ → Bool) (m : ℕ) → ((i j : ℕ) → i < j → j < m → f i j ≡ g i j) → least-pair f m ≡ least-pair g m
 two-same f g m same = two-alike f g m m (λ i j p. (p .0, p .1, sym (same i j (p .0) (p .1)) ∙ p .2)) (λ i j p. (p .0, p .1, same i j (p .0) (p .1) ∙ p .2))
 
--- ---- a loop over the first moves, each of which looks for the least second
+-- ---- a loop over the first moves, which searches for the least second move of each
 
 module _ (f : ℕ → ℕ → Bool) (m : ℕ) where
   pub two-start : least-pair-from f 0 (m - 0) ≡ least-pair f m
@@ -36,16 +36,16 @@ module _ (f : ℕ → ℕ → Bool) (m : ℕ) where
   unfolding least-pair-from
   two-at i h = let e : m - i ≡ suc (m - (i + 1)) = omega arith in rw (e, add-one i)
 
-  -- a first move with no second is passed
+  -- a first move without a second is passed over
   pub two-pass : (i : ℕ) → i < m → least-from (f i) (m - (i + 1)) (i + 1) ≡ Nowhere → least-pair-from f i (m - i) ≡ least-pair f m
       → least-pair-from f (i + 1) (m - (i + 1)) ≡ least-pair f m
   two-pass i h e p = sym (two-at i h ∙ rw e) ∙ p
 
-  -- one that has a second is the least
+  -- the first move that has a second is that of the least pair
   pub two-stop : (i j : ℕ) → i < m → least-from (f i) (m - (i + 1)) (i + 1) ≡ Here j → least-pair-from f i (m - i) ≡ least-pair f m → least-pair f m ≡ a-pair i j
   two-stop i j h e p = sym p ∙ two-at i h ∙ rw e
 
-  -- all were passed
+  -- if all first moves were passed over, there is no pair
   pub two-end : (i : ℕ) → m ≤ i → least-pair-from f i (m - i) ≡ least-pair f m → least-pair f m ≡ no-pair
   unfolding least-pair-from
   two-end i h p = let e : m - i ≡ 0 = omega arith in sym p ∙ rw e

@@ -34,13 +34,13 @@ pub bit-empty : (i : ℕ) → bit 0 i ≡ false
 unfolding bit
 bit-empty i = rw zero-div
 
--- the set of one move
+-- the set of one move has that move only
 pub bit-one : (j i : ℕ) → bit (2 ^ j) i ≡ eqb j i
 bit-one zero zero = bit-low 1
 bit-one zero (suc i) = bit-suc 1 i ∙ bit-empty i ∙ sym (eqb·zero-suc i)
 bit-one (suc j) zero = let e : 2 ^ suc j % 2 ≡ 0 = omega arith in bit-low (2 ^ suc j) ∙ rw (e, eqb·suc-zero)
 bit-one (suc j) (suc i) = let e : 2 ^ suc j / 2 ≡ 2 ^ j = omega arith in bit-suc (2 ^ suc j) i ∙ rw (e, eqb·suc-suc) (bit-one j i)
 
--- a set with one move more
+-- a set with one move more has that move and its own
 pub bit-with : (s j i : ℕ) → bit (with-move s j) i ≡ (bit s i || eqb j i)
 bit-with s j i = bit-or s (2 ^ j) i ∙ rw (bit-one j i)

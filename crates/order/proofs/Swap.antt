@@ -1,4 +1,4 @@
--- The engine's moves have the laws of the whole-order theorem. The swap comes from equal reads, and from where labels that are released are held: moves that
+-- The engine's moves have the laws that freedom of order needs. The swap comes from equal reads, and from where labels that are released are held: moves that
 -- do not touch leave that as it is.
 use mathlib.Core.Path.{_≡_, refl, sym, _∙_}
 use mathlib.Core.Logic.{_↔_, inl, inr, dite, _≢_}
@@ -93,7 +93,7 @@ module _ (B : Program) (lawful : Lawful B) (g : Log) where
     w : (f : Fired) (l : ℕ) → writes (f .updates) l ≡ true → (v : ℕ) × (value-given (values-at (f .updates) l) ≡ some v)
     w f l = writes-value (f .updates) l .0
 
-    -- neither writes what the other reads or writes
+    -- no location is written by both moves
     not-both : (l : ℕ) → writes (a .updates) l ≡ true → writes (b .updates) l ≡ true → ⊥
     not-both l x y = n (l, inl (w a l x, inr (w b l y)))
 
@@ -103,8 +103,8 @@ module _ (B : Program) (lawful : Lawful B) (g : Log) where
     not-second : (l : ℕ) → writes (b .updates) l ≡ true → has (a .reads) l ≡ true → ⊥
     not-second l x y = n (l, inr (w b l x, inl y))
 
-    -- A label that the second releases is held at the same locations before and after the first: the second writes each that holds it afterwards, so the first
-    -- does not; and to take it out of one, the first would read Reserve at it, which the second writes.
+    -- A label that the second move releases is held at the same locations before and after the first: the second writes each that holds it afterwards, so the
+    -- first does not; and to take it out of one, the first would read Reserve at it, which the second writes.
     back : SameHolders (fire (a .updates) c) c (released (b .instructions))
     back x l h = (
       λ e. sym (kept i c a s da l (λ o. not-both l o (fired-clears B lawful (fire (a .updates) c) sa (move-at g j) b mb x l h e))) ∙ e,
@@ -112,7 +112,7 @@ module _ (B : Program) (lawful : Lawful B) (g : Log) where
           (λ (q : ¬ (at (fire (a .updates) c) l ≡ x)). absurd (n (touching i j c (fire (a .updates) c) a b s sa da db x l h e q))),
     )
 
-    -- the second does the same before the first
+    -- the second move does the same before the first
     first : S .does j c ≡ some b
     first =
         let k = kept i c a s da in
@@ -125,8 +125,8 @@ module _ (B : Program) (lawful : Lawful B) (g : Log) where
     sb : Sound B (fire (b .updates) c)
     sb = fired-keep B lawful c s (move-at g j) b (fired-act j c b first)
 
-    -- A label that the first releases is held at the same locations before and after the second: the first writes each that holds it before, so the second does
-    -- not; and one that the second sets to it would hold it after both, where Reserve has it.
+    -- A label that the first move releases is held at the same locations before and after the second: the first writes each that holds it before, so the second
+    -- does not; and one that the second sets to it would hold it after both, where it is on the roll.
     beside : SameHolders c (fire (b .updates) c) (released (a .instructions))
     beside x l h = (
       λ e. kept j c b s first l (λ o. not-both l (fired-clears B lawful c s (move-at g i) a ma x l h e) o) ∙ e,
@@ -145,7 +145,7 @@ module _ (B : Program) (lawful : Lawful B) (g : Log) where
         free : OnRoll B (fire (b .updates) (fire (a .updates) c)) x
         free = (x-label .1, kept j (fire (a .updates) c) b sa db x (λ o. not-both x (r .0) o) ∙ r .1)
 
-        -- what the second sets is the same in both orders
+        -- what the second move sets is the same in both orders
         set-alike : (ws : List ℕ) (u v : ℕ) → is-some ws ≡ true → new-value u ws ≡ new-value v ws
         set-alike [] u v q = absurd (false≢true q)
         set-alike (y ∷ ws) u v q = refl
@@ -160,7 +160,7 @@ module _ (B : Program) (lawful : Lawful B) (g : Log) where
             let b-in : l < L B = held-inside B lawful (fire (b .updates) c) sb l (omega (arith, e, x-label .0)) in
             absurd (sab .values x l free b-in same-there)
 
-    -- the first does the same after the second
+    -- the first move does the same after the second
     second : S .does i (fire (b .updates) c) ≡ some a
     second =
         let k = kept j c b s first in

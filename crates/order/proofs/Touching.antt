@@ -1,4 +1,4 @@
--- Two moves touch by the test of 17 exactly where they touch.
+-- Two moves touch by the test of refusal 17 exactly where they touch by the definition.
 use mathlib.Core.Path.{_≡_, refl, sym, ap, _∙_}
 use mathlib.Core.Logic.{_↔_, _⊎_, inl, inr, dite}
 use mathlib.Core.Bool.{Bool, true, false, or-true, true≢false, false≢true}
@@ -18,7 +18,7 @@ use Rattle.order.proofs.Swap.{writes-value}
 
 -- ---- at one location
 
--- the first writes it, and the second reads or writes it
+-- the first move writes location l, and the second reads or writes it
 abbrev OneWay : ℕ → Fired → Fired → Type 0
 OneWay l e f = (writes-at l e ≡ true) × ((reads-at l f ≡ true) ⊎ (writes-at l f ≡ true))
 
@@ -39,14 +39,14 @@ touch-at-to l e f q = go (writes-at l e) (writes-at l f) (reads-at l e) (reads-a
     go false true false s a b c d = absurd (false≢true (simp (a, b, c) at q))
     go false false r s a b c d = absurd (false≢true (simp (a, b) at q))
 
--- ---- at all
+-- ---- at any location
 
 -- updates write only their own locations
 inside : (us : List (List ℕ)) (l : ℕ) → writes us l ≡ true → l < length us
 inside us l e = dite (decLt l (length us)) (λ h. h)
     (λ (h : ¬ (l < length us)). absurd (true≢false (sym e ∙ ap is-some (List·getD-eq-default us [] {n = l} (omega arith)))))
 
--- where the updates of both are of n locations
+-- the test of refusal 17 passes exactly if two moves whose updates are of n locations touch
 pub touch-iff : (B : Program) (g : Log) (n : ℕ) (e f : Fired) → length (e .updates) ≡ n → length (f .updates) ≡ n → (touch n e f ≡ true) ↔ Touch (moves-of B g) e f
 touch-iff B g n e f le lf = (λ q. let t = some-below-true (touch-at e f) n q in (t .0, to (t .0) (touch-at-to (t .0) e f (t .2))), λ (l, t). from l t)
   where

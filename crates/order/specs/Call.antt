@@ -9,11 +9,12 @@ use Rattle.book.specs.Book.{Program, Book, L}
 use Rattle.book.specs.Check.{check-book}
 use Rattle.engine.specs.Rule.{most-instructions}
 use Rattle.engine.specs.Single.{over-first}
+use Rattle.engine.specs.Tables.{Tables}
 use Rattle.order.specs.declared.Lengths.{Lengths}
 use Rattle.order.specs.Log.{Log, check-log}
 use Rattle.order.specs.Run.{LogAnswer, run-log}
 
--- 2, lowest table first, where there are so many locations
+-- Refusal 2, lowest table first, where there are so many locations
 unfoldable pub check-lengths : ℕ → Lengths → Checked (Unit {0})
 check-lengths locations n = do
   must (leb locations (n .contents)) lent-short locations contents-table
@@ -21,10 +22,11 @@ check-lengths locations n = do
   must (leb locations (n .writers)) lent-short locations writers-table
   must (leb most-instructions (n .instructions)) lent-short most-instructions instructions-table
 
+-- Refusal 2 of a log call on the book B
 abbrev pub check-lent : Program → Lengths → Checked (Unit {0})
 check-lent B n = check-lengths (L B) n
 
--- all checks before the first move
+-- all checks before the first move, in their order; the book and the log if they pass
 unfoldable pub check-all : List ℕ → List ℕ → Lengths → Checked (Book × Log)
 check-all book log n = do
   b ← check-book book
@@ -32,16 +34,11 @@ check-all book log n = do
   check-lent (b .program) n
   good (b, g)
 
--- the tables lent: contents, readers, writers
-pub record Tables : Type 0 where
-  pub contents : List ℕ
-  pub readers : List ℕ
-  pub writers : List ℕ
-
+-- the lengths of the lent tables, n instruction records being lent
 abbrev pub lengths : Tables → ℕ → Lengths
 lengths t n = record { contents = length (t .contents); readers = length (t .readers); writers = length (t .writers); instructions = n }
 
--- records past the length needed stay as they were
+-- what a run leaves, on the lent tables t: records past the length needed stay as they were
 abbrev pub left-past : Tables → LogAnswer → LogAnswer
 left-past t a =
     record {
@@ -51,12 +48,12 @@ left-past t a =
       writers = over-first (a .writers) (t .writers);
     }
 
--- 1 to 10 write nothing
+-- what a log call leaves, by its checks: refusals 1 to 10 write nothing
 abbrev pub log-answer : Tables → Checked (Book × Log) → LogAnswer
 log-answer t (refused n p q) =
     record { answer = record { number = n; p = p; q = q }; contents = t .contents; readers = t .readers; writers = t .writers }
 log-answer t (good x) = left-past t (run-log (x .0) (x .1))
 
--- n is how many instruction records are lent
+-- the log entry: a book's text, a log's text, the lent tables, and how many instruction records are lent
 unfoldable pub log-call : List ℕ → List ℕ → Tables → ℕ → LogAnswer
 log-call book log t n = log-answer t (check-all book log (lengths t n))

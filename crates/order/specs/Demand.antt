@@ -1,4 +1,4 @@
--- Demand 3 as one claim about a book's text, a log's text, the tables lent, and whole orders.
+-- Demand 3, freedom of order, as one claim about a book's text, a log's text, the tables lent, and whole orders (SPECIFICATION 7.4).
 use mathlib.Core.Path.{_≡_}
 use mathlib.Core.Logic.{_↔_, _⊎_}
 use mathlib.Core.List.{List, [], _∷_}
@@ -13,26 +13,28 @@ use Rattle.engine.specs.Single.{over-first}
 use Rattle.order.specs.Pairs.{Pair}
 use Rattle.order.specs.Log.{Log, move-at}
 use Rattle.order.specs.Run.{LogAnswer}
-use Rattle.order.specs.Call.{Tables, lengths, check-all, log-call}
+use Rattle.order.specs.Call.{lengths, check-all, log-call}
 use Rattle.order.specs.Orders.{Moves, Touch, run-in-order, listed, Before, from, Keeps, Agrees, LeastPair}
+use Rattle.engine.specs.Tables.{Tables}
 
 -- ---- the moves of a log over a book
 
--- a pair is one of the log's
+-- the pair (a, b) is one of the list
 abbrev pub PairOf : List Pair → ℕ → ℕ → Type 0
 PairOf [] a b = ⊥
 PairOf (p ∷ ps) a b = ((p .earlier ≡ a) × (p .later ≡ b)) ⊎ PairOf ps a b
 
--- what a move does, none if it is refused
+-- what a move does; nothing if it is refused
 abbrev pub act-of : Moved → Option Fired
 act-of (fires f) = some f
 act-of (move-refused n q) = none
 
+-- the value that updates give a location; none if it is not written
 abbrev pub value-given : List ℕ → Option ℕ
 value-given [] = none
 value-given (v ∷ vs) = some v
 
--- move i is made with its agent and its own picks, in whatever order
+-- the moves of a log as acts on contents: move i is made with its agent and its own picks, in whatever order
 abbrev pub moves-of : Program → Log → Moves
 moves-of B g = record {
   Con = List ℕ;
@@ -45,24 +47,25 @@ moves-of B g = record {
   Good = Sound B;
 }
 
--- how many moves a log has, and the order that follows from its pairs by chaining
+-- how many moves a log has
 abbrev pub count : Log → ℕ
 count g = length (g .moves)
 
+-- move i comes before move j, by chaining the log's pairs
 abbrev pub OrderedByPairs : Log → ℕ → ℕ → Type 0
 OrderedByPairs g i j = Before (PairOf (g .pairs)) i j
 
 -- ---- in the listed order, from the contents c
 
--- move i fires and does this
+-- in the listed order from the contents c move i fires and does f
 abbrev pub Does : Program → Log → List ℕ → ℕ → Fired → Type 0
 Does B g c i f = moves-of B g .does i (listed (moves-of B g) c i) ≡ some f
 
--- the first n moves all fire
+-- in the listed order the first n moves all fire
 abbrev pub AllFire : Program → Log → List ℕ → ℕ → Type 0
 AllFire B g c n = (i : ℕ) → i < n → (f : Fired) × Does B g c i f
 
--- moves i and j, the first before the second in the listing, are unordered and touch
+-- moves i and j, i listed before j, are unordered and touch
 abbrev pub UnorderedTouch : Program → Log → List ℕ → ℕ → ℕ → Type 0
 UnorderedTouch B g c i j =
     (i < j) × (j < count g) × ¬ OrderedByPairs g i j × ¬ OrderedByPairs g j i
@@ -71,19 +74,21 @@ UnorderedTouch B g c i j =
 -- ---- the claim: for a book's text, a log's text, the tables t and n instruction records
 
 module _ (book log : List ℕ) (t : Tables) (n : ℕ) where
+  -- what the log call leaves
   abbrev pub call-answer : LogAnswer
   call-answer = log-call book log t n
 
-  -- none of 1 to 10 is named, and all moves fire in the listed order
+  -- none of refusals 1 to 10 is given, and all moves fire in the listed order
   abbrev pub Passes : Book → Log → Type 0
   Passes b g = (check-all book log (lengths t n) ≡ good (b, g)) × AllFire (b .program) g (start b) (count g)
 
+  -- demand 3
   pub record Demand3 : Type 0 where
-    -- accepted exactly when the order of refusals names none
+    -- the log is accepted exactly if no refusal is given before the first move, all moves fire as listed, and no two unordered moves touch
     pub accepted : (call-answer .answer .number ≡ 0) ↔ ((b : Book) × (g : Log) × Passes b g × ((i j : ℕ) → ¬ UnorderedTouch (b .program) g (start b) i j))
-    -- 17 exactly when nothing earlier is named, all moves fire as listed, and some two unordered ones touch
+    -- Refusal 17 is given exactly if no refusal is given before the first move, all moves fire as listed, and some two unordered moves touch
     pub seventeen : (call-answer .answer .number ≡ 17) ↔ ((b : Book) × (g : Log) × Passes b g × ((i : ℕ) × (j : ℕ) × UnorderedTouch (b .program) g (start b) i j))
-    -- its place is the least such pair
+    -- the place of refusal 17 is the least such pair
     pub refused : (i j : ℕ)
         → ((call-answer .answer .number ≡ 17) × (call-answer .answer .p ≡ i) × (call-answer .answer .q ≡ j)) ↔ ((b : Book) × (g : Log) × Passes b g × LeastPair (UnorderedTouch (b .program) g (start b)) i j)
     -- In every order that keeps the pairs of an accepted log no move is refused, each does what it does in the listed order, the end is the answer's

@@ -1,4 +1,4 @@
--- One name that opens every definition of logs, and those below, on an `unfolding` line, for theorems by computation.
+-- One name that opens every definition of logs, and of all that they use, on an `unfolding` line, for theorems by computation.
 use Prim.Native.Nat.{ℕ}
 use Rattle.engine.specs.Open.{open-engine}
 use Rattle.order.specs.Sets.{bit}

@@ -1,11 +1,27 @@
-// A log of moves: its order, its run, and the order check.
+// A log of moves: the types of its marks, of the table that holds its order and picks, and of the lengths of lent tables.
+
+// Bounds of a log: moves, pairs and picks.
+pub const MOST_MOVES: u32 = 64;
+
+pub const MOST_PAIRS: u32 = 2016;
+
+pub const MOST_PICKS: u32 = 256;
 
 // A reader mark or a writer mark of a location: a set of 64 moves.
 pub type Mark = u64;
 
-// The order of a log and its picks, as specs/Table lays them out: for each of 64 moves the set of the moves before it, then its
+// The order of a log and its picks, as specs/Table lays them out: for each of 64 moves the set of its predecessors, then its
 // agent, its first pick, and the end of its picks; then 256 picks.
 pub type Order = [u64; 512];
+
+// Where in this table the agents begin, the first picks, the ends of the picks, and the picks themselves.
+pub const AGENTS: usize = 64;
+
+pub const FIRST_PICKS: usize = 128;
+
+pub const PICK_ENDS: usize = 192;
+
+pub const PICKS: usize = 256;
 
 // How many records of each table are lent.
 pub struct Lengths {

@@ -1,2 +1,3 @@
 pub mod MovesMade
 pub mod LogRun
+pub mod Promised

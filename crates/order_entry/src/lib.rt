@@ -1,26 +1,17 @@
-// A log's run through an instruction list that the caller lends: the log entry, and its moves from any start. The same with a list of its own,
-// for callers that hold no records: whoever calls these needs no walk by hand.
+// A log's run through an instruction list that the caller lends: the log entry, and the moves from any state of a run. Both also with a list of their own,
+// for callers that have no records.
 use book::Image;
 use engine::Record;
 use order::Order;
 use order_run::RunState;
 use text::Answer;
 use text::Value;
-ghost use mathlib.Core.Path.{_≡_};
-ghost use mathlib.Core.List.{List};
-ghost use lib.ListN.{length};
-ghost use Rattle.engine.specs.declared.Instruction.{Instruction};
-ghost use Rattle.order.specs.Run.{LogAnswer};
-ghost use Rattle.order.specs.Call.{Tables, log-call};
-ghost use Rattle.engine_list.specs.Written.{all-records-written};
-ghost use Rattle.order_run.specs.Runs.{answer-with, tables};
-ghost use Rattle.order_run.specs.Stages.{CallAt};
-ghost use Rattle.order_entry.specs.MovesMade.{MovesMade};
-ghost use Rattle.order_entry.specs.LogRun.{LogRun};
-ghost use Rattle.order.specs.Demand.{Demand3};
+ghost use Rattle.order_entry.specs.LogRun.{LogRun, LogRunOwn};
+ghost use Rattle.engine.specs.Tables.{tables, tables-before, tables-after};
+ghost use Rattle.order_entry.specs.Promised.{MadeOn, RunToEnd, RunToEndOwn};
 
-// The moves of a log from the one that is next, on tables of just the records needed: each is begun, its instructions are
-// written into the list and read from there, and it is finished; then 17.
+// Makes the moves of a log from the one that is next, on tables of just the records needed: each is begun, its instructions are
+// written into the list and read from there, and it is finished; then refusal 17.
 fn make_moves(
     contents: &mut [Value],
     readers: &mut [u64],
@@ -30,7 +21,7 @@ fn make_moves(
     order: &Order,
     first: RunState,
 ) -> Answer
-    ensures { λ r. ⌜ MovesMade (now (image .entry)) (now (order .entry)) first (now (contents .entry)) (now (readers .entry)) (now (writers .entry)) (now (instructions .entry)) r (now (contents .exit)) (now (readers .exit)) (now (writers .exit)) (now (instructions .exit)) ⌝ }
+    ensures { λ r. ⌜ MadeOn (now (image .entry)) (now (order .entry)) first (tables-before contents readers writers) (now (instructions .entry)) r (tables-after contents readers writers) (now (instructions .exit)) ⌝ }
 {
     let mut work = [0u64; 256];
     let mut t = first;
@@ -43,7 +34,7 @@ fn make_moves(
     t.answer
 }
 
-// The moves of a log from the one that is next: the tables are cut to the records needed, once, and the moves made on these.
+// Makes the moves of a log from the one that is next: the tables are cut to the records needed, once, and the moves made on these.
 pub fn run_from(
     contents: &mut [Value],
     readers: &mut [u64],
@@ -53,7 +44,7 @@ pub fn run_from(
     order: &Order,
     first: RunState,
 ) -> Answer
-    ensures { λ r. ⌜ ((lent : Tables) (whole : LogAnswer) (rest : List (List Instruction)) → CallAt lent (length (now (instructions .entry))) whole (now (image .entry)) (now (order .entry)) rest first (now (contents .entry)) (now (readers .entry)) (now (writers .entry)) → (answer-with r (now (contents .exit)) (now (readers .exit)) (now (writers .exit)) ≡ whole) × (now (instructions .exit) ≡ all-records-written rest (now (instructions .entry)))) ⌝ }
+    ensures { λ r. ⌜ RunToEnd (now (image .entry)) (now (order .entry)) first (tables-before contents readers writers) (now (instructions .entry)) r (tables-after contents readers writers) (now (instructions .exit)) ⌝ }
 {
     let n = order_run::records_used(image, contents.len(), readers.len(), writers.len());
     make_moves(
@@ -67,7 +58,7 @@ pub fn run_from(
     )
 }
 
-// A log's run: a book, a log, the tables, and a list of instruction records.
+// The log entry: a book, a log, the tables, and a list of instruction records.
 pub fn run(
     book: &[u8],
     log: &[u8],
@@ -76,7 +67,7 @@ pub fn run(
     writers: &mut [u64],
     instructions: &mut [Record],
 ) -> Answer
-    ensures { λ r. ⌜ LogRun (now (book .entry)) (now (log .entry)) (tables (now (contents .entry)) (now (readers .entry)) (now (writers .entry))) (now (instructions .entry)) r (tables (now (contents .exit)) (now (readers .exit)) (now (writers .exit))) (now (instructions .exit)) ⌝ }
+    ensures { λ r. ⌜ LogRun (now (book .entry)) (now (log .entry)) (tables-before contents readers writers) (now (instructions .entry)) r (tables-after contents readers writers) (now (instructions .exit)) ⌝ }
 {
     let lent = instructions.len();
     let mut image = [0u32; 2248];
@@ -96,7 +87,7 @@ pub fn run(
 
 // ---- with a list of its own
 
-// The log entry with a list of `lent` records. It lends 256 at most; a longer list makes no difference.
+// The log entry with a list of `lent` records of its own. It has 256 at most; a longer list makes no difference.
 pub fn run_own_list(
     book: &[u8],
     log: &[u8],
@@ -105,7 +96,7 @@ pub fn run_own_list(
     writers: &mut [u64],
     lent: usize,
 ) -> Answer
-    ensures { λ r. ⌜ (answer-with r (now (contents .exit)) (now (readers .exit)) (now (writers .exit)) ≡ log-call (now (book .entry)) (now (log .entry)) (tables (now (contents .entry)) (now (readers .entry)) (now (writers .entry))) lent) × Demand3 (now (book .entry)) (now (log .entry)) (tables (now (contents .entry)) (now (readers .entry)) (now (writers .entry))) lent ⌝ }
+    ensures { λ r. ⌜ LogRunOwn (now (book .entry)) (now (log .entry)) (tables-before contents readers writers) lent r (tables-after contents readers writers) ⌝ }
 {
     let none = engine_list::blank();
     let mut list = [none; 256];
@@ -113,7 +104,7 @@ pub fn run_own_list(
     run(book, log, contents, readers, writers, &mut list[..n])
 }
 
-// The moves of a log from the one that is next, with a list of `lent` records.
+// Makes the moves of a log from the one that is next, with a list of `lent` records of its own.
 pub fn run_from_own_list(
     contents: &mut [Value],
     readers: &mut [u64],
@@ -123,7 +114,7 @@ pub fn run_from_own_list(
     order: &Order,
     first: RunState,
 ) -> Answer
-    ensures { λ r. ⌜ ((before : Tables) (whole : LogAnswer) (rest : List (List Instruction)) → CallAt before lent whole (now (image .entry)) (now (order .entry)) rest first (now (contents .entry)) (now (readers .entry)) (now (writers .entry)) → answer-with r (now (contents .exit)) (now (readers .exit)) (now (writers .exit)) ≡ whole) ⌝ }
+    ensures { λ r. ⌜ RunToEndOwn (now (image .entry)) (now (order .entry)) first (tables-before contents readers writers) lent r (tables-after contents readers writers) ⌝ }
 {
     let none = engine_list::blank();
     let mut list = [none; 256];

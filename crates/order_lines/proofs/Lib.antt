@@ -1,3 +1,3 @@
 pub mod Places
-pub mod Turns
-pub mod Filed
+pub mod Loops
+pub mod PicksPut

@@ -1,4 +1,4 @@
--- The least place, part by part: of the lines out of form, and of the lines at fault as the code keeps it.
+-- The least place, part by part: of the lines that are ill-formed, and of the lines at fault as the code finds it.
 use mathlib.Core.Path.{_≡_, refl, sym, ap, _∙_}
 use mathlib.Core.Bool.{Bool, true, false}
 use mathlib.Core.List.{List}
@@ -38,7 +38,7 @@ module _ (bad : ℕ → Bool) (k n : ℕ) where
     unfolding least-from
     part-end h p = let e : n - i ≡ 0 = omega arith in rw e at p
 
--- one place more
+-- the least place of one place more
 least-more : (bad : ℕ → Bool) (i : ℕ) → least bad (i + 1) ≡ first-found (least bad i) (if bad i then Here i else Nowhere)
 unfolding least-from
 least-more bad i = least-split bad i 1 0 ∙ (let e : 0 + i ≡ i = omega arith in rw e)
@@ -49,12 +49,12 @@ shifted-more k i Nowhere true = refl
 shifted-more k i Nowhere false = refl
 shifted-more k i (Here p) b = refl
 
--- the least fault so far, as the code keeps it
+-- the least fault so far, as the code has it after one line more
 pub fault-turn : (bad : ℕ → Bool) (k i : ℕ) (o r : Found) (b : Bool) → o ≡ shifted k (least bad i) → b ≡ bad i
     → r ≡ first-found o (if b then Here (k + i) else Nowhere) → r ≡ shifted k (least bad (i + 1))
 fault-turn bad k i o r b p q e = e ∙ rw (p, q) (shifted-more k i (least bad i) (bad i)) ∙ ap (shifted k) (sym (least-more bad i))
 
--- it is none only if none was found before, nor here
+-- nothing is found only if nothing was found before, nor at this line
 pub fault-none : (o r : Found) (b : Bool) (p : ℕ) → r ≡ first-found o (if b then Here p else Nowhere) → r ≡ Nowhere → (o ≡ Nowhere) × (b ≡ false)
 fault-none Nowhere r true p e z = let x : _≡_ {A = ℕ} 0 1 = cc in absurd (omega arith)
 fault-none Nowhere r false p e z = (refl, refl)
@@ -63,7 +63,7 @@ fault-none (Here q) r b p e z = let x : _≡_ {A = ℕ} 0 1 = cc in absurd (omeg
 pub found-some : {p : ℕ} {A : Type 0} → Here p ≡ Nowhere → A
 found-some e = let x : _≡_ {A = ℕ} 0 1 = cc in absurd (omega arith)
 
--- line i is read: its form
+-- line i is read: whether it is ill-formed
 module _ (text : List ℕ) (i : ℕ) (p : Parsed) (is : p ≡ parsed text i) where
   pub line-bad : p .ok ≡ false → bad-line text i ≡ true
   line-bad e = rw (sym (parsed-ok text i p is) ∙ e)

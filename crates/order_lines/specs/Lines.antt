@@ -1,4 +1,4 @@
--- What reading the lines of one kind tells, and the choices as they are put into the table of a log (SPECIFICATION 6.2, 6.3).
+-- What reading the lines of one kind finds, and the choices as they are put into the table of a log (SPECIFICATION 6.2, 6.3).
 use mathlib.Core.Path.{_≡_}
 use mathlib.Core.Bool.{Bool}
 use mathlib.Core.List.{List, [], _∷_}
@@ -15,19 +15,19 @@ use Rattle.order_lines.specs.declared.LineFaults.{LineFaults}
 
 -- ---- places
 
--- the first, if there is one, or else the second
+-- the first place, if there is one, or else the second
 abbrev pub first-found : Found → Found → Found
 first-found Nowhere b = b
 first-found (Here p) b = Here p
 
--- counted from k on
+-- the place found, counted from k on
 abbrev pub shifted : ℕ → Found → Found
 shifted k Nowhere = Nowhere
 shifted k (Here p) = Here (k + p)
 
 -- ---- lines of one kind
 
--- the n lines after line k are read, `bad` saying which of them are at fault: if none is, the table is u
+-- the n lines after line k are read, `bad` saying which of them are at fault: r has what is found, and if nothing is, the table t is u
 pub record KindRead (text : List ℕ) (k n : ℕ) (bad : ℕ → Bool) (u t : List ℕ) (r : LineFaults) : Type 0 where
   pub ill : r .ill ≡ least-from (bad-line text) n (1 + k)
   pub fault : r .ill ≡ Nowhere → r .fault ≡ shifted (1 + k) (least bad n)
@@ -35,15 +35,15 @@ pub record KindRead (text : List ℕ) (k n : ℕ) (bad : ℕ → Bool) (u t : Li
 
 -- ---- the choices
 
--- pick i is of move a: it is the first, if the move has none yet
+-- the table t with pick i as the first of move a, if the move has none yet
 abbrev pub first-pick-put : List ℕ → ℕ → ℕ → List ℕ
 first-pick-put t i a = if eqb (end-in t a) 0 then set t (128 + a) i else t
 
--- pick i, the element y, of move a put in: it is the move's last so far
+-- the table t with pick i, the element y, put in as the last of move a so far
 abbrev pub pick-put : List ℕ → ℕ → ℕ → ℕ → List ℕ
 pick-put t i a y = set (set (first-pick-put t i a) (192 + a) (i + 1)) (256 + i) y
 
--- one after the other, from pick i on
+-- the table t with the picks of the choices put in one after the other, from pick i on
 unfoldable pub picks-put : List Choice → ℕ → List ℕ → List ℕ
 picks-put [] i t = t
 picks-put (x ∷ xs) i t = picks-put xs (suc i) (pick-put t i (x .move) (x .element))

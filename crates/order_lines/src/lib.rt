@@ -1,4 +1,4 @@
-// The lines of a log judged: the least out of form, and the least at fault; and the choice lines.
+// The lines of a log checked: the least that is ill-formed, and the least at fault; and its choice lines.
 use order::Order;
 use text::Found;
 use text::Line;
@@ -9,7 +9,7 @@ ghost use Rattle.text.specs.Words.{if_then_else_};
 ghost use Rattle.order.specs.Log.{bad-choice};
 ghost use Rattle.order_lines.specs.Lines.{first-found, pick-put, ChoiceLinesRead};
 
-// Of the lines of one kind the least that is out of form, and the least at fault.
+// What is found in the lines of one kind: the least that is ill-formed, and the least at fault.
 pub struct LineFaults {
     pub ill: Found,
     pub fault: Found,
@@ -25,7 +25,7 @@ pub fn first_found(a: Found, b: Found) -> Found
     }
 }
 
-// The place found before, or else p if it is at fault.
+// The place found before, or else p if that is at fault.
 pub fn or_here(found: Found, bad: bool, p: u32) -> Found
     ensures { λ r. ⌜ r ≡ first-found found (if bad then Found.Here p else Found.Nowhere) ⌝ }
 {
@@ -35,29 +35,29 @@ pub fn or_here(found: Found, bad: bool, p: u32) -> Found
     first_found(found, Found::Nowhere)
 }
 
-// Choice line i, of m moves, is at fault in a book of so many elements; k is the line before it.
+// Refusal 9: choice line i, of m moves, is at fault in a book of so many elements; k is the line before it.
 fn bad_choice(elements: u32, m: u32, k: Line, l: Line, i: u32) -> bool
     ensures { λ r. ⌜ r ≡ bad-choice elements m k l i ⌝ }
 {
     !((l.a < m) & (l.b < elements) & ((i == 0) | (k.a <= l.a)) & (l.c == 0) & (l.d == 0))
 }
 
-// Pick i, of a line that is not at fault, put in: its element, and where its move's picks begin and end.
+// Puts pick i into the table, unless its line is at fault: its element, and where its move's picks begin and end.
 fn put_pick(order: &mut Order, l: Line, i: u32, bad: bool)
     requires { ⌜ (i < 256) × (bad ≡ false → l .a < 64) ⌝ }
     ensures { λ _. ⌜ now (order .exit) ≡ (if bad then now (order .entry) else pick-put (now (order .entry)) i (l .a) (l .b)) ⌝ }
 {
     if !bad {
         let a = l.a as usize;
-        if order[192 + a] == 0 {
-            order[128 + a] = i as u64;
+        if order[order::PICK_ENDS + a] == 0 {
+            order[order::FIRST_PICKS + a] = i as u64;
         }
-        order[192 + a] = i as u64 + 1;
-        order[256 + i as usize] = l.b as u64;
+        order[order::PICK_ENDS + a] = i as u64 + 1;
+        order[order::PICKS + i as usize] = l.b as u64;
     }
 }
 
-// The n choice lines of m moves, which begin after line k. They ascend by their move, so that a move's picks are one part of the table.
+// Reads the n choice lines of m moves, which begin after line k. They ascend by their move, so that a move's picks are one part of the table.
 fn read_bounded(log: &[u8], elements: u32, m: u32, k: u32, n: u32, order: &mut Order) -> LineFaults
     requires { ⌜ (m ≤ 64) × (k ≤ 2080) × (n ≤ 256) ⌝ }
     ensures { λ r. ⌜ ChoiceLinesRead elements (now (log .entry)) m k n (now (order .entry)) (now (order .exit)) r ⌝ }
@@ -91,7 +91,7 @@ fn read_bounded(log: &[u8], elements: u32, m: u32, k: u32, n: u32, order: &mut O
     }
 }
 
-// The same of a log within its bounds: of a longer one no more lines and moves than that.
+// Reads the n choice lines of m moves, which begin after line k; no more lines and moves than a log may have.
 pub fn read_choices(
     log: &[u8],
     elements: u32,

@@ -1,4 +1,4 @@
--- 10 by sets of moves: each agent's moves so far, and of those the least that is not ordered with the next one.
+-- Refusal 10 by sets of moves: each agent's moves so far, and of those the least that is not ordered with the next one.
 use mathlib.Core.Path.{_≡_, refl, sym, ap, _∙_}
 use mathlib.Core.Logic.{dite, _≢_}
 use mathlib.Core.Bool.{true, not, _&&_, and-false, or-true, or-false, true≢false}
@@ -27,7 +27,7 @@ use Rattle.order.proofs.Best.{Best, best-found, best-none}
 use Rattle.order.proofs.Log.{read-passed}
 use Rattle.order_log.specs.Agents.{agent-told, loose-in, check-agents-in, LeastUnordered}
 
--- ---- the nearest move of a set
+-- ---- the least move of a set that is not in another
 
 module _ (own row : ℕ) (fit : row < 2 ^ 64) where
   abbrev left : ℕ
@@ -52,7 +52,7 @@ below-same i j n = dite (decLt i j)
     (λ (h : ¬ (i < j)). le-ltb i (j + 1) (omega arith) ∙ sym (le-ltb i j (omega arith)))
 
 module _ (t : List ℕ) where
-  -- of the first j moves those of each of 16 agents
+  -- own has for each of 16 agents the set of its moves among the first j
   pub record Own (j : ℕ) (own : List ℕ) : Type 0 where
     pub long : length own ≡ 16
     pub bits : (a i : ℕ) → a < 16 → bit (getD own a 0) i ≡ (ltb i j && eqb (agent-told t i) a)
@@ -99,7 +99,7 @@ module _ (t : List ℕ) where
       bits = λ a i l. dite (ℕ-discrete a k) (λ (e : a ≡ k). rw e (here i)) (λ (n : a ≢ k). other a i l n);
     }
 
-    -- the nearest of the agent's earlier moves that is not ordered with move j
+    -- the least of the agent's earlier moves that is not ordered with move j
     module _ (r : ℕ) (n : LeastUnordered (getD own (agent-told t j) 0) (getD t j 0) r) where
       pub own-hit : r < 64 → (r < j) × (loose-in t r j ≡ true)
       own-hit l =
@@ -113,7 +113,7 @@ module _ (t : List ℕ) where
           let b : bit (getD own k 0) i ≡ true = w .bits k i k-low ∙ rw (lt-ltb i j l, f .0) in
           n .low i (omega arith) (rw (b, f .1))
 
-  -- the least pair, as the code answers it
+  -- refusal 10 at the least pair, as the code answers it
   pub ten : (m a b n : ℕ) (r : Answer) → m ≡ min n 64 → Best (loose-in t) m a b → r ≡ answer-of (must (leb 64 a) 10 a b) → r ≡ answer-of (check-agents-in t n)
   unfolding check-agents-in no-pair-at must
   ten m a b n r q s e = dite (decLt a 64)
@@ -135,13 +135,13 @@ module _ (g : Log) (t : List ℕ) (o : OrderTable g t) (few : length (g .moves) 
       let m = length (g .moves) in
       let e : min m 64 ≡ m = omega arith in
       rw e (ap (no-pair-at 10) (two-same (loose-in t) (loose (predecessors (g .pairs) m) g) m
-      (λ i j a b. rw (agent-is i (omega arith), agent-is j b, o .rows j b))))
+      (λ i j a b. rw (agent-is i (omega arith), agent-is j b, o .predecessors j b))))
 
-  -- what `agent_of_move` gives
+  -- what `agent_of_move` gives is the agent of the move
   pub agent-at : (i : ℕ) → i < length (g .moves) → agent-in t i % 2 ^ 32 ≡ move-at g i .agent
   agent-at i h = omega (arith, o .agents i h, low i h)
 
--- a log that passes 1 and 9 is accepted if it passes 10
+-- a log that passes refusals 1 and 9 is accepted if it passes refusal 10
 pub log-checked : (B : Program) (text : List ℕ) (g : Log) (t : List ℕ) → length (B .agents) ≤ 16 → read-log (length (B .agents)) (B .E) text ≡ good g → OrderTable g t
     → check-log B text ≡ (check-agents-in t (length (g .moves)) >> good g)
 unfolding check-log _>>=_

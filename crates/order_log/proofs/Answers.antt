@@ -1,4 +1,4 @@
--- The log's check from what its lines are: what it answers, and what it leaves of a log that passes.
+-- The check of a log from what its lines are: what it answers, and what it leaves of a log that passes.
 use mathlib.Core.Path.{_≡_, refl, sym, ap, subst, _∙_}
 use mathlib.Core.Logic.{_≢_}
 use mathlib.Core.Bool.{Bool, true, false, not}
@@ -34,15 +34,15 @@ module _ {A B : Type 0} where
   then-gives (good a) b = refl
   then-gives (refused n p q) b = refl
 
-  -- as the code has it: the answer a of a part is the whole's
+  -- if the first check is refused with answer a, that is the answer of both
   pub stops : (a : Answer) (c : Checked A) (d : Checked B) → a ≡ answer-of c → a .number ≢ 0 → a ≡ answer-of (c >> d)
   stops a c d e n = e ∙ sym (then-stops c d (rw e at n))
 
-  -- or the part after it decides
+  -- if the first check passes, the answer of the second is that of both
   pub goes : (a : Answer) (c : Checked A) (d : Checked B) (r : Answer) → Numbered c → a ≡ answer-of c → a .number ≡ 0 → r ≡ answer-of d → r ≡ answer-of (c >> d)
   goes a c d r k e z f = f ∙ ap answer-of (sym (then-goes-on c d k (ap (λ (x : Answer). x .number) (sym e) ∙ z)))
 
--- the parts of a check grouped the other way
+-- checks may be grouped the other way
 module _ {A : Type 0} (g : A) (l : Checked (Unit {0})) where
   regroup : (c d : Checked (Unit {0})) → answer-of ((c >> d) >> (l >> good g)) ≡ answer-of (c >> (d >> l))
   unfolding _>>_
@@ -50,7 +50,7 @@ module _ {A : Type 0} (g : A) (l : Checked (Unit {0})) where
   regroup (good a) (refused n p q) = refl
   regroup (refused n p q) d = refl
 
--- a last part that only matters where nothing was found before it
+-- a last check that only matters where nothing was found before it may be exchanged
 last-part : (n q : ℕ) (o : Found) (d l m : Checked (Unit {0})) → (o ≡ Nowhere → l ≡ m) → answer-of (none-at n 0 q o >> (d >> l)) ≡ answer-of (none-at n 0 q o >> (d >> m))
 unfolding _>>_ none-at
 last-part n q Nowhere d l m f = rw (f refl)
@@ -81,13 +81,13 @@ module _ (text : List ℕ) where
         go false e = refl
 
     module _ (a : Answer) (e : a ≡ answer-of (header-checked p)) where
-      -- the header passes
+      -- the header passes if its answer has number 0
       pub header-ok : a .number ≡ 0 → (p .ok ≡ true) × (log-header-ok (p .line) ≡ true)
       unfolding header-checked
       header-ok z = both-pass (p .ok) (log-header-ok (p .line)) (ap (λ (x : Answer). x .number) (sym e) ∙ z)
 
       module _ (A E : ℕ) where
-        -- it is refused
+        -- if the header is refused, its answer is that of the log
         at-header : a .number ≢ 0 → a ≡ answer-of (read-log A E text)
         unfolding read-log
         at-header n =
@@ -103,7 +103,7 @@ module _ (text : List ℕ) where
         unfolding read-log header-checked _>>=_ _>>_ must
         past-header z = let o = header-ok z in let f : check-log-header text ≡ good (p .line) = header-as ∙ rw (o .0, o .1) in rw f
 
--- ---- the lines
+-- ---- the lines after the header
 
 -- h is the header, in form and within its bounds; the lines after it are read
 module _
@@ -125,7 +125,7 @@ module _
         ∙ regroup (log-of h text) (check-log-lines A E h text) (none-at ill-formed 0 log-text (least (bad-line text) (log-lines h))) long
         ∙ rw all-ill (last-part ill-formed log-text (found .ill) long (check-log-lines A E h text) (none-at log-line 0 0 (found .fault)) (w .fault)))
 
-    -- the log passes: none of its lines is out of form or at fault
+    -- if the log passes, none of its lines is ill-formed or at fault
     clean : (g : Log) → read-log A E text ≡ good g → (log-of h text ≡ g) × (found .ill ≡ Nowhere) × (found .fault ≡ Nowhere)
     unfolding check-log-text
     clean g e =

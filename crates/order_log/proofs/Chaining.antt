@@ -1,4 +1,4 @@
--- The rows that one pass over the pairs, in ascending order, puts into a table are those of the definition.
+-- The sets of predecessors that one pass over the pairs, in ascending order, puts into a table are those of the definition.
 use mathlib.Core.Path.{_≡_, refl, sym, _∙_}
 use mathlib.Core.Logic.{_↔_, _⊎_, inl, inr, dite, _≢_}
 use mathlib.Core.List.{List, [], _∷_}
@@ -11,17 +11,17 @@ use lib.Bits.{bitOr}
 use lib.ListN.{length, getD, set, length-set}
 use lib.Seq.{getD-set-same, getD-set-other}
 use borrow.Author.Tests.{eqb-true, eq-eqb}
-use Rattle.text.proofs.Words.{or-cases}
+use Rattle.text.proofs.Words.{or-cases, both-ways}
 use Rattle.order.specs.Sets.{bit, with-move}
 use Rattle.order.specs.Pairs.{Pair, predecessors}
 use Rattle.order.specs.Orders.{Before, one, more}
 use Rattle.order.specs.Demand.{PairOf}
 use Rattle.order.proofs.Sets.{bit-or, bit-with, bit-empty}
 use Rattle.order.proofs.Rows.{rows-set}
-use Rattle.order.proofs.Masks.{both-ways, bit-ext}
+use Rattle.order.proofs.Masks.{bit-ext}
 use Rattle.order_log.specs.Read.{pair-put, pairs-put}
 
--- each goes upwards, below m, and their earlier moves ascend
+-- each pair goes upwards, below m, and their earlier moves ascend from lo on
 abbrev pub Up : ℕ → ℕ → List Pair → Type 0
 Up m lo [] = Unit {0}
 Up m lo (p ∷ ps) = (lo ≤ p .earlier) × (p .earlier < p .later) × (p .later < m) × Up m (p .earlier) ps
@@ -31,7 +31,7 @@ pair-up m lo [] u a b r = absurd r
 pair-up m lo (p ∷ ps) u a b (inl e) = let x : p .earlier < p .later = u .1 in let y : p .later < m = u .2 in (omega arith, omega arith)
 pair-up m lo (p ∷ ps) u a b (inr r) = pair-up m (p .earlier) ps (u .3) a b r
 
--- the sets of the first m moves say what follows from these pairs
+-- the sets of the first m moves say what follows from the pairs q
 record Says (m : ℕ) (q : ℕ → ℕ → Type 0) (r : List ℕ) : Type 0 where
   size : m ≤ length r
   set : (i j : ℕ) → j < m → (bit (getD r j 0) i ≡ true) ↔ Before q i j
@@ -41,14 +41,14 @@ before-map f (one {a} {b} r) = one (f a b r)
 before-map f (more {a} {b} {c} g r) = more (before-map f g) (f b c r)
 
 module _ (q : ℕ → ℕ → Type 0) (a b : ℕ) where
-  -- one pair more
+  -- the pairs q, and (a, b)
   abbrev With : ℕ → ℕ → Type 0
   With c d = q c d ⊎ ((a ≡ c) × (b ≡ d))
 
   abbrev New : ℕ → ℕ → Type 0
   New i j = Before q i j ⊎ ((b ≡ j) × ((a ≡ i) ⊎ Before q i a))
 
--- where that pair's earlier move is not below the others'
+-- a pair more whose earlier move is not below those of the others
 module _ (q : ℕ → ℕ → Type 0) (a b : ℕ) (h : a < b) (low : (c d : ℕ) → q c d → c ≤ a) where
   new-more : (i x j : ℕ) → New q a b i x → With q a b x j → New q a b i j
   new-more i x j (inl f) (inl r) = inl (more f r)
@@ -141,7 +141,7 @@ close-says m q lo (p ∷ ps) r low up w =
     from c d (inr (inl h)) = inl (inr h)
     from c d (inr (inr h)) = inr h
 
--- into a table of m empty sets, and maybe more
+-- the pairs are put into a table of m empty sets, and maybe more
 module _ (ps : List Pair) (m : ℕ) (r : List ℕ) (size : m ≤ length r) (clear : (j : ℕ) → j < m → getD r j 0 ≡ 0) (up : Up m 0 ps) where
   closed : Says m (PairOf ps) (pairs-put ps r)
   closed = says-iff (λ a b. (back a b, inr)) (close-says m (λ c d. ⊥) 0 ps r (λ c d h. absurd h) up none)
@@ -166,7 +166,7 @@ module _ (ps : List Pair) (m : ℕ) (r : List ℕ) (size : m ≤ length r) (clea
       let told = rows-set ps (λ a b p. pair-up m 0 ps up a b p .0) m j i h in
       both-ways _ _ (λ e. told .1 (said .0 e)) (λ e. said .1 (told .0 e)))
 
--- what stands behind the m sets stays
+-- what stands after the m sets stays
 pub close-past : (m lo : ℕ) (ps : List Pair) (r : List ℕ) → Up m lo ps → (k : ℕ) → m ≤ k → getD (pairs-put ps r) k 0 ≡ getD r k 0
 unfolding pairs-put
 close-past m lo [] r u k h = refl
@@ -175,7 +175,7 @@ close-past m lo (p ∷ ps) r u k h =
     ∙ getD-set-other r (p .later) k (bitOr (getD r (p .later) 0) (with-move (getD r (p .earlier) 0) (p .earlier))) 0
     (λ (e : k ≡ p .later). let l : p .later < m = u .2 in absurd (omega arith))
 
--- and so does its length
+-- the length of the table stays
 pub close-long : (ps : List Pair) (r : List ℕ) → length (pairs-put ps r) ≡ length r
 unfolding pairs-put
 close-long [] r = refl

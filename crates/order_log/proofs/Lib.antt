@@ -1,6 +1,6 @@
 pub mod Chaining
 pub mod Parts
-pub mod Turns
+pub mod Loops
 pub mod Lines
 pub mod Answers
 pub mod Picks

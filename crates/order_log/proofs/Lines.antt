@@ -1,4 +1,4 @@
--- The lines after the header from those of each kind: 1 and 9 on them, and of lines that pass the table of the log.
+-- The lines after the header from those of each kind: refusals 1 and 9 on them, and the table of the log if they pass.
 use mathlib.Core.Path.{_≡_, refl, sym, ap, _∙_}
 use mathlib.Core.Bool.{true, _&&_}
 use mathlib.Core.List.{List}
@@ -23,7 +23,7 @@ use Rattle.order.proofs.Log.{input-at}
 use Rattle.order_lines.specs.declared.LineFaults.{LineFaults}
 use Rattle.order_lines.specs.Lines.{first-found, shifted, picks-put, ChoiceLinesRead}
 use Rattle.order_lines.proofs.Places.{least-split}
-use Rattle.order_lines.proofs.Filed.{choices-picks, choices-keep}
+use Rattle.order_lines.proofs.PicksPut.{choices-picks, choices-keep}
 use Rattle.order_log.specs.Read.{pair-at, pairs-put, MovesRead, PairsRead, both, LinesRead}
 use Rattle.order_log.proofs.Chaining.{closed-rows, close-past, close-long}
 use Rattle.order_log.proofs.Parts.{up}
@@ -38,7 +38,7 @@ shifted-none : (k : ℕ) (o : Found) → shifted k o ≡ Nowhere → o ≡ Nowhe
 shifted-none k Nowhere e = refl
 shifted-none k (Here p) e = let x : _≡_ {A = ℕ} 0 1 = cc in absurd (omega arith)
 
--- searches one after the other are one
+-- two searches one after the other are one
 two-searches : (n j : ℕ) (a b : Found) → (none-at n j 0 a >> none-at n 0 0 b) ≡ none-at n 0 0 (first-found (shifted j a) b)
 unfolding _>>_ none-at
 two-searches n j Nowhere b = refl
@@ -75,7 +75,7 @@ module _ (h : Line) (text : List ℕ) where
 
 -- ---- the lines
 
--- the code read the lines of each kind, and left the tables s, t and u
+-- the code has read the lines of each kind, and left the tables s, t and u
 module _
     (A E : ℕ) (text : List ℕ) (h : Line) (fits : log-header-ok h ≡ true) (s t u : List ℕ) (size : length s ≡ 512) (mv pr ch : LineFaults)
     (ms : MovesRead A text (h .a) s mv) (ps : PairsRead text (h .a) (h .b) s t pr) (cs : ChoiceLinesRead E text (h .a) (h .a + h .b) (h .c) t u ch)
@@ -138,7 +138,7 @@ module _
         filed-in : u ≡ picks-put (table (choice-at k text) (h .c)) 0 t
         filed-in = cs .order (forms .2) (faults .1)
 
-        -- pairs keep what stands behind the rows
+        -- the pairs leave what stands after the sets of predecessors
         behind : (j : ℕ) → h .a ≤ j → getD t j 0 ≡ getD s j 0
         behind j l = ap (λ (x : List ℕ). getD x j 0) closed ∙ close-past (h .a) 0 (table (pair-at (h .a) text) (h .b)) s (up (h .a) text (h .b) no-pair) j l
 
@@ -150,7 +150,7 @@ module _
             let e = ms .picks (forms .0) i l in
             (behind (128 + i) (omega (arith, few)) ∙ e .0, behind (192 + i) (omega (arith, few)) ∙ e .1)
 
-        -- choices keep the rows and the agents
+        -- the choices leave predecessors and agents
         kept : (j : ℕ) → j < 128 → getD u j 0 ≡ getD t j 0
         kept j l = ap (λ (x : List ℕ). getD x j 0) filed-in ∙ choices-keep E (h .a) k text (h .c) no-choice few most t long clear j l
 
@@ -158,7 +158,7 @@ module _
         unfolding log-of
         row-is j l =
             kept j (omega (arith, few)) ∙ ap (λ (x : List ℕ). getD x j 0) closed
-            ∙ closed-rows (table (pair-at (h .a) text) (h .b)) (h .a) s (omega (arith, few, size)) (ms .rows (forms .0)) (up (h .a) text (h .b) no-pair) j l
+            ∙ closed-rows (table (pair-at (h .a) text) (h .b)) (h .a) s (omega (arith, few, size)) (ms .predecessors (forms .0)) (up (h .a) text (h .b) no-pair) j l
 
         agent-is : (i : ℕ) → i < h .a → agent-in u i ≡ move-at (log-of h text) i .agent
         agent-is i l =
@@ -174,7 +174,7 @@ module _
         ordered : OrderTable (log-of h text) u
         ordered =
             let m = how-many h text in
-            record { rows = λ j l. rw m (row-is j (omega arith)); agents = λ i l. agent-is i (omega arith); picks = λ i l. picks-are i (omega arith) }
+            record { predecessors = λ j l. rw m (row-is j (omega arith)); agents = λ i l. agent-is i (omega arith); picks = λ i l. picks-are i (omega arith) }
 
     pub lines-joined : LinesRead A E text h u (both (both mv pr) ch)
     lines-joined = record { ill = all-ill; fault = all-faults; order = ordered }

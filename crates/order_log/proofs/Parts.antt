@@ -26,10 +26,10 @@ use Rattle.order_log.proofs.Chaining.{Up}
 
 -- ---- the moves
 
--- the first n moves have an empty row, their agents, and no picks
+-- in the table t the first n moves have no predecessors, their agents, and no picks
 pub record Filled (f : ℕ → ℕ) (n : ℕ) (t : List ℕ) : Type 0 where
   pub long : length t ≡ 512
-  pub rows : (j : ℕ) → j < n → predecessors-in t j ≡ 0
+  pub predecessors : (j : ℕ) → j < n → predecessors-in t j ≡ 0
   pub agents : (i : ℕ) → i < n → agent-in t i ≡ f i
   pub picks : (i : ℕ) → i < n → (first-in t i ≡ 0) × (end-in t i ≡ 0)
 
@@ -79,7 +79,7 @@ module _ (t : List ℕ) (i v : ℕ) (h : i < 64) (long : length t ≡ 512) where
     getD-set-same three (192 + i) 0 0 (omega (arith, three-long)),
   )
 
-  -- the words of another move stay
+  -- the words of another move j stay
   module _ (j : ℕ) (l : j < 64) (n : j ≢ i) where
     row-other : predecessors-in (filled t i v) j ≡ predecessors-in t j
     row-other = filled-other j n (λ e. absurd (omega arith)) (λ e. absurd (omega arith)) (λ e. absurd (omega arith))
@@ -95,15 +95,15 @@ module _ (t : List ℕ) (i v : ℕ) (h : i < 64) (long : length t ≡ 512) where
 
 module _ (f : ℕ → ℕ) (t : List ℕ) where
   pub filled-start : length t ≡ 512 → Filled f 0 t
-  filled-start e = record { long = e; rows = λ j h. absurd (omega arith); agents = λ i h. absurd (omega arith); picks = λ i h. absurd (omega arith) }
+  filled-start e = record { long = e; predecessors = λ j h. absurd (omega arith); agents = λ i h. absurd (omega arith); picks = λ i h. absurd (omega arith) }
 
   pub filled-turn : (i v : ℕ) → i < 64 → v ≡ f i → Filled f i t → Filled f (i + 1) (filled t i v)
   filled-turn i v h e w =
       let s = w .long in
       record {
         long = filled-long t i v h s;
-        rows = λ j k. dite (ℕ-discrete j i) (λ (q : j ≡ i). rw q (row-filled t i v h s))
-            (λ (q : j ≢ i). row-other t i v h s j (omega arith) q ∙ w .rows j (omega arith));
+        predecessors = λ j k. dite (ℕ-discrete j i) (λ (q : j ≡ i). rw q (row-filled t i v h s))
+            (λ (q : j ≢ i). row-other t i v h s j (omega arith) q ∙ w .predecessors j (omega arith));
         agents = λ j k. dite (ℕ-discrete j i) (λ (q : j ≡ i). rw q (agent-filled t i v h s ∙ e))
             (λ (q : j ≢ i). agent-other t i v h s j (omega arith) q ∙ w .agents j (omega arith));
         picks = λ j k. dite (ℕ-discrete j i) (λ (q : j ≡ i). rw q (picks-filled t i v h s))
@@ -129,13 +129,13 @@ module _ (m : ℕ) (k l : Line) (i : ℕ) (e : bad-pair m k l i ≡ false) where
       let t2 = and-cases (later && eqb (l .c) 0) (eqb (l .d) 0) t .0 in
       and-cases up (eqb i 0 || ascends k l) (and-cases later (eqb (l .c) 0) t2 .0)
 
-  -- a pair goes upwards, below m
+  -- a pair that is not at fault goes upwards, below m
   pair-below : (l .a < l .b) × (l .b < m)
   pair-below =
       let t = and-cases (ltb (l .a) (l .b)) (ltb (l .b) m) (parts .0) in
       (ltb-true (l .a) (l .b) (t .0), ltb-true (l .b) m (t .1))
 
-  -- its earlier move is not below that of the pair before
+  -- the earlier move of a pair is not below that of the pair before it
   pair-after : i ≢ 0 → k .a ≤ l .a
   pair-after n = go (or-cases (eqb i 0) (ascends k l) (parts .1))
     where
@@ -173,7 +173,7 @@ module _ (m : ℕ) (text : List ℕ) (n : ℕ) (e : least (bad-pair-at m text) n
 pub joined : (t : List ℕ) (a b : ℕ) → a < 64 → set t b (bitOr (getD t b 0) (bitOr (getD t a 0) ((1 * 2 ^ a) % 2 ^ 64))) ≡ pair-put t a b
 joined t a b h = rw (shl-one a h)
 
--- the n pairs of f from pair i on
+-- the table with the n pairs of f from pair i on put in
 abbrev pub left : (ℕ → Pair) → ℕ → ℕ → List ℕ → List ℕ
 left f n i t = pairs-put (table-from f i (n - i)) t
 
@@ -189,6 +189,6 @@ module _ (f : ℕ → Pair) (n : ℕ) where
   unfolding pairs-put table-from
   left-end i t h = let e : n - i ≡ 0 = omega arith in rw e
 
--- a pair that is not at fault is of the 64 moves
+-- a pair that is not at fault is of two of the 64 moves
 pub pair-within : (m : ℕ) (k l : Line) (i : ℕ) (b : Bool) → m ≤ 64 → b ≡ bad-pair m k l i → b ≡ false → (l .a < 64) × (l .b < 64)
 pair-within m k l i b small e z = let r = pair-below m k l i (sym e ∙ z) in (omega (arith, r .0, r .1), omega (arith, r .1))

@@ -8,7 +8,7 @@ use native.Mathlib.Decide.{decLt}
 use lib.ListN.{length, take, drop, length-drop, drop-of-length-le}
 use lib.Seq.{take-all, take-nil}
 
--- picks a up to b
+-- the picks from a up to b
 module _ (t : List ℕ) (a b : ℕ) (long : length t ≡ 512) where
   pub part-some : min a 256 < min b 256 → take ((256 + min b 256) - (256 + min a 256)) (drop (256 + min a 256) t) ≡ take (b - a) (drop (256 + a) t)
   part-some h = let x : min a 256 ≡ a = omega arith in rw x (dite (decLt 256 b) (λ (l : 256 < b). over l) (λ (l : ¬ (256 < b)). within (omega arith)))

@@ -1,4 +1,4 @@
--- 10 from the table of an order, by sets of moves (SPECIFICATION 6.5).
+-- Refusal 10 from the table of an order, by sets of moves (SPECIFICATION 6.5).
 use mathlib.Core.Path.{_≡_}
 use mathlib.Core.Bool.{Bool, true, _&&_, not}
 use mathlib.Core.List.{List}
@@ -14,7 +14,7 @@ use Rattle.order.specs.Table.{agent-in}
 abbrev pub most-agents : ℕ
 most-agents = 16
 
--- the agent of move i, as far as a table of so many tells agents apart
+-- the agent of move i, modulo 16: no book has more agents
 abbrev pub agent-told : List ℕ → ℕ → ℕ
 agent-told t i = agent-in t i % most-agents
 
@@ -22,11 +22,11 @@ agent-told t i = agent-in t i % most-agents
 abbrev pub loose-in : List ℕ → ℕ → ℕ → Bool
 loose-in t i j = eqb (agent-told t i) (agent-told t j) && not (ordered-by t i j)
 
--- of the first m moves
+-- Refusal 10: the least pair of the first m moves that are of one agent and unordered
 unfoldable pub check-agents-in : List ℕ → ℕ → Checked (Unit {0})
 check-agents-in t m = no-pair-at agent-unordered (least-pair (loose-in t) (min m most-moves))
 
--- r is the least move that is in the set `own` and not in `row`; 64 for none
+-- r is the least move that is in the set `own` of one agent's moves and not in the set `row` of predecessors; 64 for none
 pub record LeastUnordered (own row r : ℕ) : Type 0 where
   pub hit : r < 64 → (bit own r && not (bit row r)) ≡ true
   pub low : (i : ℕ) → i < 64 → (bit own i && not (bit row i)) ≡ true → r ≤ i

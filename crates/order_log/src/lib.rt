@@ -1,4 +1,4 @@
-// The log: its text read once into the table of its order, with 1 and 9, and 10 by sets of moves.
+// The log: its text read once into the table of its order and picks, with refusals 1 and 9; and refusal 10 by sets of moves.
 use order::Order;
 use order_lines::LineFaults;
 use text::Answer;
@@ -15,19 +15,7 @@ ghost use Rattle.order.specs.Table.{agent-in, picks-in};
 ghost use Rattle.order_log.specs.Read.{header-checked, lines-checked, pair-put, MovesRead, PairsRead, both, LinesRead, LogIsRead};
 ghost use Rattle.order_log.specs.Agents.{LeastUnordered, check-agents-in};
 
-// Bounds of the header's m, k and c, and how many agents there may be.
-pub const MOST_MOVES: u32 = 64;
-
-pub const MOST_PAIRS: u32 = 2016;
-
-const MOST_PICKS: u32 = 256;
-
-const MOST_AGENTS: u64 = 16;
-
-// The log, in the place of a 1.
-const LOG_TEXT: u32 = 1;
-
-// The answer; when accepted, how many moves there are.
+// What reading a log gives: its answer, and when accepted how many moves it has.
 pub struct LogRead {
     pub answer: Answer,
     pub moves: u32,
@@ -37,17 +25,20 @@ pub struct LogRead {
 fn header_fits(h: Line) -> bool
     ensures { λ r. ⌜ r ≡ log-header-ok h ⌝ }
 {
-    (h.a <= MOST_MOVES) & (h.b <= MOST_PAIRS) & (h.c <= MOST_PICKS) & (h.d == 0)
+    (h.a <= order::MOST_MOVES)
+        & (h.b <= order::MOST_PAIRS)
+        & (h.c <= order::MOST_PICKS)
+        & (h.d == 0)
 }
 
-// A move line is at fault.
+// Refusal 9: a move line is at fault, in a book of so many agents.
 fn bad_move(l: Line, agents: u32) -> bool
     ensures { λ r. ⌜ r ≡ bad-move agents l ⌝ }
 {
     !((l.a < agents) & (l.b == 0) & (l.c == 0) & (l.d == 0))
 }
 
-// Pair line i, of m moves, is at fault; k is the line before it.
+// Refusal 9: pair line i, of m moves, is at fault; k is the line before it.
 fn bad_pair(m: u32, k: Line, l: Line, i: u32) -> bool
     ensures { λ r. ⌜ r ≡ bad-pair m k l i ⌝ }
 {
@@ -55,7 +46,7 @@ fn bad_pair(m: u32, k: Line, l: Line, i: u32) -> bool
     !((l.a < l.b) & (l.b < m) & ((i == 0) | ascends) & (l.c == 0) & (l.d == 0))
 }
 
-// The m move lines. Each move's row is cleared and its agent stored, and it has no picks yet.
+// Reads the m move lines. Each move's predecessors are cleared and its agent stored, and it has no picks yet.
 fn read_moves(log: &[u8], agents: u32, m: u32, order: &mut [u64]) -> LineFaults
     requires { ⌜ (m ≤ 64) × (length (now order) ≡ 512) ⌝ }
     ensures { λ r. ⌜ MovesRead agents (now (log .entry)) m (now (order .exit)) r ⌝ }
@@ -73,9 +64,9 @@ fn read_moves(log: &[u8], agents: u32, m: u32, order: &mut [u64]) -> LineFaults
         }
         fault = order_lines::or_here(fault, bad_move(l, agents), 1 + i);
         order[i as usize] = 0;
-        order[64 + i as usize] = l.a as u64;
-        order[128 + i as usize] = 0;
-        order[192 + i as usize] = 0;
+        order[order::AGENTS + i as usize] = l.a as u64;
+        order[order::FIRST_PICKS + i as usize] = 0;
+        order[order::PICK_ENDS + i as usize] = 0;
         i += 1;
     }
     LineFaults {
@@ -84,7 +75,7 @@ fn read_moves(log: &[u8], agents: u32, m: u32, order: &mut [u64]) -> LineFaults
     }
 }
 
-// A pair that is not at fault put in: to the moves before its later one come those before its earlier one, and that one.
+// Puts a pair into the table, unless its line is at fault: to the predecessors of its later move come those of its earlier one, and that one.
 fn put_pair(order: &mut Order, l: Line, bad: bool)
     requires { ⌜ (bad ≡ false → (l .a < 64) × (l .b < 64)) ⌝ }
     ensures { λ _. ⌜ now (order .exit) ≡ (if bad then now (order .entry) else pair-put (now (order .entry)) (l .a) (l .b)) ⌝ }
@@ -97,8 +88,8 @@ fn put_pair(order: &mut Order, l: Line, bad: bool)
     }
 }
 
-// The n pair lines of m moves. They ascend by their earlier move, so that its row is complete when it is used: one pass is
-// enough.
+// Reads the n pair lines of m moves. They ascend by their earlier move, so that its predecessors are complete when they are used: one
+// pass is enough.
 fn read_pairs(log: &[u8], m: u32, n: u32, order: &mut Order) -> LineFaults
     requires { ⌜ (m ≤ 64) × (n ≤ 2016) ⌝ }
     ensures { λ r. ⌜ PairsRead (now (log .entry)) m n (now (order .entry)) (now (order .exit)) r ⌝ }
@@ -132,7 +123,7 @@ fn read_pairs(log: &[u8], m: u32, n: u32, order: &mut Order) -> LineFaults
     }
 }
 
-// Of two kinds of lines, one after the other.
+// What is found in the lines of two kinds, the first before the second.
 fn both(a: LineFaults, b: LineFaults) -> LineFaults
     ensures { λ r. ⌜ r ≡ both a b ⌝ }
 {
@@ -148,7 +139,7 @@ fn both(a: LineFaults, b: LineFaults) -> LineFaults
     }
 }
 
-// The lines after the header h, which is within its bounds.
+// Reads the lines after the header h, which is within its bounds.
 fn read_lines(log: &[u8], agents: u32, elements: u32, h: Line, order: &mut Order) -> LineFaults
     requires { ⌜ log-header-ok h ≡ true ⌝ }
     ensures { λ r. ⌜ LinesRead agents elements (now (log .entry)) h (now (order .exit)) r ⌝ }
@@ -159,11 +150,11 @@ fn read_lines(log: &[u8], agents: u32, elements: u32, h: Line, order: &mut Order
     both(both(moves, pairs), picks)
 }
 
-// 1 then 9 on the header.
+// Refusals 1 and 9, in this order, on the header line.
 fn check_header(head: Parsed) -> Answer
     ensures { λ r. ⌜ r ≡ answer-of (header-checked head) ⌝ }
 {
-    let form = text::must(head.ok, text::ILL_FORMED, 0, LOG_TEXT);
+    let form = text::must(head.ok, text::ILL_FORMED, 0, text::LOG_TEXT);
     if form.number != 0 {
         return form;
     }
@@ -171,23 +162,23 @@ fn check_header(head: Parsed) -> Answer
     text::must(header_fits(h), text::LOG_LINE, 0, 0)
 }
 
-// 1 and 9 on a log of so many bytes and lines.
+// Refusals 1 and 9 on a log of `size` bytes and so many lines, from what is found in its lines.
 fn check_lines(size: usize, lines: u32, ill: Found, fault: Found) -> Answer
     ensures { λ r. ⌜ r ≡ answer-of (lines-checked size lines ill fault) ⌝ }
 {
-    let form = text::none_at(text::ILL_FORMED, LOG_TEXT, ill);
+    let form = text::none_at(text::ILL_FORMED, text::LOG_TEXT, ill);
     if form.number != 0 {
         return form;
     }
     let whole = size <= text::LINE * lines as usize;
-    let surplus = text::must(whole, text::ILL_FORMED, lines, LOG_TEXT);
+    let surplus = text::must(whole, text::ILL_FORMED, lines, text::LOG_TEXT);
     if surplus.number != 0 {
         return surplus;
     }
     text::none_at(text::LOG_LINE, 0, fault)
 }
 
-// 1 and 9, for a book of so many agents and elements: the log's order and picks are left in the table. Each line is read once.
+// Refusals 1 and 9, for a book of so many agents and elements: the log's order and picks are left in the table. Each line is read once.
 pub fn read_log(log: &[u8], agents: u32, elements: u32, order: &mut Order) -> LogRead
     ensures { λ r. ⌜ LogIsRead agents elements (now (log .entry)) (now (order .exit)) r ⌝ }
 {
@@ -210,14 +201,14 @@ pub fn read_log(log: &[u8], agents: u32, elements: u32, order: &mut Order) -> Lo
     }
 }
 
-// The least move of the set `own` that is not in `row`; 64 for none.
+// The least move of the set `own` that is not in the set `row` of predecessors; 64 for none.
 fn least_unordered(own: u64, row: u64) -> u32
     ensures { λ r. ⌜ LeastUnordered own row r ⌝ }
 {
     u64::trailing_zeros(own & !row)
 }
 
-// 10: the least pair of the first `moves` moves that are of one agent and unordered. own has each agent's moves so far.
+// Refusal 10: the least pair of the first `moves` moves that are of one agent and unordered. The code's `own` has each agent's moves so far.
 pub fn check_agents(order: &Order, moves: u32) -> Answer
     ensures { λ r. ⌜ r ≡ answer-of (check-agents-in (now (order .entry)) moves) ⌝ }
 {
@@ -227,7 +218,7 @@ pub fn check_agents(order: &Order, moves: u32) -> Answer
     let mut second: usize = 0;
     let mut j: usize = 0;
     while j < m {
-        let a = (order[64 + j] % MOST_AGENTS) as usize;
+        let a = (order[order::AGENTS + j] % book::MOST_AGENTS as u64) as usize;
         let i = least_unordered(own[a], order[j]);
         if i < first {
             first = i;
@@ -239,7 +230,7 @@ pub fn check_agents(order: &Order, moves: u32) -> Answer
     text::must(first >= 64, text::AGENT_UNORDERED, first, second as u32)
 }
 
-// The number at an index, 0 past the end.
+// The number at an index of a list, 0 past its end.
 fn number_at(s: &[u64], i: usize) -> u64
     ensures { λ r. ⌜ r ≡ getD (now (s .entry)) i 0 ⌝ }
 {
@@ -250,10 +241,10 @@ fn number_at(s: &[u64], i: usize) -> u64
 pub fn agent_of_move(order: &Order, i: u32) -> u32
     ensures { λ r. ⌜ r ≡ agent-in (now (order .entry)) i % 2 ^ 32 ⌝ }
 {
-    (number_at(order, 64 + i as usize) % 4294967296) as u32
+    (number_at(order, order::AGENTS + i as usize) % 4294967296) as u32
 }
 
-// A part of the table.
+// The part of the table that has a move's picks, from `first` up to `end`.
 pub struct PickPart {
     pub first: usize,
     pub end: usize,
@@ -263,18 +254,18 @@ pub struct PickPart {
 pub fn picks_of_move(order: &Order, i: u32) -> PickPart
     ensures { λ r. ⌜ (r .first ≤ r .end) × (r .end ≤ 512) × (take (r .end - r .first) (drop (r .first) (now (order .entry))) ≡ picks-in (now (order .entry)) i) ⌝ }
 {
-    let a = number_at(order, 128 + i as usize);
-    let b = number_at(order, 192 + i as usize);
+    let a = number_at(order, order::FIRST_PICKS + i as usize);
+    let b = number_at(order, order::PICK_ENDS + i as usize);
     let first = text::smaller(a as usize, 256);
     let end = text::smaller(b as usize, 256);
     if first < end {
         return PickPart {
-            first: 256 + first,
-            end: 256 + end,
+            first: order::PICKS + first,
+            end: order::PICKS + end,
         };
     }
     PickPart {
-        first: 256,
-        end: 256,
+        first: order::PICKS,
+        end: order::PICKS,
     }
 }

@@ -8,17 +8,18 @@ use lib.ListN.{length, take, drop}
 use lib.Seq.{length-take-le, length-front, take-append-seam, drop-append-seam}
 use Rattle.text.specs.declared.Answer.{Answer}
 use Rattle.book.specs.Book.{L}
-use Rattle.book.specs.Image.{word, held}
+use Rattle.book.specs.Image.{word, low-program}
 use Rattle.engine.specs.declared.Instruction.{Instruction}
 use Rattle.engine.specs.Rule.{most-instructions}
 use Rattle.engine.specs.Single.{over-first}
 use Rattle.order.specs.Log.{Log}
 use Rattle.order.specs.Run.{LogAnswer, run-from}
-use Rattle.order.specs.Call.{Tables, left-past}
+use Rattle.order.specs.Call.{left-past}
 use Rattle.order_run.specs.declared.RunState.{RunState}
 use Rattle.order_run.specs.Runs.{answer-with}
 use Rattle.order_run.specs.Stages.{MoveNext, RunAt, RestKept, CallAt}
 use Rattle.order_run.proofs.Stages.{over-with}
+use Rattle.engine.specs.Tables.{Tables}
 
 -- ---- tables whose first k records are d
 
@@ -50,7 +51,7 @@ same-past i n y z e q = subst (λ (v : ℕ). drop v y ≡ drop v z) (sym e) q
 -- ---- the first k records of the three tables were lent to a stage, and came back as d, rs and ws
 
 module _
-    (lent : Tables) (n : ℕ) (whole : LogAnswer) (m o : List ℕ) (g : Log) (c C R W : List ℕ) (kept : RestKept lent n whole m g c C R W) (k : ℕ) (ek : k ≡ L (held m))
+    (lent : Tables) (n : ℕ) (whole : LogAnswer) (m o : List ℕ) (g : Log) (c C R W : List ℕ) (kept : RestKept lent n whole m g c C R W) (k : ℕ) (ek : k ≡ L (low-program m))
     (d rs ws : List ℕ) (ld : length d ≡ length (take k C)) (lr : length rs ≡ length (take k R)) (lw : length ws ≡ length (take k W))
   where
     hc : k ≤ length C
@@ -63,30 +64,30 @@ module _
     hw = omega (arith, ek, kept .writers .0)
 
     pc : drop k C ≡ drop k (lent .contents)
-    pc = same-past k (L (held m)) C (lent .contents) ek (kept .contents .1)
+    pc = same-past k (L (low-program m)) C (lent .contents) ek (kept .contents .1)
 
     pr : drop k R ≡ drop k (lent .readers)
-    pr = same-past k (L (held m)) R (lent .readers) ek (kept .readers .1)
+    pr = same-past k (L (low-program m)) R (lent .readers) ek (kept .readers .1)
 
     pw : drop k W ≡ drop k (lent .writers)
-    pw = same-past k (L (held m)) W (lent .writers) ek (kept .writers .1)
+    pw = same-past k (L (low-program m)) W (lent .writers) ek (kept .writers .1)
 
     kept-on : RestKept lent n whole m g c (d ++ drop k C) (rs ++ drop k R) (ws ++ drop k W)
     kept-on = record {
       records = kept .records;
       locations = kept .locations;
-      contents = cut-kept k C (lent .contents) d hc pc ld (L (held m)) ek;
-      readers = cut-kept k R (lent .readers) rs hr pr lr (L (held m)) ek;
-      writers = cut-kept k W (lent .writers) ws hw pw lw (L (held m)) ek;
+      contents = cut-kept k C (lent .contents) d hc pc ld (L (low-program m)) ek;
+      readers = cut-kept k R (lent .readers) rs hr pr lr (L (low-program m)) ek;
+      writers = cut-kept k W (lent .writers) ws hw pw lw (L (low-program m)) ek;
       call = kept .call;
     }
 
-    -- a stage on them is one of the call
-    pub lap-at : (rest : List (List Instruction)) (t : RunState) → RunAt m o g c rest t d rs ws → CallAt lent n whole m o rest t (d ++ drop k C) (rs ++ drop k R) (ws ++ drop k W)
-    lap-at rest t s = record {
+    -- a stage on the first k records is one of the call
+    pub call-state-at : (rest : List (List Instruction)) (t : RunState) → RunAt m o g c rest t d rs ws → CallAt lent n whole m o rest t (d ++ drop k C) (rs ++ drop k R) (ws ++ drop k W)
+    call-state-at rest t s = record {
       over = λ y.
           let q = s .over y in
-          let f = run-from (held m) g c in
+          let f = run-from (low-program m) g c in
           let ec : d ++ drop k C ≡ over-first (f .contents) (lent .contents) = put-back d (f .contents) (lent .contents) (drop k C) k (ap (λ (v : LogAnswer). v .contents) (q .1)) (cut-long k C (lent .contents) d hc pc ld) pc in
           let er : rs ++ drop k R ≡ over-first (f .readers) (lent .readers) = put-back rs (f .readers) (lent .readers) (drop k R) k (ap (λ (v : LogAnswer). v .readers) (q .1)) (cut-long k R (lent .readers) rs hr pr lr) pr in
           let ew : ws ++ drop k W ≡ over-first (f .writers) (lent .writers) = put-back ws (f .writers) (lent .writers) (drop k W) k (ap (λ (v : LogAnswer). v .writers) (q .1)) (cut-long k W (lent .writers) ws hw pw lw) pw in
@@ -98,27 +99,27 @@ module _
         c = c;
         kept = kept-on;
         next = rw (
-          cut-first k C (lent .contents) d hc pc ld (L (held m)) ek,
-          cut-first k R (lent .readers) rs hr pr lr (L (held m)) ek,
-          cut-first k W (lent .writers) ws hw pw lw (L (held m)) ek,
+          cut-first k C (lent .contents) d hc pc ld (L (low-program m)) ek,
+          cut-first k R (lent .readers) rs hr pr lr (L (low-program m)) ek,
+          cut-first k W (lent .writers) ws hw pw lw (L (low-program m)) ek,
         ) (s .next y);
         lists = s .lists y;
       };
     }
 
--- ---- the moves that are left
+-- ---- the moves that are left of a call
 
--- they are made on the first k records: what they leave there, and the others, is what the call leaves
+-- the moves are made on the first k records: what they leave there, with the other records, is what the call leaves
 pub ends-call : (lent : Tables) (n : ℕ) (whole : LogAnswer) (m o : List ℕ) (rest : List (List Instruction)) (t : RunState) (C R W : List ℕ) → CallAt lent n whole m o rest t C R W → t .more ≡ true
     → (k : ℕ) → k ≡ min (word m 6) (min (length C) (min (length R) (length W)))
     → (a : Answer) (d rs ws : List ℕ) → length d ≡ length (take k C) → length rs ≡ length (take k R) → length ws ≡ length (take k W)
-    → (P : Type 0) → ((g : Log) (c : List ℕ) → most-instructions ≤ n → RunAt m o g c rest t (take k C) (take k R) (take k W) → (answer-with a d rs ws ≡ run-from (held m) g c) × P)
+    → (P : Type 0) → ((g : Log) (c : List ℕ) → most-instructions ≤ n → RunAt m o g c rest t (take k C) (take k R) (take k W) → (answer-with a d rs ws ≡ run-from (low-program m) g c) × P)
     → (answer-with a (d ++ drop k C) (rs ++ drop k R) (ws ++ drop k W) ≡ whole) × P
 ends-call lent n whole m o rest t C R W h y k ek a d rs ws ld lr lw P does =
     let on = h .on y in
     let K = on .kept in
-    let j : k ≡ L (held m) = omega (arith, ek, K .locations, K .contents .0, K .readers .0, K .writers .0) in
+    let j : k ≡ L (low-program m) = omega (arith, ek, K .locations, K .contents .0, K .readers .0, K .writers .0) in
     let next = subst (λ (q : ℕ). MoveNext m o (on .g) (on .c) t (take q C) (take q R) (take q W)) (sym j) (on .next) in
     let left = does (on .g) (on .c) (K .records) (record { over = λ z. absurd (false≢true (sym z ∙ y)); next = λ _. next; lists = λ _. on .lists }) in
-    let lap = lap-at lent n whole m o (on .g) (on .c) C R W K k j d rs ws ld lr lw [] (over-with a) (record { over = λ _. (refl, left .0); next = λ z. absurd (false≢true z); lists = λ z. absurd (false≢true z) }) in
+    let lap = call-state-at lent n whole m o (on .g) (on .c) C R W K k j d rs ws ld lr lw [] (over-with a) (record { over = λ _. (refl, left .0); next = λ z. absurd (false≢true z); lists = λ z. absurd (false≢true z) }) in
     (lap .over refl .1, left .1)

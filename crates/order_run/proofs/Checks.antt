@@ -1,4 +1,4 @@
--- The checks before the first move: what passing them shows, and the answer where one of them refuses.
+-- The checks before the first move: what passing them shows, and the answer if one of them refuses.
 use mathlib.Core.Path.{_≡_, refl, sym, ap, subst, _∙_}
 use mathlib.Core.Logic.{_≢_}
 use mathlib.Core.List.{List, []}
@@ -11,12 +11,12 @@ use Rattle.text.proofs.Words.{bind-good, then-good, good-same}
 use Rattle.text.proofs.Checks.{bind-stops, then-stops}
 use Rattle.book.specs.Book.{Program, Book, L, start}
 use Rattle.book.specs.Check.{check-book}
-use Rattle.book.specs.Image.{word, held}
+use Rattle.book.specs.Image.{word, low-program}
 use Rattle.book.proofs.Claims.{accepted-book}
 use Rattle.book.proofs.Held.{held-agents-most}
 use Rattle.order.specs.declared.Lengths.{Lengths}
 use Rattle.order.specs.Log.{Log, check-agents, read-log, check-log}
-use Rattle.order.specs.Call.{Tables, lengths, check-lengths, check-lent, check-all, left-past, log-answer, log-call}
+use Rattle.order.specs.Call.{lengths, check-lengths, check-lent, check-all, left-past, log-answer, log-call}
 use Rattle.order.specs.Run.{run-log}
 use Rattle.order.specs.Lists.{lists-of, call-lists}
 use Rattle.order.specs.Table.{OrderTable}
@@ -32,6 +32,7 @@ use Rattle.book_check.proofs.Fits.{held-is}
 use Rattle.order_run.specs.declared.CheckedCall.{CheckedCall}
 use Rattle.order_run.specs.Runs.{Runnable, answer-with}
 use Rattle.order_run.specs.Checked.{CallChecked, run-lists}
+use Rattle.engine.specs.Tables.{Tables}
 
 -- ---- the checks, one after the other
 
@@ -39,7 +40,7 @@ module _ (book log : List ℕ) (n : Lengths) where
   abbrev all : Checked (Book × Log)
   all = check-all book log n
 
-  -- they go on from here
+  -- the checks after the book and the log
   abbrev rest : Book → Log → Checked (Book × Log)
   rest B g = check-lent (B .program) n >> good (B, g)
 
@@ -51,7 +52,7 @@ module _ (book log : List ℕ) (n : Lengths) where
   unfolding _>>=_
   after-log B g e f = after-book B e ∙ rw f
 
-  -- none of them gives 0
+  -- no check refuses with number 0
   not-zero : (p q : ℕ) → all ≡ refused 0 p q → ⊥
   not-zero p q e = go (subst Early e (all-early book log n))
     where
@@ -82,7 +83,7 @@ module _ (book log : List ℕ) (n : Lengths) where
   good-zero : (x : Book × Log) → all ≡ good x → answer-of all .number ≡ 0
   good-zero x e = ap (λ (o : Checked (Book × Log)). answer-of o .number) e
 
-  -- ---- where one refuses
+  -- ---- a check that refuses
 
   book-stops : answer-of (check-book book) .number ≢ 0 → answer-of (check-book book) ≡ answer-of all
   unfolding check-all _>>=_
@@ -124,7 +125,7 @@ module _ (book log : List ℕ) (n : Lengths) where
         go (good g) w z = (g, w)
         go (refused m p q) w z = absurd (not-zero p q (after-book B is ∙ rw (w, z)))
 
-    -- 10, by the table t of the log g, which passed 1 and 9
+    -- refusal 10, by the table t of the log g, which passed refusals 1 and 9
     module _ (g : Log) (says : read-log A E log ≡ good g) (t : List ℕ) (ordered : OrderTable g t) (few : A ≤ 16) where
       abbrev ten : Checked (Unit {0})
       ten = check-agents-in t (length (g .moves))
@@ -155,7 +156,7 @@ module _ (book log : List ℕ) (n : Lengths) where
 
   -- ---- what the code leaves
 
-  -- refused
+  -- what the checks leave of a refused call
   opened-off : (r : CheckedCall) (m o : List ℕ) → image.ImageOf m (check-book book) → r .answer ≡ answer-of all → answer-of all .number ≢ 0 → CallChecked book log n r m o
   opened-off r m o i e z = record { answer = e; held = λ b g f. absurd (z (good-zero (b, g) f)); image = i }
 
@@ -166,7 +167,7 @@ module _ (book log : List ℕ) (n : Lengths) where
         let s = book-stops y in
         opened-off r m o opened (e ∙ ea ∙ s) (λ q. y (ap (λ (x : Answer). x .number) s ∙ q))
 
-    module _ (z : a .number ≡ 0) (agents elements : ℕ) (ek : agents ≡ length (held m .agents)) (ee : elements ≡ held m .E) (o : List ℕ) (c : LogRead)
+    module _ (z : a .number ≡ 0) (agents elements : ℕ) (ek : agents ≡ length (low-program m .agents)) (ee : elements ≡ low-program m .E) (o : List ℕ) (c : LogRead)
         (read : LogIsRead agents elements log o c)
       where
         book-is : (B : Book) × (check-book book ≡ good B)
@@ -214,7 +215,7 @@ module _ (book log : List ℕ) (n : Lengths) where
               let s = ten-stops B (book-is .1) g (log-is .1) o ordered (few B (book-is .1)) w in
               opened-off r m o opened (e ∙ told ∙ s) (λ q. w (ap (λ (a : Answer). a .number) s ∙ q))
 
-          -- all have answered
+          -- what the checks leave when all have answered
           pub opened-last : ten .number ≡ 0 → (locations : ℕ) → locations ≡ word m 6 → (short : Answer) → short ≡ answer-of (check-lengths locations n)
               → CallChecked book log n (record { answer = short; moves = c .moves; locations = locations }) m o
           opened-last x locations el short lent =
@@ -233,7 +234,7 @@ module _ (book log : List ℕ) (n : Lengths) where
 -- ---- the call
 
 module _ (book log : List ℕ) (t : Tables) (n : ℕ) where
-  -- refused before its first move
+  -- a call that is refused before its first move
   pub call-off : (a : Answer) → a ≡ answer-of (check-all book log (lengths t n)) → a .number ≢ 0
       → (call-lists book log t n ≡ []) × (answer-with a (t .contents) (t .readers) (t .writers) ≡ log-call book log t n)
   unfolding log-call call-lists
@@ -252,13 +253,13 @@ module _ (book log : List ℕ) (t : Tables) (n : ℕ) where
     unfolding call-lists
     lists-all = rw e
 
--- ---- what passing shows
+-- ---- what passing the checks shows
 
 module _ (book log : List ℕ) (lent : Lengths) (b : Book) (g : Log) (e : check-all book log lent ≡ good (b, g)) where
   pub enough : Enough lent (L (b .program))
   enough = lengths-good lent (L (b .program)) tt (all-parts book log lent b g e .2)
 
-  pub runnable : (m o : List ℕ) → held m ≡ b .program → OrderTable g o → Runnable m o g (start b)
+  pub runnable : (m o : List ℕ) → low-program m ≡ b .program → OrderTable g o → Runnable m o g (start b)
   runnable m o is ordered =
       let p = all-parts book log lent b g e in
       let ok = accepted-book book b (p .0) in

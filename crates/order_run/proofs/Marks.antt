@@ -1,4 +1,4 @@
--- Marks after one more move: its bit is joined where it reads or writes, and all marks so far are below that bit.
+-- Marks after one more move: its bit is added where it reads or writes, and all marks so far are below that bit.
 use mathlib.Core.Path.{_≡_, refl, sym, ap, _∙_}
 use mathlib.Core.Logic.{dite}
 use mathlib.Core.Bool.{Bool, true, false, _||_}
@@ -14,7 +14,7 @@ use Rattle.text.specs.Words.{if_then_else_, has, table-from, table}
 use Rattle.text.proofs.Words.{length-table-from, getD-table, getD-table-past}
 use Rattle.engine.specs.Move.{Fired, writes}
 use Rattle.engine_release.specs.Marks.{mark}
-use Rattle.engine_release.proofs.Sweep.{each-is}
+use Rattle.engine_release.proofs.ByPlace.{each-is}
 use Rattle.engine_fire.specs.Effect.{marks-joined}
 use Rattle.order.specs.Sets.{bit, with-move}
 use Rattle.order.specs.Run.{moves-that, reads-at, writes-at, readers, writers}
@@ -35,7 +35,7 @@ or-swap a b c = bit-ext (bitOr (bitOr a b) c) (bitOr (bitOr a c) b)
     (λ i. rw (bit-or (bitOr a b) c i, bit-or a b i, bit-or (bitOr a c) b i, bit-or a c i) (or-turn (bit a i) (bit b i) (bit c i)))
 
 module _ (t : Fired → Bool) where
-  -- the move after fs, the list beginning with move i
+  -- the mark of a location after one more move, the list beginning with move i
   moves-more : (i : ℕ) (fs : List Fired) (f : Fired) → moves-that t i (fs ++ (f ∷ [])) ≡ mark (2 ^ (i + length fs)) (t f) (moves-that t i fs)
   unfolding moves-that
   moves-more i [] f = let e : i + 0 ≡ i = omega arith in rw e (go (t f))

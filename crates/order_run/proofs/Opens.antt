@@ -10,11 +10,11 @@ use lib.Seq.{length-take-le}
 use Rattle.text.specs.declared.Answer.{Answer}
 use Rattle.text.specs.Words.{good}
 use Rattle.book.specs.Book.{Program, Book, L, start}
-use Rattle.book.specs.Image.{word, held}
+use Rattle.book.specs.Image.{word, low-program}
 use Rattle.engine.specs.declared.Instruction.{Instruction}
 use Rattle.order.specs.Log.{Log}
 use Rattle.order.specs.Run.{run-from, run-log, LogAnswer}
-use Rattle.order.specs.Call.{Tables, lengths, check-all, left-past, log-call}
+use Rattle.order.specs.Call.{lengths, check-all, left-past, log-call}
 use Rattle.order.specs.Lists.{lists-from, call-lists}
 use Rattle.order_run.specs.declared.RunState.{RunState}
 use Rattle.order_run.specs.declared.CheckedCall.{CheckedCall}
@@ -22,13 +22,14 @@ use Rattle.order_run.specs.Runs.{Startable, answer-with}
 use Rattle.order_run.specs.Stages.{RunAt, RestKept, CallAt}
 use Rattle.order_run.specs.Checked.{CallChecked, CallPassed, run-lists}
 use Rattle.order_run.proofs.Stages.{over-with}
-use Rattle.order_run.proofs.Calls.{lap-at}
+use Rattle.order_run.proofs.Calls.{call-state-at}
 use Rattle.order_run.proofs.Checks.{all-parts, all-good, call-off, call-on, lists-all, enough, runnable}
+use Rattle.engine.specs.Tables.{Tables}
 
 -- ---- the start, on the first k records of the tables
 
 module _ (book : List ℕ) (b : Book) (g : Log) (r : CheckedCall) (m o : List ℕ) (t : Tables) (n : ℕ) (p : CallPassed book b g r m o t n) where
-  same : L (b .program) ≡ L (held m)
+  same : L (b .program) ≡ L (low-program m)
   same = sym (ap L (p .holds .image))
 
   abbrev whole : LogAnswer
@@ -47,10 +48,10 @@ module _ (book : List ℕ) (b : Book) (g : Log) (r : CheckedCall) (m o : List �
   pub starts : (k : ℕ) → k ≡ min (word m 6) (min (length (t .contents)) (min (length (t .readers)) (length (t .writers)))) → (u : RunState) (d rs ws : List ℕ)
       → length d ≡ length (take k (t .contents)) → length rs ≡ length (take k (t .readers)) → length ws ≡ length (take k (t .writers))
       → ((b : Book) (g : Log) → Startable book m o b g (r .moves) (take k (t .contents)) (take k (t .readers)) (take k (t .writers))
-      → RunAt m o g (start b) (lists-from (held m) g (start b) (r .moves) 0) u d rs ws)
+      → RunAt m o g (start b) (lists-from (low-program m) g (start b) (r .moves) 0) u d rs ws)
       → CallAt t n whole m o (run-lists b g) u (d ++ drop k (t .contents)) (rs ++ drop k (t .readers)) (ws ++ drop k (t .writers))
   starts k ek u d rs ws ld lr lw does =
-      let j : k ≡ L (held m) = omega (arith, ek, kept .locations, same, p .contents, p .readers, p .writers) in
+      let j : k ≡ L (low-program m) = omega (arith, ek, kept .locations, same, p .contents, p .readers, p .writers) in
       let s = does b g (record {
         book = all-parts book (p .log) (p .lent) b g (p .checks) .0;
         image = p .holds .image;
@@ -62,15 +63,15 @@ module _ (book : List ℕ) (b : Book) (g : Log) (r : CheckedCall) (m o : List �
         readers = length-take-le k (t .readers) (omega (arith, j, same, p .readers)) ∙ j;
         writers = length-take-le k (t .writers) (omega (arith, j, same, p .writers)) ∙ j;
       }) in
-      let lists : lists-from (held m) g (start b) (r .moves) 0 ≡ run-lists b g =
+      let lists : lists-from (low-program m) g (start b) (r .moves) 0 ≡ run-lists b g =
       ap (λ (B : Program). lists-from B g (start b) (r .moves) 0) (p .holds .image) ∙ ap (λ (i : ℕ). lists-from (b .program) g (start b) i 0) (p .holds .moves) in
-      lap-at t n whole m o g (start b) (t .contents) (t .readers) (t .writers) kept k j d rs ws ld lr lw (run-lists b g) u
+      call-state-at t n whole m o g (start b) (t .contents) (t .readers) (t .writers) kept k j d rs ws ld lr lw (run-lists b g) u
       (subst (λ (q : List (List Instruction)). RunAt m o g (start b) q u d rs ws) lists s)
 
 -- ---- the checks and the start
 
 module _ (book log : List ℕ) (t : Tables) (n : ℕ) (m o : List ℕ) (r : CheckedCall) (opened : CallChecked book log (lengths t n) r m o) where
-  -- refused
+  -- a call that a check refuses
   pub off : (u : RunState) → u ≡ over-with (r .answer) → r .answer .number ≢ 0
       → CallAt t n (log-call book log t n) m o (call-lists book log t n) u (t .contents) (t .readers) (t .writers)
   off u e z =
@@ -80,7 +81,7 @@ module _ (book log : List ℕ) (t : Tables) (n : ℕ) (m o : List ℕ) (r : Chec
         on = λ y. absurd (false≢true (sym (ap (λ (x : RunState). x .more) e) ∙ y));
       }
 
-  -- begun
+  -- a call that passes its checks starts
   pub opens : r .answer .number ≡ 0 → (u : RunState) (d rs ws : List ℕ)
       → ((b : Book) (g : Log) (n : ℕ) → CallPassed book b g r m o t n → CallAt t n (left-past t (run-log b g)) m o (run-lists b g) u d rs ws)
       → CallAt t n (log-call book log t n) m o (call-lists book log t n) u d rs ws

@@ -1,4 +1,4 @@
--- The ends of a log's run: 2, the start with no marks, and 17 from the marks.
+-- Refusal 2, the start with no marks, and refusal 17 from the marks.
 use mathlib.Core.Path.{_≡_, refl, sym, ap, _∙_}
 use mathlib.Core.Bool.{Bool, true, false, true≢false, false≢true}
 use mathlib.Core.List.{List, _++_, append-nil}
@@ -13,7 +13,7 @@ use Rattle.text.specs.Words.{good, _>>_, must, answer-of}
 use Rattle.text.proofs.Words.{test-good}
 use Rattle.book.specs.Book.{Program, Book, L, start}
 use Rattle.book.specs.Check.{check-book}
-use Rattle.book.specs.Image.{word, program-in, held}
+use Rattle.book.specs.Image.{word, program-in, low-program}
 use Rattle.order.specs.Pairs.{PairFound, no-pair, a-pair, least-pair}
 use Rattle.order.specs.Log.{Log}
 use Rattle.order.specs.Run.{Run, readers, writers, touching, order-checked}
@@ -21,7 +21,7 @@ use Rattle.order.specs.declared.Lengths.{Lengths}
 use Rattle.order.specs.Call.{check-lengths}
 use Rattle.order.specs.Table.{OrderTable}
 use Rattle.order_touch.specs.declared.MovePair.{MovePair}
-use Rattle.order_touch.specs.Marked.{unordered-marked, clipped, pair-of}
+use Rattle.order_touch.specs.Marked.{unordered-marked, clipped, pair-as}
 use Rattle.order_touch.proofs.Fired.{touching-ordered}
 use Rattle.contents_start.specs.Written.{started}
 use Rattle.contents_start.proofs.Entries.{start-is}
@@ -31,7 +31,7 @@ use Rattle.order_run.proofs.Marks.{length-readers}
 abbrev triple : ℕ → ℕ → ℕ → Answer
 triple n p q = record { number = n; p = p; q = q }
 
--- ---- 2
+-- ---- Refusal 2
 
 module _ (n : Lengths) (all : ℕ) where
   pub lent-0 : n .contents < all → triple 2 all 0 ≡ answer-of (check-lengths all n)
@@ -54,7 +54,7 @@ module _ (n : Lengths) (all : ℕ) where
   unfolding check-lengths _>>_ must
   lent-all d f g h = rw (le-leb all (n .contents) d, le-leb all (n .readers) f, le-leb all (n .writers) g, le-leb 256 (n .instructions) h)
 
--- what passing shows
+-- what passing refusal 2 shows
 pub record Enough (n : Lengths) (all : ℕ) : Type 0 where
   pub contents : all ≤ n .contents
   pub readers : all ≤ n .readers
@@ -85,14 +85,14 @@ lengths-good n all u e =
 pub cleared : (s t : List ℕ) (i : ℕ) → i ≡ length s → t ≡ replicate i 0 ++ drop i s → t ≡ replicate (length s) 0
 cleared s t i e q = q ∙ rw (e, drop-length s) (append-nil (replicate (length s) 0))
 
--- written into a table of just the records needed, it is the whole table
-pub only-start : (text : List ℕ) (b : Book) → check-book text ≡ good b → (m c : List ℕ) → program-in m ≡ b .program → word m 5 ≡ length (b .entries) → held m ≡ b .program
+-- the start written into a table of just the records needed is the whole table
+pub only-start : (text : List ℕ) (b : Book) → check-book text ≡ good b → (m c : List ℕ) → program-in m ≡ b .program → word m 5 ≡ length (b .entries) → low-program m ≡ b .program
     → length c ≡ L (b .program) → started m text c ≡ start b
-only-start text b passes m c is count held e = start-is text b passes m is count c held (omega arith) ∙ rw (← e, drop-length c) (append-nil (start b))
+only-start text b passes m c is count low-program e = start-is text b passes m is count c low-program (omega arith) ∙ rw (← e, drop-length c) (append-nil (start b))
 
--- ---- 17
+-- ---- Refusal 17
 
--- as the definition has it
+-- refusal 17 as the definition has it
 pub order-answer : (B : Program) (g : Log) (s : Run) (c rs ws o : List ℕ) (n : ℕ) → n ≡ length (g .moves) → OrderTable g o → RunTables B s c rs ws
     → touch-answer (least-pair (unordered-marked o rs ws (clipped rs ws (length rs))) n) ≡ order-checked B s (touching B g (s .fired)) .answer
 order-answer B g s c rs ws o n en ordered marks = ap touch-answer found ∙ go (touching B g (s .fired))
@@ -108,11 +108,12 @@ order-answer B g s c rs ws o n en ordered marks = ap touch-answer found ∙ go (
     go no-pair = refl
     go (a-pair i j) = refl
 
--- as the code has it
-pub told-none : (p : MovePair) (x : PairFound) → p ≡ pair-of x → p .found ≡ false → triple 0 0 0 ≡ touch-answer x
-told-none p no-pair e f = refl
-told-none p (a-pair i j) e f = absurd (false≢true (sym f ∙ ap (λ (y : MovePair). y .found) e))
+-- refusal 17 as the code has it: no pair is found
+pub answer-none : (p : MovePair) (x : PairFound) → p ≡ pair-as x → p .found ≡ false → triple 0 0 0 ≡ touch-answer x
+answer-none p no-pair e f = refl
+answer-none p (a-pair i j) e f = absurd (false≢true (sym f ∙ ap (λ (y : MovePair). y .found) e))
 
-pub told-some : (p : MovePair) (x : PairFound) → p ≡ pair-of x → p .found ≡ true → triple 17 (p .first) (p .second) ≡ touch-answer x
-told-some p no-pair e f = absurd (true≢false (sym f ∙ ap (λ (y : MovePair). y .found) e))
-told-some p (a-pair i j) e f = rw e
+-- refusal 17 as the code has it: a pair is found
+pub answer-some : (p : MovePair) (x : PairFound) → p ≡ pair-as x → p .found ≡ true → triple 17 (p .first) (p .second) ≡ touch-answer x
+answer-some p no-pair e f = absurd (true≢false (sym f ∙ ap (λ (y : MovePair). y .found) e))
+answer-some p (a-pair i j) e f = rw e

@@ -1,4 +1,4 @@
--- The moves in turn: what holds before the first, and what one that fires or is refused leaves of it.
+-- The moves in turn: what holds before the first, and what a move that fires or is refused leaves.
 use mathlib.Core.Path.{_≡_, refl, sym, ap, subst, _∙_}
 use mathlib.Core.Logic.{_≢_}
 use mathlib.Core.List.{List, [], _∷_, _++_}
@@ -12,19 +12,19 @@ use Rattle.engine.specs.Move.{Input, Moved, fires, move-refused, move, fire}
 use Rattle.engine.proofs.Claims.{moves-leave}
 use Rattle.engine.proofs.Numbers.{move-number}
 use Rattle.text.specs.declared.Answer.{Answer}
-use Rattle.engine_fire.specs.Tables.{Tables, tables}
-use Rattle.engine_fire.specs.Effect.{tables-after, move-answer, MoveFits, MoveEffect}
+use Rattle.engine_fire.specs.Effect.{tables-left, move-answer, MoveFits, MoveEffect}
 use Rattle.order.specs.Log.{Log, move-at}
 use Rattle.order.specs.Run.{Run, halted, moved, run, readers}
 use Rattle.order.proofs.Marks.{run-left}
 use Rattle.order_run.specs.RunTables.{RunTables}
 use Rattle.order_run.specs.Runs.{AfterMoves}
 use Rattle.order_run.proofs.Marks.{readers-more, writers-more, readers-below, readers-none, writers-none}
+use Rattle.engine.specs.Tables.{Tables, tables}
 
 module _ (B : Program) (g : Log) (c : List ℕ) where
-  pub going-start : (rs ws : List ℕ) → Sound B c → rs ≡ replicate (L B) 0 → ws ≡ replicate (L B) 0 → AfterMoves B g c 0 c rs ws
+  pub moves-start : (rs ws : List ℕ) → Sound B c → rs ≡ replicate (L B) 0 → ws ≡ replicate (L B) 0 → AfterMoves B g c 0 c rs ws
   unfolding run
-  going-start rs ws sound r w = record {
+  moves-start rs ws sound r w = record {
     state = record { contents = c; fired = [] };
     goes = refl;
     sound = sound;
@@ -38,8 +38,8 @@ module _ (B : Program) (g : Log) (c : List ℕ) where
   halts i (suc j) n p q s e = let z : suc j + i ≡ suc (j + i) = omega arith in rw (z, halts i j n p q s e)
 
   module _ (lawful : Lawful B) (i : ℕ) (k : Input) (d rs ws : List ℕ) (to : AfterMoves B g c i d rs ws) where
-    pub going-fit : i < 64 → k .agent < length (B .agents) → MoveFits B k (2 ^ i) (tables d rs ws)
-    going-fit h a = record {
+    pub moves-fit : i < 64 → k .agent < length (B .agents) → MoveFits B k (2 ^ i) (tables d rs ws)
+    moves-fit h a = record {
       lawful = lawful;
       sound = to .sound;
       agent = a;
@@ -59,11 +59,11 @@ module _ (B : Program) (g : Log) (c : List ℕ) where
       unfolding run
       next-run = rw (to .goes) (ap (moved i (to .state)) as-listed)
 
-      -- it fired
-      pub going-on : v .number ≡ 0 → AfterMoves B g c (i + 1) d′ rs′ ws′
-      going-on z = go o refl (ends .answer) (ends .tables)
+      -- the move fired: the moves up to it have
+      pub moves-on : v .number ≡ 0 → AfterMoves B g c (i + 1) d′ rs′ ws′
+      moves-on z = go o refl (ends .answer) (ends .tables)
         where
-          go : (x : Moved) → o ≡ x → v ≡ move-answer i x → tables d′ rs′ ws′ ≡ tables-after (2 ^ i) (tables d rs ws) x → AfterMoves B g c (i + 1) d′ rs′ ws′
+          go : (x : Moved) → o ≡ x → v ≡ move-answer i x → tables d′ rs′ ws′ ≡ tables-left (2 ^ i) (tables d rs ws) x → AfterMoves B g c (i + 1) d′ rs′ ws′
           go (move-refused n q) e y u = absurd (omega (arith, ap (λ (a : Answer). a .number) y, z, move-number B d k n q e .0 .0))
           go (fires f) e y u =
               let long : length (to .state .fired) ≡ i = run-left B g c i (to .state) (to .goes) .long in
@@ -79,11 +79,11 @@ module _ (B : Program) (g : Log) (c : List ℕ) where
                 };
               }
 
-      -- it was refused
-      pub going-off : v .number ≢ 0 → (run B g c (suc i) ≡ halted (v .number) (v .p) (v .q) (to .state)) × RunTables B (to .state) d′ rs′ ws′
-      going-off z = go o refl (ends .answer) (ends .tables)
+      -- the move was refused: the run ends with it
+      pub moves-off : v .number ≢ 0 → (run B g c (suc i) ≡ halted (v .number) (v .p) (v .q) (to .state)) × RunTables B (to .state) d′ rs′ ws′
+      moves-off z = go o refl (ends .answer) (ends .tables)
         where
-          go : (x : Moved) → o ≡ x → v ≡ move-answer i x → tables d′ rs′ ws′ ≡ tables-after (2 ^ i) (tables d rs ws) x
+          go : (x : Moved) → o ≡ x → v ≡ move-answer i x → tables d′ rs′ ws′ ≡ tables-left (2 ^ i) (tables d rs ws) x
               → (run B g c (suc i) ≡ halted (v .number) (v .p) (v .q) (to .state)) × RunTables B (to .state) d′ rs′ ws′
           go (fires f) e y u = absurd (z (ap (λ (a : Answer). a .number) y))
           go (move-refused m q) e y u = (

@@ -9,7 +9,7 @@ use native.Mathlib.Omega.{arith}
 use lib.ListN.{length, replicate}
 use Rattle.text.specs.declared.Answer.{Answer}
 use Rattle.book.specs.Book.{Program, Book, start}
-use Rattle.book.specs.Image.{held}
+use Rattle.book.specs.Image.{low-program}
 use Rattle.engine.specs.declared.Instruction.{Instruction}
 use Rattle.engine.specs.Move.{Input, input, walked, made-by}
 use Rattle.engine.specs.Rule.{Walked as Outcome}
@@ -17,7 +17,6 @@ use Rattle.engine_instruction.specs.Code.{items}
 use Rattle.engine_walk.specs.Walk.{outcome}
 use Rattle.engine_walk.specs.WalkMarks.{WalkMarked}
 use Rattle.engine_fire.specs.declared.Begun.{Begun}
-use Rattle.engine_fire.specs.Tables.{tables}
 use Rattle.engine_fire.specs.Effect.{MoveFits, MoveEffect}
 use Rattle.engine_fire.specs.Close.{MoveFinished}
 use Rattle.engine_fire.specs.Count.{instructions-given}
@@ -34,9 +33,10 @@ use Rattle.order_run.proofs.RunTables.{order-answer}
 use Rattle.order_run.specs.declared.RunState.{RunState}
 use Rattle.order_run.specs.Runs.{Startable, answer-with}
 use Rattle.order_run.specs.Stages.{FiredSoFar, MoveNext, RunAt, MoveBegun}
-use Rattle.order_run.proofs.Runs.{going-start, halts, going-fit, going-on, going-off}
+use Rattle.order_run.proofs.Runs.{moves-start, halts, moves-fit, moves-on, moves-off}
+use Rattle.engine.specs.Tables.{tables}
 
--- ---- the lists
+-- ---- the lists of instructions
 
 module _ (B : Program) (g : Log) (c : List ℕ) where
   pub lists-on : (n i : ℕ) (s : Run) → run B g c i ≡ ran s → lists-from B g c (suc n) i ≡ made-by (walked B (s .contents) (move-at g i)) ∷ lists-from B g c n (suc i)
@@ -53,15 +53,15 @@ module _ (B : Program) (g : Log) (c : List ℕ) where
   lists-end zero i e = refl
   lists-end (suc n) i e = absurd (omega (arith, e))
 
-  -- ---- the end
+  -- ---- the end of a run
 
   module _ (s : Run) (d rs ws : List ℕ) (h : RunTables B s d rs ws) where
-    -- a move was refused
+    -- the end of a run in which a move was refused
     ends-halted : (a : Answer) → run B g c (length (g .moves)) ≡ halted (a .number) (a .p) (a .q) s → answer-with a d rs ws ≡ run-from B g c
     unfolding run-from finish
     ends-halted a e = rw (e, h .contents, h .readers, h .writers)
 
-    -- all fired
+    -- the end of a run in which all moves fired
     ends-ran : run B g c (length (g .moves)) ≡ ran s → (a : Answer) → a ≡ order-checked B s (touching B g (s .fired)) .answer → answer-with a d rs ws ≡ run-from B g c
     unfolding run-from finish
     ends-ran e a f = rw e (go (touching B g (s .fired)) f)
@@ -70,14 +70,14 @@ module _ (B : Program) (g : Log) (c : List ℕ) where
         go no-pair y = rw (y, h .contents, h .readers, h .writers)
         go (a-pair i j) y = rw (y, h .contents, h .readers, h .writers)
 
--- ---- turns
+-- ---- from move to move
 
 abbrev pub over-with : Answer → RunState
 over-with a = record { more = false; at = 0; moves = 0; answer = a }
 
 module _ (m o : List ℕ) (g : Log) (c : List ℕ) where
   abbrev A : Program
-  A = held m
+  A = low-program m
 
   module _ (n i : ℕ) (en : n ≡ length (g .moves)) (d rs ws : List ℕ) (to : FiredSoFar m o g c i d rs ws) where
     pub turn-on : i < n → (a : Answer) → RunAt m o g c (lists-from A g c (n - i) i) (record { more = true; at = i; moves = n; answer = a }) d rs ws
@@ -121,9 +121,9 @@ module _ (m o : List ℕ) (g : Log) (c : List ℕ) where
     agent-low = rw (to .before .runs .order .agents i (to .at)) (to .before .runs .agents i (to .at))
 
     fit : MoveFits A k (2 ^ i) (tables d rs ws)
-    fit = going-fit A g c (to .before .runs .lawful) i k d rs ws (to .before .going) low agent-low
+    fit = moves-fit A g c (to .before .runs .lawful) i k d rs ws (to .before .going) low agent-low
 
-    -- it is begun
+    -- the next move is begun
     pub begins : (bit agent : ℕ) (ys : List ℕ) → bit ≡ 2 ^ i → agent ≡ k .agent → ys ≡ k .picks → (s : Begun) (x rs′ : List ℕ)
         → WalkMarked A d bit (input agent ys) (outcome (s .walk) x) rs rs′ → s .count ≡ instructions-given (s .walk) → length x ≡ 256 → MoveBegun m o g c t s x d rs′ ws
     begins bit agent ys eb ek ep s x rs′ gathered ec room = record {
@@ -145,7 +145,7 @@ module _ (m o : List ℕ) (g : Log) (c : List ℕ) where
         ap (λ (e : List ℕ). walked A e (input-in o (t .at))) (now .before .going .tables .contents)
         ∙ ap (walked A (now .before .going .state .contents)) (is t (w .old .contents) (w .old .readers) (w .old .writers) now)
 
-    -- what it gives
+    -- the lists of the moves from this one on are its instructions, and then those of the others
     pub walked-lists : lists-from A g c (t .moves - t .at) (t .at) ≡ items x (s .count) ∷ lists-from A g c (t .moves - (t .at + 1)) (t .at + 1)
     walked-lists =
         let j = t .moves - (t .at + 1) in
@@ -156,11 +156,11 @@ module _ (m o : List ℕ) (g : Log) (c : List ℕ) where
         ∙ ap (λ (is : List Instruction). is ∷ lists-from A g c j (suc (t .at))) (sym (ap (items x) (w .count) ∙ made-of (s .walk) x (w .room) ∙ ap made-by (w .after .readers .outcome ∙ as-listed)))
         ∙ ap (λ (n : ℕ). items x (s .count) ∷ lists-from A g c j n) f
 
-    -- no more is given than fits
+    -- a move gives no more instructions than fit
     pub walked-few : s .count ≤ 256
     walked-few = omega (arith, w .count, given-few (s .walk))
 
-    -- any list that holds the same will do
+    -- any list that holds the same instructions will do
     pub walked-passed : (x′ : List ℕ) → length x′ ≡ 256 → items x′ (s .count) ≡ items x (s .count) → MoveBegun m o g c t s x′ d rs ws
     walked-passed x′ e q =
         let i : outcome (s .walk) x′ ≡ outcome (s .walk) x = same-outcome (s .walk) x x′ (w .room) e (subst (λ (j : ℕ). items x′ j ≡ items x j) (w .count) q) in
@@ -188,12 +188,12 @@ module _ (m o : List ℕ) (g : Log) (c : List ℕ) where
         here : input-in o (t .at) ≡ move-at g (t .at)
         here = is t (w .old .contents) (w .old .readers) (w .old .writers) now
 
-        -- it fired
+        -- the move fired
         fires : a .number ≡ 0 → FiredSoFar m o g c (t .at + 1) d′ rs′ ws′
         fires z = record {
           runs = now .before .runs;
           most = omega (arith, now .at);
-          going = going-on A g c (now .before .runs .lawful) (t .at) (input-in o (t .at)) (w .old .contents) (w .old .readers) (w .old .writers) (now .before .going) here a d′ rs′ ws′ effect z;
+          going = moves-on A g c (now .before .runs .lawful) (t .at) (input-in o (t .at)) (w .old .contents) (w .old .readers) (w .old .writers) (now .before .going) here a d′ rs′ ws′ effect z;
         }
 
         pub finish-on : a .number ≡ 0 → (r : RunState) (j : ℕ) → j ≡ t .at + 1
@@ -202,11 +202,11 @@ module _ (m o : List ℕ) (g : Log) (c : List ℕ) where
         finish-on z r j e next =
             subst (λ (q : ℕ). FiredSoFar m o g c q d′ rs′ ws′ → RunAt m o g c (lists-from A g c (t .moves - q) q) r d′ rs′ ws′) e (next (now .moves)) (fires z)
 
-        -- it was refused
+        -- the move was refused
         pub finish-off : a .number ≢ 0 → RunAt m o g c (lists-from A g c (t .moves - (t .at + 1)) (t .at + 1)) (over-with a) d′ rs′ ws′
         finish-off z =
             let u = now .before .going .state in
-            let off = going-off A g c (now .before .runs .lawful) (t .at) (input-in o (t .at)) (w .old .contents) (w .old .readers) (w .old .writers) (now .before .going) here a d′ rs′ ws′ effect z in
+            let off = moves-off A g c (now .before .runs .lawful) (t .at) (input-in o (t .at)) (w .old .contents) (w .old .readers) (w .old .writers) (now .before .going) here a d′ rs′ ws′ effect z in
             let j = length (g .moves) - suc (t .at) in
             let to-n : j + suc (t .at) ≡ length (g .moves) = omega (arith, now .at) in
             let all = subst (λ (q : ℕ). run A g c q ≡ halted (a .number) (a .p) (a .q) u) to-n (halts A g c (suc (t .at)) j (a .number) (a .p) (a .q) u (off .0)) in
@@ -227,10 +227,10 @@ pub starts-run : (book m o : List ℕ) (b : Book) (g : Log) (n : ℕ) (d rs ws :
 starts-run book m o b g n d rs ws s d′ rs′ ws′ ed er ew = record {
   runs = s .runs;
   most = omega arith;
-  going = rw ed (going-start (held m) g (start b) rs′ ws′ (s .runs .sound) (er ∙ ap (λ (x : ℕ). replicate x 0) (s .readers)) (ew ∙ ap (λ (x : ℕ). replicate x 0) (s .writers)));
+  going = rw ed (moves-start (low-program m) g (start b) rs′ ws′ (s .runs .sound) (er ∙ ap (λ (x : ℕ). replicate x 0) (s .readers)) (ew ∙ ap (λ (x : ℕ). replicate x 0) (s .writers)));
 }
 
--- counted from the first move
-pub from-none : (m o : List ℕ) (b : Book) (g : Log) (n : ℕ) (t : RunState) (d rs ws : List ℕ) → RunAt m o g (start b) (lists-from (held m) g (start b) (n - 0) 0) t d rs ws
-    → RunAt m o g (start b) (lists-from (held m) g (start b) n 0) t d rs ws
-from-none m o b g n t d rs ws s = subst (λ (j : ℕ). RunAt m o g (start b) (lists-from (held m) g (start b) j 0) t d rs ws) {x = n - 0} {y = n} (omega arith) s
+-- the lists of the moves from the first one on
+pub from-none : (m o : List ℕ) (b : Book) (g : Log) (n : ℕ) (t : RunState) (d rs ws : List ℕ) → RunAt m o g (start b) (lists-from (low-program m) g (start b) (n - 0) 0) t d rs ws
+    → RunAt m o g (start b) (lists-from (low-program m) g (start b) n 0) t d rs ws
+from-none m o b g n t d rs ws s = subst (λ (j : ℕ). RunAt m o g (start b) (lists-from (low-program m) g (start b) j 0) t d rs ws) {x = n - 0} {y = n} (omega arith) s

@@ -1,4 +1,4 @@
--- What the checks before the first move leave: the image of the book and the order of the log.
+-- What the checks before the first move leave: the image of the book and the order table of the log.
 use mathlib.Core.Path.{_≡_}
 use mathlib.Core.List.{List}
 use Prim.Native.Nat.{ℕ, _≤_}
@@ -6,35 +6,37 @@ use lib.ListN.{length}
 use Rattle.text.specs.Words.{good, answer-of}
 use Rattle.book.specs.Book.{Book, L, start}
 use Rattle.book.specs.Check.{check-book}
-use Rattle.book.specs.Image.{word, program-in, held}
+use Rattle.book.specs.Image.{word, program-in, low-program}
 use Rattle.order.specs.declared.Lengths.{Lengths}
 use Rattle.order.specs.Log.{Log}
 use Rattle.engine.specs.declared.Instruction.{Instruction}
 use Rattle.engine.specs.Rule.{most-instructions}
-use Rattle.order.specs.Call.{Tables, check-all}
+use Rattle.order.specs.Call.{check-all}
 use Rattle.order.specs.Lists.{lists-from}
 use Rattle.order.specs.Table.{OrderTable}
 use Rattle.book_check.specs.ImageOf as image
 use Rattle.order_run.specs.declared.CheckedCall.{CheckedCall}
+use Rattle.engine.specs.Tables.{Tables}
 
--- of the book b and the log g, which passed
+-- the image m and the order table o are those of the book b and the log g, which passed
 pub record CallHolds (b : Book) (g : Log) (r : CheckedCall) (m o : List ℕ) : Type 0 where
-  pub image : held m ≡ b .program
+  pub image : low-program m ≡ b .program
   pub program : program-in m ≡ b .program
   pub entries : word m 5 ≡ length (b .entries)
   pub locations : (r .locations ≡ word m 6) × (word m 6 ≡ L (b .program))
   pub moves : r .moves ≡ length (g .moves)
   pub order : OrderTable g o
 
--- of a refused call the image and the table may hold anything
+-- the checks of a call are made: r has their answer; of a call that passes, m and o are its image and its order table; of a refused one they may hold
+-- anything
 pub record CallChecked (book log : List ℕ) (lent : Lengths) (r : CheckedCall) (m o : List ℕ) : Type 0 where
   pub answer : r .answer ≡ answer-of (check-all book log lent)
   pub held : (b : Book) (g : Log) → check-all book log lent ≡ good (b, g) → CallHolds b g r m o
   pub image : image.ImageOf m (check-book book)
 
--- ---- a call that passed
+-- ---- a call that passed its checks
 
--- it may start on these tables, which have the records it needs, and with n instruction records
+-- the call may start on the tables t, which have the records that it needs, and with n instruction records
 pub record CallPassed (book : List ℕ) (b : Book) (g : Log) (r : CheckedCall) (m o : List ℕ) (t : Tables) (n : ℕ) : Type 0 where
   pub log : List ℕ
   pub lent : Lengths
@@ -45,6 +47,6 @@ pub record CallPassed (book : List ℕ) (b : Book) (g : Log) (r : CheckedCall) (
   pub writers : L (b .program) ≤ length (t .writers)
   pub records : most-instructions ≤ n
 
--- the instructions that its run gives, move by move
+-- the instructions that the run of a log gives, move by move
 abbrev pub run-lists : Book → Log → List (List Instruction)
 run-lists b g = lists-from (b .program) g (start b) (length (g .moves)) 0

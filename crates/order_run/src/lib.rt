@@ -1,4 +1,4 @@
-// A log's run in stages: the checks, the start, each move begun and finished, and 17 after the last.
+// A log's run in stages: the checks, the start, each move begun and finished, and refusal 17 after the last.
 use book::Image;
 use engine_fire::Begun;
 use order::Lengths;
@@ -9,65 +9,43 @@ ghost use mathlib.Core.Path.{_≡_};
 ghost use lib.ListN.{length, replicate, take, drop};
 ghost use Rattle.text.specs.Words.{answer-of};
 ghost use Rattle.order.specs.Pairs.{least-pair};
-ghost use Rattle.order.specs.Call.{check-lengths, left-past, log-call};
+ghost use Rattle.order.specs.Call.{check-lengths};
 ghost use Rattle.contents_start.specs.Written.{started};
 ghost use Rattle.order_touch.specs.Marked.{unordered-marked, clipped};
 ghost use Rattle.order_run.specs.RunTables.{touch-answer};
 ghost use mathlib.Core.Bool.{false};
-ghost use mathlib.Core.List.{List};
-ghost use Prim.Native.Nat.{ℕ, _+_, _-_, _^_, _<_, _≤_, min};
-ghost use Rattle.book.specs.Book.{Book, start};
-ghost use Rattle.book.specs.Image.{word, held};
+ghost use Prim.Native.Nat.{_+_, _-_, _^_, _<_, _≤_, min};
+ghost use Rattle.book.specs.Book.{start};
+ghost use Rattle.book.specs.Image.{word, low-program};
 ghost use Rattle.engine.specs.Move.{input};
 ghost use Rattle.engine_walk.specs.Walk.{outcome};
 ghost use Rattle.engine_walk.specs.WalkMarks.{WalkMarked};
 ghost use Rattle.engine_fire.specs.Count.{instructions-given};
-ghost use Rattle.order.specs.Log.{Log};
-ghost use Rattle.order.specs.Run.{run-log};
-ghost use Rattle.order.specs.Lists.{lists-from, call-lists};
-ghost use Rattle.order_run.specs.Runs.{tables, Startable};
-ghost use Rattle.order_run.specs.Stages.{moves-left, FiredSoFar, MoveNext, RunAt, MoveBegun, CallAt};
-ghost use Rattle.order_run.specs.Checked.{CallChecked, CallPassed, run-lists};
+ghost use Rattle.order_run.specs.Stages.{moves-left};
+ghost use Rattle.order_run.specs.Checked.{CallChecked};
+ghost use Rattle.engine.specs.Tables.{tables-before, tables-after};
+ghost use Rattle.order_run.specs.Promised.{NextMove, StartedOn, NextBegun, NextFinished, CallStarted, CallPrepared};
 
-// The least number of instruction records lent.
-const MOST_INSTRUCTIONS: usize = 256;
-
-// The lent tables, as the q of a 2.
-const CONTENTS: u32 = 0;
-
-const READERS: u32 = 1;
-
-const WRITERS: u32 = 2;
-
-const INSTRUCTIONS: u32 = 3;
-
-// Number and place; 0 0 0 when accepted.
-pub fn triple(number: u32, p: u32, q: u32) -> Answer
-    ensures { λ r. ⌜ r ≡ record { number = number; p = p; q = q } ⌝ }
-{
-    Answer { number, p, q }
-}
-
-// 2, lowest table first, where there are so many locations.
+// Refusal 2, lowest table first, where there are so many locations.
 pub fn check_lent(locations: u32, lent: Lengths) -> Answer
     ensures { λ r. ⌜ r ≡ answer-of (check-lengths locations lent) ⌝ }
 {
     if lent.contents < locations as usize {
-        return triple(text::LENT_SHORT, locations, CONTENTS);
+        return text::answer_at(text::LENT_SHORT, locations, text::CONTENTS_TABLE);
     }
     if lent.readers < locations as usize {
-        return triple(text::LENT_SHORT, locations, READERS);
+        return text::answer_at(text::LENT_SHORT, locations, text::READERS_TABLE);
     }
     if lent.writers < locations as usize {
-        return triple(text::LENT_SHORT, locations, WRITERS);
+        return text::answer_at(text::LENT_SHORT, locations, text::WRITERS_TABLE);
     }
-    if lent.instructions < MOST_INSTRUCTIONS {
-        return triple(text::LENT_SHORT, 256, INSTRUCTIONS);
+    if lent.instructions < engine::MOST_INSTRUCTIONS {
+        return text::answer_at(text::LENT_SHORT, 256, text::INSTRUCTIONS_TABLE);
     }
-    triple(0, 0, 0)
+    text::answer_at(0, 0, 0)
 }
 
-// No location has a mark.
+// Clears all marks of a table.
 fn no_marks(marks: &mut [u64])
     ensures { λ _. ⌜ now (marks .exit) ≡ replicate (length (now (marks .entry))) 0 ⌝ }
 {
@@ -78,7 +56,7 @@ fn no_marks(marks: &mut [u64])
     }
 }
 
-// The start of a run, with no marks.
+// Writes the start of a run, with no marks.
 pub fn start_tables(
     book: &[u8],
     image: &Image,
@@ -94,23 +72,20 @@ pub fn start_tables(
     no_marks(writers);
 }
 
-// 17: of so many moves, by the order's table and the marks.
+// Refusal 17, of so many moves, by the order's table and the marks.
 pub fn check_order(readers: &[u64], writers: &[u64], order: &Order, moves: u32) -> Answer
     ensures { λ r. ⌜ r ≡ touch-answer (least-pair (unordered-marked (now (order .entry)) (now (readers .entry)) (now (writers .entry)) (clipped (now (readers .entry)) (now (writers .entry)) (length (now (readers .entry))))) moves) ⌝ }
 {
     let pair = order_touch::least_touching_pair(readers, writers, order, moves, readers.len());
     if !pair.found {
-        return triple(0, 0, 0);
+        return text::answer_at(0, 0, 0);
     }
-    triple(text::UNORDERED_TOUCH, pair.first, pair.second)
+    text::answer_at(text::UNORDERED_TOUCH, pair.first, pair.second)
 }
 
 // ---- how far a run is
 
-// Moves in a log, at most.
-const MOST_MOVES: usize = 64;
-
-// How far a run is: move `at` of so many is next, or all is over, with its answer.
+// How far a run is: move `at` of so many is next, or the run is over, with its answer.
 pub struct RunState {
     pub more: bool,
     pub at: u32,
@@ -127,6 +102,7 @@ pub struct CheckedCall {
 
 // ---- the checks
 
+// A call that its checks refuse.
 fn refused_checks(answer: Answer) -> CheckedCall
     ensures { λ r. ⌜ r .answer ≡ answer ⌝ }
 {
@@ -137,7 +113,7 @@ fn refused_checks(answer: Answer) -> CheckedCall
     }
 }
 
-// The book, the log, one agent's moves, the lengths lent: all checks before the first move, in the order of SPECIFICATION 8.2.
+// All checks before the first move, in the order of SPECIFICATION 8.2: the book, the log, the moves of one agent, the lengths lent.
 pub fn check_all(
     book: &[u8],
     log: &[u8],
@@ -174,8 +150,9 @@ pub fn check_all(
     }
 }
 
-// ---- turns
+// ---- from move to move
 
+// A run that is over, with its answer.
 fn run_over(answer: Answer) -> RunState
     ensures { λ r. ⌜ r ≡ record { more = false; at = 0; moves = 0; answer = answer } ⌝ }
 {
@@ -187,8 +164,8 @@ fn run_over(answer: Answer) -> RunState
     }
 }
 
-// Move i's bit.
-fn bit_of(i: u32) -> u64
+// The bit of move i.
+fn move_bit(i: u32) -> u64
     ensures { λ r. ⌜ (i < 64 → r ≡ 2 ^ i) ⌝ }
 {
     if i < 64 {
@@ -197,7 +174,7 @@ fn bit_of(i: u32) -> u64
     0
 }
 
-// The number after i; of a move that no log has, one that no log has.
+// The number after i; for a number that no move of a log has, one that no move has.
 fn number_after(i: u32) -> u32
     ensures { λ r. ⌜ (i < 64 → r ≡ i + 1) × (65 - r ≤ 64 - i) ⌝ }
 {
@@ -207,13 +184,13 @@ fn number_after(i: u32) -> u32
     65
 }
 
-// Move i is next if there is one; else the order is checked.
+// Move i is next, if there is one; otherwise the order is checked, and the run is over.
 fn next_move(readers: &[u64], writers: &[u64], order: &Order, moves: u32, i: u32) -> RunState
-    ensures { λ r. ⌜ ((m c d : List ℕ) (g : Log) → moves ≡ length (g .moves) → FiredSoFar m (now (order .entry)) g c i d (now (readers .entry)) (now (writers .entry)) → RunAt m (now (order .entry)) g c (lists-from (held m) g c (moves - i) i) r d (now (readers .entry)) (now (writers .entry))) ⌝ }
+    ensures { λ r. ⌜ NextMove (now (order .entry)) moves i (now (readers .entry)) (now (writers .entry)) r ⌝ }
     ensures { λ r. ⌜ moves-left r ≤ 65 - i ⌝ }
 {
-    if (i as usize) < text::smaller(moves as usize, MOST_MOVES) {
-        let none = triple(0, 0, 0);
+    if (i as usize) < text::smaller(moves as usize, order::MOST_MOVES as usize) {
+        let none = text::answer_at(0, 0, 0);
         return RunState {
             more: true,
             at: i,
@@ -224,7 +201,7 @@ fn next_move(readers: &[u64], writers: &[u64], order: &Order, moves: u32, i: u32
     run_over(check_order(readers, writers, order, moves))
 }
 
-// The start is written, and move 0 is next; on tables of just the records needed.
+// Writes the start, and move 0 is next; on tables of just the records needed.
 fn start_on_part(
     book: &[u8],
     image: &Image,
@@ -234,13 +211,13 @@ fn start_on_part(
     writers: &mut [u64],
     moves: u32,
 ) -> RunState
-    ensures { λ r. ⌜ ((b : Book) (g : Log) → Startable (now (book .entry)) (now (image .entry)) (now (order .entry)) b g moves (now (contents .entry)) (now (readers .entry)) (now (writers .entry)) → RunAt (now (image .entry)) (now (order .entry)) g (start b) (lists-from (held (now (image .entry))) g (start b) moves 0) r (now (contents .exit)) (now (readers .exit)) (now (writers .exit))) ⌝ }
+    ensures { λ r. ⌜ StartedOn (now (book .entry)) (now (image .entry)) (now (order .entry)) moves (tables-before contents readers writers) (tables-after contents readers writers) r ⌝ }
 {
     start_tables(book, image, contents, readers, writers);
     next_move(readers, writers, order, moves, 0)
 }
 
-// An agent's move is begun with the picks that stand in the table from `first` to `end`.
+// Begins an agent's move with the picks that stand in the table from `first` up to `end`.
 fn begin_with(
     image: &Image,
     contents: &[Value],
@@ -253,7 +230,7 @@ fn begin_with(
     end: usize,
 ) -> Begun
     requires { ⌜ (first ≤ end) × (end ≤ length (now table)) ⌝ }
-    ensures { λ r. ⌜ WalkMarked (held (now (image .entry))) (now (contents .entry)) bit (input agent (take (end - first) (drop first (now (table .entry))))) (outcome (r .walk) (now (list .exit))) (now (readers .entry)) (now (readers .exit)) ⌝ }
+    ensures { λ r. ⌜ WalkMarked (low-program (now (image .entry))) (now (contents .entry)) bit (input agent (take (end - first) (drop first (now (table .entry))))) (outcome (r .walk) (now (list .exit))) (now (readers .entry)) (now (readers .exit)) ⌝ }
     ensures { λ r. ⌜ (r .count ≡ instructions-given (r .walk)) × (length (now (list .exit)) ≡ 256) ⌝ }
 {
     engine_fire::begin_move(
@@ -267,7 +244,7 @@ fn begin_with(
     )
 }
 
-// The move that is next is begun, on tables of just the records needed.
+// Begins the move that is next, on tables of just the records needed.
 pub fn begin_next(
     contents: &[Value],
     readers: &mut [u64],
@@ -276,10 +253,10 @@ pub fn begin_next(
     list: &mut [u64; 256],
     t: RunState,
 ) -> Begun
-    ensures { λ r. ⌜ ((g : Log) (c ws : List ℕ) → MoveNext (now (image .entry)) (now (order .entry)) g c t (now (contents .entry)) (now (readers .entry)) ws → MoveBegun (now (image .entry)) (now (order .entry)) g c t r (now (list .exit)) (now (contents .entry)) (now (readers .exit)) ws) ⌝ }
+    ensures { λ r. ⌜ NextBegun (now (image .entry)) (now (order .entry)) t (now (contents .entry)) (now (readers .entry)) (now (readers .exit)) (now (list .exit)) r ⌝ }
 {
     let i = t.at;
-    let bit = bit_of(i);
+    let bit = move_bit(i);
     let agent = order_log::agent_of_move(order, i);
     let own = order_log::picks_of_move(order, i);
     begin_with(
@@ -295,7 +272,7 @@ pub fn begin_next(
     )
 }
 
-// The move that is begun is finished, on tables of just the records needed; then the next one's turn.
+// Finishes the move that is begun, on tables of just the records needed; then the move after it is next, or the run is over.
 pub fn finish_next(
     contents: &mut [Value],
     readers: &mut [u64],
@@ -306,10 +283,10 @@ pub fn finish_next(
     t: RunState,
     s: Begun,
 ) -> RunState
-    ensures { λ r. ⌜ ((g : Log) (c : List ℕ) → MoveBegun (now (image .entry)) (now (order .entry)) g c t s (now (list .entry)) (now (contents .entry)) (now (readers .entry)) (now (writers .entry)) → RunAt (now (image .entry)) (now (order .entry)) g c (lists-from (held (now (image .entry))) g c (t .moves - (t .at + 1)) (t .at + 1)) r (now (contents .exit)) (now (readers .exit)) (now (writers .exit))) × (moves-left r ≤ 64 - t .at) ⌝ }
+    ensures { λ r. ⌜ NextFinished (now (image .entry)) (now (order .entry)) (now (list .entry)) t s (tables-before contents readers writers) (tables-after contents readers writers) r ⌝ }
 {
     let i = t.at;
-    let bit = bit_of(i);
+    let bit = move_bit(i);
     let walk = s.walk;
     let answer = engine_fire::finish_move(image, contents, readers, writers, bit, list, walk, i);
     if answer.number != 0 {
@@ -321,7 +298,7 @@ pub fn finish_next(
 
 // ---- a call, on tables of any length
 
-// How many records of each table a run is made on: one for each location, or no more than a table has.
+// How many records of each table a run is made on: one for each location, or fewer if a table has fewer.
 pub fn records_used(image: &Image, contents: usize, readers: usize, writers: usize) -> usize
     ensures { λ r. ⌜ r ≡ min (word (now (image .entry)) 6) (min contents (min readers writers)) ⌝ }
 {
@@ -330,7 +307,7 @@ pub fn records_used(image: &Image, contents: usize, readers: usize, writers: usi
     text::smaller(all, text::smaller(contents, two))
 }
 
-// The start of a call that passed its checks: its contents written and its marks cleared; move 0 is next.
+// The start of a call that passed its checks: contents written and marks cleared; move 0 is next.
 pub fn start_run(
     book: &[u8],
     contents: &mut [Value],
@@ -340,7 +317,7 @@ pub fn start_run(
     order: &Order,
     checked: CheckedCall,
 ) -> RunState
-    ensures { λ r. ⌜ ((b : Book) (g : Log) (n : ℕ) → CallPassed (now (book .entry)) b g checked (now (image .entry)) (now (order .entry)) (tables (now (contents .entry)) (now (readers .entry)) (now (writers .entry))) n → CallAt (tables (now (contents .entry)) (now (readers .entry)) (now (writers .entry))) n (left-past (tables (now (contents .entry)) (now (readers .entry)) (now (writers .entry))) (run-log b g)) (now (image .entry)) (now (order .entry)) (run-lists b g) r (now (contents .exit)) (now (readers .exit)) (now (writers .exit))) ⌝ }
+    ensures { λ r. ⌜ CallStarted (now (book .entry)) (now (image .entry)) (now (order .entry)) checked (tables-before contents readers writers) (tables-after contents readers writers) r ⌝ }
 {
     let n = records_used(image, contents.len(), readers.len(), writers.len());
     start_on_part(
@@ -354,7 +331,7 @@ pub fn start_run(
     )
 }
 
-// A log's run up to its first move: the checks, and the start.
+// A log call up to its first move: the checks, and the start.
 pub fn prepare(
     book: &[u8],
     log: &[u8],
@@ -365,7 +342,7 @@ pub fn prepare(
     image: &mut Image,
     order: &mut Order,
 ) -> RunState
-    ensures { λ r. ⌜ CallAt (tables (now (contents .entry)) (now (readers .entry)) (now (writers .entry))) lent (log-call (now (book .entry)) (now (log .entry)) (tables (now (contents .entry)) (now (readers .entry)) (now (writers .entry))) lent) (now (image .exit)) (now (order .exit)) (call-lists (now (book .entry)) (now (log .entry)) (tables (now (contents .entry)) (now (readers .entry)) (now (writers .entry))) lent) r (now (contents .exit)) (now (readers .exit)) (now (writers .exit)) ⌝ }
+    ensures { λ r. ⌜ CallPrepared (now (book .entry)) (now (log .entry)) lent (tables-before contents readers writers) (tables-after contents readers writers) (now (image .exit)) (now (order .exit)) r ⌝ }
 {
     let lengths = Lengths {
         contents: contents.len(),

@@ -1,4 +1,4 @@
--- The nearest first move that is unordered with a second one and touches it, and the least pair of the marks.
+-- The least first move that is unordered with a second one and touches it, and the least pair of moves by the marks.
 use mathlib.Core.Path.{_≡_, sym, ap, _∙_}
 use mathlib.Core.Logic.{dite}
 use mathlib.Core.Bool.{Bool, true, false, not, _&&_, true≢false}
@@ -18,11 +18,11 @@ use Rattle.order.proofs.Masks.{shl-one, bit-and, bit-not, bit-below, below-bit,
 use Rattle.order.proofs.Best.{Best, best-found, best-none}
 use Rattle.order.proofs.Search.{two-alike}
 use Rattle.order_touch.specs.declared.MovePair.{MovePair}
-use Rattle.order_touch.specs.Marked.{unordered-marked, clipped, pair-of, TouchSets, LeastTouching}
+use Rattle.order_touch.specs.Marked.{unordered-marked, clipped, pair-as, TouchSets, LeastTouching}
 
--- ---- the nearest first move
+-- ---- the least first move
 
--- as the code shifts it
+-- the set of move j alone, as the code shifts it, is not empty
 pub shifted-pos : (j : ℕ) → j < 64 → 1 ≤ (1 * 2 ^ j) % 2 ^ 64
 shifted-pos j h = rw (shl-one j h) (pow-pos j)
 
@@ -53,13 +53,13 @@ module _ (met row j : ℕ) (fit : met < 2 ^ 64) (row-fit : row < 2 ^ 64) (small 
 -- ---- the least pair, as the code gives it
 
 module _ (f : ℕ → ℕ → Bool) where
-  pub pair-found : (m a b : ℕ) → Best f m a b → a < 64 → _≡_ {A = MovePair} (record { found = true; first = a; second = b }) (pair-of (least-pair f m))
+  pub pair-found : (m a b : ℕ) → Best f m a b → a < 64 → _≡_ {A = MovePair} (record { found = true; first = a; second = b }) (pair-as (least-pair f m))
   pair-found m a b s h = let e = best-found f m a b s h in rw e
 
-  pub pair-none : (m a b : ℕ) → m ≤ 64 → Best f m a b → 64 ≤ a → _≡_ {A = MovePair} (record { found = false; first = 0; second = 0 }) (pair-of (least-pair f m))
+  pub pair-none : (m a b : ℕ) → m ≤ 64 → Best f m a b → 64 ≤ a → _≡_ {A = MovePair} (record { found = false; first = 0; second = 0 }) (pair-as (least-pair f m))
   pair-none m a b small s h = let e = best-none f m a b small s h in rw e
 
--- ---- the marks' pairs
+-- ---- pairs by the marks
 
 module _ (order rs ws u : List ℕ) (n : ℕ) (a : TouchSets rs ws n u) where
   abbrev gathered : ℕ → ℕ → Bool
@@ -68,22 +68,22 @@ module _ (order rs ws u : List ℕ) (n : ℕ) (a : TouchSets rs ws n u) where
   same : (i j : ℕ) → gathered i j ≡ unordered-marked order rs ws n i j
   same i j = rw (a .bits j i)
 
-  -- no pair has a second move past the 64
+  -- no pair has a second move from 64 on
   second-small : (i j : ℕ) → gathered i j ≡ true → j < 64
   second-small i j e =
       let p = and-cases (not (ordered-by order i j)) (bit (getD u j 0) i) e .1 in
       dite (decLt j 64) (λ h. h)
       (λ (h : ¬ (j < 64)). let z : getD u j 0 ≡ 0 = List·getD-eq-default u 0 {n = j} (omega (arith, a .long)) in absurd (true≢false (sym p ∙ rw z (bit-empty i))))
 
-  pub gathered-two : (m : ℕ) → least-pair gathered (min m 64) ≡ least-pair (unordered-marked order rs ws n) m
-  gathered-two m = two-alike gathered (unordered-marked order rs ws n) (min m 64) m
+  pub walk-marked-two : (m : ℕ) → least-pair gathered (min m 64) ≡ least-pair (unordered-marked order rs ws n) m
+  walk-marked-two m = two-alike gathered (unordered-marked order rs ws n) (min m 64) m
       (λ i j p. let h : j < min m 64 = p .1 in (p .0, omega arith, sym (same i j) ∙ p .2))
       (λ i j p. let e : gathered i j ≡ true = same i j ∙ p .2 in (p .0, omega (arith, p .1, second-small i j e), e))
 
--- what the code finds is the least pair of the marks: the locations clipped to the tables, and the moves to 64
+-- what the code finds is the least pair by the marks: the locations clipped to the tables, and the moves to 64
 pub all-found : (order rs ws u : List ℕ) (n k x m : ℕ) (r : MovePair) → n ≡ clipped rs ws k → TouchSets rs ws n u → x ≡ min m 64
-    → r ≡ pair-of (least-pair (λ i j. not (ordered-by order i j) && bit (getD u j 0) i) x)
-    → r ≡ pair-of (least-pair (unordered-marked order rs ws (clipped rs ws k)) m)
+    → r ≡ pair-as (least-pair (λ i j. not (ordered-by order i j) && bit (getD u j 0) i) x)
+    → r ≡ pair-as (least-pair (unordered-marked order rs ws (clipped rs ws k)) m)
 all-found order rs ws u n k x m r e a f g =
-    g ∙ ap (λ (y : ℕ). pair-of (least-pair (λ i j. not (ordered-by order i j) && bit (getD u j 0) i) y)) f
-    ∙ ap pair-of (gathered-two order rs ws u n a m) ∙ ap (λ (y : ℕ). pair-of (least-pair (unordered-marked order rs ws y) m)) e
+    g ∙ ap (λ (y : ℕ). pair-as (least-pair (λ i j. not (ordered-by order i j) && bit (getD u j 0) i) y)) f
+    ∙ ap pair-as (walk-marked-two order rs ws u n a m) ∙ ap (λ (y : ℕ). pair-as (least-pair (unordered-marked order rs ws y) m)) e

@@ -1,4 +1,4 @@
--- The moves that touch each other, gathered location by location: a location's users are taken one by one, the least first.
+-- The moves that touch each other, found location by location: a location's users are taken one by one, the least first.
 use mathlib.Core.Path.{_≡_, refl, sym, ap, _∙_}
 use mathlib.Core.Logic.{dite, _≢_}
 use mathlib.Core.Bool.{Bool, true, false, not, _||_, _&&_, and-true, or-false}
@@ -20,18 +20,19 @@ use Rattle.order.proofs.Sets.{bit-or, bit-empty}
 use Rattle.order.proofs.Masks.{row-none, test-in, test-out, least-in, least-lt, rest, ones-rest, ones-nonempty, ones-none, bit-rest}
 use Rattle.order_touch.specs.Marked.{touch-by, TouchAdded, TouchSets}
 
--- of the users of a location those that touch j, if it is one
+-- of the users of a location those that touch j, if j is one of them
 abbrev pub others : ℕ → ℕ → ℕ → ℕ
 others r w j = if bit w j then bitOr r w else w
 
--- by the code's test of a mark
+-- all users touch a move that writes, by the code's test of a mark
 pub others-all : (r w j : ℕ) → bitAnd (w / 2 ^ j) 1 ≡ 1 → bitOr r w ≡ others r w j
 others-all r w j e = rw (test-in w j e)
 
+-- the writers touch a move that does not write, by the code's test of a mark
 pub others-writers : (r w j : ℕ) → bitAnd (w / 2 ^ j) 1 ≢ 1 → w ≡ others r w j
 others-writers r w j n = rw (test-out w j n)
 
--- u is t once all users but those in `left` have been put in
+-- u is t after all users but those in `left` have been added
 pub record Sofar (r w : ℕ) (t u : List ℕ) (left : ℕ) : Type 0 where
   pub long : length u ≡ length t
   pub within : (j : ℕ) → bit left j ≡ true → bit (bitOr r w) j ≡ true
@@ -48,7 +49,7 @@ sofar-start r w t = record {
   bits = λ j i. sym (ap (λ (x : Bool). bit (getD t j 0) i || x) (not-both (bit (bitOr r w) j) (bit (others r w j) i)) ∙ or-false (bit (getD t j 0) i));
 }
 
--- the user that is taken: it was left, and is not any more
+-- the user that is taken was left, and is not any more
 taken : (t o : Bool) → ((t || (true && not true) && o) || o) ≡ (t || (true && not (true && not true)) && o)
 taken true o = refl
 taken false true = refl
@@ -102,7 +103,7 @@ module _ (r w : ℕ) (t u : List ℕ) (left n : ℕ) (fit : left < 2 ^ 64) (coun
       bits = λ j i. dite (ℕ-discrete j k) (bits-at j i) (bits-off j i);
     }
 
--- ---- a location done
+-- ---- one location done
 
 others-bit : (r w j i : ℕ) → bit (others r w j) i ≡ (if bit w j then bit r i || bit w i else bit w i)
 others-bit r w j i = go (bit w j)
@@ -135,7 +136,7 @@ sofar-end r w t u left n e z s = record {
         let none : left ≡ 0 = ones-none left (sym e ∙ z) in
         rw (none, bit-empty j, bit-or r w j, others-bit r w j i) (touch-bool (bit r i) (bit w i) (bit r j) (bit w j))
 
--- where nothing is written nothing touches
+-- where no move writes, nothing touches
 pub met-unwritten : (r w : ℕ) (t : List ℕ) → w ≡ 0 → TouchAdded r w t t
 met-unwritten r w t z = record {
   long = refl;
@@ -160,10 +161,10 @@ module _ (rs ws : List ℕ) where
       let e : a + suc n ≡ a + n + 1 = omega arith in
       rw e (all-turn (a + n) t t (all-unwritten a n t (λ k h. z k (omega arith)) m) (met-unwritten (getD rs (a + n) 0) (getD ws (a + n) 0) t (z n (omega arith))))
 
--- of the part that the code looks at
+-- the part of the marks that the code tests is that of the table
 pub unwritten : (ws : List ℕ) (a n k : ℕ) → k < n → getD (take (a + n - a) (drop a ws)) k 0 ≡ 0 → getD ws (a + k) 0 ≡ 0
 unwritten ws a n k h e = sym (getD-take (a + n - a) (drop a ws) k 0 (omega arith) ∙ getD-drop a ws k 0) ∙ e
 
--- marks that are none together are none each
+-- if the union of two marks is empty, each is
 pub join-none : (a b : ℕ) → bitOr a b ≡ 0 → (a ≡ 0) × (b ≡ 0)
 join-none a b e = (omega (arith, or-add-and a b, and-le-r a b), omega (arith, or-add-and a b, and-le-l a b))

@@ -1,4 +1,4 @@
--- 17 from marks: of the pairs of moves that the order leaves unordered, the least that touches at a location, by the bits of its two marks
+-- Refusal 17 from marks: of the pairs of moves that the order leaves unordered, the least that touches at a location, by the bits of its two marks
 -- (SPECIFICATION 5.5, 7.3).
 use mathlib.Core.Path.{_≡_}
 use mathlib.Core.Bool.{Bool, true, false, _&&_, _||_, not}
@@ -10,40 +10,40 @@ use Rattle.order.specs.Sets.{bit}
 use Rattle.order.specs.Pairs.{ordered-by, PairFound, no-pair, a-pair}
 use Rattle.order_touch.specs.declared.MovePair.{MovePair}
 
--- at a location with the marks r and w one of moves i and j writes what the other reads or writes
+-- at a location with the marks r and w one of moves i and j writes, and the other reads or writes
 abbrev pub touch-by : ℕ → ℕ → ℕ → ℕ → Bool
 touch-by r w i j = bit w i && (bit r j || bit w j) || bit w j && (bit r i || bit w i)
 
--- at one of the first n locations
+-- moves i and j touch at one of the first n locations, by the marks
 abbrev pub marked-touch : List ℕ → List ℕ → ℕ → ℕ → ℕ → Bool
 marked-touch rs ws n i j = some-below (λ l. touch-by (getD rs l 0) (getD ws l 0) i j) n
 
--- moves i < j are unordered, by the rows `order`, and touch
+-- moves i < j touch by the marks, and the predecessors `order` leave them unordered
 abbrev pub unordered-marked : List ℕ → List ℕ → List ℕ → ℕ → ℕ → ℕ → Bool
 unordered-marked order rs ws n i j = not (ordered-by order i j) && marked-touch rs ws n i j
 
--- the first n locations, so far as both tables have them
+-- how many of the first n locations both tables of marks have
 abbrev pub clipped : List ℕ → List ℕ → ℕ → ℕ
 clipped rs ws n = min n (min (length rs) (length ws))
 
 -- the pair found, as the code gives it
-abbrev pub pair-of : PairFound → MovePair
-pair-of no-pair = record { found = false; first = 0; second = 0 }
-pair-of (a-pair i j) = record { found = true; first = i; second = j }
+abbrev pub pair-as : PairFound → MovePair
+pair-as no-pair = record { found = false; first = 0; second = 0 }
+pair-as (a-pair i j) = record { found = true; first = i; second = j }
 
 -- ---- what the code holds on the way
 
--- the table t with the marks r and w of one location put in, u: row j has the moves that touch j
+-- the table u is the table t with what touches at one location, whose marks are r and w, added: at j stand the moves that touch j
 pub record TouchAdded (r w : ℕ) (t u : List ℕ) : Type 0 where
   pub long : length u ≡ length t
   pub bits : (j i : ℕ) → bit (getD u j 0) i ≡ (bit (getD t j 0) i || touch-by r w i j)
 
--- the table of the first n locations
+-- the table u has at j the moves that touch j at one of the first n locations
 pub record TouchSets (rs ws : List ℕ) (n : ℕ) (u : List ℕ) : Type 0 where
   pub long : length u ≡ 64
   pub bits : (j i : ℕ) → bit (getD u j 0) i ≡ marked-touch rs ws n i j
 
--- r is the least move below j that is in the set `met` and not in `row`; 64 for none
+-- r is the least move below j that is in the set `met` of the moves that touch j and not in the set `row` of j's predecessors; 64 for none
 pub record LeastTouching (met row j r : ℕ) : Type 0 where
   pub hit : r < 64 → (r < j) × ((not (bit row r) && bit met r) ≡ true)
   pub low : (i : ℕ) → i < j → (not (bit row i) && bit met i) ≡ true → r ≤ i

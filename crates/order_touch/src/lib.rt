@@ -1,4 +1,4 @@
-// The order check: the least pair of unordered moves that touch, from the marks alone.
+// The order check, refusal 17: the least pair of unordered moves that touch, from the marks alone.
 use order::Order;
 ghost use mathlib.Core.Path.{_≡_};
 ghost use mathlib.Core.Bool.{_&&_, not};
@@ -6,19 +6,19 @@ ghost use Prim.Native.Nat.{ℕ, _<_, _≤_};
 ghost use lib.ListN.{length, getD};
 ghost use Rattle.order.specs.Sets.{bit};
 ghost use Rattle.order.specs.Pairs.{ordered-by, least-pair};
-ghost use Rattle.order_touch.specs.Marked.{unordered-marked, clipped, pair-of, TouchAdded, TouchSets, LeastTouching};
+ghost use Rattle.order_touch.specs.Marked.{unordered-marked, clipped, pair-as, TouchAdded, TouchSets, LeastTouching};
 
-// How many locations are passed over at once.
+// How many locations a step passes over, if no move writes them.
 const BLOCK: usize = 64;
 
-// A pair of moves, if there is one: 0 0 if not.
+// A pair of moves, if one is found; otherwise both numbers are 0.
 pub struct MovePair {
     pub found: bool,
     pub first: u32,
     pub second: u32,
 }
 
-// To the moves that touch each of 64 come those that do so at a location with these marks: all its
+// Adds to the moves that touch each of 64 those that do so at a location with these marks: all its
 // users if the move writes it, its writers if it only reads it.
 fn add_touching(readers: u64, writers: u64, met: &mut [u64; 64])
     requires { ⌜ length (now met) ≡ 64 ⌝ }
@@ -39,7 +39,7 @@ fn add_touching(readers: u64, writers: u64, met: &mut [u64; 64])
     }
 }
 
-// The same, passing over a location that no move writes: nothing touches there.
+// Adds to the moves that touch each of 64 those that do so at a location with these marks; where no move writes, nothing touches.
 fn add_if_written(readers: u64, writers: u64, met: &mut [u64; 64])
     requires { ⌜ length (now met) ≡ 64 ⌝ }
     ensures { λ _. ⌜ TouchAdded readers writers (now (met .entry)) (now (met .exit)) ⌝ }
@@ -49,7 +49,7 @@ fn add_if_written(readers: u64, writers: u64, met: &mut [u64; 64])
     }
 }
 
-// All marks of a part together: 0 only if each is.
+// All marks of a part in one: 0 only if each is 0.
 fn all_marks(part: &[u64]) -> u64
     ensures { λ r. ⌜ (r ≡ 0 → (k : ℕ) → getD (now (part .entry)) k 0 ≡ 0) ⌝ }
 {
@@ -62,7 +62,7 @@ fn all_marks(part: &[u64]) -> u64
     all
 }
 
-// From the first a locations to the first b.
+// Adds what touches at the locations from a up to b to what touches at the first a.
 fn add_part(readers: &[u64], writers: &[u64], a: usize, b: usize, met: &mut [u64; 64])
     requires { ⌜ (a ≤ b) × (b ≤ length (now readers)) × (b ≤ length (now writers)) × TouchSets (now readers) (now writers) a (now met) ⌝ }
     ensures { λ _. ⌜ TouchSets (now (readers .entry)) (now (writers .entry)) b (now (met .exit)) ⌝ }
@@ -74,7 +74,7 @@ fn add_part(readers: &[u64], writers: &[u64], a: usize, b: usize, met: &mut [u64
     }
 }
 
-// For each move those that touch it at one of the first n locations. Blocks that no move writes are passed over.
+// For each move the set of those that touch it at one of the first n locations. Blocks that no move writes are passed over.
 fn touching_sets(readers: &[u64], writers: &[u64], n: usize) -> [u64; 64]
     requires { ⌜ (n ≤ length (now readers)) × (n ≤ length (now writers)) ⌝ }
     ensures { λ r. ⌜ TouchSets (now (readers .entry)) (now (writers .entry)) n r ⌝ }
@@ -91,7 +91,7 @@ fn touching_sets(readers: &[u64], writers: &[u64], n: usize) -> [u64; 64]
     met
 }
 
-// The least move before j that touches it and is not ordered with it; 64 for none.
+// The least move below j that touches j and is not one of its predecessors, `row`; 64 for none.
 fn least_touching(met: u64, row: u64, j: usize) -> u32
     requires { ⌜ j < 64 ⌝ }
     ensures { λ r. ⌜ LeastTouching met row j r ⌝ }
@@ -100,10 +100,10 @@ fn least_touching(met: u64, row: u64, j: usize) -> u32
     u64::trailing_zeros(met & !row & earlier)
 }
 
-// The least pair of the first m moves, by its first move and then its second.
+// The least pair of the first m moves that touch and are unordered, by its first move and then its second; `met` has what touches each move.
 fn least_pair(met: &[u64; 64], order: &Order, m: usize) -> MovePair
     requires { ⌜ m ≤ 64 ⌝ }
-    ensures { λ r. ⌜ r ≡ pair-of (least-pair (λ i j. not (ordered-by (now (order .entry)) i j) && bit (getD (now (met .entry)) j 0) i) m) ⌝ }
+    ensures { λ r. ⌜ r ≡ pair-as (least-pair (λ i j. not (ordered-by (now (order .entry)) i j) && bit (getD (now (met .entry)) j 0) i) m) ⌝ }
 {
     let mut first: u32 = 64;
     let mut second: usize = 0;
@@ -131,7 +131,7 @@ fn least_pair(met: &[u64; 64], order: &Order, m: usize) -> MovePair
     }
 }
 
-// 17: the least pair of the first `moves` moves that the order leaves unordered and that touch at one
+// Refusal 17: the least pair of the first `moves` moves that the order leaves unordered and that touch at one
 // of the first `locations` locations.
 pub fn least_touching_pair(
     readers: &[u64],
@@ -140,7 +140,7 @@ pub fn least_touching_pair(
     moves: u32,
     locations: usize,
 ) -> MovePair
-    ensures { λ r. ⌜ r ≡ pair-of (least-pair (unordered-marked (now (order .entry)) (now (readers .entry)) (now (writers .entry)) (clipped (now (readers .entry)) (now (writers .entry)) locations)) moves) ⌝ }
+    ensures { λ r. ⌜ r ≡ pair-as (least-pair (unordered-marked (now (order .entry)) (now (readers .entry)) (now (writers .entry)) (clipped (now (readers .entry)) (now (writers .entry)) locations)) moves) ⌝ }
 {
     let n = text::smaller(locations, text::smaller(readers.len(), writers.len()));
     let met = touching_sets(readers, writers, n);

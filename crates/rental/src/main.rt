@@ -6,32 +6,32 @@ ghost use Prim.Native.Nat.{_≤_};
 ghost use lib.ListN.{length};
 ghost use Rattle.io.specs.Counts.{Counts};
 
-// Writes all bytes, or says that it cannot.
+// Writes all bytes to standard output, or an error message if it cannot.
 fn write_out(bytes: &[u8]) {
     if !io::write_all(STDOUT_FILENO, bytes) {
         io::write_all(STDERR_FILENO, b"rental: the output cannot be written\n");
     }
 }
 
-// Writes the first n bytes.
+// Writes the first n bytes to standard output.
 fn write_front(bytes: &[u8], n: usize) {
     if n <= bytes.len() {
         write_out(&bytes[..n]);
     }
 }
 
-// The same of an output, whose length its type says.
+// Writes the first n bytes of an output, whose length its type says.
 fn write_output(output: &[u8; 51225], n: usize) {
     write_front(output, n);
 }
 
-// How much of a buffer is filled, and whether the last read failed.
+// How many bytes of a buffer are filled, and whether the last read failed.
 struct Input {
     len: usize,
     broken: bool,
 }
 
-// One read, into the buffer from there on.
+// One read, into the buffer from index `from` on.
 fn read_on(buf: &mut [u8], from: usize) -> Input
     requires { ⌜ from ≤ length (now buf) ⌝ }
     ensures { λ r. ⌜ r .len ≤ length (now (buf .exit)) ⌝ }
@@ -44,8 +44,8 @@ fn read_on(buf: &mut [u8], from: usize) -> Input
     }
 }
 
-// Reads until the buffer is full, the input ends or a read fails. A failure is told by the read that
-// meets it: a socket tells it only once.
+// Reads until the buffer is full, the input ends or a read fails. A failure is reported by the read that
+// meets it: a socket reports it only once.
 fn read_all(buf: &mut [u8]) -> Input
     ensures { λ r. ⌜ Counts (r .len) (now (buf .exit)) ⌝ }
 {
@@ -64,7 +64,7 @@ fn read_all(buf: &mut [u8]) -> Input
     }
 }
 
-// Reads one byte more than it takes, so that a longer input shows. What cannot be read has no answer.
+// Reads one byte more than an input may have, so that a longer input is found out. What cannot be read has no answer.
 fn main() {
     let mut input = [0u8; 60001];
     let came = read_all(&mut input);

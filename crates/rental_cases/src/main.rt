@@ -1,4 +1,4 @@
-// The program `cases`: prints what `rental` prints for the cases (b) to (l) of SPECIFICATION 10.4, each after its letter.
+// The program `rental_cases`: prints what `rental` prints for the cases (b) to (l) of SPECIFICATION 10.4, each after its letter.
 use libc::STDOUT_FILENO;
 
 // The specification's book.
@@ -27,7 +27,7 @@ const BOOK: [u8; 575] = *b"     8     6     3    13
      2     6     0     4
 ";
 
-// A book and a log of one move, which sets f, so far 0, to a term over two elements. The term's kind and the elements are put in below.
+// A book and a log of one move, which sets f, so far the number 0, to a term over two elements. The term's kind and the elements are put in by `show_term`.
 const TERM: [u8; 325] = *b"     8     6     2     5
      1     1     0     0
      1     3     0     0
@@ -43,19 +43,19 @@ const TERM: [u8; 325] = *b"     8     6     2     5
      0     0     0     0
 ";
 
-// Writes the first n bytes.
+// Writes the first n bytes to standard output.
 fn write_front(bytes: &[u8], n: usize) {
     if n <= bytes.len() {
         io::write_all(STDOUT_FILENO, &bytes[..n]);
     }
 }
 
-// The same of an output, whose length its type says.
+// Writes the first n bytes of an output, whose length its type says.
 fn write_output(output: &[u8; 51225], n: usize) {
     write_front(output, n);
 }
 
-// A case's letter, and what is printed for its input.
+// Prints a case's letter, and what `rental` prints for its input.
 fn show(name: &[u8], input: &[u8]) {
     io::write_all(STDOUT_FILENO, name);
     let mut output = [0u8; 51225];
@@ -63,18 +63,19 @@ fn show(name: &[u8], input: &[u8]) {
     write_output(&output, written);
 }
 
-// The same for the first n bytes of an input.
+// Prints a case's letter, and what `rental` prints for the first n bytes of an input.
 fn show_front(name: &[u8], input: &[u8], n: usize) {
     if n <= input.len() {
         show(name, &input[..n]);
     }
 }
 
+// Prints a case's letter, and what `rental` prints for the first n bytes of an input, whose length its type says.
 fn show_input(name: &[u8], input: &[u8; 1000], n: usize) {
     show_front(name, input, n);
 }
 
-// The same for the specification's book and a log.
+// Prints a case's letter, and what `rental` prints for the specification's book and a log.
 fn show_log(name: &[u8], log: &[u8]) {
     let mut input = [0u8; 1000];
     let book = BOOK;
@@ -86,9 +87,9 @@ fn show_log(name: &[u8], log: &[u8]) {
     }
 }
 
-// The specification's book with other logs: (b) to (e).
+// Cases (b) to (e): the specification's book with other logs.
 fn show_logs() {
-    // No pair.
+    // Case (b): no pair.
     show_log(
         b"(b)\n",
         b"     2     0     0     0
@@ -96,13 +97,13 @@ fn show_logs() {
      1     0     0     0
 ",
     );
-    // No move.
+    // Case (c): no move.
     show_log(
         b"(c)\n",
         b"     0     0     0     0
 ",
     );
-    // Agent 0 twice.
+    // Case (d): agent 0 twice.
     show_log(
         b"(d)\n",
         b"     2     1     0     0
@@ -111,7 +112,7 @@ fn show_logs() {
      0     1     0     0
 ",
     );
-    // Agent 1 three times.
+    // Case (e): agent 1 three times.
     show_log(
         b"(e)\n",
         b"     3     2     0     0
@@ -124,7 +125,7 @@ fn show_logs() {
     );
 }
 
-// The same for a term: the two columns of its kind, and its two elements.
+// Prints a case's letter, and what `rental` prints for a term: the two columns of its kind, and its two elements.
 fn show_term(name: &[u8], kind: [u8; 2], x: u8, y: u8) {
     let mut input = TERM;
     input[136] = x;
@@ -134,23 +135,23 @@ fn show_term(name: &[u8], kind: [u8; 2], x: u8, y: u8) {
     show(name, &input);
 }
 
-// What terms give: (f) to (j).
+// Cases (f) to (j): what terms give.
 fn show_terms() {
-    // 1 plus 1.
+    // Case (f): 1 plus 1.
     show_term(b"(f)\n", *b"11", b'4', b'4');
-    // 2 plus 1, P being 6.
+    // Case (g): 2 plus 1, P being 6.
     show_term(b"(g)\n", *b"11", b'5', b'4');
-    // 0 minus 1.
+    // Case (h): 0 minus 1.
     show_term(b"(h)\n", *b"12", b'3', b'4');
-    // undef equal undef.
+    // Case (i): undef equal undef.
     show_term(b"(i)\n", *b" 7", b'0', b'0');
-    // false and undef.
+    // Case (j): false and undef.
     show_term(b"(j)\n", *b" 9", b'1', b'0');
 }
 
-// Updates at once: (k).
+// Case (k): updates are made at once.
 fn show_swap() {
-    // s := t beside t := s.
+    // f := g beside g := f.
     show(
         b"(k)\n",
         b"     6     6     3     7
@@ -174,9 +175,9 @@ fn show_swap() {
     );
 }
 
-// A release: (l).
+// Case (l): a release.
 fn show_release() {
-    // release 6.
+    // The rule releases all of Pair, which has 6.
     show(
         b"(l)\n",
         b"     8     6     3     3

@@ -53,7 +53,7 @@ module _ (text : List ℕ) (h : Header) where
   unfolding check-present book-part front
   present-same = rw (form-front text (line-count h) (line-count h) (omega arith))
 
-  -- the part has no line too many
+  -- the book's lines have no line too many
   no-surplus : check-surplus h book-part ≡ good tt
   unfolding check-surplus must book-part
   no-surplus = rw (le-leb (length (take (25 * line-count h) text)) (25 * line-count h) (rw (length-take (25 * line-count h) text) (min-le-left (25 * line-count h) (length text))))
@@ -92,7 +92,7 @@ module _ (text : List ℕ) (h : Header) where
   unfolding book-part front
   header-same = header-front text (line-count h) (omega arith)
 
-  -- the check of that part leaves out the surplus
+  -- the check of the book's lines is the check of the input without a surplus line
   book-checked : check-header text ≡ good h → check-book book-part ≡ (check-present h text >> check-lines h text)
   unfolding check-book _>>=_ _>>_
   book-checked e = rw (header-same ∙ e, present-same, no-surplus, lines-same)
@@ -104,7 +104,7 @@ unfolding _>>_ _>>=_
 then-bind (good a) b k = refl
 then-bind (refused n p q) b k = refl
 
--- an input of a book whose header passes
+-- the checks of an input whose book's header passes
 pub input-split :
     (text : List ℕ) (h : Header) → check-header text ≡ good h → length text ≤ most-input →
     check-input text ≡ check-all (take (25 * line-count h) text) (drop (25 * line-count h) text) own-tables
@@ -113,7 +113,7 @@ input-split text h e l =
     let k : Book → Checked (Book × Log) = λ b. check-log (b .program) (drop (25 * line-count h) text) >>= (λ g. check-lent (b .program) own-tables >> good (b, g)) in
     rw (le-leb (length text) most-input l, e, book-checked text h e) (sym (then-bind (check-present h text) (check-lines h text) k))
 
--- an input of a book whose header is refused; as a book with no log it is refused alike
+-- the checks of an input whose book's header is refused; as a book with no log it is refused alike
 pub input-header :
     (text : List ℕ) (n p q : ℕ) → check-header text ≡ refused n p q → length text ≤ most-input → check-input text ≡ refused n p q
 unfolding check-input must _>>=_ _>>_
@@ -123,7 +123,7 @@ pub all-header : (book log : List ℕ) (t : Lengths) (n p q : ℕ) → check-hea
 unfolding check-all check-book _>>=_ _>>_
 all-header book log t n p q e = rw e
 
--- an input that is too long
+-- the checks of an input that is too long
 pub input-long : (text : List ℕ) → most-input < length text → check-input text ≡ refused 2 60000 4
 unfolding check-input must _>>_
 input-long text h = rw (lt-leb (length text) most-input h)

@@ -1,4 +1,4 @@
-// What the program `rental` prints.
+// What the program `rental` prints: how large its tables are. The definitions are in specs/.
 
-// How many records each of its tables has.
+// How many records each table of `rental` has.
 pub const TABLE: usize = 2048;

@@ -106,11 +106,11 @@ put-shown : (n : ℕ) (l : Line) (m : List ℕ) → put-bytes (25 + 25 * n) (wri
 unfolding lines-printed
 put-shown n l m = rw (written-one l)
 
--- no line is put
+-- if a location has no line, nothing is put
 pub put-nothing : (n : ℕ) (ls : List Line) (m : List ℕ) → ls ≡ [] → (n ≡ n + length ls) × (m ≡ lines-printed n ls m)
 put-nothing n ls m e = (rw e (omega arith), rw e (sym (put-none-left n m)))
 
--- one is
+-- if a location has a line, it is put
 pub put-single : (n : ℕ) (ls : List Line) (l : Line) (m : List ℕ) → ls ≡ l ∷ [] → (n + 1 ≡ n + length ls) × (put-bytes (25 + 25 * n) (written l) m ≡ lines-printed n ls m)
 put-single n ls l m e = (rw e (omega arith), rw e (put-shown n l m))
 
@@ -136,7 +136,7 @@ module _ (B : Program) (c : List ℕ) where
       go true l r = refl
       go false l r = refl
 
-  -- the same by what the code holds
+  -- the lines from location i on, by what the code holds
   pub part-next :
       (k n i e : ℕ) (f : Function) (v : ℕ) → i < n → e ≡ B .E → f ≡ function-at B k → v ≡ getD c (f .first + i) 0 →
       part-lines B c k i (n - i) ≡ location-lines e f k i v ++ part-lines B c k (i + 1) (n - (i + 1))
@@ -211,7 +211,7 @@ module _ (B : Program) (a : Answer) (c : List ℕ) where
   length-refused : (a .number ≡ 0 → ⊥) → length (answer-printed B a c) ≡ 25
   length-refused e = ap length (text-refused e) ∙ length-written (first-line a 0)
 
-  -- the contents' lines, then the first line
+  -- the contents' lines put, and then the first line before them, are the whole text
   put-accepted :
       a .number ≡ 0 → (m : List ℕ) →
       put-bytes 0 (written (first-line a (length (contents-lines B c)))) (lines-printed 0 (contents-lines B c) m) ≡ put-bytes 0 (answer-printed B a c) m
@@ -233,7 +233,7 @@ module _ (B : Program) (a : Answer) (c : List ℕ) where
       go true e = omega (arith, length-accepted (eqb-true (a .number) 0 e), contents-most B c)
       go false e = omega (arith, length-refused (eqb-false (a .number) 0 e))
 
-  -- it stands whole in front of what was there
+  -- the text stands whole in front of what was there
   text-fits : (m after : List ℕ) → after ≡ put-bytes 0 (answer-printed B a c) m → L B ≤ 2048 → most-output ≤ length m → after ≡ answer-printed B a c ++ drop (length (answer-printed B a c)) m
   text-fits m after e h l = e ∙ put-front (answer-printed B a c) m (omega (arith, text-most h))
 

@@ -5,7 +5,7 @@ use mathlib.Core.List.{List, _++_, append-nil}
 use Prim.Native.Nat.{ℕ, zero, suc, _-_, _≤_, _<_, min}
 use native.Mathlib.Nat.{min-le-right}
 use native.Mathlib.Omega.{arith}
-use lib.ListN.{length, take, drop, replicate, length-replicate, length-drop, length-append}
+use lib.ListN.{length, take, drop, length-replicate, length-drop, length-append}
 use lib.Seq.{take-all, take-append-seam}
 use borrow.Author.Tests.{ne-eqb}
 use Rattle.text.specs.declared.Answer.{Answer}
@@ -22,7 +22,7 @@ use Rattle.engine.proofs.Moves.{fire-length}
 use Rattle.order.specs.Log.{Log, move-at}
 use Rattle.order.specs.Pairs.{PairFound, no-pair, a-pair}
 use Rattle.order.specs.Run.{Run, RunOutcome, ran, halted, moved, next-move, run, touching, LogAnswer, order-checked, finish, run-from, run-log}
-use Rattle.order.specs.Call.{Tables, check-all, left-past}
+use Rattle.order.specs.Call.{check-all, left-past}
 use Rattle.report.specs.Report.{most-input, own-tables, lines-written, first-line, print-answer, print-checked, rental}
 use Rattle.report.proofs.Split.{input-long}
 use Rattle.text_write.specs.Bytes.{put-bytes}
@@ -37,6 +37,7 @@ use Rattle.order_run.specs.Checked.{CallChecked}
 use Rattle.order_run.proofs.Checks.{all-parts, all-good, enough}
 use Rattle.report_print.specs.Shown.{Shown}
 use Rattle.report_print.specs.Reported.{Reported, blank-tables}
+use Rattle.engine.specs.Tables.{Tables}
 
 -- ---- a run leaves as many contents as there are locations
 
@@ -99,7 +100,7 @@ module _ (book : List ℕ) (b : Book) (g : Log) (r : CheckedCall) (m o : List �
     accepted : check-book book ≡ good b
     accepted = all-parts book (p .passed .log) (p .passed .lent) b g (p .passed .checks) .0
 
-    -- accepted
+    -- what is printed of a run that is accepted
     pub run-shown : Prints (program-in m) a (take (min (word m 6) (length c)) c) out k after → Shown (print-answer B (run-log b g)) out k after
     run-shown s =
         let left : c ≡ over-first (run-log b g .contents) (t .contents) = ap (λ (y : LogAnswer). y .contents) e in
@@ -112,7 +113,7 @@ module _ (book : List ℕ) (b : Book) (g : Log) (r : CheckedCall) (m o : List �
         let y : L (program-in m) ≤ 2048 = rw (p .program) (p .few) in
         (s .long ∙ ap length x, subst (λ (z : List ℕ). after ≡ z ++ drop (length z) out) x (s .whole y room))
 
-    -- refused
+    -- what is printed of a run that is refused
     pub halt-shown : a .number ≢ 0 → Shown (written (first-line a 0)) out k after → Shown (print-answer B (run-log b g)) out k after
     halt-shown z s =
         let x : written (first-line a 0) ≡ print-answer B (run-log b g) = sym (print-same B (run-log b g) ∙ rw (← same) (refused-text B a (run-log b g .contents) z)) in
@@ -121,7 +122,7 @@ module _ (book : List ℕ) (b : Book) (g : Log) (r : CheckedCall) (m o : List �
 -- ---- a book and a log
 
 module _ (book log : List ℕ) (m o : List ℕ) (r : CheckedCall) (opened : CallChecked book log own-tables r m o) where
-  -- passed: no more locations than the call's own tables have records
+  -- an input that passes its checks has no more locations than the call's own tables have records
   pub parts-few : r .answer .number ≡ 0 → r .locations ≤ 2048
   parts-few z =
       let both = all-good book log own-tables (ap (λ (a : Answer). a .number) (sym (opened .answer)) ∙ z) in
@@ -132,7 +133,7 @@ module _ (book log : List ℕ) (m o : List ℕ) (r : CheckedCall) (opened : Call
   abbrev checks : Checked (Book × Log)
   checks = check-all book log own-tables
 
-  -- refused
+  -- what is printed of an input that is refused by its checks
   pub parts-refused : r .answer .number ≢ 0 → Shown (written (first-line (r .answer) 0)) out k after → Shown (print-checked checks) out k after
   parts-refused z s = subst (λ (y : List ℕ). Shown y out k after) (go checks (opened .answer)) s
     where
@@ -140,7 +141,7 @@ module _ (book log : List ℕ) (m o : List ℕ) (r : CheckedCall) (opened : Call
       go (refused n p q) e = ap (λ (a : Answer). written (first-line a 0)) e
       go (good x) e = absurd (z (ap (λ (a : Answer). a .number) e))
 
-  -- passed, on tables of n records
+  -- what is printed of an input that passes its checks, on tables of n records
   pub parts-passed : r .answer .number ≡ 0 → (n : ℕ) → (r .locations ≤ n)
       → ((b : Book) (g : Log) → Reported book b g r m o (blank-tables n) → Shown (print-answer (b .program) (run-log b g)) out k after) → Shown (print-checked checks) out k after
   parts-passed z n few does =

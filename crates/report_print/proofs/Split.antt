@@ -28,7 +28,7 @@ use Rattle.report_print.specs.Split.{called-for, book-length}
 
 -- ---- the header's tests
 
--- a and b: its lines are in form; o: a field outside its bounds
+-- how long the book is, by the tests of its header: a and b say that its lines are in form, o is a field outside its bounds
 by-tests :
     (a b : Bool) (o : Found) (n : ℕ) (h : Header) →
     called-for n (none-at 1 0 0 (if not a then Here 0 else (if not b then Here 1 else Nowhere)) >> (none-at 3 0 0 o >> good h))
@@ -60,11 +60,11 @@ module _ (text : List ℕ) where
         (by-tests (well-formed (line-bytes text 0)) (well-formed (line-bytes text 1)) (least (bad-field (line text 0) (line text 1)) 8) (length text)
         (header-of (line text 0) (line text 1)))
 
-    -- a line of the header is in no form
+    -- if a header line is ill-formed, the whole input is the book
     pub length-formless : (x .ok && y .ok) ≡ false → length text ≡ book-length text
     length-formless e = sym (length-by-tests ∙ rw e)
 
-    -- both are
+    -- both header lines are in form
     module _ (formed : (x .ok && y .ok) ≡ true) where
       length-formed : book-length text ≡ called-for (length text) (of-bounds (x .line) (y .line))
       length-formed =

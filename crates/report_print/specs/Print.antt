@@ -17,15 +17,15 @@ use Rattle.text_write.specs.Bytes.{put-bytes}
 abbrev pub line-for : ℕ → Function → ℕ → ℕ → ℕ → Line
 line-for E f k i v = let xs = arguments E (f .arity) i in record { a = k; b = getD xs 0 0; c = getD xs 1 0; d = v }
 
--- none, if v is the default
+-- the lines of location i of function k, which is f and holds v there: one, or none if v is the default
 unfoldable pub location-lines : ℕ → Function → ℕ → ℕ → ℕ → List Line
 location-lines E f k i v = if eqb v (default f) then [] else line-for E f k i v ∷ []
 
--- those of all locations of function k
+-- the lines of all locations of function k that are not at their default
 abbrev pub function-lines : Program → List ℕ → ℕ → List Line
 function-lines B c k = part-lines B c k 0 (size (B .E) (function-at B k .arity))
 
--- ls put after the first line and n others
+-- the output m with the lines ls put after the first line and n others
 unfoldable pub lines-printed : ℕ → List Line → List ℕ → List ℕ
 lines-printed n ls m = put-bytes (line-length + line-length * n) (lines-written ls) m
 
@@ -37,8 +37,13 @@ answer-printed B a c = print-answer B (record { answer = a; contents = c; reader
 abbrev pub most-output : ℕ
 most-output = 51225
 
--- what a call that prints an answer gives, r, and leaves of the output m, after; the text stands in front where it fits
+-- what a call that prints an answer gives, r, and leaves of the output m, `after`; the text stands in front if it fits
 pub record Prints (B : Program) (a : Answer) (c m : List ℕ) (r : ℕ) (after : List ℕ) : Type 0 where
   pub long : r ≡ length (answer-printed B a c)
   pub put : after ≡ put-bytes 0 (answer-printed B a c) m
   pub whole : L B ≤ 2048 → most-output ≤ length m → after ≡ answer-printed B a c ++ drop (length (answer-printed B a c)) m
+
+-- the lines of function k stand in the output m after n others, and it becomes m′; r lines are there then
+abbrev pub FunctionPrinted : Program → List ℕ → ℕ → ℕ → List ℕ → ℕ → List ℕ → Type 0
+FunctionPrinted B c k n m r m′ =
+    (r ≡ n + length (function-lines B c k)) × (m′ ≡ lines-printed n (function-lines B c k) m) × (r ≤ n + 100000000)

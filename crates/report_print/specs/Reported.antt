@@ -6,11 +6,14 @@ use lib.ListN.{replicate}
 use Rattle.book.specs.Book.{Book, L}
 use Rattle.book.specs.Image.{program-in}
 use Rattle.order.specs.Log.{Log}
-use Rattle.order.specs.Call.{Tables}
+use Rattle.order.specs.Run.{run-log}
+use Rattle.report.specs.Report.{print-answer}
+use Rattle.report_print.specs.Shown.{Shown}
 use Rattle.order_run.specs.declared.CheckedCall.{CheckedCall}
 use Rattle.order_run.specs.Checked.{CallPassed}
+use Rattle.engine.specs.Tables.{Tables}
 
--- the call may start on these tables, and the image holds the book that is printed
+-- the call that passed may start on the tables t, and the image m holds the book whose contents are printed
 pub record Reported (book : List ℕ) (b : Book) (g : Log) (r : CheckedCall) (m o : List ℕ) (t : Tables) : Type 0 where
   pub passed : CallPassed book b g r m o t 2048
   pub program : program-in m ≡ b .program
@@ -19,3 +22,8 @@ pub record Reported (book : List ℕ) (b : Book) (g : Log) (r : CheckedCall) (m 
 -- tables of n records that nothing was written to
 abbrev pub blank-tables : ℕ → Tables
 blank-tables n = record { contents = replicate n 0; readers = replicate n 0; writers = replicate n 0 }
+
+-- a call that passed its checks is run on the tables t, and its printed answer stands in front of the output, which becomes `after`; it has r bytes
+abbrev pub CallPrinted : List ℕ → CheckedCall → List ℕ → List ℕ → Tables → List ℕ → ℕ → List ℕ → Type 0
+CallPrinted book checked m o t output r after = (b : Book) (g : Log) → Reported book b g checked m o t
+    → Shown (print-answer (b .program) (run-log b g)) output r after

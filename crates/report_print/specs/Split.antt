@@ -8,10 +8,11 @@ use Rattle.book.specs.declared.Header.{Header}
 use Rattle.book.specs.Lines.{line-count}
 use Rattle.book.specs.Check.{check-header}
 
--- of n bytes those that the header calls for; all, where it is refused
+-- of n bytes of input those of the lines that the header calls for; all, if the header is refused
 abbrev pub called-for : ℕ → Checked Header → ℕ
 called-for n (good h) = min (line-length * line-count h) n
 called-for n (refused r p q) = n
 
+-- how many bytes of an input are its book
 unfoldable pub book-length : List ℕ → ℕ
 book-length text = called-for (length text) (check-header text)

@@ -10,20 +10,18 @@ use text::Value;
 ghost use mathlib.Core.Path.{_≡_};
 ghost use Prim.Native.Nat.{_+_, _<_, _≤_, min};
 ghost use lib.ListN.{length, take};
-ghost use Rattle.book.specs.Book.{size, Book};
+ghost use Rattle.book.specs.Book.{size};
 ghost use Rattle.book.specs.Image.{program-in, word};
-ghost use Rattle.report.specs.Report.{contents-lines, own-tables, first-line, print-answer, print-checked, rental};
-ghost use Rattle.report_print.specs.Print.{line-for, location-lines, function-lines, lines-printed, Prints, most-output};
+ghost use Rattle.report.specs.Report.{contents-lines, own-tables, first-line, print-checked, rental};
+ghost use Rattle.report_print.specs.Print.{line-for, location-lines, lines-printed, Prints, most-output, FunctionPrinted};
 ghost use Rattle.report_print.specs.Split.{book-length};
 ghost use Rattle.text.specs.Text.{written};
-ghost use Rattle.order.specs.Log.{Log};
-ghost use Rattle.order.specs.Run.{run-log};
 ghost use Rattle.order.specs.Call.{check-all};
-ghost use Rattle.order_run.specs.Runs.{tables};
 ghost use Rattle.report_print.specs.Shown.{Shown, fitting};
-ghost use Rattle.report_print.specs.Reported.{Reported, blank-tables};
+ghost use Rattle.report_print.specs.Reported.{CallPrinted, blank-tables};
+ghost use Rattle.engine.specs.Tables.{tables, tables-before};
 
-// The line of location i of function k, which is f and holds v there. Only what is printed is divided.
+// The line of location i of function k, which is f and holds v there. Arguments are divided out only for locations that are printed.
 fn line_of(e: Value, f: Function, k: u32, i: u32, v: Value) -> Line
     requires { ⌜ i < size e (f .arity) ⌝ }
     ensures { λ r. ⌜ r ≡ line-for e f k i v ⌝ }
@@ -56,7 +54,7 @@ fn line_of(e: Value, f: Function, k: u32, i: u32, v: Value) -> Line
     }
 }
 
-// Prints that line after n others, unless v is the default. Says how many lines there are then.
+// Prints the line of location i of function k after n others, unless v is the default. Gives how many lines there are then.
 fn print_location(e: Value, f: Function, k: u32, i: u32, v: Value, n: u32, out: &mut [u8]) -> u32
     requires { ⌜ (i < size e (f .arity)) × (n < 4294967295) ⌝ }
     ensures { λ r. ⌜ (r ≡ n + length (location-lines e f k i v)) × (now (out .exit) ≡ lines-printed n (location-lines e f k i v) (now (out .entry))) ⌝ }
@@ -69,10 +67,10 @@ fn print_location(e: Value, f: Function, k: u32, i: u32, v: Value, n: u32, out: 
     n + 1
 }
 
-// Prints the contents of function k after n lines.
+// Prints the lines of function k after n others. Gives how many lines there are then.
 fn print_function(image: &Image, contents: &[Value], k: u32, n: u32, out: &mut [u8]) -> u32
     requires { ⌜ n ≤ 3100000000 ⌝ }
-    ensures { λ r. ⌜ (r ≡ n + length (function-lines (program-in (now (image .entry))) (now (contents .entry)) k)) × (now (out .exit) ≡ lines-printed n (function-lines (program-in (now (image .entry))) (now (contents .entry)) k) (now (out .entry))) × (r ≤ n + 100000000) ⌝ }
+    ensures { λ r. ⌜ FunctionPrinted (program-in (now (image .entry))) (now (contents .entry)) k n (now (out .entry)) r (now (out .exit)) ⌝ }
 {
     let f = book_image::function_at(image, k);
     let e = book_image::elements(image);
@@ -88,7 +86,7 @@ fn print_function(image: &Image, contents: &[Value], k: u32, n: u32, out: &mut [
     lines
 }
 
-// Prints the non-default contents as lines of a book, from byte 25 on, as far as they fit. Says how many lines there are.
+// Prints the contents that are not at their default as lines of a book, from byte 25 on, as far as they fit. Gives how many lines there are.
 fn print_contents(image: &Image, contents: &[Value], out: &mut [u8]) -> u32
     ensures { λ r. ⌜ (r ≡ length (contents-lines (program-in (now (image .entry))) (now (contents .entry)))) × (now (out .exit) ≡ lines-printed 0 (contents-lines (program-in (now (image .entry))) (now (contents .entry))) (now (out .entry))) ⌝ }
 {
@@ -102,7 +100,7 @@ fn print_contents(image: &Image, contents: &[Value], out: &mut [u8]) -> u32
     lines
 }
 
-// The whole text of an answer: its first line, and when accepted the contents. Says how many bytes it has; those past it stay.
+// Prints the whole text of an answer: its first line, and when accepted the contents. Gives how many bytes it has; those past it stay.
 pub fn print_answer(image: &Image, contents: &[Value], answer: Answer, out: &mut [u8]) -> usize
     ensures { λ r. ⌜ Prints (program-in (now (image .entry))) answer (now (contents .entry)) (now (out .entry)) r (now (out .exit)) ⌝ }
 {
@@ -128,7 +126,7 @@ pub fn print_answer(image: &Image, contents: &[Value], answer: Answer, out: &mut
     }
 }
 
-// How many bytes of an input are its book, by its header; all, where the header is refused.
+// How many bytes of an input are its book, by its header; all, if the header is refused.
 pub fn book_bytes(input: &[u8]) -> usize
     ensures { λ r. ⌜ r ≡ book-length (now (input .entry)) ⌝ }
 {
@@ -148,18 +146,15 @@ pub fn book_bytes(input: &[u8]) -> usize
     text::smaller(text::LINE * lines, n)
 }
 
-// ---- the whole
+// ---- the whole answer to an input
 
-// How many bytes are read.
+// The most bytes of input.
 const MOST_INPUT: usize = 60000;
 
-// The input, as the q of a 2.
-const INPUT: u32 = 4;
-
-// How many records each of its tables has.
+// How many records each table of `rental` has.
 const RECORDS: usize = 2048;
 
-// The line of a refusal.
+// Prints the line of a refusal.
 fn print_refusal(answer: Answer, output: &mut [u8]) -> usize
     requires { ⌜ most-output ≤ length (now output) ⌝ }
     ensures { λ r. ⌜ Shown (written (first-line answer 0)) (now (output .entry)) r (now (output .exit)) ⌝ }
@@ -174,7 +169,7 @@ fn print_refusal(answer: Answer, output: &mut [u8]) -> usize
     text::LINE
 }
 
-// An answer with the contents of the image's program, which stand in front of the table.
+// Prints an answer with the contents of the image's program, which stand in front of the table.
 fn print_image(image: &Image, contents: &[Value], answer: Answer, output: &mut [u8]) -> usize
     ensures { λ r. ⌜ Prints (program-in (now (image .entry))) answer (take (min (word (now (image .entry)) 6) (length (now (contents .entry)))) (now (contents .entry))) (now (output .entry)) r (now (output .exit)) ⌝ }
 {
@@ -182,7 +177,7 @@ fn print_image(image: &Image, contents: &[Value], answer: Answer, output: &mut [
     print_answer(image, &contents[..n], answer, output)
 }
 
-// The moves of a call that passed its checks, on these tables, and the answer printed.
+// Makes the moves of a call that passed its checks, on these tables, and prints the answer.
 fn report_on(
     book: &[u8],
     contents: &mut [Value],
@@ -194,7 +189,7 @@ fn report_on(
     output: &mut [u8],
 ) -> usize
     requires { ⌜ most-output ≤ length (now output) ⌝ }
-    ensures { λ r. ⌜ ((b : Book) (g : Log) → Reported (now (book .entry)) b g checked (now (image .entry)) (now (order .entry)) (tables (now (contents .entry)) (now (readers .entry)) (now (writers .entry))) → Shown (print-answer (b .program) (run-log b g)) (now (output .entry)) r (now (output .exit))) ⌝ }
+    ensures { λ r. ⌜ CallPrinted (now (book .entry)) checked (now (image .entry)) (now (order .entry)) (tables-before contents readers writers) (now (output .entry)) r (now (output .exit)) ⌝ }
 {
     let t = order_run::start_run(book, contents, readers, writers, image, order, checked);
     let ended = order_entry::run_from_own_list(
@@ -212,7 +207,7 @@ fn report_on(
     print_refusal(ended, output)
 }
 
-// On tables of 256 records. Most books have few locations, and small tables are soon cleared.
+// Makes the moves and prints the answer on tables of 256 records. Most books have few locations, and small tables are soon cleared.
 fn report_small(
     book: &[u8],
     image: &Image,
@@ -221,7 +216,7 @@ fn report_small(
     output: &mut [u8],
 ) -> usize
     requires { ⌜ most-output ≤ length (now output) ⌝ }
-    ensures { λ r. ⌜ ((b : Book) (g : Log) → Reported (now (book .entry)) b g checked (now (image .entry)) (now (order .entry)) (blank-tables 256) → Shown (print-answer (b .program) (run-log b g)) (now (output .entry)) r (now (output .exit))) ⌝ }
+    ensures { λ r. ⌜ CallPrinted (now (book .entry)) checked (now (image .entry)) (now (order .entry)) (blank-tables 256) (now (output .entry)) r (now (output .exit)) ⌝ }
 {
     let mut contents = [0u16; 256];
     let mut readers = [0u64; 256];
@@ -238,7 +233,7 @@ fn report_small(
     )
 }
 
-// On tables of 2,048 records.
+// Makes the moves and prints the answer on tables of 2,048 records.
 fn report_large(
     book: &[u8],
     image: &Image,
@@ -247,7 +242,7 @@ fn report_large(
     output: &mut [u8],
 ) -> usize
     requires { ⌜ most-output ≤ length (now output) ⌝ }
-    ensures { λ r. ⌜ ((b : Book) (g : Log) → Reported (now (book .entry)) b g checked (now (image .entry)) (now (order .entry)) (blank-tables 2048) → Shown (print-answer (b .program) (run-log b g)) (now (output .entry)) r (now (output .exit))) ⌝ }
+    ensures { λ r. ⌜ CallPrinted (now (book .entry)) checked (now (image .entry)) (now (order .entry)) (blank-tables 2048) (now (output .entry)) r (now (output .exit)) ⌝ }
 {
     let mut contents = [0u16; 2048];
     let mut readers = [0u64; 2048];
@@ -264,7 +259,7 @@ fn report_large(
     )
 }
 
-// The answer to a book and a log, as if on tables of 2,048 records.
+// Prints the answer to a book and a log, as if on tables of 2,048 records.
 fn report_parts(book: &[u8], log: &[u8], output: &mut [u8]) -> usize
     requires { ⌜ most-output ≤ length (now output) ⌝ }
     ensures { λ r. ⌜ Shown (print-checked (check-all (now (book .entry)) (now (log .entry)) own-tables)) (now (output .entry)) r (now (output .exit)) ⌝ }
@@ -288,7 +283,7 @@ fn report_parts(book: &[u8], log: &[u8], output: &mut [u8]) -> usize
     report_large(book, &image, &order, checked, output)
 }
 
-// The answer to an input, split into its book and its log.
+// Prints the answer to an input, split into its book and its log.
 fn report_input(input: &[u8], output: &mut [u8]) -> usize
     requires { ⌜ most-output ≤ length (now output) ⌝ }
     ensures { λ r. ⌜ Shown (rental (now (input .entry))) (now (output .entry)) r (now (output .exit)) ⌝ }
@@ -297,7 +292,7 @@ fn report_input(input: &[u8], output: &mut [u8]) -> usize
         let long = Answer {
             number: text::LENT_SHORT,
             p: 60000,
-            q: INPUT,
+            q: text::INPUT_TABLE,
         };
         return print_refusal(long, output);
     }

@@ -1,4 +1,4 @@
--- How checks end: with a fact of what they give, or with one of their refusal's number and place.
+-- How checks end: with a fact about what they give, or with one about their refusal's number and place.
 use mathlib.Core.Path.{_≡_, refl}
 use mathlib.Core.Bool.{Bool, true, false}
 use mathlib.Core.Logic.{_≢_}
@@ -15,12 +15,12 @@ pub data Ends {A : Type 0} (G : A → Type 0) (R : ℕ → ℕ → ℕ → Type 
   on : {a : A} → G a → Ends G R (good a)
   off : {n p q : ℕ} → R n p q → Ends G R (refused n p q)
 
--- nothing is said of what it gives
+-- the fact that says nothing about what a check gives
 abbrev pub Any : {A : Type 0} → A → Type 0
 Any a = Unit {0}
 
 module _ {A : Type 0} {G H : A → Type 0} {R S : ℕ → ℕ → ℕ → Type 0} where
-  -- what it gives has another fact, and what its refusal has follows
+  -- a check that ends so also ends with another fact about what it gives, and with what follows about its refusal
   pub also : {c : Checked A} → Ends G R c → ((a : A) → c ≡ good a → H a) → ((n p q : ℕ) → R n p q → S n p q) → Ends H S c
   also (on {a} g) h s = on (h a refl)
   also (off {n} {p} {q} r) h s = off (s n p q r)
@@ -37,7 +37,7 @@ module _ {A B : Type 0} {G : A → Type 0} {H : B → Type 0} {R : ℕ → ℕ �
   then-ends (off r) k = off r
 
 module _ (R : ℕ → ℕ → ℕ → Type 0) where
-  -- a search below m
+  -- how a check by a search below m ends
   pub none-ends : (n first q : ℕ) (bad : ℕ → Bool) (m : ℕ) → ((p : ℕ) → p < m → R n (first + p) q) → Ends Any R (none-at n first q (least bad m))
   unfolding none-at
   none-ends n first q bad m k = go (least bad m) refl
@@ -57,7 +57,7 @@ pub none-here : (n q p : ℕ) (o : Found) → o ≡ Here p → _≡_ {A = Answer
 unfolding none-at
 none-here n q p o e = rw (e, zero-add p)
 
--- its refusals have numbers: an answer with number 0 is no refusal
+-- the refusals of a check have numbers from 1 on: an answer with number 0 is no refusal
 abbrev pub Numbered : {A : Type 0} → Checked A → Type 0
 Numbered c = Ends Any (λ n p q. 1 ≤ n) c
 
@@ -76,7 +76,7 @@ accepted-good (on {a} g) z = (a, refl)
 accepted-good (off r) z = absurd (omega arith)
 
 module _ {A B : Type 0} where
-  -- refused: that is the answer of the whole
+  -- if the first check is refused, its answer is that of both
   pub bind-stops : (c : Checked A) (f : A → Checked B) → answer-of c .number ≢ 0 → answer-of (c >>= f) ≡ answer-of c
   unfolding _>>=_
   bind-stops (good a) f n = absurd (n refl)
@@ -87,18 +87,18 @@ module _ {A B : Type 0} where
   then-stops (good a) d n = absurd (n refl)
   then-stops (refused n p q) d h = refl
 
-  -- accepted: the rest decides
+  -- if the first check is accepted, the second decides
   pub then-goes-on : (c : Checked A) (d : Checked B) → Numbered c → answer-of c .number ≡ 0 → (c >> d) ≡ d
   unfolding _>>_
   then-goes-on c d k z = rw (accepted-good k z .1)
 
 -- ---- refusals and answers that fit one number
 
--- of a check before the first move
+-- a refusal of a check before the first move: its number is 1 to 10, and its place fits
 abbrev pub Before : ℕ → ℕ → ℕ → Type 0
 Before n p q = (1 ≤ n) × (n ≤ 10) × (p < 2 ^ 24) × (q < 2 ^ 24)
 
--- of a call; 16 is never given
+-- an answer of a call: its number is at most 19 and not 16, and its place fits
 pub record Small (a : Answer) : Type 0 where
   pub number : a .number ≤ 19
   pub not-16 : a .number ≢ 16

@@ -1,8 +1,8 @@
--- The columns of a field, one by one: what the scan and the pushes give is what the definitions say. Assumes nothing.
+-- The columns of a field, one by one: what the code's scan and pushes give is what the definitions say. Assumes nothing.
 use mathlib.Core.Path.{_≡_, refl, sym, _∙_, ap}
 use mathlib.Core.Bool.{Bool, true, false, _&&_, _||_, not, and-true, and-assoc}
 use mathlib.Core.List.{List, [], _∷_, _++_}
-use Prim.Native.Nat.{ℕ, zero, suc, _+_, _-_, _*_, _<_, _≤_, min}
+use Prim.Native.Nat.{ℕ, zero, suc, _+_, _-_, _*_, _<_, _≤_}
 use native.Mathlib.Nat.{mul-comm, min-le-right}
 use native.Mathlib.Omega.{arith}
 use lib.Dec.{eqb, leb, eqb·suc-zero}
@@ -35,7 +35,7 @@ scan-digits (c ∷ cs) = go (digit c) (scan-digits cs) (scan-bad cs)
     go true p q = p
     go false p q = q
 
--- a 0 stands alone
+-- after a 0 nothing may stand
 scan-zero : (cs : List ℕ) → ends-well (scan Zero cs) ≡ (digits cs && (eqb (length cs) 0 || not true))
 unfolding scan step-of digits
 scan-zero [] = refl
@@ -76,13 +76,13 @@ part-of-front (suc k) m zero l h = absurd (omega arith)
 part-of-front (suc k) m (suc n) [] h = refl
 part-of-front (suc k) m (suc n) (x ∷ xs) h = part-of-front k m n xs (omega arith)
 
--- field j of line i
+-- field j of line i is the six bytes from byte 25 × i + 6 × j on
 column-of : (text : List ℕ) (i j k : ℕ) → k ≡ 6 * j → k ≤ 18 → column j (line-bytes text i) ≡ take 6 (drop (i * 25 + k) text)
 column-of text i j k e h =
     let n : 25 * i + 6 * j ≡ i * 25 + k = omega arith in
     part-of-front (6 * j) 6 25 (drop (25 * i) text) (omega arith) ∙ rw (drop-drop (6 * j) (25 * i) text, n)
 
--- line i is whole: its fields are parts of the text
+-- if line i is whole, its fields are parts of the text
 pub whole-line :
     (text : List ℕ) (i : ℕ) → i * 25 + 25 ≤ length text →
     well-formed (line-bytes text i)
@@ -104,14 +104,14 @@ whole-line text i h =
     )
     (let z : i * 25 + 0 ≡ i * 25 = omega arith in rw z)
 
--- line i is missing or cut short
+-- if line i is missing or cut short, it is not in form
 pub cut-line : (text : List ℕ) (i : ℕ) → length text < i * 25 + 25 → well-formed (line-bytes text i) ≡ false
 unfolding well-formed
 cut-line text i h =
     let n : length (line-bytes text i) ≡ 25 → ⊥ = λ e. omega (arith, rw (length-take, length-drop) at e, min-le-right 25 (length text - 25 * i)) in
     rw (ne-eqb (length (line-bytes text i)) 25 n)
 
--- the numbers of line i
+-- the numbers of line i are those of its four fields
 pub line-of :
     (text : List ℕ) (i a b c d : ℕ) → a ≡ value-of 0 (take 6 (drop (i * 25) text)) → b ≡ value-of 0 (take 6 (drop (i * 25 + 6) text)) →
     c ≡ value-of 0 (take 6 (drop (i * 25 + 12) text)) → d ≡ value-of 0 (take 6 (drop (i * 25 + 18) text)) →
@@ -133,7 +133,7 @@ line-of text i a b c d p q r s =
 
 -- ---- one column more
 
--- the scan of the columns that are left, from column k on
+-- the scan of the columns from k on is one column scanned, and then the others
 module _ (text : List ℕ) (at : ℕ) where
   pub scan-step :
       (k : ℕ) (s : Scan) → at + 6 ≤ length text → k < 6 →
@@ -155,7 +155,7 @@ value-append n [] b = refl
 value-append n (x ∷ a) b = value-append (if eqb x blank then n else 10 * n + (x - zero-digit)) a b
 
 module _ (text : List ℕ) (at : ℕ) where
-  -- the number of column k, then that of the `left` others
+  -- the number of the columns from k on is column k pushed, and then the `left` others
   value-step :
       (k left n m r : ℕ) → m ≡ value-of n (take 1 (drop (at + k) text)) → value-of m (take left (drop (at + (k + 1)) text)) ≡ r →
       value-of n (take (1 + left) (drop (at + k) text)) ≡ r
@@ -164,7 +164,7 @@ module _ (text : List ℕ) (at : ℕ) where
       ap (value-of n) (take-add 1 left (drop (at + k) text)) ∙ value-append n (take 1 (drop (at + k) text)) (take left (drop 1 (drop (at + k) text)))
       ∙ rw (drop-drop 1 (at + k) text, e, ← p) q
 
-  -- six columns pushed one after the other
+  -- six columns pushed one after the other give the number of the field
   pub six :
       (a b c d e f : ℕ) → a ≡ value-of 0 (take 1 (drop at text)) → b ≡ value-of a (take 1 (drop (at + 1) text)) →
       c ≡ value-of b (take 1 (drop (at + 2) text)) → d ≡ value-of c (take 1 (drop (at + 3) text)) →
@@ -179,7 +179,7 @@ module _ (text : List ℕ) (at : ℕ) where
       let h0 = value-step 0 5 0 a f (rw z p) h1 in
       sym (rw z at h0)
 
-  -- one column pushed
+  -- one column pushed, as the code does it
   pub pushed :
       (n : ℕ) → at < length text →
       value-of n (take 1 (drop at text)) ≡ (if eqb (getD text at 0) blank then n else 10 * n + (getD text at 0 - zero-digit))
@@ -193,11 +193,11 @@ module _ (text : List ℕ) (at : ℕ) where
 -- ---- a field of one digit or two
 
 module _ (text : List ℕ) (at : ℕ) where
-  -- one column of those that are taken
+  -- the columns from j on are column j, and then the others
   column-step : (j k n : ℕ) → suc j ≡ n → j < length text → take (suc k) (drop j text) ≡ getD text j 0 ∷ take k (drop n text)
   column-step j k n e h = rw (drop-cons text j 0 h, e)
 
-  -- four columns as a list
+  -- four columns as a list of bytes
   pub four :
       at + 4 ≤ length text →
       take 4 (drop at text) ≡ getD text at 0 ∷ getD text (at + 1) 0 ∷ getD text (at + 2) 0 ∷ getD text (at + 3) 0 ∷ []
@@ -209,7 +209,7 @@ module _ (text : List ℕ) (at : ℕ) where
       (column-step (at + 2) 1 (at + 3) (omega arith) (omega arith)
       ∙ ap (λ (l : List ℕ). getD text (at + 2) 0 ∷ l) (column-step (at + 3) 0 (at + 4) (omega arith) (omega arith))))
 
-  -- after four blanks come two columns
+  -- a field of four blanks is these and then its last two columns
   after : take 4 (drop at text) ≡ four-blanks → take 6 (drop at text) ≡ four-blanks ++ take 2 (drop (at + 4) text)
   after b = take-add 4 2 (drop at text) ∙ rw (b, drop-drop 4 at text)
 
@@ -227,12 +227,12 @@ in-form cs r e v h = record { value = rw e v; form = rw (e, ne-eqb r no-number (
 pub out-of-form : (cs : List ℕ) → field-ok cs ≡ false → Read cs no-number
 out-of-form cs e = record { value = rw e; form = rw e }
 
--- a blank before it
+-- a blank before the columns changes neither their form nor their number
 pub after-blank : {cs : List ℕ} {r : ℕ} → Read cs r → Read (blank ∷ cs) r
 unfolding field-ok value-of
 after-blank p = record { value = p .value; form = p .form }
 
--- what the scan and the pushes give
+-- what the scan accepts and the pushes give is read as the field
 pub scanned-pushed : (cs : List ℕ) (t : Bool) (r : ℕ) → t ≡ field-ok cs → t ≡ true → r ≡ value-of 0 cs → r < no-number → Read cs r
 scanned-pushed cs t r e f v h = in-form cs r (sym e ∙ f) v h
 
@@ -242,7 +242,7 @@ digit-bounds c e = let r = and-cases (leb 48 c) (leb c 57) e in (leb-true 48 c (
 no-blank : (c : ℕ) → digit c ≡ true → eqb c blank ≡ false
 no-blank c e = ne-eqb c blank (λ z. omega (arith, digit-bounds c e))
 
--- one digit
+-- a column that is a digit is read as its number
 pub one-digit : (f : ℕ) → digit f ≡ true → Read (f ∷ []) (f - 48)
 unfolding field-ok digits value-of
 one-digit f e = in-form (f ∷ []) (f - 48) (rw (no-blank f e, e)) (rw (no-blank f e) (omega arith)) (omega (arith, digit-bounds f e))
@@ -255,7 +255,7 @@ no-digit f e = out-of-form (f ∷ []) (go (eqb f blank))
     go true = refl
     go false = rw e
 
--- the digits of several, the first of which is not 0
+-- where the first column is a digit but not 0 and the second a digit, both are from 48 to 57
 pub led : (e f : ℕ) → ((digit e && not (eqb e zero-digit)) && digit f) ≡ true → (48 ≤ e) × (e ≤ 57) × (48 ≤ f) × (f ≤ 57)
 led e f t =
     let s = and-cases (digit e && not (eqb e zero-digit)) (digit f) t in
@@ -304,7 +304,7 @@ module _ (d e f : ℕ) (b : eqb d blank ≡ false) where
   unfolding digits
   no-three t = out-of-form (d ∷ e ∷ f ∷ []) (several d e (f ∷ []) b ∙ rw (and-true (digit f)) (sym (and-assoc (digit d && not (eqb d zero-digit)) (digit e) (digit f)) ∙ t))
 
--- ---- a field's columns, blanks before
+-- ---- a field's columns, with blanks before
 
 module _ (text : List ℕ) (at : ℕ) (h : at + 6 ≤ length text) where
   columns-are :
@@ -362,7 +362,7 @@ module _ (text : List ℕ) (i a b c d : ℕ) (h : i * 25 + 25 ≤ length text) (
   pub line-unread : all-read ≡ false → unread ≡ parsed text i
   line-unread t = rw (form-read ∙ t)
 
--- what a line that was read says of its form
+-- a line that was read says whether it is in form
 pub parsed-ok : (text : List ℕ) (i : ℕ) (r : Parsed) → r ≡ parsed text i → r .ok ≡ well-formed (line-bytes text i)
 parsed-ok text i r e = rw e (go (well-formed (line-bytes text i)))
   where
@@ -370,7 +370,7 @@ parsed-ok text i r e = rw e (go (well-formed (line-bytes text i)))
     go true = refl
     go false = refl
 
--- and of its numbers
+-- a line that was read and is in form says its numbers
 pub parsed-line : (text : List ℕ) (i : ℕ) (r : Parsed) → r ≡ parsed text i → r .ok ≡ true → r .line ≡ line text i
 parsed-line text i r e t =
     let w : well-formed (line-bytes text i) ≡ true = sym (parsed-ok text i r e) ∙ t in

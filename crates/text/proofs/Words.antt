@@ -1,17 +1,20 @@
--- Laws of the words that every layer uses: choices, lists made by place, the least place at fault, and checks that pass.
+-- Laws of what every layer uses: choices by a test, lists made by place, the least place at fault, and checks that pass.
 use mathlib.Core.Path.{_≡_, refl, sym, ap, _∙_}
 use mathlib.Core.Logic.{_⊎_, inl, inr, dite}
-use mathlib.Core.Bool.{Bool, true, false, not, _||_, _&&_, or-true, true≢false, false≢true}
-use mathlib.Core.List.{_∷_, map}
+use mathlib.Core.Bool.{Bool, true, false, not, _||_, _&&_, or-assoc, or-true, true≢false, false≢true}
+use mathlib.Core.List.{List, [], _∷_, _++_, map}
 use Prim.Native.Nat.{ℕ, zero, suc, _+_, _-_, _≤_, _<_}
 use native.Mathlib.Nat.{zero-add, suc-add}
 use native.Mathlib.Numerals.{add-one}
 use native.Mathlib.Omega.{arith}
 use native.Mathlib.Decide.{ℕ-discrete}
-use lib.ListN.{length, getD, List·getD-eq-default}
+use lib.Dec.{eqb}
+use lib.ListN.{length, getD, set, List·getD-eq-default}
+use lib.Seq.{getD-set-same, getD-set-other}
+use borrow.Author.Tests.{eqb-true, eqb-false}
 use Rattle.text.specs.declared.Found.{Found}
 use Rattle.text.specs.declared.Found.the-variants.{Nowhere, Here}
-use Rattle.text.specs.Words.{if_then_else_, table-from, table, some-below, least-from, least, Checked, good, refused, _>>=_, _>>_, none-at, must}
+use Rattle.text.specs.Words.{if_then_else_, has, table-from, table, some-below, least-from, least, Checked, good, refused, _>>=_, _>>_, none-at, must}
 
 -- ---- tests
 
@@ -31,12 +34,12 @@ not-same : (x : Bool) → x ≡ not x → ⊥
 not-same true e = true≢false e
 not-same false e = false≢true e
 
--- t holds, since b would be otherwise if it did not
+-- t is true, since b would be otherwise if t were false
 pub so-true : (t b : Bool) {x : Bool} → b ≡ x → (t ≡ false → b ≡ not x) → t ≡ true
 so-true true b e k = refl
 so-true false b {x} e k = absurd (not-same x (sym e ∙ k refl))
 
--- t does not, since b would be otherwise if it did
+-- t is false, since b would be otherwise if t were true
 pub so-false : (t b : Bool) {x : Bool} → b ≡ x → (t ≡ true → b ≡ not x) → t ≡ false
 so-false true b {x} e k = absurd (not-same x (sym e ∙ k refl))
 so-false false b e k = refl
@@ -151,11 +154,11 @@ least-from-same f g (suc n) j h =
     let r : least-from f n (suc j) ≡ least-from g n (suc j) = least-from-same f g n (suc j) (λ i a b. h i (omega arith) (omega arith)) in
     rw (h j (omega arith) (omega arith), r)
 
--- by two tests that agree
+-- two tests that agree below n find the same least place
 pub least-same : (f g : ℕ → Bool) (n : ℕ) → ((i : ℕ) → i < n → f i ≡ g i) → least f n ≡ least g n
 least-same f g n h = least-from-same f g n 0 (λ i a b. h i (omega arith))
 
--- in two parts
+-- a place found in the first m places is found in the m + n
 pub least-first : (bad : ℕ → Bool) (m n i p : ℕ) → least-from bad m i ≡ Here p → least-from bad (m + n) i ≡ Here p
 unfolding least-from
 least-first bad zero n i p e = let z : _≡_ {A = ℕ} 0 1 = cc in absurd (omega arith)
@@ -180,23 +183,23 @@ least-rest bad (suc m) n i e = rw (suc-add m n) (go (bad i) e (least-rest bad m 
     go true e r = let z : _≡_ {A = ℕ} 0 1 = cc in absurd (omega arith)
     go false e r = let q : i + suc m ≡ suc i + m = omega arith in rw q (r e)
 
--- ---- a loop that looks for it, up to n; t is what is looked for
+-- ---- a loop that searches for the least place at fault, up to n; t is what the search gives
 
 module _ (bad : ℕ → Bool) (n : ℕ) where
   pub least-start : least-from bad (n - 0) 0 ≡ least bad n
   least-start = let e : n - 0 ≡ n = omega arith in rw e
 
-  -- a place that is not at fault is passed
+  -- a place that is not at fault is passed over
   pub least-pass : {t : Found} (i : ℕ) → i < n → bad i ≡ false → least-from bad (n - i) i ≡ t → least-from bad (n - (i + 1)) (i + 1) ≡ t
   unfolding least-from
   least-pass i h b p = let e : n - i ≡ suc (n - suc i) = omega arith in rw (add-one i) (rw (e, b) at p)
 
-  -- one that is at fault is the least
+  -- the first place that is at fault is the least
   pub least-stop : {t : Found} (i : ℕ) → i < n → bad i ≡ true → least-from bad (n - i) i ≡ t → Here i ≡ t
   unfolding least-from
   least-stop i h b p = let e : n - i ≡ suc (n - suc i) = omega arith in rw (e, b) at p
 
-  -- all were passed
+  -- if all places were passed over, none is at fault
   pub least-end : {t : Found} (i : ℕ) → n ≤ i → least-from bad (n - i) i ≡ t → Nowhere ≡ t
   unfolding least-from
   least-end i h p = let e : n - i ≡ 0 = omega arith in rw e at p
@@ -223,14 +226,35 @@ unfolding must
 must-good true n p q u e = refl
 must-good false n p q u e = let z : _≡_ {A = ℕ} 0 1 = cc in absurd (omega arith)
 
--- a search that must find nothing, and the rest
+-- if a check that begins with a search passes, the search finds nothing and the rest passes
 pub found-good : {B : Type 0} (n first q : ℕ) (o : Found) (d : Checked B) (b : B) → (none-at n first q o >> d) ≡ good b → (o ≡ Nowhere) × (d ≡ good b)
 found-good n first q o d b e = let r = then-good (none-at n first q o) d b e in (none-good n first q o (r .0) (r .1), r .2)
 
--- a test that must pass, and the rest
+-- if a check that begins with a test passes, the test and the rest pass
 pub test-good : {B : Type 0} (t : Bool) (n p q : ℕ) (d : Checked B) (b : B) → (must t n p q >> d) ≡ good b → (t ≡ true) × (d ≡ good b)
 test-good t n p q d b e = let r = then-good (must t n p q) d b e in (must-good t n p q (r .0) (r .1), r .2)
 
--- what a check gives is one thing
+-- a check gives one value only
 pub good-same : {A : Type 0} (x y : A) → good x ≡ good y → x ≡ y
 good-same x y e = cc
+
+-- ---- lists and tests
+
+-- what a list of two parts has
+pub has-append : (p q : List ℕ) (i : ℕ) → has (p ++ q) i ≡ (has p i || has q i)
+has-append [] q i = refl
+has-append (j ∷ p) q i = rw (has-append p q i) (sym (or-assoc (eqb j i) (has p i) (has q i)))
+
+-- what stands at place n after a store at x
+pub set-at : (s : List ℕ) (x v n : ℕ) → n < length s → getD (set s x v) n 0 ≡ (if eqb x n then v else getD s n 0)
+set-at s x v n h = go (eqb x n) refl
+  where
+    go : (b : Bool) → eqb x n ≡ b → getD (set s x v) n 0 ≡ (if b then v else getD s n 0)
+    go true e = let p : x ≡ n = eqb-true x n e in rw p (getD-set-same s n v 0 h)
+    go false e = getD-set-other s x n v 0 (λ p. eqb-false x n e (sym p))
+
+-- two tests are equal where each passes with the other
+pub both-ways : (a b : Bool) → (a ≡ true → b ≡ true) → (b ≡ true → a ≡ true) → a ≡ b
+both-ways true b f g = sym (f refl)
+both-ways false true f g = g refl
+both-ways false false f g = refl

@@ -3,3 +3,4 @@ pub mod Refusals
 pub mod Text
 pub mod Quoted
 pub mod Scan
+pub mod Lent

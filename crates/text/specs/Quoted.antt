@@ -13,18 +13,19 @@ use Rattle.text.specs.Text.{written}
 
 -- ---- quoted text: as it stands, or lines without padding, split by /, as the specification shows them
 
+-- the bytes of a quoted text
 abbrev pub bytes : String → List ℕ
 bytes String.[] = []
 bytes (String._∷_ c s) = code c ∷ bytes s
 
--- the numbers of a text; n is what has been read of one, if open
+-- the numbers of a text; n is what has been read of a number, if the test says that one has begun
 abbrev pub numbers : ℕ → Bool → List ℕ → List ℕ
 numbers n false [] = []
 numbers n true [] = n ∷ []
 numbers n false (c ∷ s) = elim (leb 48 c) [ true ↦ numbers (c - 48) true s | false ↦ numbers 0 false s ]
 numbers n true (c ∷ s) = elim (leb 48 c) [ true ↦ numbers (10 * n + (c - 48)) true s | false ↦ n ∷ numbers 0 false s ]
 
--- four to a line
+-- numbers as the bytes of padded lines, four numbers to a line; up to three that are left over are dropped
 abbrev pub laid-out : List ℕ → List ℕ
 laid-out [] = []
 laid-out (a ∷ []) = []
@@ -32,15 +33,18 @@ laid-out (a ∷ (b ∷ [])) = []
 laid-out (a ∷ (b ∷ (c ∷ []))) = []
 laid-out (a ∷ (b ∷ (c ∷ (d ∷ ns)))) = written (record { a = a; b = b; c = c; d = d }) ++ laid-out ns
 
+-- a quoted text of numbers as the bytes of padded lines
 abbrev pub padded : String → List ℕ
 padded s = laid-out (numbers 0 false (bytes s))
 
 -- ---- a table of questions, each with its answer
 
+-- a question, and the numbers that must answer it
 pub record Case (Q : Type 0) : Type 0 where
   pub question : Q
   pub answer : List ℕ
 
+-- a case from its question and its answer
 abbrev pub case : {Q : Type 0} → Q → List ℕ → Case Q
 case q a = record { question = q; answer = a }
 
@@ -68,14 +72,16 @@ same-eq (x ∷ xs) (y ∷ ys) e =
     ap₂ (λ (a : ℕ) (rest : List ℕ). a ∷ rest) (eqb-true x y (both-left (eqb x y) (same xs ys) e)) (same-eq xs ys (both-right (eqb x y) (same xs ys) e))
 
 module _ {Q : Type 0} (asked : Q → List ℕ) where
+  -- the case's question has its answer
   abbrev pub right : Case Q → Bool
   right k = same (asked (k .question)) (k .answer)
 
+  -- each case of the list has its answer
   abbrev pub all-right : List (Case Q) → Bool
   all-right [] = true
   all-right (k ∷ ks) = right k && all-right ks
 
-  -- where all are right, each question has its answer
+  -- where all cases are right, the question of case i has its answer
   pub each-right : (ks : List (Case Q)) (d : Case Q) (i : ℕ) → all-right ks ≡ true → i < length ks → asked (getD ks i d .question) ≡ getD ks i d .answer
   each-right [] d i e h = absurd (not-suc-le-zero h)
   each-right (k ∷ ks) d zero e h = same-eq (asked (k .question)) (k .answer) (both-left (right k) (all-right ks) e)

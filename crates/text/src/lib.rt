@@ -1,4 +1,4 @@
-// The text of books and logs: their lines, judged and read; and small functions that many crates use.
+// The text of books and logs: its lines read and checked; and small functions over lists that many crates use.
 ghost use mathlib.Core.Path.{_≡_};
 ghost use mathlib.Core.Bool.{true, _&&_, not};
 ghost use mathlib.Core.List.{[], _∷_};
@@ -9,7 +9,7 @@ ghost use Rattle.text.specs.Words.{least, least-from, none-at, must, ans
 ghost use Rattle.text.specs.Text.{unread, zero-digit, digit, field-ok, value-of, well-formed, line-bytes, line, bad-line, parsed};
 ghost use Rattle.text.specs.Scan.{step-of, ends-well, four-blanks, Read};
 
-// The refusals of SPECIFICATION 8.1.
+// The numbers of the refusals (SPECIFICATION 8.1).
 pub const ILL_FORMED: u32 = 1;
 
 pub const LENT_SHORT: u32 = 2;
@@ -40,7 +40,7 @@ pub const LIST_FULL: u32 = 14;
 
 pub const CLASH: u32 = 15;
 
-// 16 is taken and never given.
+// Refusal 16 is taken and never given (SPECIFICATION 4.10).
 
 pub const UNORDERED_TOUCH: u32 = 17;
 
@@ -48,12 +48,27 @@ pub const NOT_IN_UNIVERSE: u32 = 18;
 
 pub const PICK_COUNT: u32 = 19;
 
-// Bytes in a line, and in a field.
+// The texts, as the q of refusal 1: the book is 0, and the log 1.
+pub const LOG_TEXT: u32 = 1;
+
+// The lent tables, as the q of refusal 2; 4 is the program's input.
+pub const CONTENTS_TABLE: u32 = 0;
+
+pub const READERS_TABLE: u32 = 1;
+
+pub const WRITERS_TABLE: u32 = 2;
+
+pub const INSTRUCTIONS_TABLE: u32 = 3;
+
+pub const INPUT_TABLE: u32 = 4;
+
+// Bytes in a line.
 pub const LINE: usize = 25;
 
+// Bytes in a field.
 pub const FIELD: usize = 6;
 
-// What stands for the number of a field that is not in form.
+// What is read as the number of a field that is not readable.
 const NO_NUMBER: u32 = 4294967295;
 
 // A line's four numbers.
@@ -64,23 +79,30 @@ pub struct Line {
     pub d: u32,
 }
 
-// A line that is read: whether it is whole and in form, and its numbers if it is.
+// A line that has been read: whether it is in form, and its numbers if it is.
 pub struct Parsed {
     pub ok: bool,
     pub line: Line,
 }
 
-// A place that is looked for.
+// The result of a search: the place found, if there is one.
 pub enum Found {
     Nowhere,
     Here(u32),
 }
 
-// A refusal and its place (p, q); 0 0 0 when accepted.
+// An answer: a refusal's number and its place (p, q); 0 0 0 when accepted.
 pub struct Answer {
     pub number: u32,
     pub p: u32,
     pub q: u32,
+}
+
+// An answer of this number and place; 0 0 0 accepts.
+pub fn answer_at(number: u32, p: u32, q: u32) -> Answer
+    ensures { λ r. ⌜ r ≡ record { number = number; p = p; q = q } ⌝ }
+{
+    Answer { number, p, q }
 }
 
 // Refused with the number at the place found and q; accepted if nothing was found.
@@ -112,7 +134,7 @@ pub fn must(test: bool, number: u32, p: u32, q: u32) -> Answer
     }
 }
 
-// What the columns of a field read so far are.
+// The state of the columns of a field that have been read: blanks, a single 0, a number, or not readable.
 pub enum Scan {
     Blank,
     Zero,
@@ -120,7 +142,7 @@ pub enum Scan {
     Bad,
 }
 
-// The first column that may not be blank: a 0 stands alone.
+// The state after a byte that comes after blanks or none: a 0 must stand alone.
 fn scan_first(b: u8) -> Scan
     ensures { λ r. ⌜ r ≡ step-of Scan.Blank b ⌝ }
 {
@@ -132,7 +154,7 @@ fn scan_first(b: u8) -> Scan
     }
 }
 
-// A column after a digit.
+// The state after a byte that comes after digits.
 fn scan_next(b: u8) -> Scan
     ensures { λ r. ⌜ r ≡ step-of Scan.Digits b ⌝ }
 {
@@ -142,7 +164,7 @@ fn scan_next(b: u8) -> Scan
     }
 }
 
-// One more column.
+// The state after one more byte, s being the state before it.
 fn scan_byte(s: Scan, b: u8) -> Scan
     ensures { λ r. ⌜ r ≡ step-of s b ⌝ }
 {
@@ -154,7 +176,7 @@ fn scan_byte(s: Scan, b: u8) -> Scan
     }
 }
 
-// The columns are a number.
+// Columns in the state s are a number.
 fn scan_ends(s: Scan) -> bool
     ensures { λ r. ⌜ r ≡ ends-well s ⌝ }
 {
@@ -166,7 +188,7 @@ fn scan_ends(s: Scan) -> bool
     }
 }
 
-// The six columns from `at` on are a field in form, read column by column.
+// The six columns from `at` on are a readable field, read column by column.
 fn scanned(text: &[u8], at: usize) -> bool
     requires { ⌜ at + 6 ≤ length (now text) ⌝ }
     ensures { λ r. ⌜ r ≡ field-ok (take 6 (drop at (now (text .entry)))) ⌝ }
@@ -180,7 +202,7 @@ fn scanned(text: &[u8], at: usize) -> bool
     scan_ends(s)
 }
 
-// Four columns are blank. Side by side they are one number, which the machine loads and compares at once.
+// Four columns are blank. They are compared as one number, which the machine loads and compares at once.
 fn all_blank(a: u8, b: u8, c: u8, d: u8) -> bool
     ensures { λ r. ⌜ (r ≡ true → (a ≡ 32) × (b ≡ 32) × (c ≡ 32) × (d ≡ 32)) ⌝ }
 {
@@ -195,27 +217,28 @@ fn blanks(text: &[u8], at: usize) -> bool
     all_blank(text[at], text[at + 1], text[at + 2], text[at + 3])
 }
 
-// The first three are.
+// Three columns are blank, compared as one number.
 fn three_blank(a: u8, b: u8, c: u8) -> bool
     ensures { λ r. ⌜ (r ≡ true → (a ≡ 32) × (b ≡ 32) × (c ≡ 32)) ⌝ }
 {
     a as u32 + b as u32 * 256 + c as u32 * 65536 == 2105376
 }
 
+// The byte is a decimal digit.
 fn is_digit(b: u8) -> bool
     ensures { λ r. ⌜ r ≡ digit b ⌝ }
 {
     (48 <= b) & (b <= 57)
 }
 
-// The first digit of several.
+// The byte is the first digit of several: 1 to 9.
 fn is_leading_digit(b: u8) -> bool
     ensures { λ r. ⌜ r ≡ digit b && not (eqb b zero-digit) ⌝ }
 {
     (48 <= b) & (b <= 57) & !(b == 48)
 }
 
-// What the last column of a field says, the others being blank.
+// The number of a field of which all columns but the last, f, are blank.
 fn last_column(f: u8) -> u32
     ensures { λ r. ⌜ Read (f ∷ []) r ⌝ }
 {
@@ -226,7 +249,7 @@ fn last_column(f: u8) -> u32
     }
 }
 
-// What the last two say.
+// The number of a field of which all columns but the last two, e and f, are blank.
 fn last_two(e: u8, f: u8) -> u32
     ensures { λ r. ⌜ Read (e ∷ f ∷ []) r ⌝ }
 {
@@ -239,7 +262,7 @@ fn last_two(e: u8, f: u8) -> u32
     }
 }
 
-// What the last three say.
+// The number of a field of which all columns but the last three, d, e and f, are blank.
 fn last_three(d: u8, e: u8, f: u8) -> u32
     ensures { λ r. ⌜ Read (d ∷ e ∷ f ∷ []) r ⌝ }
 {
@@ -252,7 +275,7 @@ fn last_three(d: u8, e: u8, f: u8) -> u32
     }
 }
 
-// What the six columns from `at` on say, column by column.
+// The number of the six columns from `at` on, each read by itself.
 fn six_columns(text: &[u8], at: usize) -> u32
     requires { ⌜ (at + 6 ≤ length (now text)) × (at < 1000000000000) ⌝ }
     ensures { λ r. ⌜ Read (take 6 (drop at (now (text .entry)))) r ⌝ }
@@ -264,7 +287,7 @@ fn six_columns(text: &[u8], at: usize) -> u32
     }
 }
 
-// What the six columns from `at` on say. Most fields have one digit, two or three.
+// The number of the six columns from `at` on. Most fields have one digit, two or three, and these are read faster.
 fn field(text: &[u8], at: usize) -> u32
     requires { ⌜ (at + 6 ≤ length (now text)) × (at < 1000000000000) ⌝ }
     ensures { λ r. ⌜ Read (take 6 (drop at (now (text .entry)))) r ⌝ }
@@ -278,7 +301,7 @@ fn field(text: &[u8], at: usize) -> u32
     }
 }
 
-// No line in form.
+// What is read of a line that is not in form.
 fn unread() -> Parsed
     ensures { λ r. ⌜ r ≡ unread ⌝ }
 {
@@ -293,7 +316,7 @@ fn unread() -> Parsed
     }
 }
 
-// Line i, its form and its numbers together.
+// Line i as it is read: whether it is in form, and its numbers if it is.
 pub fn parse(text: &[u8], i: u32) -> Parsed
     ensures { λ r. ⌜ r ≡ parsed (now (text .entry)) i ⌝ }
 {
@@ -322,21 +345,21 @@ pub fn parse(text: &[u8], i: u32) -> Parsed
     }
 }
 
-// Line i is whole and in form.
-fn in_form(text: &[u8], i: u32) -> bool
+// Line i is in form.
+fn is_line_in_form(text: &[u8], i: u32) -> bool
     ensures { λ r. ⌜ r ≡ well-formed (line-bytes (now (text .entry)) i) ⌝ }
 {
     let l = parse(text, i);
     l.ok
 }
 
-// 1: the least of the lines from `first` up to `end` that is ill-formed or missing.
+// Refusal 1: the least of the lines from `first` up to `end` that is ill-formed or missing.
 pub fn bad_line_from(text: &[u8], first: u32, end: u32) -> Found
     ensures { λ r. ⌜ r ≡ least-from (bad-line (now (text .entry))) (end - first) first ⌝ }
 {
     let mut i = first;
     while i < end {
-        if !in_form(text, i) {
+        if !is_line_in_form(text, i) {
             return Found::Here(i);
         }
         i += 1;
@@ -344,7 +367,7 @@ pub fn bad_line_from(text: &[u8], first: u32, end: u32) -> Found
     Found::Nowhere
 }
 
-// The number n with the column at `at` put after it. A blank leaves it, and so does the text's end.
+// The number n with the digit of column `at` put after it. A blank leaves n as it is, and so does the text's end.
 fn push(text: &[u8], at: usize, n: u32) -> u32
     requires { ⌜ n ≤ 100000000 ⌝ }
     ensures { λ r. ⌜ (r ≡ value-of n (take 1 (drop at (now (text .entry))))) × (r ≤ 10 * n + 255) ⌝ }
@@ -363,7 +386,7 @@ fn push(text: &[u8], at: usize, n: u32) -> u32
     }
 }
 
-// What the six columns from `at` on say, column by column.
+// The number of the six columns from `at` on, column by column; they need not be readable.
 fn columns(text: &[u8], at: usize) -> u32
     requires { ⌜ at < 1000000000000 ⌝ }
     ensures { λ r. ⌜ (r ≡ value-of 0 (take 6 (drop at (now (text .entry))))) × (r ≤ 28333305) ⌝ }
@@ -376,7 +399,7 @@ fn columns(text: &[u8], at: usize) -> u32
     push(text, at + 5, e)
 }
 
-// The field at `at` is there, and its first four columns are blank.
+// The field at `at` is in the text, and its first four columns are blank.
 fn short(text: &[u8], at: usize) -> bool
     requires { ⌜ at < 1000000000000 ⌝ }
     ensures { λ r. ⌜ (r ≡ true → take 4 (drop at (now (text .entry))) ≡ four-blanks) ⌝ }
@@ -388,7 +411,7 @@ fn short(text: &[u8], at: usize) -> bool
     }
 }
 
-// What the six columns from `at` on say. Most fields have one digit or two.
+// The number of the six columns from `at` on, which need not be readable. Most fields have one digit or two, and these are read faster.
 fn number(text: &[u8], at: usize) -> u32
     requires { ⌜ at < 1000000000000 ⌝ }
     ensures { λ r. ⌜ r ≡ value-of 0 (take 6 (drop at (now (text .entry)))) ⌝ }
@@ -401,7 +424,7 @@ fn number(text: &[u8], at: usize) -> u32
     }
 }
 
-// Line i of those that start at line `first`, as numbers.
+// The numbers of line i, counted from line `first`.
 pub fn read_line(text: &[u8], first: u32, i: u32) -> Line
     ensures { λ r. ⌜ r ≡ line (now (text .entry)) (first + i) ⌝ }
 {
@@ -414,31 +437,33 @@ pub fn read_line(text: &[u8], first: u32, i: u32) -> Line
     }
 }
 
-// ---- the smaller of two numbers, the number at an index of a list, and its low half
+// ---- small functions over numbers and lists
 
-// The value of a location, an element: what contents, instructions and labels are held in.
+// An element, as contents, instructions and labels hold it.
 pub type Value = u16;
 
+// The smaller of two numbers.
 pub fn smaller(a: usize, b: usize) -> usize
     ensures { λ r. ⌜ r ≡ min a b ⌝ }
 {
     if a < b { a } else { b }
 }
 
-// The number at an index, 0 past the end.
+// The element at index i of a list, 0 past its end.
 pub fn fetch(s: &[Value], i: usize) -> Value
     ensures { λ r. ⌜ r ≡ getD (now (s .entry)) i 0 ⌝ }
 {
     if i < s.len() { s[i] } else { 0 }
 }
 
-// The same for tables of eight, sixteen and thirty-two bits, with a store, which past the end puts nothing.
+// The byte at index i of a list, 0 past its end.
 pub fn byte_at(s: &[u8], i: usize) -> u8
     ensures { λ r. ⌜ r ≡ getD (now (s .entry)) i 0 ⌝ }
 {
     if i < s.len() { s[i] } else { 0 }
 }
 
+// x put at index i of a list of bytes; past its end nothing is put.
 pub fn put_byte(s: &mut [u8], i: usize, x: u8)
     ensures { λ _. ⌜ now (s .exit) ≡ set (now (s .entry)) i x ⌝ }
 {
@@ -447,12 +472,14 @@ pub fn put_byte(s: &mut [u8], i: usize, x: u8)
     }
 }
 
+// The sixteen bits at index i of a list, 0 past its end.
 pub fn half_at(s: &[u16], i: usize) -> u16
     ensures { λ r. ⌜ r ≡ getD (now (s .entry)) i 0 ⌝ }
 {
     if i < s.len() { s[i] } else { 0 }
 }
 
+// x put at index i of a list of sixteen-bit numbers; past its end nothing is put.
 pub fn put_half(s: &mut [u16], i: usize, x: u16)
     ensures { λ _. ⌜ now (s .exit) ≡ set (now (s .entry)) i x ⌝ }
 {
@@ -461,12 +488,14 @@ pub fn put_half(s: &mut [u16], i: usize, x: u16)
     }
 }
 
+// The word of 32 bits at index i of a list, 0 past its end.
 pub fn word_at(s: &[u32], i: usize) -> u32
     ensures { λ r. ⌜ r ≡ getD (now (s .entry)) i 0 ⌝ }
 {
     if i < s.len() { s[i] } else { 0 }
 }
 
+// x put at index i of a list of words; past its end nothing is put.
 pub fn put_word(s: &mut [u32], i: usize, x: u32)
     ensures { λ _. ⌜ now (s .exit) ≡ set (now (s .entry)) i x ⌝ }
 {

@@ -1,15 +1,15 @@
 -- Laws of bytes put into a text: one after the other, apart from each other, and where they fit. Assumes nothing.
-use mathlib.Core.Path.{_≡_, refl, sym, _∙_, ap}
+use mathlib.Core.Path.{_≡_, refl, sym, _∙_}
 use mathlib.Core.List.{List, [], _∷_, _++_, append-assoc}
-use Prim.Native.Nat.{ℕ, zero, suc, _+_, _≤_, _<_}
+use Prim.Native.Nat.{ℕ, suc, _+_, _≤_, _<_}
 use native.Mathlib.Omega.{arith}
-use lib.ListN.{length, take, drop, set, length-append}
-use lib.Seq.{sets, length-sets, sets-eq, set-comm, take-set-le, drop-set-lt}
+use lib.ListN.{length, take, drop, set}
+use lib.Seq.{length-sets, sets-eq, set-comm, take-set-le, drop-set-lt}
 use Rattle.text.specs.declared.Line.{Line}
 use Rattle.text.specs.Text.{newline, field-bytes, written}
 use Rattle.text_write.specs.Bytes.{put-bytes}
 
--- ---- a part of the text, and another beside it
+-- ---- bytes put side by side
 
 pub put-none : (i : ℕ) (m : List ℕ) → put-bytes i [] m ≡ m
 unfolding put-bytes
@@ -19,13 +19,13 @@ put-one : (i x : ℕ) (m : List ℕ) → put-bytes i (x ∷ []) m ≡ set m i x
 unfolding put-bytes
 put-one i x m = refl
 
--- bytes put after others are put as one
+-- bytes put right after others are put together with them
 pub put-append : (i : ℕ) (a b m : List ℕ) → put-bytes i (a ++ b) m ≡ put-bytes (i + length a) b (put-bytes i a m)
 unfolding put-bytes
 put-append i [] b m = let e : i + 0 ≡ i = omega arith in rw e
 put-append i (x ∷ a) b m = let e : i + suc (length a) ≡ suc i + length a = omega arith in rw e (put-append (suc i) a b (set m i x))
 
--- the same, j being where the others end
+-- bytes put from j on, where others put from i on end, are put together with them
 pub put-then : (i j : ℕ) (a b m : List ℕ) → i + length a ≡ j → put-bytes i (a ++ b) m ≡ put-bytes j b (put-bytes i a m)
 put-then i j a b m e = rw (← e) (put-append i a b m)
 
@@ -78,7 +78,7 @@ put-apart i j a [] m h = refl
 put-apart i j a (x ∷ b) m h =
     rw (← put-set i j x a m (omega arith)) (put-apart i (suc j) a b (set m j x) (omega arith))
 
--- ---- what stands before, there and after
+-- ---- the text before the bytes put, there, and after them
 
 -- nothing before the index changes
 pub take-put : (n i : ℕ) (bs m : List ℕ) → n ≤ i → take n (put-bytes i bs m) ≡ take n m
@@ -86,7 +86,7 @@ unfolding put-bytes
 take-put n i [] m h = refl
 take-put n i (b ∷ bs) m h = take-put n (suc i) bs (set m i b) (omega arith) ∙ take-set-le n m i b h
 
--- nor anything past the last byte
+-- nothing past the last byte put changes
 pub drop-put : (n i : ℕ) (bs m : List ℕ) → i + length bs ≤ n → drop n (put-bytes i bs m) ≡ drop n m
 unfolding put-bytes
 drop-put n i [] m h = refl

@@ -3,6 +3,6 @@ use mathlib.Core.List.{List}
 use Prim.Native.Nat.{ℕ}
 use lib.Seq.{sets}
 
--- m with bs stored one after the other from index i on; past m's end nothing is stored
+-- m with the bytes bs put one after the other from index i on; past m's end nothing is put
 unfoldable pub put-bytes : ℕ → List ℕ → List ℕ → List ℕ
 put-bytes i bs m = sets m i bs

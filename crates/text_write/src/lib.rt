@@ -9,7 +9,7 @@ ghost use Rattle.text.specs.Words.{if_then_else_};
 ghost use Rattle.text.specs.Text.{blank, zero-digit, field-bytes, written};
 ghost use Rattle.text_write.specs.Bytes.{put-bytes};
 
-// Past the end nothing is put.
+// The byte b put at index at + k; past the end nothing is put.
 fn put(out: &mut [u8], at: usize, k: usize, b: u8)
     ensures { λ _. ⌜ now (out .exit) ≡ set (now (out .entry)) (at + k) b ⌝ }
 {
@@ -21,7 +21,7 @@ fn put(out: &mut [u8], at: usize, k: usize, b: u8)
     }
 }
 
-// The column of n that counts p, a power of ten: a digit, or a blank before the number.
+// The byte in the column of n that counts p, a power of ten: a digit, or a blank before the number.
 fn column(n: u32, p: u32) -> u8
     requires { ⌜ 0 < p ⌝ }
     ensures { λ r. ⌜ r ≡ (if ltb n p && not (eqb p 1) then blank else zero-digit + n / p % 10) ⌝ }
@@ -33,7 +33,7 @@ fn column(n: u32, p: u32) -> u8
     }
 }
 
-// The six columns of n, from index at + k on.
+// The six columns of n put at index at + k and on.
 fn write_field(out: &mut [u8], at: usize, k: usize, n: u32)
     requires { ⌜ k ≤ 18 ⌝ }
     ensures { λ _. ⌜ now (out .exit) ≡ put-bytes (at + k) (field-bytes n) (now (out .entry)) ⌝ }
@@ -46,7 +46,7 @@ fn write_field(out: &mut [u8], at: usize, k: usize, n: u32)
     put(out, at, k + 5, column(n, 1));
 }
 
-// The line's 25 bytes from index `at` on, as far as they fit.
+// The line's 25 bytes put from index `at` on, as far as they fit.
 pub fn write_line(out: &mut [u8], at: usize, l: Line)
     ensures { λ _. ⌜ now (out .exit) ≡ put-bytes at (written l) (now (out .entry)) ⌝ }
 {

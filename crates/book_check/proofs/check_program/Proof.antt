@@ -14,11 +14,11 @@ use borrow.Author.Needs.{needs}
 use Rattle.book_check.proofs.check_program.Statement.{statement}
 use Rattle.book_check.proofs.check_program.Tie as tie
 
--- the image that is lent is long
+-- the image that is lent is as long as an image
 whole : (c : tie.After-lay-out) → image-length ≤ length (c .before .before .before .before .args .image .now)
 whole c = omega (arith, c .lay-out .ensures .1)
 
--- what each check answers, m being the image before and laid m the one after
+-- what each check answers, m being the image before the functions are laid out, and laid m the one after
 
 of1 : (c : tie.After-none-at) → c .none-at .result ≡ answer-of (of-functions (c .before .before .before .before .before .args .image .now))
 of1 c = answered 4 _ _ _ (c .none-at .ensures) (c .before .before .before .bad-functions .ensures)

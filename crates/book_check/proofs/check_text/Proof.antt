@@ -13,9 +13,9 @@ use borrow.Author.Needs.{needs}
 use Rattle.book_check.proofs.check_text.Statement.{statement}
 use Rattle.book_check.proofs.check_text.Tie as tie
 
--- once the rows are taken, c .before .. being the states passed
+-- after the lines are loaded; c .before .. are the states passed
 
--- no row was out of form
+-- no line of functions, nodes and agents is ill-formed
 taken-zero : (c : tie.After-none-at2) → answer-of (none-at 1 0 0 (c .before .before .before .before .before .before .before .before .load .result)) .number ≡ 0
 taken-zero c = ap (λ (a : Answer). a .number) (sym (c .before .before .before .before .before .before .before .none-at .ensures)) ∙ c .before .before .before .before .before .if1 .left
 
@@ -28,18 +28,18 @@ holds-are c = rw (c .before .before .before .check-program .ensures .0) (laid-ho
 opened : (c : tie.After-none-at2) → ImageOf (c .before .before .before .check-program .last .0) (check-text (c .before .before .before .before .before .before .before .before .before .before .before .args .h) (c .before .before .before .before .before .before .before .before .before .before .before .args .text .now))
 opened c = rw (c .before .before .before .check-program .ensures .0) (opened-text (c .before .before .before .before .before .before .before .before .load .last .1 .1 .0) (c .before .before .before .before .before .before .before .before .before .before .before .args .h) (c .before .before .before .before .before .before .before .before .before .before .before .args .text .now) (c .before .before .before .before .before .before .before .before .before .before .before .pre .0) (c .before .before .before .check-program .ensures .1) (rows-are c))
 
--- 1 on all lines
+-- Refusal 1 on all lines that the header calls for
 present : (c : tie.After-none-at2) → c .none-at2 .result ≡ answer-of (check-present (c .before .before .before .before .before .before .before .before .before .before .before .args .h) (c .before .before .before .before .before .before .before .before .before .before .before .args .text .now))
 present c =
     answered 1 _ _ _ (c .none-at2 .ensures) (form-found (c .before .before .before .check-program .last .0) (c .before .before .before .before .before .before .before .before .before .before .before .args .h) (c .before .before .before .before .before .before .before .before .before .before .before .args .text .now) (c .before .before .before .before .before .before .before .before .before .before .before .pre .0) (holds-are c) (c .before .check-entries .result) (c .before .check-entries .ensures))
     ∙ ap answer-of
     (rows-passed (c .before .before .before .before .before .before .before .before .before .before .before .args .h) (c .before .before .before .before .before .before .before .before .before .before .before .args .text .now) (c .before .before .before .before .before .before .before .before .before .before .before .pre .1) (c .before .before .before .before .before .before .before .before .load .result) (rows-found (c .before .before .before .before .before .before .before .before .before .before .before .args .h) (c .before .before .before .before .before .before .before .before .before .before .before .args .text .now) (c .before .before .before .before .before .before .before .before .before .before .before .args .image .now) (c .before .before .before .before .before .before .before .before .before .before .before .pre .0) (c .before .before .before .before .before .before .before .before .load .result) (c .before .before .before .before .before .before .before .before .load .ensures .0)) (taken-zero c))
 
--- 4 to 7
+-- Refusals 4 to 7, and 3 for L
 program : (c : tie.After-none-at2) → c .before .before .before .check-program .result ≡ answer-of (check-program (c .before .before .before .before .before .before .before .before .before .before .before .args .h) (c .before .before .before .before .before .before .before .before .before .before .before .args .text .now))
 program c = c .before .before .before .check-program .ensures .2 (c .before .before .before .before .before .before .before .before .before .before .before .args .h) (c .before .before .before .before .before .before .before .before .before .before .before .args .text .now) (c .before .before .before .before .before .before .before .before .before .before .before .pre .0) (rows-are c)
 
--- 1 on what comes after them
+-- Refusal 1 on a surplus line
 surplus : (c : tie.After-must) → c .must .result ≡ answer-of (check-surplus (c .before .before .before .before .before .before .before .before .before .before .before .before .before .before .before .before .before .before .args .h) (c .before .before .before .before .before .before .before .before .before .before .before .before .before .before .before .before .before .before .args .text .now))
 unfolding check-surplus
 surplus c = c .must .ensures

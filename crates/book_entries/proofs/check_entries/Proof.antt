@@ -21,23 +21,23 @@ add-end c = let m = c .before .before .before .args .image .now in omega (arith,
 elements-requires : tie.Need-elements-requires
 elements-requires c κs = search needs
 
-slice-aggregate-check-lines : tie.Need-slice-aggregate-check-lines
-slice-aggregate-check-lines c = search needs
+slice-aggregate-check-entry-lines : tie.Need-slice-aggregate-check-entry-lines
+slice-aggregate-check-entry-lines c = search needs
 
-check-lines-requires : tie.Need-check-lines-requires
-check-lines-requires c κs = let m = c .before .before .before .before .before .before .args .image .now in clear (program-in m .E) 256 (omega (arith, c .before .before .elements .ensures, c .before .if1 .taken))
+check-entry-lines-requires : tie.Need-check-entry-lines-requires
+check-entry-lines-requires c κs = let m = c .before .before .before .before .before .before .args .image .now in clear (program-in m .E) 256 (omega (arith, c .before .before .elements .ensures, c .before .if1 .taken))
 
-slice-aggregate-check-lines-2 : tie.Need-slice-aggregate-check-lines-2
-slice-aggregate-check-lines-2 c = search needs
+slice-aggregate-check-entry-lines-2 : tie.Need-slice-aggregate-check-entry-lines-2
+slice-aggregate-check-entry-lines-2 c = search needs
 
-check-lines-requires-2 : tie.Need-check-lines-requires-2
-check-lines-requires-2 c κs = let m = c .before .before .before .before .before .before .args .image .now in clear (program-in m .E) 10000 (elements-most m)
+check-entry-lines-requires-2 : tie.Need-check-entry-lines-requires-2
+check-entry-lines-requires-2 c κs = let m = c .before .before .before .before .before .before .args .image .now in clear (program-in m .E) 10000 (elements-most m)
 
 returns : tie.Need-returns
-returns c = let a = c .before .before .before .before .before .before .before .before .args in c .before .check-lines .ensures ∙ rw (c .before .before .before .before .before .before .first-entry .ensures, c .before .before .before .before .before .entries .ensures) (counted (program-in (a .image .now)) (a .text .now) (first-entry-in (a .image .now)) (entry-count-in (a .image .now)))
+returns c = let a = c .before .before .before .before .before .before .before .before .args in c .before .check-entry-lines .ensures ∙ rw (c .before .before .before .before .before .before .first-entry .ensures, c .before .before .before .before .before .entries .ensures) (counted (program-in (a .image .now)) (a .text .now) (first-entry-in (a .image .now)) (entry-count-in (a .image .now)))
 
 returns-2 : tie.Need-returns-2
-returns-2 c = let a = c .before .before .before .before .before .before .before .before .args in c .before .check-lines2 .ensures ∙ rw (c .before .before .before .before .before .before .first-entry .ensures, c .before .before .before .before .before .entries .ensures) (counted (program-in (a .image .now)) (a .text .now) (first-entry-in (a .image .now)) (entry-count-in (a .image .now)))
+returns-2 c = let a = c .before .before .before .before .before .before .before .before .args in c .before .check-entry-lines2 .ensures ∙ rw (c .before .before .before .before .before .before .first-entry .ensures, c .before .before .before .before .before .entries .ensures) (counted (program-in (a .image .now)) (a .text .now) (first-entry-in (a .image .now)) (entry-count-in (a .image .now)))
 
 pub check-entries-spec : {M : Type 1} → statement M
 check-entries-spec =
@@ -47,9 +47,9 @@ check-entries-spec =
     entries-requires
     add-end
     elements-requires
-    slice-aggregate-check-lines
-    check-lines-requires
-    slice-aggregate-check-lines-2
-    check-lines-requires-2
+    slice-aggregate-check-entry-lines
+    check-entry-lines-requires
+    slice-aggregate-check-entry-lines-2
+    check-entry-lines-requires-2
     returns
     returns-2)

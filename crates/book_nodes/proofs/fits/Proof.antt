@@ -1,7 +1,6 @@
 -- `fits` meets its contract.
 use mathlib.Core.Path.{_∙_, sym}
 use native.Mathlib.Omega.{arith}
-use Rattle.book.specs.Lines.{fits}
 use Rattle.book.specs.Image.{program-in}
 use Rattle.book_nodes.proofs.Classes as classes
 use borrow.Author.Needs.{needs}

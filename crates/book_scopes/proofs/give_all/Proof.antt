@@ -1,5 +1,5 @@
 -- `give_all` meets its contract.
-use Rattle.book_scopes.proofs.Tables.{handed-step, handed-none}
+use Rattle.book_scopes.proofs.Tables.{all-given-step, all-given-none}
 use Rattle.book_scopes.specs.Tables.{to-ab, to-c}
 use Rattle.book.specs.Scopes.{all-given}
 use Rattle.book.specs.Image.{program-in}
@@ -25,7 +25,7 @@ cast-n : tie.Need-cast-n Inv-loop μ-loop
 cast-n c = search needs
 
 loop-holds : tie.Need-loop-holds Inv-loop μ-loop
-loop-holds c = let a = c .before .before .args in (search needs, refl, handed-none (program-in (a .image .now)) to-ab to-c (a .s .now))
+loop-holds c = let a = c .before .before .args in (search needs, refl, all-given-none (program-in (a .image .now)) to-ab to-c (a .s .now))
 
 add-m : tie.Need-add-m Inv-loop μ-loop
 add-m c = search needs
@@ -61,7 +61,7 @@ loop-less : tie.Need-loop-less Inv-loop μ-loop
 loop-less c = search needs
 
 loop-again : tie.Need-loop-again Inv-loop μ-loop
-loop-again c = let a = c .before .before .before .before .before .before .before .before .before .before .before .before .before .before .before .args in let l = c .before .before .before .before .before .before .before .before .before .before .before .before .loop in (search needs, c .before .before .give-operands .kept .1 .0 ∙ l .inv .1, rw (handed-step (program-in (a .image .now)) to-ab to-c (a .s .now) (l .k)) (c .before .before .give-operands .ensures ∙ rw (c .before .before .before .before .before .in-binder .ensures, c .before .before .before .before .before .before .in-forall .ensures, c .before .before .before .before .before .before .before .scope-below .ensures, c .before .before .before .before .before .before .before .before .half-at .ensures, c .before .before .before .before .before .before .before .before .before .before .node-at .ensures, c .before .before .before .before .before .before .before .before .before .before .before .before .before .nodes .ensures, l .inv .2)))
+loop-again c = let a = c .before .before .before .before .before .before .before .before .before .before .before .before .before .before .before .args in let l = c .before .before .before .before .before .before .before .before .before .before .before .before .loop in (search needs, c .before .before .give-operands .kept .1 .0 ∙ l .inv .1, rw (all-given-step (program-in (a .image .now)) to-ab to-c (a .s .now) (l .k)) (c .before .before .give-operands .ensures ∙ rw (c .before .before .before .before .before .in-binder .ensures, c .before .before .before .before .before .before .in-forall .ensures, c .before .before .before .before .before .before .before .scope-below .ensures, c .before .before .before .before .before .before .before .before .half-at .ensures, c .before .before .before .before .before .before .before .before .before .before .node-at .ensures, c .before .before .before .before .before .before .before .before .before .before .before .before .before .nodes .ensures, l .inv .2)))
 
 same-length : tie.Need-same-length Inv-loop μ-loop
 same-length c = c .before .loop .inv .1

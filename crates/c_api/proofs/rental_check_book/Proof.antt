@@ -21,7 +21,10 @@ add-result : tie.Need-add-result
 add-result c = search needs
 
 returns : tie.Need-returns
-returns c = let s = c .before .before .check-book in back-check _ (s .result) (c .before .before .before .before .args .book .now) refl (s .ensures)
+returns c =
+    let s = c .before .before .check-book in
+    let r = back-check _ (s .result) (c .before .before .before .before .args .book .now) refl (s .ensures) in
+    record { packed = r .0; unpacked = r .1 }
 
 pub rental-check-book-spec : {M : Type 1} → statement M
 rental-check-book-spec =

@@ -17,7 +17,7 @@ packed-requires : tie.Need-packed-requires
 packed-requires c κs =
     let a = c .before .before .before .before .before .before .before .args in
     let s = c .before .before .step-own-list in
-    omega (arith, ap (λ (x : Answer). x .number) (s .ensures .0), step-small (a .book .now) (a .contents .now) (input (a .agent) (a .picks .now)) (a .lent) .number)
+    omega (arith, ap (λ (x : Answer). x .number) (s .ensures .answer), step-small (a .book .now) (a .contents .now) (input (a .agent) (a .picks .now)) (a .lent) .number)
 
 same-length : tie.Need-same-length
 same-length c = search needs
@@ -27,8 +27,8 @@ returns c =
     let a = c .before .before .before .before .before .before .before .before .args in
     let s = c .before .before .before .step-own-list in
     let r = back _ (s .result) (step-call (a .book .now) (a .contents .now) (input (a .agent) (a .picks .now)) (a .lent) .answer)
-    (step-small (a .book .now) (a .contents .now) (input (a .agent) (a .picks .now)) (a .lent)) (c .packed .ensures) (s .ensures .0) in
-    (r .0, (r .1, s .ensures .1))
+    (step-small (a .book .now) (a .contents .now) (input (a .agent) (a .picks .now)) (a .lent)) (c .packed .ensures) (s .ensures .answer) in
+    record { packed = r .0; unpacked = r .1; contents = s .ensures .contents }
 
 pub rental-move-spec : {M : Type 1} → statement M
 rental-move-spec = tie.close (tie.spec step-own-list-requires packed-requires same-length returns)

@@ -7,7 +7,7 @@ use Rattle.text.specs.Words.{least-from, least}
 use Rattle.text.proofs.Words.{least-start, least-end}
 use Rattle.book.specs.Book.{L}
 use Rattle.book.specs.Contents.{bad-value}
-use Rattle.book.specs.Image.{held}
+use Rattle.book.specs.Image.{low-program}
 use Rattle.book.proofs.Held.{elements-held, functions-held}
 use Rattle.book_parts.proofs.Places.{From, from-start, from-end, part-ends, part-after, part-fits}
 use borrow.Author.Needs.{needs}
@@ -17,8 +17,8 @@ use Rattle.contents_check.proofs.bad_value.Tie as tie
 
 abbrev Inv-loop : tie.InvT-loop
 Inv-loop image contents e p n first₀ g₀ first g =
-    From (held image) g first
-    × (least-from (bad-value (held image) contents) (L (held image) - first) first ≡ least (bad-value (held image) contents) (L (held image)))
+    From (low-program image) g first
+    × (least-from (bad-value (low-program image) contents) (L (low-program image) - first) first ≡ least (bad-value (low-program image) contents) (L (low-program image)))
     × (g ≤ n)
 
 abbrev μ-loop : tie.MeasureT-loop
@@ -34,7 +34,7 @@ functions-requires : tie.Need-functions-requires Inv-loop μ-loop
 functions-requires c κs = search needs
 
 loop-holds : tie.Need-loop-holds Inv-loop μ-loop
-loop-holds c = let a = c .before .before .before .before .args in let B = held (a .image .now) in (from-start B, least-start (bad-value B (a .contents .now)) (L B), omega arith)
+loop-holds c = let a = c .before .before .before .before .args in let B = low-program (a .image .now) in (from-start B, least-start (bad-value B (a .contents .now)) (L B), omega arith)
 
 part-from-requires : tie.Need-part-from-requires Inv-loop μ-loop
 part-from-requires c κs = search needs
@@ -42,7 +42,7 @@ part-from-requires c κs = search needs
 cast-end : tie.Need-cast-end Inv-loop μ-loop
 cast-end c =
     let a = c .before .before .before .before .before .before .before .before .args in
-    let B = held (a .image .now) in
+    let B = low-program (a .image .now) in
     let l = c .before .before .before .loop in
     let own = c .before .part-from in
     let more : l .g < length (B .functions) = omega (arith, c .before .before .loop-test .taken, functions-held _ _ (c .before .before .before .before .functions .ensures) .0) in
@@ -53,7 +53,7 @@ bad-part-requires c κs =
     let a = c .before .before .before .before .before .before .before .before .args in
     let l = c .before .before .before .loop in
     let own = c .before .part-from in
-    omega (arith, part-ends (held (a .image .now)) (l .g) (l .first) (own .result) (own .ensures))
+    omega (arith, part-ends (low-program (a .image .now)) (l .g) (l .first) (own .result) (own .ensures))
 
 enum-known-found : tie.Need-enum-known-found Inv-loop μ-loop
 enum-known-found c = search needs
@@ -61,7 +61,7 @@ enum-known-found c = search needs
 add-t13 : tie.Need-add-t13 Inv-loop μ-loop
 add-t13 c =
     let a = c .before .before .before .before .before .before .before .before .before .before .before .before .args in
-    let B = held (a .image .now) in
+    let B = low-program (a .image .now) in
     let l = c .before .before .before .before .before .before .before .loop in
     let own = c .before .before .before .before .before .part-from in
     let more : l .g < length (B .functions) = omega (arith, c .before .before .before .before .before .before .loop-test .taken, functions-held _ _ (c .before .before .before .before .before .before .before .before .functions .ensures) .0) in
@@ -71,7 +71,7 @@ add-t13 c =
 returns : tie.Need-returns Inv-loop μ-loop
 returns c =
     let a = c .before .before .before .before .before .before .before .before .before .before .before .before .args in
-    let B = held (a .image .now) in
+    let B = low-program (a .image .now) in
     let l = c .before .before .before .before .before .before .before .loop in
     let own = c .before .before .before .before .before .part-from in
     let more : l .g < length (B .functions) = omega (arith, c .before .before .before .before .before .before .loop-test .taken, functions-held _ _ (c .before .before .before .before .before .before .before .before .functions .ensures) .0) in
@@ -90,7 +90,7 @@ loop-less c = search needs
 loop-again : tie.Need-loop-again Inv-loop μ-loop
 loop-again c =
     let a = c .before .before .before .before .before .before .before .before .before .before .before .args in
-    let B = held (a .image .now) in
+    let B = low-program (a .image .now) in
     let l = c .before .before .before .before .before .before .loop in
     let own = c .before .before .before .before .part-from in
     let more : l .g < length (B .functions) = omega (arith, c .before .before .before .before .before .loop-test .taken, functions-held _ _ (c .before .before .before .before .before .before .before .functions .ensures) .0) in (
@@ -102,7 +102,7 @@ loop-again c =
 returns-2 : tie.Need-returns-2 Inv-loop μ-loop
 returns-2 c =
     let a = c .before .before .before .before .before .before .args in
-    let B = held (a .image .now) in
+    let B = low-program (a .image .now) in
     let l = c .before .loop in
     least-end (bad-value B (a .contents .now)) (L B) (l .first) (omega (arith, from-end B (l .g) (l .first) (l .inv .0) (omega (arith, c .loop-test .left, functions-held _ _ (c .before .before .functions .ensures) .0)))) (l .inv .1)
 

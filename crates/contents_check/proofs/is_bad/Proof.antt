@@ -8,11 +8,11 @@ use borrow.Author.Needs.{needs}
 use Rattle.contents_check.proofs.is_bad.Statement.{statement}
 use Rattle.contents_check.proofs.is_bad.Tie as tie
 
-row-of-requires : tie.Need-row-of-requires
-row-of-requires c κs = search needs
+row-at-requires : tie.Need-row-at-requires
+row-at-requires c κs = search needs
 
-col-of-requires : tie.Need-col-of-requires
-col-of-requires c κs = search needs
+column-at-requires : tie.Need-column-at-requires
+column-at-requires c κs = search needs
 
 fetch-requires : tie.Need-fetch-requires
 fetch-requires c κs = search needs
@@ -30,8 +30,8 @@ returns : tie.Need-returns
 returns c =
     λ B e p q.
     let a = c .before .before .before .before .before .before .before .before .args in
-    let row = c .before .before .before .before .before .before .row-of in
-    let col = c .before .before .before .before .before .col-of in
+    let row = c .before .before .before .before .before .before .row-at in
+    let col = c .before .before .before .before .before .column-at in
     let v = c .before .before .before .before .fetch in
     let rel = c .before .before .before .is-relation in
     let bool = c .before .before .is-boolean in
@@ -55,8 +55,8 @@ returns-2 : tie.Need-returns-2
 returns-2 c =
     λ B e p q.
     let a = c .before .before .before .before .before .before .before .before .before .before .before .args in
-    let row = c .before .before .before .before .before .before .before .before .before .row-of in
-    let col = c .before .before .before .before .before .before .before .before .col-of in
+    let row = c .before .before .before .before .before .before .before .before .before .row-at in
+    let col = c .before .before .before .before .before .before .before .before .column-at in
     let v = c .before .before .before .before .before .before .before .fetch in
     let rel = c .before .before .before .before .before .before .is-relation in
     let bool = c .before .before .before .before .before .is-boolean in
@@ -68,8 +68,8 @@ pub is-bad-spec : {M : Type 1} → statement M
 is-bad-spec =
     tie.close
     (tie.spec
-    row-of-requires
-    col-of-requires
+    row-at-requires
+    column-at-requires
     fetch-requires
     is-relation-requires
     is-boolean-requires

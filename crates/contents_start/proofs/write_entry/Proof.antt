@@ -1,6 +1,6 @@
 -- `write_entry` meets its contract.
 use mathlib.Core.Path.{_∙_}
-use Rattle.book.specs.Image.{held}
+use Rattle.book.specs.Image.{low-program}
 use Rattle.book.proofs.Held.{elements-held}
 use Rattle.book_parts.proofs.Places.{part-ordered}
 use borrow.Author.Needs.{needs}
@@ -31,15 +31,15 @@ offset-requires c κs = search needs
 low-requires-4 : tie.Need-low-requires-4
 low-requires-4 c κs = search needs
 
-put-in-part-requires : tie.Need-put-in-part-requires
-put-in-part-requires c κs = part-ordered (held (c .before .before .before .before .before .before .before .before .before .before .args .image .now)) _ _ _ (c .before .before .before .part-from .ensures)
+store-in-part-requires : tie.Need-store-in-part-requires
+store-in-part-requires c κs = part-ordered (low-program (c .before .before .before .before .before .before .before .before .before .before .args .image .now)) _ _ _ (c .before .before .before .part-from .ensures)
 
 same-length : tie.Need-same-length
 same-length c = search needs
 
 returns : tie.Need-returns
 returns c =
-    c .before .before .put-in-part .ensures
+    c .before .before .store-in-part .ensures
     ∙ rw (
       c .before .before .before .before .before .offset .ensures,
       c .before .before .before .before .before .before .part-from .ensures,
@@ -63,6 +63,6 @@ write-entry-spec =
     part-from-requires
     offset-requires
     low-requires-4
-    put-in-part-requires
+    store-in-part-requires
     same-length
     returns)

@@ -1,6 +1,6 @@
 -- `write_start` meets its contract.
 use Rattle.contents_start.specs.Written.{entries-put, entry-lines}
-use Rattle.book.specs.Image.{held}
+use Rattle.book.specs.Image.{low-program}
 use mathlib.Core.Path.{ap, _∙_}
 use Prim.Native.Nat.{ℕ}
 use mathlib.Core.List.{List}
@@ -21,7 +21,7 @@ returns : tie.Need-returns
 returns c =
     let a = c .before .before .before .before .before .before .before .before .before .before .args in
     c .before .before .write-entries .ensures
-    ∙ ap (λ (d : List ℕ). entries-put (held (a .image .now)) (entry-lines (a .image .now) (a .book .now)) d) (c .before .before .before .before .before .before .write-defaults .ensures)
+    ∙ ap (λ (d : List ℕ). entries-put (low-program (a .image .now)) (entry-lines (a .image .now) (a .book .now)) d) (c .before .before .before .before .before .before .write-defaults .ensures)
 
 pub write-start-spec : {M : Type 1} → statement M
 write-start-spec =

@@ -2,7 +2,7 @@
 use borrow.Author.Tests.{eq-eqb, ne-eqb}
 use mathlib.Core.Bool.{or-false}
 use Rattle.engine.specs.Move.{other}
-use Rattle.engine_clash.specs.Against.{value-given}
+use Rattle.engine_clash.specs.Against.{values-given}
 use borrow.Author.Needs.{needs}
 use Rattle.engine_clash.proofs.gives_other.Statement.{statement}
 use Rattle.engine_clash.proofs.gives_other.Tie as tie
@@ -11,7 +11,7 @@ enum-known-what : tie.Need-enum-known-what
 enum-known-what c = search needs
 
 returns : tie.Need-returns
-unfolding other value-given
+unfolding other values-given
 returns c = rw (c .before .before .before .what .given .1, eq-eqb _ _ (c .if1 .taken), or-false)
 
 enum-known-what-2 : tie.Need-enum-known-what-2
@@ -21,7 +21,7 @@ cast-if2 : tie.Need-cast-if2
 cast-if2 c = search needs
 
 returns-2 : tie.Need-returns-2
-unfolding other value-given
+unfolding other values-given
 returns-2 c = rw (c .before .before .before .what2 .given .1, eq-eqb _ _ (c .if2 .taken), or-false)
 
 is-trace-requires : tie.Need-is-trace-requires
@@ -31,15 +31,15 @@ default-of-requires : tie.Need-default-of-requires
 default-of-requires c κs = search needs
 
 returns-3 : tie.Need-returns-3
-unfolding other value-given
+unfolding other values-given
 returns-3 c = rw (c .before .before .before .before .before .before .what2 .given .1, ne-eqb _ _ (c .before .before .before .if2 .left), ← (c .before .before .is-trace .ensures), c .before .if3 .taken, ← (c .default-of .ensures), or-false)
 
 returns-4 : tie.Need-returns-4
-unfolding other value-given
+unfolding other values-given
 returns-4 c = rw (c .before .before .before .what .given .1, ne-eqb _ _ (c .if1 .left))
 
 returns-5 : tie.Need-returns-5
-unfolding other value-given
+unfolding other values-given
 returns-5 c = rw (c .before .before .before .before .before .what2 .given .1, ne-eqb _ _ (c .before .before .if2 .left), ← (c .before .is-trace .ensures), c .if3 .left)
 
 pub gives-other-spec : {M : Type 1} → statement M

@@ -4,11 +4,11 @@ use mathlib.Core.Path.{_≡_, sym, ap, _∙_}
 use native.Mathlib.Omega.{arith}
 use borrow.Author.Tests.{lt-ltb, le-ltb}
 use Rattle.book.specs.Book.{place}
-use Rattle.book.specs.Image.{held}
+use Rattle.book.specs.Image.{low-program}
 use Rattle.book_parts.specs.declared.Owner.{Owner}
 use Rattle.book_parts.specs.Part.{part-of}
 use Rattle.book_parts.proofs.Parts.{part-starts, owner-index}
-use Rattle.engine_clash.proofs.Laws.{spot-is}
+use Rattle.engine_clash.proofs.Laws.{held-place-is}
 use borrow.Author.Needs.{needs}
 use Rattle.engine_clash.proofs.held_place.Statement.{statement}
 use Rattle.engine_clash.proofs.held_place.Tie as tie
@@ -19,7 +19,7 @@ owner-of-requires c κs = search needs
 sub-index : tie.Need-sub-index
 sub-index c =
     let a = c .before .before .before .before .before .args in
-    omega (arith, ap (λ (o : Owner). o .first) (c .before .before .before .owner-of .ensures), part-starts (held (a .image .now)) (a .l) .0)
+    omega (arith, ap (λ (o : Owner). o .first) (c .before .before .before .owner-of .ensures), part-starts (low-program (a .image .now)) (a .l) .0)
 
 fetch-requires : tie.Need-fetch-requires
 fetch-requires c κs = search needs
@@ -27,7 +27,7 @@ fetch-requires c κs = search needs
 returns : tie.Need-returns
 returns c =
     let a = c .before .before .before .before .before .before .args in
-    let B = held (a .image .now) in
+    let B = low-program (a .image .now) in
     let o = c .before .before .before .before .owner-of .result in
     let first : o .first ≡ part-of B (a .l) .first = ap (λ (o : Owner). o .first) (c .before .before .before .before .owner-of .ensures) in
     let end : o .end ≡ part-of B (a .l) .end = ap (λ (o : Owner). o .end) (c .before .before .before .before .owner-of .ensures) in
@@ -36,7 +36,7 @@ returns c =
     (λ y. y .2 ∙ rw first (sym (owner-index B (a .l) ∙ rw (lt-ltb (a .l) (part-of B (a .l) .end) (omega (arith, y .0 .taken))))))
     (λ y. y .1 ∙ sym (owner-index B (a .l) ∙ rw (le-ltb (a .l) (part-of B (a .l) .end) (omega (arith, y .0 .left)))))
     (c .before .before .if1 .came) in
-    spot-is B (a .contents .now) (a .l) (o .function) (c .before .before .if1 .index) (c .fetch .result) (rw (index, c .before .before .before .before .owner-of .ensures)) (c .fetch .ensures)
+    held-place-is B (a .contents .now) (a .l) (o .function) (c .before .before .if1 .index) (c .fetch .result) (rw (index, c .before .before .before .before .owner-of .ensures)) (c .fetch .ensures)
 
 pub held-place-spec : {M : Type 1} → statement M
 held-place-spec = tie.close (tie.spec owner-of-requires sub-index fetch-requires returns)

@@ -2,7 +2,7 @@
 use Prim.Native.Nat.{_-_}
 use native.Mathlib.Omega.{arith}
 use borrow.Author.Needs.{needs}
-use Rattle.book.specs.Image.{held}
+use Rattle.book.specs.Image.{low-program}
 use Rattle.engine_instruction.proofs.Laws.{take-min}
 use Rattle.engine_clash.proofs.Rivals.{Looked, looked-start, looked-next, looked-best, Tables, tables-start, tables-chain, tables-held, tables-next}
 use Rattle.engine_clash.proofs.least_clash.Statement.{statement}
@@ -101,7 +101,7 @@ returns-4 : tie.Need-returns-4 Inv-loop μ-loop
 returns-4 c =
     let a = c .before .before .before .before .before .before .before .args in
     let n = c .before .before .before .before .smaller in
-    rw (← take-min (a .list .now) (n .result) (a .len) (n .ensures)) (looked-best (held (a .image .now)) (a .contents .now) (omega (arith, n .ensures)) (c .loop-test .left) (c .before .loop .inv .0))
+    rw (← take-min (a .list .now) (n .result) (a .len) (n .ensures)) (looked-best (low-program (a .image .now)) (a .contents .now) (omega (arith, n .ensures)) (c .loop-test .left) (c .before .loop .inv .0))
 
 pub least-clash-spec : {M : Type 1} → statement M
 least-clash-spec =

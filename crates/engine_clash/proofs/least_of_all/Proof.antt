@@ -4,7 +4,7 @@ use mathlib.Core.List.{List}
 use Prim.Native.Nat.{_+_, _-_}
 use borrow.Author.Needs.{needs}
 use lib.ListN.{getD, drop}
-use Rattle.book.specs.Image.{held}
+use Rattle.book.specs.Image.{low-program}
 use Rattle.engine.specs.declared.Instruction.{Instruction}
 use Rattle.engine_instruction.specs.Code.{decode-of, items}
 use Rattle.engine_clash.specs.Against.{least-with, least-clash}
@@ -14,8 +14,8 @@ use Rattle.engine_clash.proofs.least_of_all.Tie as tie
 
 abbrev Inv-loop : tie.InvT-loop
 Inv-loop image contents list len most n least₀ j₀ least j =
-    least-clash (held image) contents (items list len) (drop j (items list len)) least
-    ≡ least-clash (held image) contents (items list len) (items list len) most
+    least-clash (low-program image) contents (items list len) (drop j (items list len)) least
+    ≡ least-clash (low-program image) contents (items list len) (items list len) most
 
 abbrev μ-loop : tie.MeasureT-loop
 μ-loop image contents list len most n least₀ j₀ least j = n - j
@@ -46,11 +46,11 @@ loop-less c = search needs
 
 loop-again : tie.Need-loop-again Inv-loop μ-loop
 unfolding least-clash
-loop-again c = let a = c .before .before .before .before .before .before .before .before .args in let B = held (a .image .now) in let n = c .before .before .before .before .before .smaller in let l = c .before .before .before .before .loop in let is = items (a .list .now) (a .len) in let d = items-cons (a .list .now) (a .len) (n .result) (n .ensures) (l .j) (c .before .before .before .loop-test .taken) in let q : c .least-with .result ≡ least-with B (a .contents .now) is (decode-of (getD (a .list .now) (l .j) 0)) (l .least) = c .least-with .ensures ∙ rw (c .before .decode .ensures) in ap (least-clash B (a .contents .now) is (drop (l .j + 1) is)) q ∙ sym (ap (λ (xs : List Instruction). least-clash B (a .contents .now) is xs (l .least)) d) ∙ l .inv
+loop-again c = let a = c .before .before .before .before .before .before .before .before .args in let B = low-program (a .image .now) in let n = c .before .before .before .before .before .smaller in let l = c .before .before .before .before .loop in let is = items (a .list .now) (a .len) in let d = items-cons (a .list .now) (a .len) (n .result) (n .ensures) (l .j) (c .before .before .before .loop-test .taken) in let q : c .least-with .result ≡ least-with B (a .contents .now) is (decode-of (getD (a .list .now) (l .j) 0)) (l .least) = c .least-with .ensures ∙ rw (c .before .decode .ensures) in ap (least-clash B (a .contents .now) is (drop (l .j + 1) is)) q ∙ sym (ap (λ (xs : List Instruction). least-clash B (a .contents .now) is xs (l .least)) d) ∙ l .inv
 
 returns : tie.Need-returns Inv-loop μ-loop
 unfolding least-clash
-returns c = let a = c .before .before .before .before .before .args in let B = held (a .image .now) in let n = c .before .before .smaller in let l = c .before .loop in let is = items (a .list .now) (a .len) in let d = items-end (a .list .now) (a .len) (n .result) (n .ensures) (l .j) (c .loop-test .left) in sym (ap (λ (xs : List Instruction). least-clash B (a .contents .now) is xs (l .least)) d) ∙ l .inv
+returns c = let a = c .before .before .before .before .before .args in let B = low-program (a .image .now) in let n = c .before .before .smaller in let l = c .before .loop in let is = items (a .list .now) (a .len) in let d = items-end (a .list .now) (a .len) (n .result) (n .ensures) (l .j) (c .loop-test .left) in sym (ap (λ (xs : List Instruction). least-clash B (a .contents .now) is xs (l .least)) d) ∙ l .inv
 
 pub least-of-all-spec : {M : Type 1} → statement M
 least-of-all-spec =

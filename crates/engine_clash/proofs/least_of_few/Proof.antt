@@ -1,7 +1,7 @@
 -- `least_of_few` meets its contract.
 use Prim.Native.Nat.{_-_}
 use borrow.Author.Needs.{needs}
-use Rattle.book.specs.Image.{held}
+use Rattle.book.specs.Image.{low-program}
 use Rattle.engine_clash.proofs.Rivals.{Looked, looked-start, looked-next, looked-best}
 use Rattle.engine_clash.proofs.least_of_few.Statement.{statement}
 use Rattle.engine_clash.proofs.least_of_few.Tie as tie
@@ -48,7 +48,7 @@ cast-result c = search needs
 returns-2 : tie.Need-returns-2 Inv-loop μ-loop
 returns-2 c =
     let a = c .before .before .before .before .args in
-    looked-best (held (a .image .now)) (a .contents .now) (c .before .before .before .before .pre) (c .loop-test .left) (c .before .loop .inv)
+    looked-best (low-program (a .image .now)) (a .contents .now) (c .before .before .before .before .pre) (c .loop-test .left) (c .before .loop .inv)
 
 pub least-of-few-spec : {M : Type 1} → statement M
 least-of-few-spec =

@@ -3,7 +3,7 @@ use mathlib.Core.Path.{_≡_, sym, _∙_}
 use Prim.Native.Nat.{_≤_, _<_}
 use native.Mathlib.Omega.{arith}
 use borrow.Author.Tests.{le-ltb, lt-ltb}
-use Rattle.book.specs.Image.{held}
+use Rattle.book.specs.Image.{low-program}
 use Rattle.engine.specs.Move.{other, values}
 use Rattle.engine_instruction.specs.Code.{items}
 use Rattle.engine_instruction.specs.Traces.{own, gets}
@@ -32,16 +32,16 @@ some-gives-other-requires : tie.Need-some-gives-other-requires
 some-gives-other-requires c κs = search needs
 
 returns-2 : tie.Need-returns-2
-returns-2 c = let a = c .before .before .before .before .before .before .before .before .before .args in let B = held (a .image .now) in let w = c .before .before .own-value .result in let is = items (a .list .now) (a .len) in let at = c .before .before .before .before .before .before .own-location in let h : other (gets (a .what)) (values B (a .contents .now) (own (a .what)) is) ≡ c .before .some-gives-other .result = rw (← c .before .before .own-value .ensures, ← at .ensures) (other-any w B (a .contents .now) (at .result) is ∙ sym (c .before .some-gives-other .ensures ∙ rw (c .before .before .before .held-place .ensures, elements-held _ _ (c .before .before .before .before .elements .ensures) .0))) in let below : at .result < a .best = omega (arith, c .before .before .before .before .before .if1 .left) in rw (h, ← (at .ensures), lt-ltb _ _ below, c .if2 .taken)
+returns-2 c = let a = c .before .before .before .before .before .before .before .before .before .args in let B = low-program (a .image .now) in let w = c .before .before .own-value .result in let is = items (a .list .now) (a .len) in let at = c .before .before .before .before .before .before .own-location in let h : other (gets (a .what)) (values B (a .contents .now) (own (a .what)) is) ≡ c .before .some-gives-other .result = rw (← c .before .before .own-value .ensures, ← at .ensures) (other-any w B (a .contents .now) (at .result) is ∙ sym (c .before .some-gives-other .ensures ∙ rw (c .before .before .before .held-place .ensures, elements-held _ _ (c .before .before .before .before .elements .ensures) .0))) in let below : at .result < a .best = omega (arith, c .before .before .before .before .before .if1 .left) in rw (h, ← (at .ensures), lt-ltb _ _ below, c .if2 .taken)
 
 sets-released-requires : tie.Need-sets-released-requires
 sets-released-requires c κs = search needs
 
 returns-3 : tie.Need-returns-3
-returns-3 c = let a = c .before .before .before .before .before .before .before .before .before .before .before .args in let B = held (a .image .now) in let w = c .before .before .before .before .own-value .result in let is = items (a .list .now) (a .len) in let at = c .before .before .before .before .before .before .before .before .own-location in let h : other (gets (a .what)) (values B (a .contents .now) (own (a .what)) is) ≡ c .before .before .before .some-gives-other .result = rw (← c .before .before .before .before .own-value .ensures, ← at .ensures) (other-any w B (a .contents .now) (at .result) is ∙ sym (c .before .before .before .some-gives-other .ensures ∙ rw (c .before .before .before .before .before .held-place .ensures, elements-held _ _ (c .before .before .before .before .before .before .elements .ensures) .0))) in let below : at .result < a .best = omega (arith, c .before .before .before .before .before .before .before .if1 .left) in rw (h, ← (at .ensures), lt-ltb _ _ below, c .before .before .if2 .left, ← (c .before .sets-released .ensures), c .if3 .taken)
+returns-3 c = let a = c .before .before .before .before .before .before .before .before .before .before .before .args in let B = low-program (a .image .now) in let w = c .before .before .before .before .own-value .result in let is = items (a .list .now) (a .len) in let at = c .before .before .before .before .before .before .before .before .own-location in let h : other (gets (a .what)) (values B (a .contents .now) (own (a .what)) is) ≡ c .before .before .before .some-gives-other .result = rw (← c .before .before .before .before .own-value .ensures, ← at .ensures) (other-any w B (a .contents .now) (at .result) is ∙ sym (c .before .before .before .some-gives-other .ensures ∙ rw (c .before .before .before .before .before .held-place .ensures, elements-held _ _ (c .before .before .before .before .before .before .elements .ensures) .0))) in let below : at .result < a .best = omega (arith, c .before .before .before .before .before .before .before .if1 .left) in rw (h, ← (at .ensures), lt-ltb _ _ below, c .before .before .if2 .left, ← (c .before .sets-released .ensures), c .if3 .taken)
 
 returns-4 : tie.Need-returns-4
-returns-4 c = let a = c .before .before .before .before .before .before .before .before .before .before .before .args in let B = held (a .image .now) in let w = c .before .before .before .before .own-value .result in let is = items (a .list .now) (a .len) in let at = c .before .before .before .before .before .before .before .before .own-location in let h : other (gets (a .what)) (values B (a .contents .now) (own (a .what)) is) ≡ c .before .before .before .some-gives-other .result = rw (← c .before .before .before .before .own-value .ensures, ← at .ensures) (other-any w B (a .contents .now) (at .result) is ∙ sym (c .before .before .before .some-gives-other .ensures ∙ rw (c .before .before .before .before .before .held-place .ensures, elements-held _ _ (c .before .before .before .before .before .before .elements .ensures) .0))) in let below : at .result < a .best = omega (arith, c .before .before .before .before .before .before .before .if1 .left) in rw (h, ← (at .ensures), lt-ltb _ _ below, c .before .before .if2 .left, ← (c .before .sets-released .ensures), c .if3 .left)
+returns-4 c = let a = c .before .before .before .before .before .before .before .before .before .before .before .args in let B = low-program (a .image .now) in let w = c .before .before .before .before .own-value .result in let is = items (a .list .now) (a .len) in let at = c .before .before .before .before .before .before .before .before .own-location in let h : other (gets (a .what)) (values B (a .contents .now) (own (a .what)) is) ≡ c .before .before .before .some-gives-other .result = rw (← c .before .before .before .before .own-value .ensures, ← at .ensures) (other-any w B (a .contents .now) (at .result) is ∙ sym (c .before .before .before .some-gives-other .ensures ∙ rw (c .before .before .before .before .before .held-place .ensures, elements-held _ _ (c .before .before .before .before .before .before .elements .ensures) .0))) in let below : at .result < a .best = omega (arith, c .before .before .before .before .before .before .before .if1 .left) in rw (h, ← (at .ensures), lt-ltb _ _ below, c .before .before .if2 .left, ← (c .before .sets-released .ensures), c .if3 .left)
 
 pub least-with-spec : {M : Type 1} → statement M
 least-with-spec =

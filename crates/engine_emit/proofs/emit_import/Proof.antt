@@ -1,6 +1,6 @@
 -- `emit_import` meets its contract.
 use mathlib.Core.Path.{_∙_}
-use Rattle.book.specs.Image.{held}
+use Rattle.book.specs.Image.{low-program}
 use Rattle.engine_emit.proofs.Steps.{taking-from}
 use borrow.Author.Needs.{needs}
 use Rattle.engine_emit.proofs.emit_import.Statement.{statement}
@@ -21,7 +21,7 @@ emit-requires-2 c κs = search needs
 returns : tie.Need-returns
 returns c =
     let a = c .before .before .before .before .before .args in
-    λ ys. c .emit2 .ensures ys ∙ rw (c .before .before .before .emit .ensures ys, c .before .before .location .ensures) (taking-from (held (a .image .now)) (a .u) (a .x) (a .n) ys (a .s) (a .list .now))
+    λ ys. c .emit2 .ensures ys ∙ rw (c .before .before .before .emit .ensures ys, c .before .before .location .ensures) (taking-from (low-program (a .image .now)) (a .u) (a .x) (a .n) ys (a .s) (a .list .now))
 
 pub emit-import-spec : {M : Type 1} → statement M
 emit-import-spec = tie.close (tie.spec add-t10 emit-requires location-requires emit-requires-2 returns)

@@ -2,7 +2,7 @@
 use mathlib.Core.Path.{_≡_, sym, _∙_}
 use mathlib.Core.Bool.{true, false, _&&_, not}
 use Rattle.book.specs.Book.{boolean, relation, function-at}
-use Rattle.book.specs.Image.{held}
+use Rattle.book.specs.Image.{low-program}
 use Rattle.engine_emit.specs.Emit.{reached}
 use Rattle.engine_emit.proofs.Steps.{setting-ok, setting-bad}
 use Rattle.book.proofs.Held.{function-held}
@@ -31,21 +31,21 @@ emit-requires-2 c κs = search needs
 returns : tie.Need-returns
 returns c =
     let a = c .before .before .before .before .before .before .before .args in
-    let B = held (a .image .now) in
+    let B = low-program (a .image .now) in
     let e : (relation (function-at B (a .f)) && not (boolean (a .x))) ≡ false = rw (← function-held _ _ _ (c .before .before .before .before .before .before .function-at .ensures), sym (c .before .before .before .before .before .is-relation .ensures) ∙ c .before .before .before .before .if1 .taken, sym (c .before .before .before .is-boolean .ensures) ∙ c .before .before .if2 .taken) in
     λ ys. c .emit .ensures ys ∙ sym (setting-ok B (a .f) (a .at) (a .x) (a .n) e (reached ys (a .s) (a .list .now)))
 
 returns-2 : tie.Need-returns-2
 returns-2 c =
     let a = c .before .before .before .before .before .before .args in
-    let B = held (a .image .now) in
+    let B = low-program (a .image .now) in
     let e : (relation (function-at B (a .f)) && not (boolean (a .x))) ≡ true = rw (← function-held _ _ _ (c .before .before .before .before .before .function-at .ensures), sym (c .before .before .before .before .is-relation .ensures) ∙ c .before .before .before .if1 .taken, sym (c .before .before .is-boolean .ensures) ∙ c .before .if2 .left) in
     λ ys. c .refuse-at .ensures ys (a .list .now) ∙ sym (setting-bad B (a .f) (a .at) (a .x) (a .n) e (reached ys (a .s) (a .list .now)))
 
 returns-3 : tie.Need-returns-3
 returns-3 c =
     let a = c .before .before .before .before .before .args in
-    let B = held (a .image .now) in
+    let B = low-program (a .image .now) in
     let e : (relation (function-at B (a .f)) && not (boolean (a .x))) ≡ false = rw (← function-held _ _ _ (c .before .before .before .before .function-at .ensures), sym (c .before .before .before .is-relation .ensures) ∙ c .before .before .if1 .left) in
     λ ys. c .emit2 .ensures ys ∙ sym (setting-ok B (a .f) (a .at) (a .x) (a .n) e (reached ys (a .s) (a .list .now)))
 

@@ -3,7 +3,7 @@ use mathlib.Core.Path.{sym, _∙_}
 use Prim.Native.Nat.{_<_, _≤_}
 use native.Mathlib.Omega.{arith}
 use lib.ListN.{getD}
-use Rattle.book.specs.Image.{held}
+use Rattle.book.specs.Image.{low-program}
 use Rattle.book.proofs.Held.{elements-held}
 use Rattle.engine_emit.proofs.Steps.{next-low, next-high, next-none}
 use borrow.Author.Needs.{needs}
@@ -31,7 +31,7 @@ cast-result c = search needs
 returns : tie.Need-returns
 returns c =
     let a = c .before .before .before .before .before .before .args in
-    let B = held (a .image .now) in
+    let B = low-program (a .image .now) in
     let ys = a .picks .now in
     let i = getD (a .used .now) 0 0 in
     let e = elements-held _ _ (c .before .before .before .before .elements .ensures) .0 in
@@ -41,7 +41,7 @@ returns c =
 returns-2 : tie.Need-returns-2
 returns-2 c =
     let a = c .before .before .before .before .before .before .args in
-    let B = held (a .image .now) in
+    let B = low-program (a .image .now) in
     let ys = a .picks .now in
     let i = getD (a .used .now) 0 0 in
     let e = elements-held _ _ (c .before .before .before .before .elements .ensures) .0 in
@@ -51,7 +51,7 @@ returns-2 c =
 returns-3 : tie.Need-returns-3
 returns-3 c =
     let a = c .before .before .before .before .args in
-    let B = held (a .image .now) in
+    let B = low-program (a .image .now) in
     let e = elements-held _ _ (c .before .before .elements .ensures) .0 in
     e ∙ sym (next-none (B .E) (a .picks .now) (getD (a .used .now) 0 0) (c .if1 .left))
 

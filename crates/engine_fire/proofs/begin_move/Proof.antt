@@ -1,5 +1,4 @@
 -- `begin_move` meets its contract.
-use native.Mathlib.Omega.{arith}
 use borrow.Author.Needs.{needs}
 use Rattle.engine_fire.proofs.begin_move.Statement.{statement}
 use Rattle.engine_fire.proofs.begin_move.Tie as tie

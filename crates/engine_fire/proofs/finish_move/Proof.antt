@@ -1,14 +1,14 @@
 -- `finish_move` meets its contract.
 use mathlib.Core.Path.{refl, sym, subst}
 use borrow.Author.Needs.{needs}
-use Rattle.book.specs.Image.{held}
+use Rattle.book.specs.Image.{low-program}
 use Rattle.engine.specs.Rule.{Walked}
 use Rattle.engine.specs.Move.{settle}
-use Rattle.engine_walk.proofs.Steps.{outcome-going, outcome-met}
-use Rattle.engine_fire.specs.Tables.{tables}
+use Rattle.engine_walk.proofs.Steps.{outcome-walking, outcome-refused}
 use Rattle.engine_fire.specs.Close.{answer-at, MoveFinished}
 use Rattle.engine_fire.proofs.finish_move.Statement.{statement}
 use Rattle.engine_fire.proofs.finish_move.Tie as tie
+use Rattle.engine.specs.Tables.{tables}
 
 cast-t10 : tie.Need-cast-t10
 cast-t10 c = search needs
@@ -18,8 +18,8 @@ unfolding settle
 returns c =
     let a = c .before .before .before .before .before .before .args in
     let t = tables (a .contents .now) (a .readers .now) (a .writers .now) in
-    subst (λ (w : Walked). MoveFinished (held (a .image .now)) (a .bit) (a .at) w t (answer-at (a .s .refused) (a .at) (a .s .node)) t)
-    (sym (outcome-met (a .s) (a .list .now) (c .before .if1 .taken)))
+    subst (λ (w : Walked). MoveFinished (low-program (a .image .now)) (a .bit) (a .at) w t (answer-at (a .s .refused) (a .at) (a .s .node)) t)
+    (sym (outcome-refused (a .s) (a .list .now) (c .before .if1 .taken)))
     (record { answer = λ ls. refl; contents = λ ls. refl; readers = λ ls. refl; writers = λ ls. refl })
 
 settle-listed-requires : tie.Need-settle-listed-requires
@@ -39,8 +39,8 @@ returns-2 c =
     let a = c .before .before .before .before .before .before .before .before .before .before .before .before .before .before .before .args in
     let f = c .before .before .before .before .before .before .settle-listed in
     subst
-    (λ (w : Walked). MoveFinished (held (a .image .now)) (a .bit) (a .at) w (tables (a .contents .now) (a .readers .now) (a .writers .now)) (f .result) (tables (f .last .1 .0) (f .last .1 .1 .0) (f .last .1 .1 .1 .0)))
-    (sym (outcome-going (a .s) (a .list .now) (c .before .before .before .before .before .before .before .before .before .before .if1 .left)))
+    (λ (w : Walked). MoveFinished (low-program (a .image .now)) (a .bit) (a .at) w (tables (a .contents .now) (a .readers .now) (a .writers .now)) (f .result) (tables (f .last .1 .0) (f .last .1 .1 .0) (f .last .1 .1 .1 .0)))
+    (sym (outcome-walking (a .s) (a .list .now) (c .before .before .before .before .before .before .before .before .before .before .if1 .left)))
     (f .ensures (a .s .label))
 
 pub finish-move-spec : {M : Type 1} → statement M

@@ -4,7 +4,7 @@ use mathlib.Core.List.{List}
 use Prim.Native.Nat.{ℕ, min}
 use lib.ListN.{length}
 use Rattle.book.specs.Book.{L}
-use Rattle.book.specs.Image.{held}
+use Rattle.book.specs.Image.{low-program}
 use Rattle.engine_instruction.specs.Code.{items}
 use Rattle.engine_term.specs.Marks.{marked}
 use Rattle.engine_term.proofs.Marking.{marked-on}
@@ -33,7 +33,7 @@ same-length-3 c = search needs
 returns : tie.Need-returns
 returns c =
     let a = c .before .before .before .before .before .before .before .before .before .before .before .before .before .before .before .before .before .before .before .before .before .before .before .before .args in
-    let B = held (a .image .now) in
+    let B = low-program (a .image .now) in
     let is = items (a .list .now) (a .len) in
     let k = c .before .before .before .before .before .before .before .before .before .before .before .before .before .before .before .before .clear-released in
     let r = c .before .before .before .before .before .before .put-values in (

@@ -7,7 +7,7 @@ use lib.Dec.{ltb}
 use lib.ListN.{length, getD, drop, set}
 use Rattle.text.specs.Words.{if_then_else_}
 use Rattle.book.specs.Book.{L}
-use Rattle.book.specs.Image.{held}
+use Rattle.book.specs.Image.{low-program}
 use Rattle.book_parts.specs.Part.{part-of}
 use Rattle.book_parts.proofs.Parts.{part-starts}
 use Rattle.engine.specs.declared.Instruction.{Instruction}
@@ -25,10 +25,10 @@ use Rattle.engine_fire.proofs.put_values.Tie as tie
 
 abbrev Inv-loop : tie.InvT-loop
 Inv-loop image contents₀ readers₀ writers₀ list len bit n p part₀ j₀ contents readers writers part j =
-    (puts (L (held image)) (drop j (items list len)) contents ≡ puts (L (held image)) (items list len) contents₀)
-    × (marked bit (put-reads (held image .P) (L (held image)) (drop j (items list len)) contents) readers ≡ marked bit (put-reads (held image .P) (L (held image)) (items list len) contents₀) readers₀)
-    × (put-marks bit (min (L (held image)) (length contents₀)) (drop j (items list len)) writers ≡ put-marks bit (min (L (held image)) (length contents₀)) (items list len) writers₀)
-    × (length contents ≡ length contents₀) × (length readers ≡ length readers₀) × (length writers ≡ length writers₀) × Whole (held image) part
+    (puts (L (low-program image)) (drop j (items list len)) contents ≡ puts (L (low-program image)) (items list len) contents₀)
+    × (marked bit (put-reads (low-program image .P) (L (low-program image)) (drop j (items list len)) contents) readers ≡ marked bit (put-reads (low-program image .P) (L (low-program image)) (items list len) contents₀) readers₀)
+    × (put-marks bit (min (L (low-program image)) (length contents₀)) (drop j (items list len)) writers ≡ put-marks bit (min (L (low-program image)) (length contents₀)) (items list len) writers₀)
+    × (length contents ≡ length contents₀) × (length readers ≡ length readers₀) × (length writers ≡ length writers₀) × Whole (low-program image) part
 
 abbrev μ-loop : tie.MeasureT-loop
 μ-loop image contents₀ readers₀ writers₀ list len bit n p part₀ j₀ contents readers writers part j = n - j
@@ -40,7 +40,7 @@ permanent-requires : tie.Need-permanent-requires Inv-loop μ-loop
 permanent-requires c κs = search needs
 
 loop-holds : tie.Need-loop-holds Inv-loop μ-loop
-loop-holds c = (refl, refl, refl, refl, refl, refl, none-held (held (c .before .before .before .before .before .before .args .image .now)))
+loop-holds c = (refl, refl, refl, refl, refl, refl, none-held (low-program (c .before .before .before .before .before .before .args .image .now)))
 
 mul-decode : tie.Need-mul-decode Inv-loop μ-loop
 mul-decode c = search needs
@@ -68,7 +68,7 @@ mark-put-requires c κs = search needs
 
 put-in-part-requires : tie.Need-put-in-part-requires Inv-loop μ-loop
 put-in-part-requires c κs =
-    let B = held (c .before .before .before .before .before .before .before .before .before .before .before .before .before .before .before .before .before .before .before .before .args .image .now) in
+    let B = low-program (c .before .before .before .before .before .before .before .before .before .before .before .before .before .before .before .before .before .before .before .before .args .image .now) in
     let at = c .before .before .before .before .before .before .before .before .before .own-location .result in
     let h : c .before .before .before .before .before .before .before .part-at .result ≡ part-of B at = c .before .before .before .before .before .before .before .part-at .ensures ∙ next-held B (c .before .before .before .before .before .before .before .before .before .before .before .before .before .loop .part) at (c .before .before .before .before .before .before .before .before .before .before .before .before .before .loop .inv .6) in
     rw h (part-starts B at .0)
@@ -83,7 +83,7 @@ loop-again : tie.Need-loop-again Inv-loop μ-loop
 unfolding puts put-marks put-reads
 loop-again c =
     let a = c .before .before .before .before .before .before .before .before .before .before .before .before .before .before .before .before .before .before .before .before .before .before .before .before .before .args in
-    let B = held (a .image .now) in
+    let B = low-program (a .image .now) in
     let n = c .before .before .before .before .before .before .before .before .before .before .before .before .before .before .before .before .before .before .before .before .smaller in
     let l = c .before .before .before .before .before .before .before .before .before .before .before .before .before .before .before .before .before .before .loop in
     let is = items (a .list .now) (a .len) in
@@ -128,10 +128,10 @@ returns c =
     let n = c .before .before .before .smaller in
     let l = c .before .loop in
     let d = items-end (a .list .now) (a .len) (n .result) (n .ensures) (l .j) (c .loop-test .left) in (
-      sym (ap (λ (is : List Instruction). puts (L (held (a .image .now))) is (l .contents)) d) ∙ l .inv .0,
+      sym (ap (λ (is : List Instruction). puts (L (low-program (a .image .now))) is (l .contents)) d) ∙ l .inv .0,
       (
-        sym (ap (λ (is : List Instruction). marked (a .bit) (put-reads (held (a .image .now) .P) (L (held (a .image .now))) is (l .contents)) (l .readers)) d) ∙ l .inv .1,
-        sym (ap (λ (is : List Instruction). put-marks (a .bit) (min (L (held (a .image .now))) (length (a .contents .now))) is (l .writers)) d) ∙ l .inv .2,
+        sym (ap (λ (is : List Instruction). marked (a .bit) (put-reads (low-program (a .image .now) .P) (L (low-program (a .image .now))) is (l .contents)) (l .readers)) d) ∙ l .inv .1,
+        sym (ap (λ (is : List Instruction). put-marks (a .bit) (min (L (low-program (a .image .now))) (length (a .contents .now))) is (l .writers)) d) ∙ l .inv .2,
       ),
     )
 

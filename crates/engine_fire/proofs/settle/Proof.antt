@@ -5,12 +5,12 @@ use native.Mathlib.Omega.{arith}
 use borrow.Author.Tests.{ltb-true, ltb-false}
 use borrow.Author.Needs.{needs}
 use Rattle.book.specs.Book.{L}
-use Rattle.book.specs.Image.{held}
+use Rattle.book.specs.Image.{low-program}
 use Rattle.book_parts.proofs.Places.{locations-fit}
-use Rattle.engine_fire.specs.Tables.{tables}
-use Rattle.engine_fire.proofs.Judged.{clash-settled, fire-settled, clash-at, clash-none}
+use Rattle.engine_fire.proofs.Outcomes.{clash-settled, fire-settled, clash-at, clash-none}
 use Rattle.engine_fire.proofs.settle.Statement.{statement}
 use Rattle.engine_fire.proofs.settle.Tie as tie
+use Rattle.engine.specs.Tables.{tables}
 
 least-clash-requires : tie.Need-least-clash-requires
 least-clash-requires c κs = search needs
@@ -26,8 +26,8 @@ returns c =
     let a = c .before .before .before .before .before .before .before .before .args in
     let m = a .image .now in
     let r = c .before .before .least-clash in
-    let high : L (held m) ≤ 4294967295 = omega (arith, locations-fit m) in
-    let h = ltb-true (r .result) (L (held m)) (sym (c .before .is-location .ensures) ∙ c .if1 .taken) in
+    let high : L (low-program m) ≤ 4294967295 = omega (arith, locations-fit m) in
+    let h = ltb-true (r .result) (L (low-program m)) (sym (c .before .is-location .ensures) ∙ c .if1 .taken) in
     clash-settled m (a .list .now) (a .len) (a .bit) (tables (a .contents .now) (a .readers .now) (a .writers .now)) (r .result)
     (clash-at m (a .contents .now) (a .list .now) (a .len) 4294967295 high (r .result) (r .ensures) h)
 
@@ -50,8 +50,8 @@ returns-2 c =
     let m = a .image .now in
     let r = s .before .before .least-clash in
     let f = c .before .before .before .before .before .before .fire in
-    let high : L (held m) ≤ 4294967295 = omega (arith, locations-fit m) in
-    let h = ltb-false (r .result) (L (held m)) (sym (s .before .is-location .ensures) ∙ s .if1 .left) in
+    let high : L (low-program m) ≤ 4294967295 = omega (arith, locations-fit m) in
+    let h = ltb-false (r .result) (L (low-program m)) (sym (s .before .is-location .ensures) ∙ s .if1 .left) in
     let e = clash-none m (a .contents .now) (a .list .now) (a .len) 4294967295 high (r .result) (r .ensures) h in
     fire-settled m (a .list .now) (a .len) (a .bit) (tables (a .contents .now) (a .readers .now) (a .writers .now)) e (tables (f .last .1 .0) (f .last .1 .1 .0) (f .last .1 .1 .1 .0))
     (f .ensures .0 e) (f .ensures .1 .0) (f .ensures .1 .1)

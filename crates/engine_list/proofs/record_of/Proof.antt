@@ -1,7 +1,4 @@
 -- `record_of` meets its contract.
-use mathlib.Core.Path.{ap}
-use Rattle.engine.specs.declared.Record.{Record}
-use Rattle.engine.specs.declared.Instruction.{Instruction}
 use borrow.Author.Needs.{needs}
 use Rattle.engine_list.proofs.record_of.Statement.{statement}
 use Rattle.engine_list.proofs.record_of.Tie as tie

@@ -5,7 +5,7 @@ use lib.ListN.{length, getD, length-set}
 use borrow.Author.Tests.{lt-ltb, le-ltb}
 use Rattle.engine.specs.Reader.{value-in, locations-read}
 use Rattle.engine.specs.Rule.{lowest}
-use Rattle.book.specs.Image.{held}
+use Rattle.book.specs.Image.{low-program}
 use Rattle.engine_term.specs.Marks.{marked}
 use Rattle.engine_reads.proofs.Labels.{lowest-stop, lowest-pass, lowest-end, runs-lowest}
 use Rattle.book.proofs.Held.{elements-held}
@@ -48,7 +48,7 @@ returns c =
     let l = c .before .before .before .before .before .before .before .loop in
     let h = c .before .before .before .before .before .before .loop-test .taken in
     let q = lowest-stop (a .contents .now) e (l .x) h (sym (c .before .fetch .ensures) ∙ c .if1 .taken) in
-    runs-lowest (held (a .image .now)) (a .contents .now) (a .bit) (a .from) e (l .x) _ _ (elements-held _ _ (c .before .before .before .before .before .before .before .before .elements .ensures) .0) (rw (lt-ltb (l .x) e h) (sym (q .0) ∙ l .inv .1)) (c .before .before .before .before .mark .ensures ∙ (rw (q .1) at (l .inv .2)))
+    runs-lowest (low-program (a .image .now)) (a .contents .now) (a .bit) (a .from) e (l .x) _ _ (elements-held _ _ (c .before .before .before .before .before .before .before .before .elements .ensures) .0) (rw (lt-ltb (l .x) e h) (sym (q .0) ∙ l .inv .1)) (c .before .before .before .before .mark .ensures ∙ (rw (q .1) at (l .inv .2)))
 
 add-x : tie.Need-add-x Inv-loop μ-loop
 add-x c = search needs
@@ -76,7 +76,7 @@ returns-2 c =
     let l = c .before .loop in
     let h = c .loop-test .left in
     let q = lowest-end (a .contents .now) e (l .x) h in
-    runs-lowest (held (a .image .now)) (a .contents .now) (a .bit) (a .from) e (l .x) _ _ (elements-held _ _ (c .before .before .elements .ensures) .0) (rw (le-ltb (l .x) e h) (sym (q .0) ∙ l .inv .1)) (rw (q .1) at (l .inv .2))
+    runs-lowest (low-program (a .image .now)) (a .contents .now) (a .bit) (a .from) e (l .x) _ _ (elements-held _ _ (c .before .before .elements .ensures) .0) (rw (le-ltb (l .x) e h) (sym (q .0) ∙ l .inv .1)) (rw (q .1) at (l .inv .2))
 
 pub lowest-label-spec : {M : Type 1} → statement M
 lowest-label-spec =

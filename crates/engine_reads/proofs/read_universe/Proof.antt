@@ -1,7 +1,7 @@
 -- `read_universe` meets its contract.
 use native.Mathlib.Omega.{arith}
 use Prim.Native.Nat.{_<_, _≤_}
-use Rattle.book.specs.Image.{held}
+use Rattle.book.specs.Image.{low-program}
 use Rattle.book.proofs.Held.{elements-held}
 use Rattle.engine_term.proofs.Marking.{runs-as, runs-done}
 use Rattle.engine.proofs.Picks.{universe-low, universe-high}
@@ -21,14 +21,14 @@ same-length c = search needs
 returns : tie.Need-returns
 returns c =
     let a = c .before .before .before .before .before .before .before .before .args in
-    let B = held (a .image .now) in
+    let B = low-program (a .image .now) in
     let h : a .x < B .E = omega (arith, elements-held _ _ (c .before .before .before .before .before .elements .ensures) .0, c .before .before .before .before .if1 .taken) in
     runs-as B (a .contents .now) (a .bit) _ _ (c .before .before .read .result) _ _ (universe-low B (a .u) (a .x) h) (c .before .before .read .ensures)
 
 returns-2 : tie.Need-returns-2
 returns-2 c =
     let a = c .before .before .before .before .args in
-    let B = held (a .image .now) in
+    let B = low-program (a .image .now) in
     let h : B .E ≤ a .x = omega (arith, elements-held _ _ (c .before .elements .ensures) .0, c .if1 .left) in
     runs-as B (a .contents .now) (a .bit) _ _ 1 _ _ (universe-high B (a .u) (a .x) h) (runs-done B (a .contents .now) (a .bit) 1 _)
 

@@ -5,7 +5,7 @@ use native.Mathlib.Omega.{arith}
 use Rattle.book.proofs.Held.{elements-held, functions-held}
 use borrow.Author.Needs.{needs}
 use lib.ListN.{length}
-use Rattle.book.specs.Image.{held}
+use Rattle.book.specs.Image.{low-program}
 use Rattle.engine_term.proofs.Marking.{length-marked}
 use Rattle.book_parts.proofs.Places.{part-ends, part-fits}
 use Rattle.engine_release.proofs.Runs.{Upto, upto-start, upto-next, upto-end}
@@ -14,7 +14,7 @@ use Rattle.engine_release.proofs.clear_label.Tie as tie
 
 abbrev Inv-loop : tie.InvT-loop
 Inv-loop image contents₀ readers₀ writers₀ x bit e p n first₀ g₀ contents readers writers first g =
-    Upto (held image) x bit contents₀ writers₀ readers₀ first g contents writers readers × (g ≤ n)
+    Upto (low-program image) x bit contents₀ writers₀ readers₀ first g contents writers readers × (g ≤ n)
 
 abbrev μ-loop : tie.MeasureT-loop
 μ-loop image contents₀ readers₀ writers₀ x bit e p n first₀ g₀ contents readers writers first g = n - g
@@ -29,7 +29,7 @@ functions-requires : tie.Need-functions-requires Inv-loop μ-loop
 functions-requires c κs = search needs
 
 loop-holds : tie.Need-loop-holds Inv-loop μ-loop
-loop-holds c = let a = c .before .before .before .before .before .before .args in (upto-start (held (a .image .now)) (a .x) (a .bit) (a .contents .now) (a .writers .now) (a .readers .now), omega arith)
+loop-holds c = let a = c .before .before .before .before .before .before .args in (upto-start (low-program (a .image .now)) (a .x) (a .bit) (a .contents .now) (a .writers .now) (a .readers .now), omega arith)
 
 part-from-requires : tie.Need-part-from-requires Inv-loop μ-loop
 part-from-requires c κs = search needs
@@ -39,13 +39,13 @@ clear-function-requires c κs =
     let m = c .before .before .before .before .before .before .before .before .before .before .before .before .before .args .image .now in
     let l = c .before .before .before .before .before .before .loop in
     let own = c .before .before .before .before .part-from in
-    omega (arith, part-ends (held m) (l .g) (l .first) (own .result) (own .ensures))
+    omega (arith, part-ends (low-program m) (l .g) (l .first) (own .result) (own .ensures))
 
 cast-first : tie.Need-cast-first Inv-loop μ-loop
 cast-first c =
     let m = c .before .before .before .before .before .before .before .before .before .before .before .before .before .before .before .before .before .before .before .before .before .args .image .now in
     let l = c .before .before .before .before .before .before .before .before .before .before .before .before .before .before .loop in
-    let more : l .g < length (held m .functions) = omega (arith, c .before .before .before .before .before .before .before .before .before .before .before .before .before .loop-test .taken, functions-held _ _ (c .before .before .before .before .before .before .before .before .before .before .before .before .before .before .before .functions .ensures) .0) in
+    let more : l .g < length (low-program m .functions) = omega (arith, c .before .before .before .before .before .before .before .before .before .before .before .before .before .loop-test .taken, functions-held _ _ (c .before .before .before .before .before .before .before .before .before .before .before .before .before .before .before .functions .ensures) .0) in
     record { fits = part-fits m (l .g) (l .first) _ (c .before .before .before .before .before .before .before .before .before .before .before .before .part-from .ensures) (l .inv .0 .at) more }
 
 add-g : tie.Need-add-g Inv-loop μ-loop
@@ -63,8 +63,8 @@ loop-again c =
     let run = c .before .before .before .before .before .before .before .clear-function in
     let elements = elements-held _ _ (c .before .before .before .before .before .before .before .before .before .before .before .before .before .before .before .before .before .elements .ensures) .0 in
     let permanent = c .before .before .before .before .before .before .before .before .before .before .before .before .before .before .before .before .permanent .ensures in
-    let more : l .g < length (held m .functions) = omega (arith, c .before .before .before .before .before .before .before .before .before .before .before .before .before .loop-test .taken, functions-held _ _ (c .before .before .before .before .before .before .before .before .before .before .before .before .before .before .before .functions .ensures) .0) in (
-      upto-next (held m) (a .x) (a .bit) (a .contents .now) (a .writers .now) (a .readers .now) (l .first) (l .g) (l .contents) (l .writers) (l .readers) (l .inv .0) more (own .result) (run .last .0) (run .last .1 .1 .0) (run .last .1 .0) (own .ensures) (run .ensures .0 ∙ rw elements) (run .ensures .1 .0 ∙ rw elements) (run .ensures .1 .1 ∙ rw (elements, permanent)),
+    let more : l .g < length (low-program m .functions) = omega (arith, c .before .before .before .before .before .before .before .before .before .before .before .before .before .loop-test .taken, functions-held _ _ (c .before .before .before .before .before .before .before .before .before .before .before .before .before .before .before .functions .ensures) .0) in (
+      upto-next (low-program m) (a .x) (a .bit) (a .contents .now) (a .writers .now) (a .readers .now) (l .first) (l .g) (l .contents) (l .writers) (l .readers) (l .inv .0) more (own .result) (run .last .0) (run .last .1 .1 .0) (run .last .1 .0) (own .ensures) (run .ensures .0 ∙ rw elements) (run .ensures .1 .0 ∙ rw elements) (run .ensures .1 .1 ∙ rw (elements, permanent)),
       omega (arith, c .before .before .before .before .before .before .before .before .before .before .before .before .before .loop-test .taken),
     )
 
@@ -81,7 +81,7 @@ returns : tie.Need-returns Inv-loop μ-loop
 returns c =
     let a = c .before .before .before .before .before .before .before .before .args in
     let l = c .before .loop in
-    let end = upto-end (held (a .image .now)) (a .x) (a .bit) (a .contents .now) (a .writers .now) (a .readers .now) (l .first) (l .g) (l .contents) (l .writers) (l .readers) (l .inv .0)
+    let end = upto-end (low-program (a .image .now)) (a .x) (a .bit) (a .contents .now) (a .writers .now) (a .readers .now) (l .first) (l .g) (l .contents) (l .writers) (l .readers) (l .inv .0)
     (omega (arith, c .loop-test .left, functions-held _ _ (c .before .before .functions .ensures) .0)) in
     (end .0, (end .1, end .2))
 

@@ -4,7 +4,7 @@ use mathlib.Core.List.{List}
 use Prim.Native.Nat.{ℕ, _+_, _-_}
 use borrow.Author.Needs.{needs}
 use lib.ListN.{length, getD, drop}
-use Rattle.book.specs.Image.{held}
+use Rattle.book.specs.Image.{low-program}
 use Rattle.engine.specs.declared.Instruction.{Instruction}
 use Rattle.engine_term.specs.Marks.{marked}
 use Rattle.engine_term.proofs.Marking.{marked-append}
@@ -16,9 +16,9 @@ use Rattle.engine_release.proofs.clear_released.Tie as tie
 
 abbrev Inv-loop : tie.InvT-loop
 Inv-loop image contents₀ readers₀ writers₀ list len bit n j₀ contents readers writers j =
-    (all-cleared (held image) (drop j (items list len)) contents ≡ all-cleared (held image) (items list len) contents₀)
-    × (all-marks bit (held image) (drop j (items list len)) contents writers ≡ all-marks bit (held image) (items list len) contents₀ writers₀)
-    × (marked bit (all-reads (held image) (drop j (items list len)) contents) readers ≡ marked bit (all-reads (held image) (items list len) contents₀) readers₀)
+    (all-cleared (low-program image) (drop j (items list len)) contents ≡ all-cleared (low-program image) (items list len) contents₀)
+    × (all-marks bit (low-program image) (drop j (items list len)) contents writers ≡ all-marks bit (low-program image) (items list len) contents₀ writers₀)
+    × (marked bit (all-reads (low-program image) (drop j (items list len)) contents) readers ≡ marked bit (all-reads (low-program image) (items list len) contents₀) readers₀)
     × (length contents ≡ length contents₀) × (length readers ≡ length readers₀) × (length writers ≡ length writers₀)
 
 abbrev μ-loop : tie.MeasureT-loop
@@ -52,7 +52,7 @@ loop-again : tie.Need-loop-again Inv-loop μ-loop
 unfolding all-cleared all-marks all-reads
 loop-again c =
     let a = c .before .before .before .before .before .before .before .before .before .before .before .before .before .before .before .before .before .before .before .args in
-    let B = held (a .image .now) in
+    let B = low-program (a .image .now) in
     let n = c .before .before .before .before .before .before .before .before .before .before .before .before .before .before .smaller in
     let l = c .before .before .before .before .before .before .before .before .before .before .before .before .before .loop in
     let step = c .before .before .before .before .before .before .clear-instruction in
@@ -87,7 +87,7 @@ returns : tie.Need-returns Inv-loop μ-loop
 unfolding all-cleared all-marks all-reads marked
 returns c =
     let a = c .before .before .before .before .before .before .before .args in
-    let B = held (a .image .now) in
+    let B = low-program (a .image .now) in
     let n = c .before .before .smaller in
     let l = c .before .loop in
     let d = items-end (a .list .now) (a .len) (n .result) (n .ensures) (l .j) (c .loop-test .left) in (

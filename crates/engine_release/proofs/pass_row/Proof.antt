@@ -1,7 +1,7 @@
 -- `pass_row` meets its contract.
 use native.Mathlib.Omega.{arith}
 use borrow.Author.Needs.{needs}
-use Rattle.engine_release.proofs.Row.{row-free}
+use Rattle.engine_release.proofs.Row.{row-release}
 use Rattle.engine_release.proofs.pass_row.Statement.{statement}
 use Rattle.engine_release.proofs.pass_row.Tie as tie
 
@@ -28,7 +28,7 @@ returns-3 c =
     let a = c .before .before .before .before .before .args in
     let col = c .before .before .before .before .column-of .ensures in (
       omega arith,
-      λ k h m. row-free (a .e) (a .x) (a .i) k h (omega (arith, col, c .before .before .before .if1 .left)) (λ q. c .before .if2 .left (omega (arith, c .before .before .row-of .ensures, q))) (λ q. omega (arith, col, c .if3 .taken)),
+      λ k h m. row-release (a .e) (a .x) (a .i) k h (omega (arith, col, c .before .before .before .if1 .left)) (λ q. c .before .if2 .left (omega (arith, c .before .before .row-of .ensures, q))) (λ q. omega (arith, col, c .if3 .taken)),
     )
 
 sub-result-2 : tie.Need-sub-result-2
@@ -42,7 +42,7 @@ returns-4 c =
     let a = c .before .before .before .before .before .before .args in
     let col = c .before .before .before .before .before .column-of .ensures in (
       omega arith,
-      λ k h m. row-free (a .e) (a .x) (a .i) k h (omega (arith, col, c .before .before .before .before .if1 .left)) (λ q. c .before .before .if2 .left (omega (arith, c .before .before .before .row-of .ensures, q))) (λ q. omega (arith, col, c .if4 .taken, c .before .before .before .before .if1 .left)),
+      λ k h m. row-release (a .e) (a .x) (a .i) k h (omega (arith, col, c .before .before .before .before .if1 .left)) (λ q. c .before .before .if2 .left (omega (arith, c .before .before .before .row-of .ensures, q))) (λ q. omega (arith, col, c .if4 .taken, c .before .before .before .before .if1 .left)),
     )
 
 add-result-3 : tie.Need-add-result-3
@@ -53,7 +53,7 @@ returns-5 c =
     let a = c .before .before .before .before .before .before .args in
     let col = c .before .before .before .before .before .column-of .ensures in (
       omega arith,
-      λ k h m. row-free (a .e) (a .x) (a .i) k h (omega (arith, col, c .if4 .left, c .before .if3 .left)) (λ q. c .before .before .if2 .left (omega (arith, c .before .before .before .row-of .ensures, q))) (λ q. omega (arith, col, c .before .if3 .left)),
+      λ k h m. row-release (a .e) (a .x) (a .i) k h (omega (arith, col, c .if4 .left, c .before .if3 .left)) (λ q. c .before .before .if2 .left (omega (arith, c .before .before .before .row-of .ensures, q))) (λ q. omega (arith, col, c .before .if3 .left)),
     )
 
 pub pass-row-spec : {M : Type 1} → statement M

@@ -1,6 +1,6 @@
 -- `check_call` meets its contract.
 use borrow.Author.Needs.{needs}
-use Rattle.book.specs.Image.{word, held}
+use Rattle.book.specs.Image.{word, low-program}
 use Rattle.engine.specs.Move.{input}
 use Rattle.engine_step.proofs.Checks.{agent-refuses, picks-refuse, two-refuses, eight-last}
 use Rattle.engine_step.proofs.check_call.Statement.{statement}
@@ -13,7 +13,7 @@ returns : tie.Need-returns
 returns c =
     let a = c .before .before .before .before .before .args in
     let nine = c .before .before .check-agent in
-    agent-refuses (held (a .image .now)) (word (a .image .now) 6) (a .contents .now) (input (a .agent) (a .picks .now)) (a .lent) (nine .result) (nine .ensures) (c .if1 .taken)
+    agent-refuses (low-program (a .image .now)) (word (a .image .now) 6) (a .contents .now) (input (a .agent) (a .picks .now)) (a .lent) (nine .result) (nine .ensures) (c .if1 .taken)
 
 check-picks-requires : tie.Need-check-picks-requires
 check-picks-requires c κs = search needs
@@ -23,7 +23,7 @@ returns-2 c =
     let a = c .before .before .before .before .before .before .before .before .args in
     let nine = c .before .before .before .before .before .check-agent in
     let other = c .before .before .check-picks in
-    picks-refuse (held (a .image .now)) (word (a .image .now) 6) (a .contents .now) (input (a .agent) (a .picks .now)) (a .lent) (nine .result) (nine .ensures) (c .before .before .before .if1 .left)
+    picks-refuse (low-program (a .image .now)) (word (a .image .now) 6) (a .contents .now) (input (a .agent) (a .picks .now)) (a .lent) (nine .result) (nine .ensures) (c .before .before .before .if1 .left)
     (other .result) (other .ensures) (c .if2 .taken)
 
 check-lent-requires : tie.Need-check-lent-requires
@@ -35,7 +35,7 @@ returns-3 c =
     let nine = c .before .before .before .before .before .before .before .before .check-agent in
     let other = c .before .before .before .before .before .check-picks in
     let two = c .before .before .check-lent in
-    two-refuses (held (a .image .now)) (word (a .image .now) 6) (a .contents .now) (input (a .agent) (a .picks .now)) (a .lent) (nine .result) (nine .ensures) (c .before .before .before .before .before .before .if1 .left)
+    two-refuses (low-program (a .image .now)) (word (a .image .now) 6) (a .contents .now) (input (a .agent) (a .picks .now)) (a .lent) (nine .result) (nine .ensures) (c .before .before .before .before .before .before .if1 .left)
     (other .result) (other .ensures) (c .before .before .before .if2 .left) (two .result) (two .ensures) (c .if3 .taken)
 
 check-contents-requires : tie.Need-check-contents-requires
@@ -47,7 +47,7 @@ returns-4 c =
     let nine = c .before .before .before .before .before .before .before .before .before .check-agent in
     let other = c .before .before .before .before .before .before .check-picks in
     let two = c .before .before .before .check-lent in
-    eight-last (held (a .image .now)) (word (a .image .now) 6) (a .contents .now) (input (a .agent) (a .picks .now)) (a .lent) (nine .result) (nine .ensures) (c .before .before .before .before .before .before .before .if1 .left)
+    eight-last (low-program (a .image .now)) (word (a .image .now) 6) (a .contents .now) (input (a .agent) (a .picks .now)) (a .lent) (nine .result) (nine .ensures) (c .before .before .before .before .before .before .before .if1 .left)
     (other .result) (other .ensures) (c .before .before .before .before .if2 .left) (two .result) (two .ensures) (c .before .if3 .left) (c .check-contents .result) (c .check-contents .ensures)
 
 pub check-call-spec : {M : Type 1} → statement M

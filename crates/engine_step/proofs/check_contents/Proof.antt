@@ -6,7 +6,7 @@ use native.Mathlib.Omega.{arith}
 use lib.ListN.{length, take}
 use lib.Seq.{length-take-le}
 use Rattle.text.specs.Words.{answer-of}
-use Rattle.book.specs.Image.{word, held}
+use Rattle.book.specs.Image.{word, low-program}
 use Rattle.engine.specs.Single.{check-contents}
 use Rattle.engine_step.proofs.Checks.{value-bad, values-fine, taken}
 use borrow.Author.Needs.{needs}
@@ -31,28 +31,28 @@ bad-value-requires c κs = search needs
 enum-known-found : tie.Need-enum-known-found
 enum-known-found c = search needs
 
-answer-requires : tie.Need-answer-requires
-answer-requires c κs = search needs
+answer-at-requires : tie.Need-answer-at-requires
+answer-at-requires c κs = search needs
 
 enum-told : tie.Need-enum-told
 enum-told c = search needs
 
-answer-requires-2 : tie.Need-answer-requires-2
-answer-requires-2 c κs = search needs
+answer-at-requires-2 : tie.Need-answer-at-requires-2
+answer-at-requires-2 c κs = search needs
 
 returns : tie.Need-returns
 returns c = let a = c .before .before .before .before .before .before .before .before .before .args in
-    let B = held (a .image .now) in
+    let B = low-program (a .image .now) in
     let n = c .before .before .before .before .before .before .smaller .result in
     let e : n ≡ min (word (a .image .now) 6) (length (a .contents .now)) = omega (arith, c .before .before .before .before .before .before .smaller .ensures, c .before .before .before .before .before .before .before .locations .ensures) in
-    c .answer .ensures ∙ value-bad B (take n (a .contents .now)) _ (sym (c .before .before .before .before .bad-value .ensures) ∙ c .before .before .found .given .1) ∙ ap (λ (x : List ℕ). answer-of (check-contents B x)) (taken _ n (a .contents .now) e)
+    c .answer-at .ensures ∙ value-bad B (take n (a .contents .now)) _ (sym (c .before .before .before .before .bad-value .ensures) ∙ c .before .before .found .given .1) ∙ ap (λ (x : List ℕ). answer-of (check-contents B x)) (taken _ n (a .contents .now) e)
 
 returns-2 : tie.Need-returns-2
 returns-2 c = let a = c .before .before .before .before .before .before .before .before .args in
-    let B = held (a .image .now) in
+    let B = low-program (a .image .now) in
     let n = c .before .before .before .before .before .smaller .result in
     let e : n ≡ min (word (a .image .now) 6) (length (a .contents .now)) = omega (arith, c .before .before .before .before .before .smaller .ensures, c .before .before .before .before .before .before .locations .ensures) in
-    c .answer2 .ensures ∙ values-fine B (take n (a .contents .now)) (sym (c .before .before .before .bad-value .ensures) ∙ c .before .enum-told .given .1) ∙ ap (λ (x : List ℕ). answer-of (check-contents B x)) (taken _ n (a .contents .now) e)
+    c .answer-at2 .ensures ∙ values-fine B (take n (a .contents .now)) (sym (c .before .before .before .bad-value .ensures) ∙ c .before .enum-told .given .1) ∙ ap (λ (x : List ℕ). answer-of (check-contents B x)) (taken _ n (a .contents .now) e)
 
 pub check-contents-spec : {M : Type 1} → statement M
 check-contents-spec =
@@ -64,8 +64,8 @@ check-contents-spec =
     slice-aggregate-bad-value
     bad-value-requires
     enum-known-found
-    answer-requires
+    answer-at-requires
     enum-told
-    answer-requires-2
+    answer-at-requires-2
     returns
     returns-2)

@@ -1,4 +1,4 @@
--- `second_half` meets its contract.
+-- `finish_call` meets its contract.
 use Rattle.engine_step.proofs.Stages.{concluded-first}
 use mathlib.Core.Path.{refl, sym, ap, _∙_}
 use Prim.Native.Nat.{ℕ, min}

@@ -1,4 +1,6 @@
--- `order_entry::step_own_list` meets its contract: a walk of its MIR, by hand, straight through: an array of records is made, its first ones are lent to `engine_step::step`, of which the proof knows only that it meets its contract, and it is room again. Its contract says nothing of a record, so whoever calls it needs no walk.
+-- `engine_step::step_own_list` meets its contract: a walk of its MIR, by hand, straight through: an array of records is made, its first ones are lent to
+-- `engine_step::step`, of which the proof knows only that it meets its contract, and it is room again. Its contract says nothing of a record, so whoever calls
+-- it needs no walk.
 -- Assumes nothing.
 use mathlib.Core.Path.{_≡_, refl, sym, _∙_, ap, subst}
 use Prim.Native.Nat.{ℕ, _<_, _≤_, _^_, min}
@@ -54,7 +56,6 @@ use Rattle.engine.proofs.Record as T
 use Rattle.engine.proofs.Record.Laws as T′
 use Rattle.engine.specs.Move.{Input, input}
 use Rattle.engine.specs.Single.{Stepped, step-call}
-use Rattle.engine_list.specs.Written.{records-written}
 use Rattle.engine_step.proofs.Longer.{step-longer}
 use Rattle.engine_list.proofs.Records.{is-number, first-ones, room-first, hides, falls}
 use Rattle.text.proofs.smaller as smaller
@@ -74,6 +75,7 @@ use Rattle.engine_step.proofs.step_own_list.Key.{name as #engine-step·
 use Rattle.engine_step.proofs.step_own_list as alone
 use Rattle.engine_step.proofs.step_own_list.Statement as stated
 use Rattle.engine_step.proofs.step_own_list.Code as code
+use Rattle.engine_step.specs.Entry.{StepMade}
 
 abbrev stayed : Stays (alone.ended .signature .params) (alone.ended .kept)
 stayed = (stay-none-slice (0 ∷ []) tt (plain (λ _. u8)) yes, (gave-slice (1 ∷ []) tt (plain (λ _. u16)), (stay-none (λ _. usize) yes, (stay-none-slice (2 ∷ []) tt (plain (λ _. u64)) yes, (stay-none (λ _. usize) yes, tt)))))
@@ -130,7 +132,7 @@ module _ {M : Type 1} (𝓤 : URA M) (H : Heap 𝓤) (A : Atoms 𝓤) (W : Given
 
   -- what `engine_step::step` says
   abbrev Said : List Record → Answer → List ℕ → List Record → Type 0
-  Said ys r cs zs = (r ≡ step-call (xb .now) (xc .now) who (length ys) .answer) × (cs ≡ step-call (xb .now) (xc .now) who (length ys) .contents) × (zs ≡ records-written (step-call (xb .now) (xc .now) who (length ys) .instructions) ys)
+  Said ys r cs zs = StepMade (xb .now) (xc .now) who ys r cs zs
 
   exits : (ys : List Record) (r : Answer) (w : Val) → Is N.the-row r (w ∷ []) → (cs : List ℕ) (zs : List Record) → Said ys r cs zs → length ys ≡ min n 256 → length cs ≡ length (xc .now)
       → ent 𝓤 (⋆ 𝓤 H A (‵ (flft κ₀ q₀) ∷ ‵ (flft κ₁ q₁) ∷ ‵ (flft κ₂ q₂) ∷ ‵ Program ∷ ‵ Picks ∷ ‵ (finally u16 (xc .name) cs) ∷ [])) (Post w)
@@ -138,7 +140,7 @@ module _ {M : Type 1} (𝓤 : URA M) (H : Heap 𝓤) (A : Atoms 𝓤) (W : Given
       let same = ap (λ (m : ℕ). step-call (xb .now) (xc .now) who m) l ∙ step-longer (xb .now) (xc .now) who n in
       qed W (‵ (flft κ₀ q₀) ∷ ‵ (flft κ₁ q₁) ∷ ‵ (flft κ₂ q₂) ∷ ‵ Program ∷ ‵ Picks ∷ ‵ (finally u16 (xc .name) cs) ∷ []) ∵
       suffices ! _ (ends-at 𝓤 H A alone.ended stayed (alone.clauses 𝓤 H A mem run) W ((κs, qs, tt, a, vals), tt) w r (tt, (cs, (tt, (tt, (tt, tt))))) (tt, (lc, (tt, (tt, (tt, tt)))))) $
-      says ! (said .0 ∙ ap (λ (s : Stepped). s .answer) same, said .1 ∙ ap (λ (s : Stepped). s .contents) same) $
+      says ! (record { answer = said .answer ∙ ap (λ (s : Stepped). s .answer) same; contents = said .contents ∙ ap (λ (s : Stepped). s .contents) same }) $
       nothing ! $ move ! (3 ∷ 0 ∷ []) $ join ! $ move ! (2 ∷ 0 ∷ []) $ join ! $ move ! (1 ∷ 0 ∷ []) $ join ! $ frame ! $
       -- [book; picks; the last contents]
       nothing ! $ owned ! usize (Is usize) (uint-makes 𝓤 H A W w64) n _ (refl, n-fits) $ fjoin ! $ move ! (2 ∷ 0 ∷ []) $ fjoin ! $ owned ! usize (Is usize) (uint-makes 𝓤 H A W w64) k _ (refl, k-fits) $ fjoin ! $ move ! (2 ∷ 0 ∷ []) $ fjoin ! $ move ! (1 ∷ 0 ∷ []) $ fjoin ! $ frame ! $

@@ -1,6 +1,6 @@
--- `begin` meets its contract.
+-- `walk_call` meets its contract.
 use Rattle.engine_step.proofs.Stages.{begun-on}
-use Rattle.book.specs.Image.{word, held}
+use Rattle.book.specs.Image.{word, low-program}
 use Rattle.engine.specs.Move.{input}
 use lib.Seq.{length-take-le}
 use lib.ListN.{length}
@@ -37,7 +37,7 @@ returns c =
     let a = c .before .before .before .before .before .before .before .before .before .args in
     let n = c .before .before .before .before .before .smaller in
     let b = c .before .begin-move in
-    begun-on (held (a .image .now)) (a .contents .now) (input (a .agent) (a .picks .now)) (word (a .image .now) 6) (n .result) (b .last .1 .1 .1 .1 .0) (b .result) (b .last .1 .1 .0) (n .ensures ∙ ap (λ (x : ℕ). min x (length (a .contents .now))) (c .before .before .before .before .before .before .locations .ensures)) (b .kept .1 .1 .0) (b .ensures .0) (b .ensures .1) (b .ensures .2)
+    begun-on (low-program (a .image .now)) (a .contents .now) (input (a .agent) (a .picks .now)) (word (a .image .now) 6) (n .result) (b .last .1 .1 .1 .1 .0) (b .result) (b .last .1 .1 .0) (n .ensures ∙ ap (λ (x : ℕ). min x (length (a .contents .now))) (c .before .before .before .before .before .before .locations .ensures)) (b .kept .1 .1 .0) (b .ensures .0) (b .ensures .1) (b .ensures .2)
 
 pub walk-call-spec : {M : Type 1} → statement M
 walk-call-spec =

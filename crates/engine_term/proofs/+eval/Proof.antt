@@ -9,9 +9,9 @@ use Rattle.engine.specs.Term.{eval as value, negate, apply}
 use Rattle.engine.proofs.Steps.{term-zero, term-element, term-variable, term-agent, term-none, term-one, term-two, term-not, term-join, no-term-at}
 use Rattle.engine_term.specs.Held.{agent-of, value-at}
 use Rattle.book_parts.specs.StoredNodes.{stored-node}
-use Rattle.book.specs.Image.{held}
+use Rattle.book.specs.Image.{low-program}
 use Rattle.engine_term.proofs.Values.{join-kind}
-use Rattle.engine_term.proofs.Marking.{runs-done, runs-gives, runs-bind}
+use Rattle.engine_term.proofs.Marking.{runs-done, runs-value, runs-bind}
 use borrow.Author.Needs.{needs}
 use borrow.Fn.Kinds.{In}
 use borrow.Fn.PlainCycle.{Measures, is, falls, and}
@@ -43,7 +43,7 @@ eval-returns : (t : ℕ) → eval-lts.Need-returns (claims-eval t) (eval-at t) e
 unfolding value
 eval-returns t c =
     let a = c .before .before .before .args in
-    rw (term-zero (node-at (held (a .image .now))) (a .depth) (a .n) (c .if1 .taken)) (runs-done (held (a .image .now)) (a .contents .now) (a .bit) 0 (a .readers .now))
+    rw (term-zero (node-at (low-program (a .image .now))) (a .depth) (a .n) (c .if1 .taken)) (runs-done (low-program (a .image .now)) (a .contents .now) (a .bit) 0 (a .readers .now))
 
 eval-sub-less : (t : ℕ) → eval-lts.Need-sub-less (claims-eval t) (eval-at t) eval.Post
 eval-sub-less t c = search needs
@@ -98,24 +98,24 @@ unfolding value
 eval-returns-2 t c =
     let a = c .before .before .before .before .before .before .before .args in
     let x = stored-node (c .before .before .before .node .result) in
-    rw (term-element (node-at (held (a .image .now))) (a .depth) (a .n) x (c .before .before .before .before .if1 .left) (c .before .before .before .node .ensures) (c .match .keys1))
-    (runs-done (held (a .image .now)) (a .contents .now) (a .bit) (x .a) (a .readers .now))
+    rw (term-element (node-at (low-program (a .image .now))) (a .depth) (a .n) x (c .before .before .before .before .if1 .left) (c .before .before .before .node .ensures) (c .match .keys1))
+    (runs-done (low-program (a .image .now)) (a .contents .now) (a .bit) (x .a) (a .readers .now))
 
 eval-returns-3 : (t : ℕ) → eval-lts.Need-returns-3 (claims-eval t) (eval-at t) eval.Post
 unfolding value
 eval-returns-3 t c =
     let a = c .before .before .before .before .before .before .before .before .args in
     let x = stored-node (c .before .before .before .before .node .result) in
-    rw (term-variable (node-at (held (a .image .now))) (a .depth) (a .n) x (c .before .before .before .before .before .if1 .left) (c .before .before .before .before .node .ensures) (c .before .match .keys2))
-    (runs-gives (held (a .image .now)) (a .contents .now) (a .bit) _ _ (a .readers .now) (c .variable .ensures))
+    rw (term-variable (node-at (low-program (a .image .now))) (a .depth) (a .n) x (c .before .before .before .before .before .if1 .left) (c .before .before .before .before .node .ensures) (c .before .match .keys2))
+    (runs-value (low-program (a .image .now)) (a .contents .now) (a .bit) _ _ (a .readers .now) (c .variable .ensures))
 
 eval-returns-4 : (t : ℕ) → eval-lts.Need-returns-4 (claims-eval t) (eval-at t) eval.Post
 unfolding value
 eval-returns-4 t c =
     let a = c .before .before .before .before .before .before .before .before .args in
     let x = stored-node (c .before .before .before .before .node .result) in
-    rw (term-agent (node-at (held (a .image .now))) (a .depth) (a .n) x (c .before .before .before .before .before .if1 .left) (c .before .before .before .before .node .ensures) (c .before .match .keys3))
-    (runs-done (held (a .image .now)) (a .contents .now) (a .bit) (agent-of (a .scope .now)) (a .readers .now))
+    rw (term-agent (node-at (low-program (a .image .now))) (a .depth) (a .n) x (c .before .before .before .before .before .if1 .left) (c .before .before .before .before .node .ensures) (c .before .match .keys3))
+    (runs-done (low-program (a .image .now)) (a .contents .now) (a .bit) (agent-of (a .scope .now)) (a .readers .now))
 
 eval-same-length : (t : ℕ) → eval-lts.Need-same-length (claims-eval t) (eval-at t) eval.Post
 eval-same-length t c = search needs
@@ -125,7 +125,7 @@ unfolding value
 eval-returns-5 t c =
     let a = c .before .before .before .before .before .before .before .before .before .before .before .args in
     let x = stored-node (c .before .before .before .before .before .before .before .node .result) in
-    rw (term-none (node-at (held (a .image .now))) (a .depth) (a .n) x (c .before .before .before .before .before .before .before .before .if1 .left) (c .before .before .before .before .before .before .before .node .ensures) (c .before .before .before .before .match .keys4)) (c .before .before .read .ensures)
+    rw (term-none (node-at (low-program (a .image .now))) (a .depth) (a .n) x (c .before .before .before .before .before .before .before .before .if1 .left) (c .before .before .before .before .before .before .before .node .ensures) (c .before .before .before .before .match .keys4)) (c .before .before .read .ensures)
 
 eval-same-length-2 : (t : ℕ) → eval-lts.Need-same-length-2 (claims-eval t) (eval-at t) eval.Post
 eval-same-length-2 t c = search needs
@@ -136,8 +136,8 @@ eval-returns-6 t c =
     let a = c .before .before .before .before .before .before .before .before .before .before .before .before .before .before .before .args in
     let m = a .image .now in
     let x = stored-node (c .before .before .before .before .before .before .before .before .before .before .before .node .result) in
-    rw (term-one (node-at (held m)) (a .depth) (a .n) x (c .before .before .before .before .before .before .before .before .before .before .before .before .if1 .left) (c .before .before .before .before .before .before .before .before .before .before .before .node .ensures) (c .before .before .before .before .before .before .before .before .match .keys5))
-    (runs-bind (held m) (a .contents .now) (a .bit) (value-at m (a .scope .now) (a .depth - 1) (x .b)) (λ y. read (location (held m) (x .a) y 0)) _ _ _ _ _ (c .before .before .before .before .before .before .eval .ensures) (c .before .before .read2 .ensures))
+    rw (term-one (node-at (low-program m)) (a .depth) (a .n) x (c .before .before .before .before .before .before .before .before .before .before .before .before .if1 .left) (c .before .before .before .before .before .before .before .before .before .before .before .node .ensures) (c .before .before .before .before .before .before .before .before .match .keys5))
+    (runs-bind (low-program m) (a .contents .now) (a .bit) (value-at m (a .scope .now) (a .depth - 1) (x .b)) (λ y. read (location (low-program m) (x .a) y 0)) _ _ _ _ _ (c .before .before .before .before .before .before .eval .ensures) (c .before .before .read2 .ensures))
 
 eval-same-length-3 : (t : ℕ) → eval-lts.Need-same-length-3 (claims-eval t) (eval-at t) eval.Post
 eval-same-length-3 t c = search needs
@@ -150,9 +150,9 @@ eval-returns-7 t c =
     let x = stored-node (c .before .before .before .before .before .before .before .before .before .before .before .before .before .before .before .node .result) in
     let s = a .scope .now in
     let d = a .depth - 1 in
-    rw (term-two (node-at (held m)) (a .depth) (a .n) x (c .before .before .before .before .before .before .before .before .before .before .before .before .before .before .before .before .if1 .left) (c .before .before .before .before .before .before .before .before .before .before .before .before .before .before .before .node .ensures) (c .before .before .before .before .before .before .before .before .before .before .before .before .match .keys6))
-    (runs-bind (held m) (a .contents .now) (a .bit) (value-at m s d (x .b)) (λ y. value-at m s d (x .c) >>= λ z. read (location (held m) (x .a) y z)) _ _ _ _ _ (c .before .before .before .before .before .before .before .before .before .before .eval2 .ensures)
-    (runs-bind (held m) (a .contents .now) (a .bit) (value-at m s d (x .c)) (λ z. read (location (held m) (x .a) (c .before .before .before .before .before .before .before .before .before .before .eval2 .result) z)) _ _ _ _ _ (c .before .before .before .before .before .before .eval3 .ensures) (c .before .before .read3 .ensures)))
+    rw (term-two (node-at (low-program m)) (a .depth) (a .n) x (c .before .before .before .before .before .before .before .before .before .before .before .before .before .before .before .before .if1 .left) (c .before .before .before .before .before .before .before .before .before .before .before .before .before .before .before .node .ensures) (c .before .before .before .before .before .before .before .before .before .before .before .before .match .keys6))
+    (runs-bind (low-program m) (a .contents .now) (a .bit) (value-at m s d (x .b)) (λ y. value-at m s d (x .c) >>= λ z. read (location (low-program m) (x .a) y z)) _ _ _ _ _ (c .before .before .before .before .before .before .before .before .before .before .eval2 .ensures)
+    (runs-bind (low-program m) (a .contents .now) (a .bit) (value-at m s d (x .c)) (λ z. read (location (low-program m) (x .a) (c .before .before .before .before .before .before .before .before .before .before .eval2 .result) z)) _ _ _ _ _ (c .before .before .before .before .before .before .eval3 .ensures) (c .before .before .read3 .ensures)))
 
 eval-same-length-4 : (t : ℕ) → eval-lts.Need-same-length-4 (claims-eval t) (eval-at t) eval.Post
 eval-same-length-4 t c = search needs
@@ -163,9 +163,9 @@ eval-returns-8 t c =
     let a = c .before .before .before .before .before .before .before .before .before .before .before .before .args in
     let m = a .image .now in
     let x = stored-node (c .before .before .before .before .before .before .before .before .node .result) in
-    rw (term-not (node-at (held m)) (a .depth) (a .n) x (c .before .before .before .before .before .before .before .before .before .if1 .left) (c .before .before .before .before .before .before .before .before .node .ensures) (c .before .before .before .before .before .match .keys7))
-    (runs-bind (held m) (a .contents .now) (a .bit) (value-at m (a .scope .now) (a .depth - 1) (x .a)) (λ y. done (negate y)) _ _ _ _ _ (c .before .before .before .eval4 .ensures)
-    (runs-gives (held m) (a .contents .now) (a .bit) _ _ _ (c .not .ensures)))
+    rw (term-not (node-at (low-program m)) (a .depth) (a .n) x (c .before .before .before .before .before .before .before .before .before .if1 .left) (c .before .before .before .before .before .before .before .before .node .ensures) (c .before .before .before .before .before .match .keys7))
+    (runs-bind (low-program m) (a .contents .now) (a .bit) (value-at m (a .scope .now) (a .depth - 1) (x .a)) (λ y. done (negate y)) _ _ _ _ _ (c .before .before .before .eval4 .ensures)
+    (runs-value (low-program m) (a .contents .now) (a .bit) _ _ _ (c .not .ensures)))
 
 eval-same-length-5 : (t : ℕ) → eval-lts.Need-same-length-5 (claims-eval t) (eval-at t) eval.Post
 eval-same-length-5 t c = search needs
@@ -180,25 +180,25 @@ eval-returns-9 t c =
     let d = a .depth - 1 in
     let r = c .before .before .before .before .before .before .before .before .before .before .match .rest in
     let j = join-kind (x .kind) (omega (arith, c .before .before .before .before .before .before .before .before .before .before .before .before .if2 .left, r .0 .0 .0 .0 .0 .0 .1, r .0 .0 .0 .0 .0 .1, r .0 .0 .0 .0 .1, r .0 .0 .0 .1, r .0 .0 .1, r .0 .1)) (c .before .before .before .before .before .before .before .before .before .before .before .if3 .taken) (r .1) in
-    let e : c .operate .result ≡ apply (held m .P) (j .0) (c .before .before .before .before .before .before .before .before .eval5 .result) (c .before .before .before .before .eval6 .result) = c .operate .ensures ∙ rw (j .1, c .before .permanent .ensures) in
-    rw (term-join (node-at (held m)) (a .depth) (a .n) x (c .before .before .before .before .before .before .before .before .before .before .before .before .before .before .if1 .left) (c .before .before .before .before .before .before .before .before .before .before .before .before .before .node .ensures) (x .kind) (j .0) refl (j .1))
-    (runs-bind (held m) (a .contents .now) (a .bit) (value-at m s d (x .a)) (λ y. value-at m s d (x .b) >>= λ z. done (apply (held m .P) (j .0) y z)) _ _ _ _ _ (c .before .before .before .before .before .before .before .before .eval5 .ensures)
-    (runs-bind (held m) (a .contents .now) (a .bit) (value-at m s d (x .b)) (λ z. done (apply (held m .P) (j .0) (c .before .before .before .before .before .before .before .before .eval5 .result) z)) _ _ _ _ _ (c .before .before .before .before .eval6 .ensures)
-    (runs-gives (held m) (a .contents .now) (a .bit) _ _ _ e)))
+    let e : c .operate .result ≡ apply (low-program m .P) (j .0) (c .before .before .before .before .before .before .before .before .eval5 .result) (c .before .before .before .before .eval6 .result) = c .operate .ensures ∙ rw (j .1, c .before .permanent .ensures) in
+    rw (term-join (node-at (low-program m)) (a .depth) (a .n) x (c .before .before .before .before .before .before .before .before .before .before .before .before .before .before .if1 .left) (c .before .before .before .before .before .before .before .before .before .before .before .before .before .node .ensures) (x .kind) (j .0) refl (j .1))
+    (runs-bind (low-program m) (a .contents .now) (a .bit) (value-at m s d (x .a)) (λ y. value-at m s d (x .b) >>= λ z. done (apply (low-program m .P) (j .0) y z)) _ _ _ _ _ (c .before .before .before .before .before .before .before .before .eval5 .ensures)
+    (runs-bind (low-program m) (a .contents .now) (a .bit) (value-at m s d (x .b)) (λ z. done (apply (low-program m .P) (j .0) (c .before .before .before .before .before .before .before .before .eval5 .result) z)) _ _ _ _ _ (c .before .before .before .before .eval6 .ensures)
+    (runs-value (low-program m) (a .contents .now) (a .bit) _ _ _ e)))
 
 eval-returns-10 : (t : ℕ) → eval-lts.Need-returns-10 (claims-eval t) (eval-at t) eval.Post
 unfolding value
 eval-returns-10 t c =
     let a = c .before .before .before .before .before .args in
-    rw (no-term-at (node-at (held (a .image .now))) (a .depth) (a .n) (stored-node (c .before .node .result)) (c .before .before .if1 .left) (c .before .node .ensures) (inl (c .if2 .taken)))
-    (runs-done (held (a .image .now)) (a .contents .now) (a .bit) 0 (a .readers .now))
+    rw (no-term-at (node-at (low-program (a .image .now))) (a .depth) (a .n) (stored-node (c .before .node .result)) (c .before .before .if1 .left) (c .before .node .ensures) (inl (c .if2 .taken)))
+    (runs-done (low-program (a .image .now)) (a .contents .now) (a .bit) 0 (a .readers .now))
 
 eval-returns-11 : (t : ℕ) → eval-lts.Need-returns-11 (claims-eval t) (eval-at t) eval.Post
 unfolding value
 eval-returns-11 t c =
     let a = c .before .before .before .before .before .before .args in
-    rw (no-term-at (node-at (held (a .image .now))) (a .depth) (a .n) (stored-node (c .before .before .node .result)) (c .before .before .before .if1 .left) (c .before .before .node .ensures) (inr (c .if3 .left)))
-    (runs-done (held (a .image .now)) (a .contents .now) (a .bit) 0 (a .readers .now))
+    rw (no-term-at (node-at (low-program (a .image .now))) (a .depth) (a .n) (stored-node (c .before .before .node .result)) (c .before .before .before .if1 .left) (c .before .before .node .ensures) (inr (c .if3 .left)))
+    (runs-done (low-program (a .image .now)) (a .contents .now) (a .bit) 0 (a .readers .now))
 
 pub +eval-spec : {M : Type 1} → statement M
 +eval-spec = close μ-eval λ t. eval-lts.spec (claims-eval t)

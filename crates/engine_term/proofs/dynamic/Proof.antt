@@ -5,7 +5,7 @@ use native.Mathlib.Omega.{arith}
 use lib.ListN.{length}
 use borrow.Author.Tests.{lt-ltb, le-ltb}
 use Rattle.book.specs.Book.{dynamic}
-use Rattle.book.specs.Image.{held}
+use Rattle.book.specs.Image.{low-program}
 use Rattle.engine_term.proofs.Leaves.{dynamic-own, dynamic-other}
 use Rattle.book.proofs.Held.{elements-held, functions-held, function-held}
 use borrow.Author.Needs.{needs}
@@ -24,7 +24,7 @@ dynamic-at-requires c κs = search needs
 returns : tie.Need-returns
 returns c =
     let a = c .before .before .before .before .args in
-    let B = held (a .image .now) in
+    let B = low-program (a .image .now) in
     let h : length (B .functions) ≤ a .f = omega (arith, functions-held _ _ (c .before .before .before .functions .ensures) .0, c .before .before .if1 .taken) in
     c .dynamic-at .ensures ∙ rw (c .before .location .ensures) (sym (dynamic-other B (a .f) (a .x) (a .y) (rw (le-ltb (a .f) (length (B .functions)) h))))
 
@@ -40,7 +40,7 @@ dynamic-at-requires-2 c κs = search needs
 returns-2 : tie.Need-returns-2
 returns-2 c =
     let a = c .before .before .before .before .before .before .args in
-    let B = held (a .image .now) in
+    let B = low-program (a .image .now) in
     let h : a .f < length (B .functions) = omega (arith, functions-held _ _ (c .before .before .before .before .before .functions .ensures) .0, c .before .before .before .before .if1 .left) in
     let i : B .E ≤ a .x = omega (arith, elements-held _ _ (c .before .before .before .elements .ensures) .0, c .before .before .if2 .taken) in
     c .dynamic-at2 .ensures ∙ rw (c .before .location2 .ensures) (sym (dynamic-other B (a .f) (a .x) (a .y) (rw (lt-ltb (a .f) (length (B .functions)) h, le-ltb (a .x) (B .E) i))))
@@ -54,7 +54,7 @@ dynamic-at-requires-3 c κs = search needs
 returns-3 : tie.Need-returns-3
 returns-3 c =
     let a = c .before .before .before .before .before .before .before .args in
-    let B = held (a .image .now) in
+    let B = low-program (a .image .now) in
     let h : a .f < length (B .functions) = omega (arith, functions-held _ _ (c .before .before .before .before .before .before .functions .ensures) .0, c .before .before .before .before .before .if1 .left) in
     let i : a .x < B .E = omega (arith, elements-held _ _ (c .before .before .before .before .elements .ensures) .0, c .before .before .before .if2 .left) in
     let j : B .E ≤ a .y = omega (arith, elements-held _ _ (c .before .before .before .before .elements .ensures) .0, c .before .before .if3 .taken) in
@@ -69,7 +69,7 @@ is-dynamic-requires c κs = search needs
 returns-4 : tie.Need-returns-4
 returns-4 c =
     let a = c .before .before .before .before .before .before .before .args in
-    let B = held (a .image .now) in
+    let B = low-program (a .image .now) in
     let h : a .f < length (B .functions) = omega (arith, functions-held _ _ (c .before .before .before .before .before .before .functions .ensures) .0, c .before .before .before .before .before .if1 .left) in
     let i : a .x < B .E = omega (arith, elements-held _ _ (c .before .before .before .before .elements .ensures) .0, c .before .before .before .if2 .left) in
     let j : a .y < B .E = omega (arith, elements-held _ _ (c .before .before .before .before .elements .ensures) .0, c .before .before .if3 .left) in

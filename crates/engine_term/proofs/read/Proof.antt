@@ -1,7 +1,7 @@
 -- `read` meets its contract.
 use mathlib.Core.Path.{_∙_}
 use Rattle.book.specs.Book.{location}
-use Rattle.book.specs.Image.{held}
+use Rattle.book.specs.Image.{low-program}
 use Rattle.engine_term.proofs.Leaves.{dynamic-placed}
 use Rattle.engine_term.proofs.Marking.{runs-read}
 use borrow.Author.Needs.{needs}
@@ -27,8 +27,8 @@ returns : tie.Need-returns
 returns c =
     let a = c .before .before .before .before .before .before .before .before .args in
     let m = a .image .now in
-    runs-read (held m) (a .contents .now) (a .bit) (location (held m) (a .f) (a .x) (a .y)) (c .fetch .result) _ _
-    (c .fetch .ensures ∙ rw (c .before .before .before .before .before .location .ensures)) (λ p. c .before .before .before .mark-if-dynamic .ensures ∙ rw (dynamic-placed (held m) (a .f) (a .x) (a .y) p, c .before .before .before .before .before .location .ensures))
+    runs-read (low-program m) (a .contents .now) (a .bit) (location (low-program m) (a .f) (a .x) (a .y)) (c .fetch .result) _ _
+    (c .fetch .ensures ∙ rw (c .before .before .before .before .before .location .ensures)) (λ p. c .before .before .before .mark-if-dynamic .ensures ∙ rw (dynamic-placed (low-program m) (a .f) (a .x) (a .y) p, c .before .before .before .before .before .location .ensures))
 
 pub read-spec : {M : Type 1} → statement M
 read-spec =

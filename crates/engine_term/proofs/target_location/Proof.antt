@@ -6,8 +6,8 @@ use Rattle.engine.specs.Term.{target}
 use Rattle.engine.proofs.Steps.{term-zero, term-none, term-one, term-two, no-target}
 use Rattle.engine_term.specs.Held.{variables-of, agent-of, value-at}
 use Rattle.book_parts.specs.StoredNodes.{stored-node}
-use Rattle.book.specs.Image.{held}
-use Rattle.engine_term.proofs.Marking.{runs-done, runs-gives, runs-bind}
+use Rattle.book.specs.Image.{low-program}
+use Rattle.engine_term.proofs.Marking.{runs-done, runs-value, runs-bind}
 use borrow.Author.Needs.{needs}
 use Rattle.engine_term.proofs.target_location.Statement.{statement}
 use Rattle.engine_term.proofs.target_location.Tie as tie
@@ -16,7 +16,7 @@ returns : tie.Need-returns
 unfolding target
 returns c =
     let a = c .before .before .before .args in
-    rw (term-zero (node-at (held (a .image .now))) (a .depth) (a .n) (c .if1 .taken)) (runs-done (held (a .image .now)) (a .contents .now) (a .bit) 0 (a .readers .now))
+    rw (term-zero (node-at (low-program (a .image .now))) (a .depth) (a .n) (c .if1 .taken)) (runs-done (low-program (a .image .now)) (a .contents .now) (a .bit) 0 (a .readers .now))
 
 sub-less : tie.Need-sub-less
 sub-less c = search needs
@@ -47,8 +47,8 @@ unfolding target
 returns-2 c =
     let a = c .before .before .before .before .before .before .args in
     let x = stored-node (c .before .before .node .result) in
-    rw (term-none (node-at (held (a .image .now))) (a .depth) (a .n) x (c .before .before .before .if1 .left) (c .before .before .node .ensures) (c .before .match .keys1))
-    (runs-gives (held (a .image .now)) (a .contents .now) (a .bit) _ _ _ (c .location .ensures))
+    rw (term-none (node-at (low-program (a .image .now))) (a .depth) (a .n) x (c .before .before .before .if1 .left) (c .before .before .node .ensures) (c .before .match .keys1))
+    (runs-value (low-program (a .image .now)) (a .contents .now) (a .bit) _ _ _ (c .location .ensures))
 
 same-length : tie.Need-same-length
 same-length c = search needs
@@ -59,9 +59,9 @@ returns-3 c =
     let a = c .before .before .before .before .before .before .before .before .before .before .args in
     let m = a .image .now in
     let x = stored-node (c .before .before .before .before .before .before .node .result) in
-    rw (term-one (node-at (held m)) (a .depth) (a .n) x (c .before .before .before .before .before .before .before .if1 .left) (c .before .before .before .before .before .before .node .ensures) (c .before .before .before .before .before .match .keys2))
-    (runs-bind (held m) (a .contents .now) (a .bit) (value-at m (a .scope .now) (a .depth - 1) (x .b)) (λ y. done (location (held m) (x .a) y 0)) _ _ _ _ _ (c .before .before .before .eval .ensures)
-    (runs-gives (held m) (a .contents .now) (a .bit) _ _ _ (c .location2 .ensures)))
+    rw (term-one (node-at (low-program m)) (a .depth) (a .n) x (c .before .before .before .before .before .before .before .if1 .left) (c .before .before .before .before .before .before .node .ensures) (c .before .before .before .before .before .match .keys2))
+    (runs-bind (low-program m) (a .contents .now) (a .bit) (value-at m (a .scope .now) (a .depth - 1) (x .b)) (λ y. done (location (low-program m) (x .a) y 0)) _ _ _ _ _ (c .before .before .before .eval .ensures)
+    (runs-value (low-program m) (a .contents .now) (a .bit) _ _ _ (c .location2 .ensures)))
 
 same-length-2 : tie.Need-same-length-2
 same-length-2 c = search needs
@@ -74,17 +74,17 @@ returns-4 c =
     let x = stored-node (c .before .before .before .before .before .before .before .before .before .before .node .result) in
     let s = a .scope .now in
     let d = a .depth - 1 in
-    rw (term-two (node-at (held m)) (a .depth) (a .n) x (c .before .before .before .before .before .before .before .before .before .before .before .if1 .left) (c .before .before .before .before .before .before .before .before .before .before .node .ensures) (c .before .before .before .before .before .before .before .before .before .match .keys3))
-    (runs-bind (held m) (a .contents .now) (a .bit) (value-at m s d (x .b)) (λ y. value-at m s d (x .c) >>= λ z. done (location (held m) (x .a) y z)) _ _ _ _ _ (c .before .before .before .before .before .before .before .eval2 .ensures)
-    (runs-bind (held m) (a .contents .now) (a .bit) (value-at m s d (x .c)) (λ z. done (location (held m) (x .a) (c .before .before .before .before .before .before .before .eval2 .result) z)) _ _ _ _ _ (c .before .before .before .eval3 .ensures)
-    (runs-gives (held m) (a .contents .now) (a .bit) _ _ _ (c .location3 .ensures))))
+    rw (term-two (node-at (low-program m)) (a .depth) (a .n) x (c .before .before .before .before .before .before .before .before .before .before .before .if1 .left) (c .before .before .before .before .before .before .before .before .before .before .node .ensures) (c .before .before .before .before .before .before .before .before .before .match .keys3))
+    (runs-bind (low-program m) (a .contents .now) (a .bit) (value-at m s d (x .b)) (λ y. value-at m s d (x .c) >>= λ z. done (location (low-program m) (x .a) y z)) _ _ _ _ _ (c .before .before .before .before .before .before .before .eval2 .ensures)
+    (runs-bind (low-program m) (a .contents .now) (a .bit) (value-at m s d (x .c)) (λ z. done (location (low-program m) (x .a) (c .before .before .before .before .before .before .before .eval2 .result) z)) _ _ _ _ _ (c .before .before .before .eval3 .ensures)
+    (runs-value (low-program m) (a .contents .now) (a .bit) _ _ _ (c .location3 .ensures))))
 
 returns-5 : tie.Need-returns-5
 returns-5 c =
     let a = c .before .before .before .before .before .args in
     let r = c .match .rest in
-    rw (no-target (held (a .image .now)) (agent-of (a .scope .now)) (variables-of (a .scope .now)) (node-at (held (a .image .now))) (a .depth) (a .n) (stored-node (c .before .node .result)) (c .before .node .ensures) (r .0 .0 .1) (r .0 .1) (r .1))
-    (runs-done (held (a .image .now)) (a .contents .now) (a .bit) 0 (a .readers .now))
+    rw (no-target (low-program (a .image .now)) (agent-of (a .scope .now)) (variables-of (a .scope .now)) (node-at (low-program (a .image .now))) (a .depth) (a .n) (stored-node (c .before .node .result)) (c .before .node .ensures) (r .0 .0 .1) (r .0 .1) (r .1))
+    (runs-done (low-program (a .image .now)) (a .contents .now) (a .bit) 0 (a .readers .now))
 
 pub target-location-spec : {M : Type 1} → statement M
 target-location-spec =

@@ -7,20 +7,20 @@ use native.Mathlib.Omega.{arith}
 use lib.ListN.{length, set}
 use Rattle.book.specs.Book.{node-at}
 use Rattle.engine.specs.Reader.{Reader}
-use Rattle.engine.specs.Rule.{Walk, Walked, after, lowest, import-of, each as for-each, walk as walked}
-use Rattle.engine.proofs.Steps.{rule-last, rule-assign, rule-bind, rule-for-all, rule-import, rule-free, rule-choose, no-rule-at}
+use Rattle.engine.specs.Rule.{Walk, Walked, after, lowest, import-of, each as for-each, walk as walked, rule-from}
+use Rattle.engine.proofs.Steps.{rule-last, rule-assign, rule-bind, rule-for-all, rule-import, rule-release, rule-choose, no-rule-at}
 use Rattle.engine_term.specs.Held.{variables-of, agent-of, value-at}
 use Rattle.book_parts.specs.StoredNodes.{stored-node}
-use Rattle.book.specs.Image.{low-function, held}
+use Rattle.book.specs.Image.{low-function, low-program}
 use Rattle.engine_term.specs.Marks.{Runs}
 use Rattle.engine_term.proofs.Marking.{runs-bind, runs-as}
 use Rattle.engine_emit.specs.Emit.{picks-left, walk-from, reached, importing-found, next-pick, picked}
-use Rattle.engine_emit.proofs.Steps.{reached-going, reached-met}
+use Rattle.engine_emit.proofs.Steps.{reached-walking, reached-refused}
 use Rattle.engine_reads.specs.Marking.{found-below, members-from, first-and-rest}
 use Rattle.engine_reads.proofs.Members.{universe-placed, members-next}
-use Rattle.engine_walk.specs.Walk.{rule-from, body-at, walk-at as node-walk}
-use Rattle.engine_walk.proofs.Steps.{runs-scope, runs-from, runs-met, runs-rule, runs-skip, runs-pair, runs-test, import-as, runs-choose, rule-none}
-use Rattle.engine_walk.proofs.Sweep.{sweep-as, sweep-more, sweep-end, runs-for-all}
+use Rattle.engine_walk.specs.Walk.{body-at, walk-at as node-walk}
+use Rattle.engine_walk.proofs.Steps.{runs-scope, runs-from, runs-refused, runs-rule, runs-skip, runs-pair, runs-test, import-as, runs-choose, rule-none}
+use Rattle.engine_walk.proofs.Forall.{sweep-as, sweep-more, sweep-end, runs-for-all}
 use Rattle.book.proofs.Held.{elements-held, function-held}
 use borrow.Author.Needs.{needs}
 use borrow.Fn.Kinds.{In}
@@ -153,7 +153,7 @@ unfolding walked
 walk-choose-returns t c =
     let a = c .before .before .before .before .before .before .before .before .before .before .before .before .before .before .before .before .before .args in
     let m = a .image .now in
-    let B = held m in
+    let B = low-program m in
     let x = a .row in
     let ys = picks-left (a .picks .now) (a .used .now) in
     let w = walk-from ys (a .s) (a .list .now) in
@@ -162,14 +162,14 @@ walk-choose-returns t c =
     let y = c .before .before .before .before .before .before .before .before .before .before .before .before .next-pick in
     let v = c .before .before .before .before .before .before .before .before .before .before .read-universe in
     let is : y .result ≡ next-pick (B .E) ys = y .ensures in
-    let took : reached (picks-left (a .picks .now) (p .last .1 .0)) (p .result) (a .list .now) ≡ picked (v .result) (a .n) w ys = p .ensures (a .list .now) ∙ rw (reached-going ys (a .s) (a .list .now) (c .before .before .before .before .before .before .before .before .before .before .before .before .before .before .before .before .before .pre .1)) in
+    let took : reached (picks-left (a .picks .now) (p .last .1 .0)) (p .result) (a .list .now) ≡ picked (v .result) (a .n) w ys = p .ensures (a .list .now) ∙ rw (reached-walking ys (a .s) (a .list .now) (c .before .before .before .before .before .before .before .before .before .before .before .before .before .before .before .before .before .pre .1)) in
     runs-choose B (a .contents .now) (a .bit) (a .n) (x .b) w body (v .result) _ _ _ _ ys (rw is at (v .ensures)) (rw (took, is) at (c .before .before .walk-body .ensures))
 
 abbrev each-Inv-loop : walk-forall-lts.InvT-loop
 each-Inv-loop image contents readers₀ bit list₀ picks used₀ scope depth row e f r₀ y₀ readers list used r y =
     (length readers ≡ length readers₀) × ((z : Walked) (n : List ℕ)
-    → Runs (held image) contents bit (after (reached (picks-left picks used) r list) (for-each (body-at image scope depth (row .c) (row .a)) (first-and-rest (held image) contents (row .b) y))) z readers n
-    → Runs (held image) contents bit (after (reached (picks-left picks used₀) r₀ list₀) (for-each (body-at image scope depth (row .c) (row .a)) (members-from (held image) contents (row .b) 0))) z readers₀ n)
+    → Runs (low-program image) contents bit (after (reached (picks-left picks used) r list) (for-each (body-at image scope depth (row .c) (row .a)) (first-and-rest (low-program image) contents (row .b) y))) z readers n
+    → Runs (low-program image) contents bit (after (reached (picks-left picks used₀) r₀ list₀) (for-each (body-at image scope depth (row .c) (row .a)) (members-from (low-program image) contents (row .b) 0))) z readers₀ n)
 
 abbrev each-μ-loop : walk-forall-lts.MeasureT-loop
 each-μ-loop image contents readers₀ bit list₀ picks used₀ scope depth row e f r₀ y₀ readers list used r y = e - y
@@ -192,7 +192,7 @@ walk-forall-next-member-requires t c κs = search needs
 walk-forall-loop-holds : (t : ℕ) → walk-forall-lts.Need-loop-holds (claims-walk-forall t) (walk-forall-at t) walk-forall.Post each-Inv-loop each-μ-loop
 walk-forall-loop-holds t c =
     let a = c .before .before .before .before .before .before .before .before .before .before .before .args in
-    let B = held (a .image .now) in
+    let B = low-program (a .image .now) in
     let f : ℕ → Walk → Reader Walked = body-at (a .image .now) (a .scope .now) (a .depth) (a .row .c) (a .row .a) in (
       refl,
       λ z n h. sweep-as B (a .contents .now) (a .bit) (a .row .b) f _ _ (reached (picks-left (a .picks .now) (a .used .now)) (a .s) (a .list .now)) z _ n (members-next B (a .contents .now) (a .row .b) (low-function (c .before .function-at .result)) (c .before .before .before .elements .result) 0 (c .next-member .result) (function-held _ _ _ (c .before .function-at .ensures)) (elements-held _ _ (c .before .before .before .elements .ensures) .0) (c .next-member .ensures .1)) h,
@@ -207,7 +207,7 @@ walk-forall-same-length t c = search needs
 walk-forall-returns : (t : ℕ) → walk-forall-lts.Need-returns (claims-walk-forall t) (walk-forall-at t) walk-forall.Post each-Inv-loop each-μ-loop
 walk-forall-returns t c =
     let a = c .before .before .before .before .before .before .before .before .before .before .before .before .before .before .before .before .before .before .before .before .before .args in
-    let B = held (a .image .now) in
+    let B = low-program (a .image .now) in
     let f : ℕ → Walk → Reader Walked = body-at (a .image .now) (a .scope .now) (a .depth) (a .row .c) (a .row .a) in
     let l = c .before .before .before .before .before .before .before .before .before .loop in
     let k = c .before .before .before .before .walk-body in
@@ -215,7 +215,7 @@ walk-forall-returns t c =
     runs-for-all B (a .contents .now) (a .bit) (agent-of (a .scope .now)) (variables-of (a .scope .now)) (a .row .a) (a .row .b) (rule-from (node-at B) (a .depth) (a .row .c)) (picks-left (a .picks .now) (a .used .now)) (a .s) (a .list .now) _ _ _ _ (c .before .before .before .before .before .before .before .before .before .before .before .before .before .before .before .before .before .before .before .before .before .pre .1) (λ p. c .before .before .before .before .before .before .before .before .before .before .before .before .before .before .before .before .mark-universe .ensures ∙ universe-placed B p (a .contents .now) (a .row .b) (a .bit) (a .readers .now))
     (l .inv .1 _ _
     (sweep-more B (a .contents .now) (a .bit) (a .row .b) f (l .y) (reached (picks-left (a .picks .now) (l .used)) (l .r) (l .list)) _ _ _ _ _ h (k .ensures)
-    (runs-met B (a .contents .now) (a .bit) _ _ _ _ _ (reached-met _ (k .result) _ (c .if1 .taken)))))
+    (runs-refused B (a .contents .now) (a .bit) _ _ _ _ _ (reached-refused _ (k .result) _ (c .if1 .taken)))))
 
 walk-forall-add-next-member : (t : ℕ) → walk-forall-lts.Need-add-next-member (claims-walk-forall t) (walk-forall-at t) walk-forall.Post each-Inv-loop each-μ-loop
 walk-forall-add-next-member t c = search needs
@@ -229,7 +229,7 @@ walk-forall-loop-less t c = search needs
 walk-forall-loop-again : (t : ℕ) → walk-forall-lts.Need-loop-again (claims-walk-forall t) (walk-forall-at t) walk-forall.Post each-Inv-loop each-μ-loop
 walk-forall-loop-again t c =
     let a = c .before .before .before .before .before .before .before .before .before .before .before .before .before .before .before .before .before .before .before .before .before .before .args in
-    let B = held (a .image .now) in
+    let B = low-program (a .image .now) in
     let f : ℕ → Walk → Reader Walked = body-at (a .image .now) (a .scope .now) (a .depth) (a .row .c) (a .row .a) in
     let l = c .before .before .before .before .before .before .before .before .before .before .loop in
     let k = c .before .before .before .before .before .walk-body in
@@ -246,7 +246,7 @@ walk-forall-same-length-2 t c = search needs
 walk-forall-returns-2 : (t : ℕ) → walk-forall-lts.Need-returns-2 (claims-walk-forall t) (walk-forall-at t) walk-forall.Post each-Inv-loop each-μ-loop
 walk-forall-returns-2 t c =
     let a = c .before .before .before .before .before .before .before .before .before .before .before .before .before .args in
-    let B = held (a .image .now) in
+    let B = low-program (a .image .now) in
     let f : ℕ → Walk → Reader Walked = body-at (a .image .now) (a .scope .now) (a .depth) (a .row .c) (a .row .a) in
     let l = c .before .loop in
     let h : B .E ≤ l .y = rw (← elements-held _ _ (c .before .before .before .before .before .elements .ensures) .0) (c .loop-test .left) in
@@ -270,12 +270,12 @@ unfolding walked
 walk-import-returns t c =
     let a = c .before .before .before .before .before .before .before .before .before .before .before .before .before .before .before .args in
     let m = a .image .now in
-    let B = held m in
+    let B = low-program m in
     let x = a .row in
     let w = walk-from (picks-left (a .picks .now) (a .used .now)) (a .s) (a .list .now) in
     let body : ℕ → Walk → Reader Walked = body-at m (a .scope .now) (a .depth) (x .c) (x .a) in
     let y = c .before .before .before .before .before .before .before .before .before .before .lowest-label .result in
-    let enrolled : reached (picks-left (a .picks .now) (a .used .now)) (c .before .before .before .before .before .before .import-label .result) (c .before .before .before .before .before .before .import-label .last .1 .0) ≡ importing-found B (x .b) y (a .n) w = c .before .before .before .before .before .before .import-label .ensures (picks-left (a .picks .now) (a .used .now)) ∙ rw (reached-going (picks-left (a .picks .now) (a .used .now)) (a .s) (a .list .now) (c .before .before .before .before .before .before .before .before .before .before .before .before .before .before .before .pre .1)) in
+    let enrolled : reached (picks-left (a .picks .now) (a .used .now)) (c .before .before .before .before .before .before .import-label .result) (c .before .before .before .before .before .before .import-label .last .1 .0) ≡ importing-found B (x .b) y (a .n) w = c .before .before .before .before .before .before .import-label .ensures (picks-left (a .picks .now) (a .used .now)) ∙ rw (reached-walking (picks-left (a .picks .now) (a .used .now)) (a .s) (a .list .now) (c .before .before .before .before .before .before .before .before .before .before .before .before .before .before .before .pre .1)) in
     runs-bind B (a .contents .now) (a .bit) (lowest (a .s .label) (B .E - a .s .label)) (λ o. import-of B (a .n) (x .b) w body o) (found-below (B .E) y) _ _ _ _ (c .before .before .before .before .before .before .before .before .before .before .lowest-label .ensures)
     (runs-as B (a .contents .now) (a .bit) _ _ _ _ _ (import-as B (a .n) (x .b) y w body)
     (rw (← enrolled) (c .before .before .walk-body .ensures)))
@@ -294,7 +294,7 @@ unfolding walked
 walk-let-returns t c =
     let a = c .before .before .before .before .before .before .before .before .before .before .before .before .before .args in
     let m = a .image .now in
-    let B = held m in
+    let B = low-program m in
     let s = a .scope .now in
     let x = a .row in
     runs-bind B (a .contents .now) (a .bit) (value-at m s (a .depth) (x .b)) (λ y. body-at m s (a .depth) (x .c) (x .a) y (walk-from (picks-left (a .picks .now) (a .used .now)) (a .s) (a .list .now))) _ _ _ _ _ (c .before .before .before .before .before .before .before .before .eval .ensures)
@@ -303,8 +303,8 @@ walk-let-returns t c =
 abbrev walk-Inv-loop : walk-lts.InvT-loop
 walk-Inv-loop image contents readers₀ bit list₀ picks used₀ scope depth n left₀ at₀ r₀ readers list used left at r =
     (left ≤ depth) × (length readers ≡ length readers₀) × ((z : Walked) (m : List ℕ)
-    → Runs (held image) contents bit (after (reached (picks-left picks used) r list) (node-walk image scope left at)) z readers m
-    → Runs (held image) contents bit (after (reached (picks-left picks used₀) r₀ list₀) (node-walk image scope depth n)) z readers₀ m)
+    → Runs (low-program image) contents bit (after (reached (picks-left picks used) r list) (node-walk image scope left at)) z readers m
+    → Runs (low-program image) contents bit (after (reached (picks-left picks used₀) r₀ list₀) (node-walk image scope depth n)) z readers₀ m)
 
 abbrev walk-μ-loop : walk-lts.MeasureT-loop
 walk-μ-loop image contents readers₀ bit list₀ picks used₀ scope depth n left₀ at₀ r₀ readers list used left at r = left
@@ -319,7 +319,7 @@ walk-returns : (t : ℕ) → walk-lts.Need-returns (claims-walk t) (walk-at t) w
 walk-returns t c =
     let a = c .before .before .before .before .before .before .before .args in
     let l = c .before .before .before .loop in
-    l .inv .2 _ _ (runs-met (held (a .image .now)) (a .contents .now) (a .bit) _ _ _ _ _ (reached-met (picks-left (a .picks .now) (l .used)) (l .r) (l .list) (c .if1 .taken)))
+    l .inv .2 _ _ (runs-refused (low-program (a .image .now)) (a .contents .now) (a .bit) _ _ _ _ _ (reached-refused (picks-left (a .picks .now) (l .used)) (l .r) (l .list) (c .if1 .taken)))
 
 walk-node-requires : (t : ℕ) → walk-lts.Need-node-requires (claims-walk t) (walk-at t) walk.Post walk-Inv-loop walk-μ-loop
 walk-node-requires t c κs = search needs
@@ -336,7 +336,7 @@ walk-same-length-2 t c = search needs
 walk-returns-2 : (t : ℕ) → walk-lts.Need-returns-2 (claims-walk t) (walk-at t) walk.Post walk-Inv-loop walk-μ-loop
 walk-returns-2 t c =
     let a = c .before .before .before .before .before .before .before .before .before .before .before .before .before .before .before .before .args in
-    let B = held (a .image .now) in
+    let B = low-program (a .image .now) in
     let l = c .before .before .before .before .before .before .before .before .before .before .before .before .loop in
     l .inv .2 _ _
     (runs-rule B (a .contents .now) (a .bit) (agent-of (a .scope .now)) (variables-of (a .scope .now)) (rule-from (node-at B) (l .left) (l .at)) _ (picks-left (a .picks .now) (l .used)) (l .r) (l .list) _ _ _ (c .before .before .before .before .before .before .before .before .before .if1 .left)
@@ -361,7 +361,7 @@ walk-same-length-3 t c = search needs
 walk-returns-3 : (t : ℕ) → walk-lts.Need-returns-3 (claims-walk t) (walk-at t) walk.Post walk-Inv-loop walk-μ-loop
 walk-returns-3 t c =
     let a = c .before .before .before .before .before .before .before .before .before .before .before .before .before .before .before .before .before .args in
-    let B = held (a .image .now) in
+    let B = low-program (a .image .now) in
     let l = c .before .before .before .before .before .before .before .before .before .before .before .before .before .loop in
     l .inv .2 _ _
     (runs-rule B (a .contents .now) (a .bit) (agent-of (a .scope .now)) (variables-of (a .scope .now)) (rule-from (node-at B) (l .left) (l .at)) _ (picks-left (a .picks .now) (l .used)) (l .r) (l .list) _ _ _ (c .before .before .before .before .before .before .before .before .before .before .if1 .left)
@@ -377,7 +377,7 @@ walk-same-length-4 t c = search needs
 walk-returns-4 : (t : ℕ) → walk-lts.Need-returns-4 (claims-walk t) (walk-at t) walk.Post walk-Inv-loop walk-μ-loop
 walk-returns-4 t c =
     let a = c .before .before .before .before .before .before .before .before .before .before .before .before .before .before .before .before .before .args in
-    let B = held (a .image .now) in
+    let B = low-program (a .image .now) in
     let l = c .before .before .before .before .before .before .before .before .before .before .before .before .before .loop in
     l .inv .2 _ _
     (runs-rule B (a .contents .now) (a .bit) (agent-of (a .scope .now)) (variables-of (a .scope .now)) (rule-from (node-at B) (l .left) (l .at)) _ (picks-left (a .picks .now) (l .used)) (l .r) (l .list) _ _ _ (c .before .before .before .before .before .before .before .before .before .before .if1 .left)
@@ -393,7 +393,7 @@ walk-same-length-5 t c = search needs
 walk-returns-5 : (t : ℕ) → walk-lts.Need-returns-5 (claims-walk t) (walk-at t) walk.Post walk-Inv-loop walk-μ-loop
 walk-returns-5 t c =
     let a = c .before .before .before .before .before .before .before .before .before .before .before .before .before .before .before .before .before .args in
-    let B = held (a .image .now) in
+    let B = low-program (a .image .now) in
     let l = c .before .before .before .before .before .before .before .before .before .before .before .before .before .loop in
     l .inv .2 _ _
     (runs-rule B (a .contents .now) (a .bit) (agent-of (a .scope .now)) (variables-of (a .scope .now)) (rule-from (node-at B) (l .left) (l .at)) _ (picks-left (a .picks .now) (l .used)) (l .r) (l .list) _ _ _ (c .before .before .before .before .before .before .before .before .before .before .if1 .left)
@@ -409,11 +409,11 @@ walk-same-length-6 t c = search needs
 walk-returns-6 : (t : ℕ) → walk-lts.Need-returns-6 (claims-walk t) (walk-at t) walk.Post walk-Inv-loop walk-μ-loop
 walk-returns-6 t c =
     let a = c .before .before .before .before .before .before .before .before .before .before .before .before .before .before .before .before .args in
-    let B = held (a .image .now) in
+    let B = low-program (a .image .now) in
     let l = c .before .before .before .before .before .before .before .before .before .before .before .before .loop in
     l .inv .2 _ _
     (runs-rule B (a .contents .now) (a .bit) (agent-of (a .scope .now)) (variables-of (a .scope .now)) (rule-from (node-at B) (l .left) (l .at)) _ (picks-left (a .picks .now) (l .used)) (l .r) (l .list) _ _ _ (c .before .before .before .before .before .before .before .before .before .if1 .left)
-    (rule-free (node-at B) (l .left) (l .at) (stored-node (c .before .before .before .before .before .before .before .before .node .result)) (c .before .before .before .before .before .before .before .before .before .before .before .loop-test .taken) (c .before .before .before .before .before .before .before .before .node .ensures) (c .before .before .before .before .before .match .keys7))
+    (rule-release (node-at B) (l .left) (l .at) (stored-node (c .before .before .before .before .before .before .before .before .node .result)) (c .before .before .before .before .before .before .before .before .before .before .before .loop-test .taken) (c .before .before .before .before .before .before .before .before .node .ensures) (c .before .before .before .before .before .match .keys7))
     (c .before .before .walk-release .ensures (picks-left (a .picks .now) (l .used))))
 
 walk-choose-requires : (t : ℕ) → walk-lts.Need-walk-choose-requires (claims-walk t) (walk-at t) walk.Post walk-Inv-loop walk-μ-loop
@@ -425,7 +425,7 @@ walk-same-length-7 t c = search needs
 walk-returns-7 : (t : ℕ) → walk-lts.Need-returns-7 (claims-walk t) (walk-at t) walk.Post walk-Inv-loop walk-μ-loop
 walk-returns-7 t c =
     let a = c .before .before .before .before .before .before .before .before .before .before .before .before .before .before .before .before .before .args in
-    let B = held (a .image .now) in
+    let B = low-program (a .image .now) in
     let l = c .before .before .before .before .before .before .before .before .before .before .before .before .before .loop in
     l .inv .2 _ _
     (runs-rule B (a .contents .now) (a .bit) (agent-of (a .scope .now)) (variables-of (a .scope .now)) (rule-from (node-at B) (l .left) (l .at)) _ (picks-left (a .picks .now) (l .used)) (l .r) (l .list) _ _ _ (c .before .before .before .before .before .before .before .before .before .before .if1 .left)
@@ -438,7 +438,7 @@ walk-same-length-8 t c = search needs
 walk-returns-8 : (t : ℕ) → walk-lts.Need-returns-8 (claims-walk t) (walk-at t) walk.Post walk-Inv-loop walk-μ-loop
 walk-returns-8 t c =
     let a = c .before .before .before .before .before .before .before .before .before .before .before .args in
-    let B = held (a .image .now) in
+    let B = low-program (a .image .now) in
     let l = c .before .before .before .before .before .before .before .loop in
     l .inv .2 _ _
     (runs-skip B (a .contents .now) (a .bit) (agent-of (a .scope .now)) (variables-of (a .scope .now)) (rule-from (node-at B) (l .left) (l .at)) (reached (picks-left (a .picks .now) (l .used)) (l .r) (l .list)) (l .readers)
@@ -450,7 +450,7 @@ walk-same-length-9 t c = search needs
 walk-returns-9 : (t : ℕ) → walk-lts.Need-returns-9 (claims-walk t) (walk-at t) walk.Post walk-Inv-loop walk-μ-loop
 walk-returns-9 t c =
     let a = c .before .before .before .before .before .before .before .before .before .args in
-    let B = held (a .image .now) in
+    let B = low-program (a .image .now) in
     let l = c .before .before .before .before .before .loop in
     l .inv .2 _ _
     (runs-skip B (a .contents .now) (a .bit) (agent-of (a .scope .now)) (variables-of (a .scope .now)) (rule-from (node-at B) (l .left) (l .at)) (reached (picks-left (a .picks .now) (l .used)) (l .r) (l .list)) (l .readers)
@@ -462,7 +462,7 @@ walk-same-length-10 t c = search needs
 walk-returns-10 : (t : ℕ) → walk-lts.Need-returns-10 (claims-walk t) (walk-at t) walk.Post walk-Inv-loop walk-μ-loop
 walk-returns-10 t c =
     let a = c .before .before .before .before .before .before .before .before .before .before .args in
-    let B = held (a .image .now) in
+    let B = low-program (a .image .now) in
     let l = c .before .before .before .before .before .before .loop in
     l .inv .2 _ _
     (runs-skip B (a .contents .now) (a .bit) (agent-of (a .scope .now)) (variables-of (a .scope .now)) (rule-from (node-at B) (l .left) (l .at)) (reached (picks-left (a .picks .now) (l .used)) (l .r) (l .list)) (l .readers)
@@ -474,7 +474,7 @@ walk-loop-less t c = search needs
 walk-loop-again : (t : ℕ) → walk-lts.Need-loop-again (claims-walk t) (walk-at t) walk.Post walk-Inv-loop walk-μ-loop
 walk-loop-again t c =
     let a = c .before .before .before .before .before .before .before .before .before .before .before .before .before .before .before .before .before .args in
-    let B = held (a .image .now) in
+    let B = low-program (a .image .now) in
     let l = c .before .before .before .before .before .before .before .before .before .before .before .before .before .loop in
     let k = c .before .before .walk in (
       omega arith,
@@ -489,7 +489,7 @@ walk-loop-less-2 t c = search needs
 walk-loop-again-2 : (t : ℕ) → walk-lts.Need-loop-again-2 (claims-walk t) (walk-at t) walk.Post walk-Inv-loop walk-μ-loop
 walk-loop-again-2 t c =
     let a = c .before .before .before .before .before .before .before .before .before .before .before .before .before .before .before .before .args in
-    let B = held (a .image .now) in
+    let B = low-program (a .image .now) in
     let l = c .before .before .before .before .before .before .before .before .before .before .before .before .loop in (
       omega arith,
       c .before .before .before .eval .kept .1 .1 .0 ∙ l .inv .1,
@@ -503,7 +503,7 @@ walk-same-length-11 t c = search needs
 walk-returns-11 : (t : ℕ) → walk-lts.Need-returns-11 (claims-walk t) (walk-at t) walk.Post walk-Inv-loop walk-μ-loop
 walk-returns-11 t c =
     let a = c .before .before .before .before .before .args in
-    let B = held (a .image .now) in
+    let B = low-program (a .image .now) in
     let l = c .before .loop in
     l .inv .2 _ _
     (runs-skip B (a .contents .now) (a .bit) (agent-of (a .scope .now)) (variables-of (a .scope .now)) (rule-from (node-at B) (l .left) (l .at)) (reached (picks-left (a .picks .now) (l .used)) (l .r) (l .list)) (l .readers)
@@ -521,7 +521,7 @@ walk-body-same-length t c = search needs
 walk-body-returns : (t : ℕ) → walk-body-lts.Need-returns (claims-walk-body t) (walk-body-at t) walk-body.Post
 walk-body-returns t c =
     let a = c .before .before .before .before .before .before .before .before .before .before .before .before .before .args in
-    let B = held (a .image .now) in
+    let B = low-program (a .image .now) in
     runs-scope B (a .contents .now) (a .bit) (c .before .before .before .before .before .before .before .bind-variable .last .0) (set (variables-of (a .scope .now)) (a .row .a) (a .x)) (agent-of (a .scope .now)) (rule-from (node-at B) (a .depth) (a .row .c)) (reached (picks-left (a .picks .now) (a .used .now)) (a .s) (a .list .now)) _ _ _ (c .before .before .before .before .before .before .before .bind-variable .ensures .0) (c .before .before .before .before .before .before .before .bind-variable .ensures .1) (c .before .before .walk .ensures)
 
 pub +walk+walk-body+walk-choose+walk-forall+walk-import+walk-let-spec : {M : Type 1} → statement M

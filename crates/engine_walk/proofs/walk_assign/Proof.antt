@@ -7,10 +7,10 @@ use Rattle.engine.specs.Reader.{done, _>>=_}
 use Rattle.engine.specs.Term.{term-at}
 use Rattle.engine.specs.Rule.{walk, refuse-if, not-boolean, emit, _then_}
 use Rattle.engine_term.specs.Held.{value-at, target-at}
-use Rattle.book.specs.Image.{held}
-use Rattle.engine_term.proofs.Marking.{runs-bind, runs-gives}
+use Rattle.book.specs.Image.{low-program}
+use Rattle.engine_term.proofs.Marking.{runs-bind, runs-value}
 use Rattle.engine_emit.specs.Emit.{walk-from}
-use Rattle.engine_emit.proofs.Steps.{reached-going}
+use Rattle.engine_emit.proofs.Steps.{reached-walking}
 use borrow.Author.Needs.{needs}
 use Rattle.engine_walk.proofs.walk_assign.Statement.{statement}
 use Rattle.engine_walk.proofs.walk_assign.Tie as tie
@@ -35,14 +35,14 @@ unfolding walk
 returns c =
     let a = c .before .before .before .before .before .before .before .before .before .before .before .before .before .args in
     let m = a .image .now in
-    let B = held m in
+    let B = low-program m in
     let s = a .scope .now in
     let t = term-at (node-at B) (a .depth) (a .row .a) in
     λ ys.
     let w = walk-from ys (a .s) (a .list .now) in
     runs-bind B (a .contents .now) (a .bit) (target-at m s (a .depth) (a .row .a)) (λ l. value-at m s (a .depth) (a .row .b) >>= λ v. done (refuse-if (not-boolean B t v) non-boolean (a .n) w then emit (a .n) (Update l v))) _ _ _ _ _ (c .before .before .before .before .before .before .before .before .before .target-location .ensures)
     (runs-bind B (a .contents .now) (a .bit) (value-at m s (a .depth) (a .row .b)) (λ v. done (refuse-if (not-boolean B t v) non-boolean (a .n) w then emit (a .n) (Update (c .before .before .before .before .before .before .before .before .before .target-location .result) v))) _ _ _ _ _ (c .before .before .before .before .before .eval .ensures)
-    (runs-gives B (a .contents .now) (a .bit) _ _ _ (c .emit-update .ensures ys ∙ rw (reached-going ys (a .s) (a .list .now) (c .before .before .before .before .before .before .before .before .before .before .before .before .before .pre), c .before .before .target-function .ensures))))
+    (runs-value B (a .contents .now) (a .bit) _ _ _ (c .emit-update .ensures ys ∙ rw (reached-walking ys (a .s) (a .list .now) (c .before .before .before .before .before .before .before .before .before .before .before .before .before .pre), c .before .before .target-function .ensures))))
 
 pub walk-assign-spec : {M : Type 1} → statement M
 walk-assign-spec =

@@ -5,14 +5,14 @@ use native.Mathlib.Omega.{arith}
 use lib.ListN.{length}
 use Rattle.book.specs.declared.Agent.{Agent}
 use Rattle.book.specs.Book.{agent-at}
-use Rattle.book.specs.Image.{held}
+use Rattle.book.specs.Image.{low-program}
 use Rattle.book.proofs.Held.{agent-held}
 use Rattle.engine.specs.Move.{input}
 use Rattle.engine_emit.specs.Emit.{walk-from, reached}
-use Rattle.engine_emit.proofs.Steps.{reached-going, reached-met}
+use Rattle.engine_emit.proofs.Steps.{reached-walking, reached-refused}
 use Rattle.engine_walk.specs.Walk.{walk-at}
 use Rattle.engine_walk.proofs.Steps.{runs-from}
-use Rattle.engine_walk.proofs.Kept.{runs-agent, gathered, gathered-back}
+use Rattle.engine_walk.proofs.Kept.{runs-agent, gathered, walk-marked-back}
 use borrow.Author.Needs.{needs}
 use Rattle.engine_walk.proofs.walk_move.Statement.{statement}
 use Rattle.engine_walk.proofs.walk_move.Tie as tie
@@ -45,7 +45,7 @@ returns : tie.Need-returns
 returns c =
     let a = c .before .before .before .before .before .before .before .before .before .before .before .before .before .before .before .before .before .before .before .before .before .args in
     let m = a .image .now in
-    let B = held m in
+    let B = low-program m in
     let who : Agent = record { root = c .before .before .before .before .before .before .before .before .before .before .before .before .before .before .before .before .low .result; element = c .before .before .before .before .before .before .before .before .before .before .before .before .before .before .low2 .result } in
     let is : who ≡ agent-at B (a .agent) = rw (c .before .before .before .before .before .before .before .before .before .before .before .before .before .before .before .before .low .ensures, c .before .before .before .before .before .before .before .before .before .before .before .before .before .before .low2 .ensures) (agent-held _ _ _ (c .before .before .before .before .before .before .before .before .before .before .before .before .before .before .before .before .before .agent-at .ensures)) in
     let w = c .before .before .before .before .before .before .before .before .before .walk in
@@ -56,7 +56,7 @@ returns c =
           (gathered B (a .contents .now) (a .bit) (input (a .agent) (a .picks .now)) _ _ _
           (runs-agent B (a .contents .now) (a .bit) _ _ _ (a .agent) (c .before .before .before .before .before .before .before .before .before .before .before .before .before .before .before .permanent .result) (a .picks .now) who (reached [] r l) is (c .before .before .before .before .before .before .before .before .before .before .before .before .before .before .before .permanent .ensures)
           (runs-from B (a .contents .now) (a .bit) (walk-at m (0 ∷ 0 ∷ 0 ∷ 0 ∷ 0 ∷ 0 ∷ 0 ∷ 0 ∷ who .element ∷ []) 32 (who .root)) (a .picks .now) (record { len = 0; label = c .before .before .before .before .before .before .before .before .before .before .before .before .before .before .before .permanent .result; refused = 0; node = 0 }) (a .list .now) refl _ _ _ (w .ensures)) (c .before .before .before .before .before .all-used .ensures l))
-          (walk-from [] r l) (reached-going [] r l (c .before .before .before .if1 .taken))),
+          (walk-from [] r l) (reached-walking [] r l (c .before .before .before .if1 .taken))),
       long,
     )
 
@@ -73,7 +73,7 @@ returns-2 : tie.Need-returns-2
 returns-2 c =
     let a = c .before .before .before .before .before .before .before .before .before .before .before .before .before .before .before .before .before .before .before .before .before .before .before .before .before .args in
     let m = a .image .now in
-    let B = held m in
+    let B = low-program m in
     let who : Agent = record { root = c .before .before .before .before .before .before .before .before .before .before .before .before .before .before .before .before .before .before .before .before .low .result; element = c .before .before .before .before .before .before .before .before .before .before .before .before .before .before .before .before .before .before .low2 .result } in
     let is : who ≡ agent-at B (a .agent) = rw (c .before .before .before .before .before .before .before .before .before .before .before .before .before .before .before .before .before .before .before .before .low .ensures, c .before .before .before .before .before .before .before .before .before .before .before .before .before .before .before .before .before .before .low2 .ensures) (agent-held _ _ _ (c .before .before .before .before .before .before .before .before .before .before .before .before .before .before .before .before .before .before .before .before .before .agent-at .ensures)) in
     let w = c .before .before .before .before .before .before .before .before .before .before .before .before .before .walk in
@@ -81,10 +81,10 @@ returns-2 c =
     let l = w .last .1 .1 .1 .1 .0 in
     let long : length l ≡ 256 = omega (arith, c .before .walk-end-arg4 .given) in (
       rw (c .walk-end2 .ensures)
-          (gathered-back B (a .contents .now) (a .bit) (input (a .agent) (a .picks .now)) _ _ _
+          (walk-marked-back B (a .contents .now) (a .bit) (input (a .agent) (a .picks .now)) _ _ _
           (runs-agent B (a .contents .now) (a .bit) _ _ _ (a .agent) (c .before .before .before .before .before .before .before .before .before .before .before .before .before .before .before .before .before .before .before .permanent .result) (a .picks .now) who (reached [] r l) is (c .before .before .before .before .before .before .before .before .before .before .before .before .before .before .before .before .before .before .before .permanent .ensures)
           (runs-from B (a .contents .now) (a .bit) (walk-at m (0 ∷ 0 ∷ 0 ∷ 0 ∷ 0 ∷ 0 ∷ 0 ∷ 0 ∷ who .element ∷ []) 32 (who .root)) (a .picks .now) (record { len = 0; label = c .before .before .before .before .before .before .before .before .before .before .before .before .before .before .before .before .before .before .before .permanent .result; refused = 0; node = 0 }) (a .list .now) refl _ _ _ (w .ensures)) (c .before .before .before .before .before .before .before .before .before .all-used .ensures l))
-          (r .refused) (r .node) _ (reached-met [] r l (c .before .before .before .before .before .before .before .if1 .left)) (c .before .before .before .before .before .clear-marks .ensures)),
+          (r .refused) (r .node) _ (reached-refused [] r l (c .before .before .before .before .before .before .before .if1 .left)) (c .before .before .before .before .before .clear-marks .ensures)),
       long,
     )
 

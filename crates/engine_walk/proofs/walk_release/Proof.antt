@@ -6,10 +6,10 @@ use Rattle.engine.specs.declared.Instruction.the-variants.{Release}
 use Rattle.engine.specs.Reader.{done, read, _>>=_}
 use Rattle.engine.specs.Rule.{walk, refuse-if, unreleasable, emit, _then_}
 use Rattle.engine_term.specs.Held.{value-at}
-use Rattle.book.specs.Image.{held}
-use Rattle.engine_term.proofs.Marking.{runs-bind, runs-gives}
+use Rattle.book.specs.Image.{low-program}
+use Rattle.engine_term.proofs.Marking.{runs-bind, runs-value}
 use Rattle.engine_emit.specs.Emit.{walk-from}
-use Rattle.engine_emit.proofs.Steps.{reached-going}
+use Rattle.engine_emit.proofs.Steps.{reached-walking}
 use borrow.Author.Needs.{needs}
 use Rattle.engine_walk.proofs.walk_release.Statement.{statement}
 use Rattle.engine_walk.proofs.walk_release.Tie as tie
@@ -31,13 +31,13 @@ unfolding walk
 returns c =
     let a = c .before .before .before .before .before .before .before .before .before .before .before .before .args in
     let m = a .image .now in
-    let B = held m in
+    let B = low-program m in
     λ ys.
     let w = walk-from ys (a .s) (a .list .now) in
     let y = c .before .before .before .before .before .before .before .before .eval .result in
     runs-bind B (a .contents .now) (a .bit) (value-at m (a .scope .now) (a .depth) (a .row .a)) (λ y. read (reserve y) >>= λ v. done (refuse-if (unreleasable B y v) not-releasable (a .n) w then emit (a .n) (Release y))) _ _ _ _ _ (c .before .before .before .before .before .before .before .before .eval .ensures)
     (runs-bind B (a .contents .now) (a .bit) (read (reserve y)) (λ v. done (refuse-if (unreleasable B y v) not-releasable (a .n) w then emit (a .n) (Release y))) _ _ _ _ _ (c .before .before .before .before .read-reserve .ensures)
-    (runs-gives B (a .contents .now) (a .bit) _ _ _ (c .emit-release .ensures ys ∙ rw (reached-going ys (a .s) (a .list .now) (c .before .before .before .before .before .before .before .before .before .before .before .before .pre)))))
+    (runs-value B (a .contents .now) (a .bit) _ _ _ (c .emit-release .ensures ys ∙ rw (reached-walking ys (a .s) (a .list .now) (c .before .before .before .before .before .before .before .before .before .before .before .before .pre)))))
 
 pub walk-release-spec : {M : Type 1} → statement M
 walk-release-spec =

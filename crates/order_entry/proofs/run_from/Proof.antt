@@ -1,4 +1,5 @@
--- `order_entry::run_from` meets its contract: a walk of its MIR, by hand, straight through: the tables are opened, their first records are lent to `make_moves`, of which the proof knows only that it meets its contract, and come back; the list is handed on as it is.
+-- `order_entry::run_from` meets its contract: a walk of its MIR, by hand, straight through: the tables are opened, their first records are lent to
+-- `make_moves`, of which the proof knows only that it meets its contract, and come back; the list is lent on as it is.
 -- Assumes nothing.
 use mathlib.Core.Path.{_≡_, refl, sym, _∙_, ap, subst}
 use Prim.Native.Nat.{ℕ, min}
@@ -56,7 +57,6 @@ use Rattle.engine.specs.declared.Instruction.{Instruction}
 use Rattle.engine.specs.declared.Record.{Record}
 use Rattle.engine.proofs.Record as T
 use Rattle.order.specs.Run.{LogAnswer}
-use Rattle.order.specs.Call.{Tables as Tables′}
 use Rattle.engine_list.specs.Written.{all-records-written}
 use Rattle.engine_list.proofs.Lending.{ref-at, LentPart, lend-part, part-back}
 use Rattle.order_run.specs.declared.RunState.{RunState}
@@ -78,6 +78,8 @@ use Rattle.order_entry.proofs.run_from.Key.{name as #order-entry·run-f
 use Rattle.order_entry.proofs.run_from as go
 use Rattle.order_entry.proofs.run_from.Statement as stated
 use Rattle.order_entry.proofs.run_from.Code as code
+use Rattle.engine.specs.Tables.{Tables as Tables′}
+use Rattle.engine_list.proofs.Laws.{none-left}
 
 abbrev stayed : Stays (go.ended .signature .params) (go.ended .kept)
 stayed = (stay-slice (0 ∷ []) tt (plain (λ _. u16)), (stay-slice (1 ∷ []) tt (plain (λ _. u64)), (stay-slice (2 ∷ []) tt (plain (λ _. u64)), (gave-slice (3 ∷ []) tt (plain (λ _. T.the-row)), (stay-none-ref (4 ∷ []) tt (plain (λ _. Array u32 2248)) yes, (stay-none-ref (5 ∷ []) tt (plain (λ _. Array u64 512)) yes, (stay-none (λ _. G.the-row) yes, tt)))))))
@@ -92,10 +94,6 @@ module _ {M : Type 1} (𝓤 : URA M) (H : Heap 𝓤) (A : Atoms 𝓤) (mem : Mem
 
 abbrev mach : RunState → Val
 mach t = LL.tuple-val G.the-type G′.the-laws (G.the-type .to t)
-
-none-left : (ys : List Record) → all-records-written [] ys ≡ ys
-unfolding all-records-written
-none-left ys = refl
 
 unchanged : (k : ℕ) (C d : List ℕ) → d ≡ take k C → d ++ rest-from k C ≡ C
 unchanged k C d e = ap (λ (y : List ℕ). y ++ rest-from k C) e ∙ take-append-drop k C
@@ -120,7 +118,7 @@ module _ (m o : List ℕ) (t : RunState) (C R D : List ℕ) (Y : List Record) (k
           ) in
           (same ∙ e .1, q .1 ∙ sym (none-left Y) ∙ ap (λ (y : List (List Instruction)). all-records-written y Y) (sym (e .0)))
 
--- the contents C at (b₀, o₀), the marks R at (b₁, o₁) and D at (b₂, o₂); the list, the image, the order, and the first turn
+-- the contents C at (b₀, o₀), the marks R at (b₁, o₁) and D at (b₂, o₂); the list, the image, the order, and the first state of the run
 module _ {M : Type 1} (𝓤 : URA M) (H : Heap 𝓤) (A : Atoms 𝓤) (W : Given 𝓤 H A) (mem : Memory → SProp 𝓤) (run : Routine → Fun 𝓤) (κ₀ κ₁ κ₂ κ₃ κ₄ κ₅ : Lft) (q₀ q₁ q₂ q₃ q₄ q₅ : Share) (b₀ o₀ b₁ o₁ b₂ o₂ : ℕ) (δ₀ δ₁ δ₂ : GName) (C R D : List ℕ) (xl : RefT (List Record)) (xi xo : RefT (List ℕ)) (t : RunState)
     (room-c : Room u16 (length C)) (room-r : Room u64 (length R)) (room-w : Room u64 (length D)) (room-l : Room T.the-row (length (xl .now))) (is-t : Is G.the-row t (mach t ∷ [])) where
   abbrev κs : Lfts 6
@@ -243,7 +241,7 @@ module _ {M : Type 1} (𝓤 : URA M) (H : Heap 𝓤) (A : Atoms 𝓤) (W : Given
       move ! (6 ∷ []) $ fsplit ! $ drop ! $ fsplit ! $ move ! (0 ∷ 1 ∷ 13 ∷ []) $ opens-slice ! tt u16 C b₀ o₀ $ move ! (2 ∷ 3 ∷ []) $ fjoin ! $ move ! (2 ∷ 0 ∷ []) $ fjoin ! $
       move ! (7 ∷ []) $ fsplit ! $ drop ! $ fsplit ! $ move ! (0 ∷ 1 ∷ 13 ∷ []) $ opens-slice ! tt u64 R b₁ o₁ $ move ! (2 ∷ 3 ∷ []) $ fjoin ! $ move ! (2 ∷ 0 ∷ []) $ fjoin ! $
       move ! (8 ∷ []) $ fsplit ! $ drop ! $ fsplit ! $ move ! (0 ∷ 1 ∷ 13 ∷ []) $ opens-slice ! tt u64 D b₂ o₂ $ move ! (2 ∷ 3 ∷ []) $ fjoin ! $ move ! (2 ∷ 0 ∷ []) $ fjoin ! $
-      -- [the writers' loan and records; the readers'; the contents'; turn; order; image; list; κ₅; κ₄; κ₃; the locals]: how many records are used
+      -- [the writers' loan and records; the readers'; the contents'; state; order; image; list; κ₅; κ₄; κ₃; the locals]: how many records are used
       move ! (8 ∷ []) $ use1 W (‵ Image ⊛ ‵ Image) (shr-copy 𝓤 H A W (named 4) κ₄ (Array u32 2248) .twice xi (si ∷ [])) $ split ! $
       nothing ! $ move ! (13 ∷ 0 ∷ []) $ join ! $ nothing ! $ owned ! usize (Is usize) (uint-makes 𝓤 H A W w64) (length D) _ (refl, room-w .0) $ fjoin ! $ owned ! usize (Is usize) (uint-makes 𝓤 H A W w64) (length R) _ (refl, room-r .0) $ fjoin ! $ owned ! usize (Is usize) (uint-makes 𝓤 H A W w64) (length C) _ (refl, room-c .0) $ fjoin ! $ move ! (2 ∷ 0 ∷ []) $ fjoin ! $
       move ! (1 ∷ 0 ∷ []) $ use2 W (raw (Used 𝓤 H A mem run .pre to-used)) asked-used $

@@ -1,4 +1,5 @@
--- `order_entry::run_from_own_list` meets its contract: a walk of its MIR, by hand, straight through: an array of records is made, its first ones are lent to `order_entry::run_from`, of which the proof knows only that it meets its contract, and it is room again.
+-- `order_entry::run_from_own_list` meets its contract: a walk of its MIR, by hand, straight through: an array of records is made, its first ones are lent to
+-- `order_entry::run_from`, of which the proof knows only that it meets its contract, and it is room again.
 -- Assumes nothing.
 use mathlib.Core.Path.{_≡_, refl, sym, _∙_, ap, subst}
 use Prim.Native.Nat.{ℕ, _<_, _≤_, _^_, min}
@@ -54,9 +55,8 @@ use Rattle.engine.proofs.Record as T
 use Rattle.engine.proofs.Record.Laws as T′
 use Rattle.engine.specs.declared.Instruction.{Instruction}
 use Rattle.order.specs.Run.{LogAnswer}
-use Rattle.order.specs.Call.{Tables as Tables′}
 use Rattle.engine_list.specs.Written.{all-records-written}
-use Rattle.order_entry.proofs.Longer.{lap-shorter}
+use Rattle.order_entry.proofs.Longer.{call-shorter}
 use Rattle.engine_list.proofs.Records.{is-number, first-ones, room-first, hides, falls}
 use Rattle.text.proofs.smaller as smaller
 use Rattle.text.proofs.smaller.Symbol as smaller-def
@@ -80,6 +80,7 @@ use Rattle.order_entry.proofs.run_from_own_list.Key.{name as #order-ent
 use Rattle.order_entry.proofs.run_from_own_list as alone
 use Rattle.order_entry.proofs.run_from_own_list.Statement as stated
 use Rattle.order_entry.proofs.run_from_own_list.Code as code
+use Rattle.engine.specs.Tables.{Tables as Tables′}
 
 abbrev stayed : Stays (alone.ended .signature .params) (alone.ended .kept)
 stayed = (gave-slice (0 ∷ []) tt (plain (λ _. u16)), (gave-slice (1 ∷ []) tt (plain (λ _. u64)), (gave-slice (2 ∷ []) tt (plain (λ _. u64)), (stay-none (λ _. usize) yes, (stay-none-ref (3 ∷ []) tt (plain (λ _. Array u32 2248)) yes, (stay-none-ref (4 ∷ []) tt (plain (λ _. Array u64 512)) yes, (stay-none (λ _. G.the-row) yes, tt)))))))
@@ -148,7 +149,7 @@ module _ {M : Type 1} (𝓤 : URA M) (H : Heap 𝓤) (A : Atoms 𝓤) (W : Given
   exits ys r w is cs rs ws zs said l lc lr lw =
       qed W (‵ (flft κ₀ q₀) ∷ ‵ (flft κ₁ q₁) ∷ ‵ (flft κ₂ q₂) ∷ ‵ (flft κ₃ q₃) ∷ ‵ (flft κ₄ q₄) ∷ ‵ Image ∷ ‵ Order ∷ ‵ (finally u16 (xc .name) cs) ∷ ‵ (finally u64 (xr .name) rs) ∷ ‵ (finally u64 (xw .name) ws) ∷ []) ∵
       suffices ! _ (ends-at 𝓤 H A alone.ended stayed (alone.clauses 𝓤 H A mem run) W ((κs, qs, tt, a, vals), tt) w r (cs, (rs, (ws, (tt, (tt, (tt, (tt, tt))))))) (lc, (lr, (lw, (tt, (tt, (tt, (tt, tt)))))))) $
-      says ! (λ lent whole rest h. said lent whole rest (subst (λ (k : ℕ). CallAt lent k whole (xi .now) (xo .now) rest t (xc .now) (xr .now) (xw .now)) (sym l) (lap-shorter lent n whole (xi .now) (xo .now) rest t (xc .now) (xr .now) (xw .now) h)) .0) $
+      says ! (λ lent whole rest h. said lent whole rest (subst (λ (k : ℕ). CallAt lent k whole (xi .now) (xo .now) rest t (xc .now) (xr .now) (xw .now)) (sym l) (call-shorter lent n whole (xi .now) (xo .now) rest t (xc .now) (xr .now) (xw .now) h)) .0) $
       nothing ! $ move ! (5 ∷ 0 ∷ []) $ join ! $ move ! (4 ∷ 0 ∷ []) $ join ! $ move ! (3 ∷ 0 ∷ []) $ join ! $ move ! (2 ∷ 0 ∷ []) $ join ! $ move ! (1 ∷ 0 ∷ []) $ join ! $ frame ! $
       -- [image; order; the last contents, readers and writers]
       nothing ! $ owned ! G.the-row (Is G.the-row) (LL.makes G.the-type G′.the-plain 𝓤 H A) t _ is-t $ fjoin ! $ move ! (2 ∷ 0 ∷ []) $ fjoin ! $ move ! (1 ∷ 0 ∷ []) $ fjoin ! $ owned ! usize (Is usize) (uint-makes 𝓤 H A W w64) n _ (refl, n-fits) $ fjoin ! $ move ! (3 ∷ 0 ∷ []) $ fjoin ! $ move ! (2 ∷ 0 ∷ []) $ fjoin ! $ move ! (1 ∷ 0 ∷ []) $ fjoin ! $ frame ! $
@@ -221,7 +222,7 @@ module _ {M : Type 1} (𝓤 : URA M) (H : Heap 𝓤) (A : Atoms 𝓤) (W : Given
       assigns ! (addr ! (from ! (fld ! refl (hop ! (look-in ! 42 (sub ! 0 refl (whole !))) (stop !))))) (from ! (stop !)) (init ! 19 refl (tt, tt)) $ assigns ! (agg ! (and-then ! (load ! (from ! (stop !)) (look ! 19 refl)) (and-then ! (load ! (from ! (fld ! refl (stop !))) (look-in ! 42 (sub ! 1 refl (whole !)))) (no-more !)))) (from ! (stop !)) (init ! 17 refl (tt, (tt, (record { fits = room-w .0 }, tt)))) $
       assigns ! (addr ! (from ! (stop !))) (from ! (stop !)) (init ! 15 refl (tt, tt)) $
       assigns ! (agg ! (and-then ! (load ! (from ! (stop !)) (look ! 15 refl)) (and-then ! (load ! (from ! (stop !)) (look ! 29 refl)) (no-more !)))) (from ! (stop !)) (init ! 13 refl (tt, (tt, (record { fits = is-m .1 }, tt)))) $
-      -- the first m records are lent, and `go_on` is called
+      -- the first m records are lent, and `run_from` is called
       lft-new ! tt (λ ν. move ! (13 ∷ []) $ use1 W (later (some (λ (γ : GName). ‵ (MutSlice (named 3) (ν ∷ []) T.the-row .own (ref-at T.the-row l₉ 0 γ (take m ys)) (sliceVal (l₉, 0) (length (take m ys)) ∷ [])) ⊛ ‵ (LentPart T.the-row l₉ 0 (ν ∷ []) m ys γ)))) (lend-part T.the-row l₉ 0 𝓤 H A W (ν ∷ []) ys m (named 3) (room-first ys m l256 few)) $ await ! tt $ pick ! (λ γ. split ! $
       rewrite ! 0 (λ (k : ℕ). ‵ (MutSlice (named 3) (ν ∷ []) T.the-row .own (ref-at T.the-row l₉ 0 γ (take m ys)) (sliceVal (l₉, 0) k ∷ []))) (first-ones ys m l256 few) refl $
       move ! (5 ∷ []) $ use1 W (‵ Image ⊛ ‵ Image) (shr-copy 𝓤 H A W (named 3) κ₃ (Array u32 2248) .twice xi (si ∷ [])) $ split ! $

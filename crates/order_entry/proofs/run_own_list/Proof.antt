@@ -1,4 +1,6 @@
--- `order_entry::run_own_list` meets its contract: a walk of its MIR, by hand, straight through: an array of records is made, its first ones are lent to `order_entry::run`, of which the proof knows only that it meets its contract, and it is room again. Its contract says nothing of a record, so whoever calls it needs no walk.
+-- `order_entry::run_own_list` meets its contract: a walk of its MIR, by hand, straight through: an array of records is made, its first ones are lent to
+-- `order_entry::run`, of which the proof knows only that it meets its contract, and it is room again. Its contract says nothing of a record, so whoever calls
+-- it needs no walk.
 -- Assumes nothing.
 use mathlib.Core.Path.{_≡_, refl, sym, _∙_, ap, subst}
 use Prim.Native.Nat.{ℕ, _<_, _≤_, _^_, min}
@@ -52,7 +54,7 @@ use Rattle.text.proofs.Answer.Laws as N′
 use Rattle.engine.specs.declared.Record.{Record}
 use Rattle.engine.proofs.Record as T
 use Rattle.engine.proofs.Record.Laws as T′
-use Rattle.order.specs.Call.{Tables as Tables′, log-call}
+use Rattle.order.specs.Call.{log-call}
 use Rattle.order.proofs.Claim.{demand3}
 use Rattle.order_entry.proofs.Longer.{call-longer}
 use Rattle.engine_list.proofs.Records.{is-number, first-ones, room-first, hides, falls}
@@ -74,6 +76,7 @@ use Rattle.order_entry.proofs.run_own_list.Key.{name as #order-entry·r
 use Rattle.order_entry.proofs.run_own_list as alone
 use Rattle.order_entry.proofs.run_own_list.Statement as stated
 use Rattle.order_entry.proofs.run_own_list.Code as code
+use Rattle.engine.specs.Tables.{Tables as Tables′}
 
 abbrev stayed : Stays (alone.ended .signature .params) (alone.ended .kept)
 stayed = (stay-none-slice (0 ∷ []) tt (plain (λ _. u8)) yes, (stay-none-slice (1 ∷ []) tt (plain (λ _. u8)) yes, (gave-slice (2 ∷ []) tt (plain (λ _. u16)), (gave-slice (3 ∷ []) tt (plain (λ _. u64)), (gave-slice (4 ∷ []) tt (plain (λ _. u64)), (stay-none (λ _. usize) yes, tt))))))
@@ -142,7 +145,7 @@ module _ {M : Type 1} (𝓤 : URA M) (H : Heap 𝓤) (A : Atoms 𝓤) (W : Given
   exits ys r w is cs rs ws zs said l lc lr lw =
       qed W (‵ (flft κ₀ q₀) ∷ ‵ (flft κ₁ q₁) ∷ ‵ (flft κ₂ q₂) ∷ ‵ (flft κ₃ q₃) ∷ ‵ (flft κ₄ q₄) ∷ ‵ Program ∷ ‵ Log′ ∷ ‵ (finally u16 (xc .name) cs) ∷ ‵ (finally u64 (xr .name) rs) ∷ ‵ (finally u64 (xw .name) ws) ∷ []) ∵
       suffices ! _ (ends-at 𝓤 H A alone.ended stayed (alone.clauses 𝓤 H A mem run) W ((κs, qs, tt, a, vals), tt) w r (tt, (tt, (cs, (rs, (ws, (tt, tt)))))) (tt, (tt, (lc, (lr, (lw, (tt, tt))))))) $
-      says ! (said .answer ∙ ap (λ (m : ℕ). log-call (xb .now) (xg .now) lent m) l ∙ call-longer (xb .now) (xg .now) lent n, demand3 (xb .now) (xg .now) lent n) $
+      says ! (record { answer = said .answer ∙ ap (λ (m : ℕ). log-call (xb .now) (xg .now) lent m) l ∙ call-longer (xb .now) (xg .now) lent n; demand3 = demand3 (xb .now) (xg .now) lent n }) $
       nothing ! $ move ! (5 ∷ 0 ∷ []) $ join ! $ move ! (4 ∷ 0 ∷ []) $ join ! $ move ! (3 ∷ 0 ∷ []) $ join ! $ move ! (2 ∷ 0 ∷ []) $ join ! $ move ! (1 ∷ 0 ∷ []) $ join ! $ frame ! $
       -- [book; log; the last contents, readers and writers]
       nothing ! $ owned ! usize (Is usize) (uint-makes 𝓤 H A W w64) n _ (refl, n-fits) $ fjoin ! $ move ! (5 ∷ 0 ∷ []) $ fjoin ! $ move ! (4 ∷ 0 ∷ []) $ fjoin ! $ move ! (3 ∷ 0 ∷ []) $ fjoin ! $ move ! (2 ∷ 0 ∷ []) $ fjoin ! $ move ! (1 ∷ 0 ∷ []) $ fjoin ! $ frame ! $

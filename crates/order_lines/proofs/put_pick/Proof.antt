@@ -1,5 +1,5 @@
 -- `put_pick` meets its contract.
-use Rattle.order_lines.proofs.Turns.{begun-first, begun-later}
+use Rattle.order_lines.proofs.Loops.{begun-first, begun-later}
 use native.Mathlib.Omega.{arith}
 use mathlib.Core.Logic.{⊎-elim}
 use mathlib.Core.Path.{_∙_}

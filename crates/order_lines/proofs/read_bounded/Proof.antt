@@ -1,5 +1,5 @@
 -- `read_bounded` meets its contract.
-use Rattle.order_lines.proofs.Turns.{Turned, turned-start, turned-stop, turned-turn, turned-end, choice-within, left, left-all, left-turn, left-end}
+use Rattle.order_lines.proofs.Loops.{Turned, turned-start, turned-stop, turned-turn, turned-end, choice-within, left, left-all, left-turn, left-end}
 use Rattle.order.specs.Log.{choice-at}
 use Rattle.order_lines.specs.Lines.{pick-put}
 use Rattle.order.specs.Log.{bad-choice}

@@ -36,6 +36,12 @@ mul-a c = search needs
 element-copy-out-a : tie.Need-element-copy-out-a Inv-loop μ-loop
 element-copy-out-a c = omega (arith, c .before .before .smaller .ensures)
 
+cast-a : tie.Need-cast-a Inv-loop μ-loop
+cast-a c = search needs
+
+rem-a : tie.Need-rem-a Inv-loop μ-loop
+rem-a c = search needs
+
 mul-least-unordered : tie.Need-mul-least-unordered Inv-loop μ-loop
 mul-least-unordered c = search needs
 
@@ -109,6 +115,8 @@ check-agents-spec =
     add-a
     mul-a
     element-copy-out-a
+    cast-a
+    rem-a
     mul-least-unordered
     array-read-least-unordered
     mul-least-unordered-2

@@ -3,7 +3,7 @@ use borrow.Author.Tests.{not-true, not-false}
 use mathlib.Core.Path.{sym, _∙_}
 use Prim.Native.Nat.{_-_, _≤_}
 use lib.ListN.{length-set}
-use Rattle.order_log.proofs.Turns.{Moved, moved-start, moved-stop, moved-turn, moved-end}
+use Rattle.order_log.proofs.Loops.{Moved, moved-start, moved-stop, moved-turn, moved-end}
 use native.Mathlib.Omega.{arith}
 use borrow.Author.Needs.{needs}
 use Rattle.order_log.proofs.read_moves.Statement.{statement}

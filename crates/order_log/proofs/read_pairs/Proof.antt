@@ -3,7 +3,7 @@ use borrow.Author.Tests.{not-true, not-false}
 use mathlib.Core.Path.{refl}
 use Prim.Native.Nat.{_-_, _≤_}
 use Rattle.order.specs.Log.{bad-pair}
-use Rattle.order_lines.proofs.Turns.{Turned, turned-start, turned-stop, turned-turn, turned-end}
+use Rattle.order_lines.proofs.Loops.{Turned, turned-start, turned-stop, turned-turn, turned-end}
 use Rattle.order_log.specs.Read.{pair-at, pair-put}
 use Rattle.order_log.proofs.Parts.{left, left-all, left-turn, left-end, pair-within}
 use native.Mathlib.Omega.{arith}

@@ -6,8 +6,8 @@ use Rattle.order_run.proofs.Stages.{low, agent-low, begins}
 use Rattle.order_run.proofs.begin_next.Statement.{statement}
 use Rattle.order_run.proofs.begin_next.Tie as tie
 
-bit-of-requires : tie.Need-bit-of-requires
-bit-of-requires c κs = search needs
+move-bit-requires : tie.Need-move-bit-requires
+move-bit-requires c κs = search needs
 
 agent-of-move-requires : tie.Need-agent-of-move-requires
 agent-of-move-requires c κs = search needs
@@ -24,7 +24,7 @@ same-length c = search needs
 returns : tie.Need-returns
 returns c =
     let a = c .before .before .before .before .before .before .before .before .before .before .before .args in
-    let bit = c .before .before .before .before .before .before .before .before .bit-of in
+    let bit = c .before .before .before .before .before .before .before .before .move-bit in
     let agent = c .before .before .before .before .before .before .before .agent-of-move in
     let own = c .before .before .before .before .before .before .picks-of-move in
     let b = c .before .before .begin-with in
@@ -36,4 +36,4 @@ returns c =
     (b .result) (b .last .1 .1 .1 .1 .0) (b .last .1 .1 .0) (b .ensures .0) (b .ensures .1 .0) (b .ensures .1 .1)
 
 pub begin-next-spec : {M : Type 1} → statement M
-begin-next-spec = tie.close (tie.spec bit-of-requires agent-of-move-requires picks-of-move-requires begin-with-requires same-length returns)
+begin-next-spec = tie.close (tie.spec move-bit-requires agent-of-move-requires picks-of-move-requires begin-with-requires same-length returns)

@@ -5,47 +5,47 @@ use borrow.Author.Needs.{needs}
 use Rattle.order_run.proofs.check_lent.Statement.{statement}
 use Rattle.order_run.proofs.check_lent.Tie as tie
 
-triple-requires : tie.Need-triple-requires
-triple-requires c κs = search needs
+answer-at-requires : tie.Need-answer-at-requires
+answer-at-requires c κs = search needs
 
 returns : tie.Need-returns
-returns c = let a = c .before .before .before .args in c .triple .ensures ∙ lent-0 (a .lent) (a .locations) (c .before .if1 .taken)
+returns c = let a = c .before .before .before .args in c .answer-at .ensures ∙ lent-0 (a .lent) (a .locations) (c .before .if1 .taken)
 
-triple-requires-2 : tie.Need-triple-requires-2
-triple-requires-2 c κs = search needs
+answer-at-requires-2 : tie.Need-answer-at-requires-2
+answer-at-requires-2 c κs = search needs
 
 returns-2 : tie.Need-returns-2
-returns-2 c = let a = c .before .before .before .before .before .args in c .triple2 .ensures ∙ lent-1 (a .lent) (a .locations) (c .before .before .before .if1 .left) (c .before .if2 .taken)
+returns-2 c = let a = c .before .before .before .before .before .args in c .answer-at2 .ensures ∙ lent-1 (a .lent) (a .locations) (c .before .before .before .if1 .left) (c .before .if2 .taken)
 
-triple-requires-3 : tie.Need-triple-requires-3
-triple-requires-3 c κs = search needs
+answer-at-requires-3 : tie.Need-answer-at-requires-3
+answer-at-requires-3 c κs = search needs
 
 returns-3 : tie.Need-returns-3
-returns-3 c = let a = c .before .before .before .before .before .before .before .args in c .triple3 .ensures ∙ lent-2 (a .lent) (a .locations) (c .before .before .before .before .before .if1 .left) (c .before .before .before .if2 .left) (c .before .if3 .taken)
+returns-3 c = let a = c .before .before .before .before .before .before .before .args in c .answer-at3 .ensures ∙ lent-2 (a .lent) (a .locations) (c .before .before .before .before .before .if1 .left) (c .before .before .before .if2 .left) (c .before .if3 .taken)
 
-triple-requires-4 : tie.Need-triple-requires-4
-triple-requires-4 c κs = search needs
+answer-at-requires-4 : tie.Need-answer-at-requires-4
+answer-at-requires-4 c κs = search needs
 
 returns-4 : tie.Need-returns-4
-returns-4 c = let a = c .before .before .before .before .before .before .before .before .before .args in c .triple4 .ensures ∙ lent-3 (a .lent) (a .locations) (c .before .before .before .before .before .before .before .if1 .left) (c .before .before .before .before .before .if2 .left) (c .before .before .before .if3 .left) (c .before .if4 .taken)
+returns-4 c = let a = c .before .before .before .before .before .before .before .before .before .args in c .answer-at4 .ensures ∙ lent-3 (a .lent) (a .locations) (c .before .before .before .before .before .before .before .if1 .left) (c .before .before .before .before .before .if2 .left) (c .before .before .before .if3 .left) (c .before .if4 .taken)
 
-triple-requires-5 : tie.Need-triple-requires-5
-triple-requires-5 c κs = search needs
+answer-at-requires-5 : tie.Need-answer-at-requires-5
+answer-at-requires-5 c κs = search needs
 
 returns-5 : tie.Need-returns-5
-returns-5 c = let a = c .before .before .before .before .before .before .before .before .before .args in c .triple5 .ensures ∙ lent-all (a .lent) (a .locations) (c .before .before .before .before .before .before .before .if1 .left) (c .before .before .before .before .before .if2 .left) (c .before .before .before .if3 .left) (c .before .if4 .left)
+returns-5 c = let a = c .before .before .before .before .before .before .before .before .before .args in c .answer-at5 .ensures ∙ lent-all (a .lent) (a .locations) (c .before .before .before .before .before .before .before .if1 .left) (c .before .before .before .before .before .if2 .left) (c .before .before .before .if3 .left) (c .before .if4 .left)
 
 pub check-lent-spec : {M : Type 1} → statement M
 check-lent-spec =
     tie.close
     (tie.spec
-    triple-requires
+    answer-at-requires
     returns
-    triple-requires-2
+    answer-at-requires-2
     returns-2
-    triple-requires-3
+    answer-at-requires-3
     returns-3
-    triple-requires-4
+    answer-at-requires-4
     returns-4
-    triple-requires-5
+    answer-at-requires-5
     returns-5)

@@ -5,14 +5,17 @@ use borrow.Author.Needs.{needs}
 use Rattle.order_run.proofs.next_move.Statement.{statement}
 use Rattle.order_run.proofs.next_move.Tie as tie
 
+cast-smaller : tie.Need-cast-smaller
+cast-smaller c = search needs
+
 smaller-requires : tie.Need-smaller-requires
 smaller-requires c κs = search needs
 
-triple-requires : tie.Need-triple-requires
-triple-requires c κs = search needs
+answer-at-requires : tie.Need-answer-at-requires
+answer-at-requires c κs = search needs
 
 returns : tie.Need-returns
-returns c = let a = c .before .before .before .before .before .args in let w = c .before .before .smaller .ensures in (λ m s d g en to. turn-on m (a .order .now) g s (a .moves) (a .i) en d (a .readers .now) (a .writers .now) to (omega (arith, c .before .if1 .taken, w)) (c .triple .result), omega (arith, c .before .if1 .taken, w))
+returns c = let a = c .before .before .before .before .before .args in let w = c .before .before .smaller .ensures in (λ m s d g en to. turn-on m (a .order .now) g s (a .moves) (a .i) en d (a .readers .now) (a .writers .now) to (omega (arith, c .before .if1 .taken, w)) (c .answer-at .result), omega (arith, c .before .if1 .taken, w))
 
 check-order-requires : tie.Need-check-order-requires
 check-order-requires c κs = search needs
@@ -27,8 +30,9 @@ pub next-move-spec : {M : Type 1} → statement M
 next-move-spec =
     tie.close
     (tie.spec
+    cast-smaller
     smaller-requires
-    triple-requires
+    answer-at-requires
     returns
     check-order-requires
     run-over-requires

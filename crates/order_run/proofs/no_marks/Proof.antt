@@ -3,7 +3,7 @@ use mathlib.Core.Path.{_≡_, refl, _∙_}
 use mathlib.Core.List.{_++_}
 use Prim.Native.Nat.{_-_, _≤_}
 use native.Mathlib.Omega.{arith}
-use borrow.Author.Fill.{fill-none, fill-more}
+use borrow.Author.Fill.{fill-more}
 use lib.ListN.{length, length-set, drop, replicate}
 use Rattle.order_run.proofs.RunTables.{cleared}
 use borrow.Author.Needs.{needs}

@@ -1,9 +1,9 @@
 -- `prepare` meets its contract.
 use Rattle.order_run.proofs.Opens.{off, opens}
-use Rattle.order_run.specs.Runs.{tables}
 use borrow.Author.Needs.{needs}
 use Rattle.order_run.proofs.prepare.Statement.{statement}
 use Rattle.order_run.proofs.prepare.Tie as tie
+use Rattle.engine.specs.Tables.{tables}
 
 check-all-requires : tie.Need-check-all-requires
 check-all-requires c κs = search needs

@@ -3,10 +3,10 @@ use lib.Seq.{length-take-le}
 use native.Mathlib.Omega.{arith}
 use mathlib.Core.Path.{sym}
 use Rattle.order_run.proofs.Opens.{starts}
-use Rattle.order_run.specs.Runs.{tables}
 use borrow.Author.Needs.{needs}
 use Rattle.order_run.proofs.start_run.Statement.{statement}
 use Rattle.order_run.proofs.start_run.Tie as tie
+use Rattle.engine.specs.Tables.{tables}
 
 records-used-requires : tie.Need-records-used-requires
 records-used-requires c κs = search needs

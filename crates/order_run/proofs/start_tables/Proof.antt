@@ -1,4 +1,4 @@
--- `begin_next` meets its contract.
+-- `start_tables` meets its contract.
 use borrow.Author.Needs.{needs}
 use Rattle.order_run.proofs.start_tables.Statement.{statement}
 use Rattle.order_run.proofs.start_tables.Tie as tie

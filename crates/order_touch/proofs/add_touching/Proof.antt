@@ -21,7 +21,7 @@ abbrev μ-loop : tie.MeasureT-loop
 loop-holds : tie.Need-loop-holds Inv-loop μ-loop
 loop-holds c = (refl, or-lt 64 (c .args .readers) (c .args .writers) (omega arith) (omega arith), sofar-start _ _ _)
 
--- the next user is one of the 64
+-- the user that is taken next is one of the 64 moves
 first : (c : lts.In-loop reads.Pre reads.Post Inv-loop μ-loop) → trailingZeros 64 (c .before .loop .left) < 64
 first c =
     let a = c .before .before .args in

@@ -1,4 +1,4 @@
--- `all_marks` meets its contract: what is 0 together is 0 at each place passed.
+-- `all_marks` meets its contract: where all marks in one are 0, each mark that was passed is 0.
 use mathlib.Core.Path.{_≡_}
 use mathlib.Core.Logic.{dite}
 use Prim.Native.Nat.{ℕ, _-_, _≤_, _<_}

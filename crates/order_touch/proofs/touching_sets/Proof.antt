@@ -1,4 +1,4 @@
--- `touching_sets` meets its contract: a block is gathered, or no move writes in it.
+-- `touching_sets` meets its contract: what touches in a block is added, or no move writes in it.
 use Rattle.order_touch.proofs.Sets.{all-start, all-unwritten, unwritten}
 use Rattle.order_touch.specs.Marked.{TouchSets}
 use borrow.Author.Needs.{needs}

@@ -1,4 +1,4 @@
--- `read_all` meets its contract: what is filled never goes past the buffer.
+-- `read_all` meets its contract: no more bytes are filled than the buffer has.
 use mathlib.Core.Path.{_≡_, sym}
 use Prim.Native.Nat.{_-_, _≤_}
 use lib.ListN.{length}

@@ -9,7 +9,7 @@ use Rattle.text.proofs.bad_line_from.Statement.{statement}
 use Rattle.text.proofs.bad_line_from.Tie as tie
 use Rattle.text.proofs.bad_line_from.Reads as reads
 use Rattle.text.proofs.bad_line_from.Lts as lts
-use Rattle.text.proofs.in_form.Reads as in-form-reads
+use Rattle.text.proofs.is_line_in_form.Reads as is-line-in-form-reads
 
 abbrev Inv-loop : tie.InvT-loop
 Inv-loop text first end i₀ i = least-from (bad-line text) (end - i) i ≡ least-from (bad-line text) (end - first) first
@@ -20,8 +20,8 @@ abbrev μ-loop : tie.MeasureT-loop
 loop-holds : tie.Need-loop-holds Inv-loop μ-loop
 loop-holds c = refl
 
-in-form-requires : tie.Need-in-form-requires Inv-loop μ-loop
-in-form-requires c κs = search needs
+is-line-in-form-requires : tie.Need-is-line-in-form-requires Inv-loop μ-loop
+is-line-in-form-requires c κs = search needs
 
 returns : tie.Need-returns Inv-loop μ-loop
 returns c = let a = c .before .before .before .before .before .args in let l = c .before .before .before .loop in least-stop (bad-line (a .text .now)) (a .end) (l .i) (c .before .before .loop-test .taken) (cc) (l .inv)
@@ -45,7 +45,7 @@ bad-line-from-spec =
     Inv-loop
     μ-loop
     loop-holds
-    in-form-requires
+    is-line-in-form-requires
     returns
     add-i
     loop-less

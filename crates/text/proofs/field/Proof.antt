@@ -1,6 +1,5 @@
 -- `field` meets its contract.
 use Rattle.text.proofs.Fields.{four-before, three-before}
-use native.Mathlib.Omega.{arith}
 use borrow.Author.Needs.{needs}
 use Rattle.text.proofs.field.Statement.{statement}
 use Rattle.text.proofs.field.Tie as tie

@@ -3,7 +3,7 @@ use Rattle.text.proofs.Words.{and-cases}
 use Rattle.text.proofs.Fields.{led, digit-bounds}
 use Rattle.text.proofs.Fields.{after-blank, three-digits, no-three}
 use borrow.Author.Tests.{ne-eqb}
-use mathlib.Core.Path.{sym, _∙_}
+use mathlib.Core.Path.{_∙_}
 use native.Mathlib.Omega.{arith}
 use borrow.Author.Needs.{needs}
 use Rattle.text.proofs.last_three.Statement.{statement}

@@ -2,7 +2,7 @@
 use Rattle.text.proofs.Fields.{led}
 use Rattle.text.proofs.Fields.{after-blank, two-digits, no-digits}
 use borrow.Author.Tests.{ne-eqb}
-use mathlib.Core.Path.{sym, _∙_}
+use mathlib.Core.Path.{_∙_}
 use native.Mathlib.Omega.{arith}
 use borrow.Author.Needs.{needs}
 use Rattle.text.proofs.last_two.Statement.{statement}

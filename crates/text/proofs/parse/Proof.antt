@@ -1,7 +1,6 @@
 -- `parse` meets its contract.
 use Rattle.text.proofs.Fields.{line-read, line-unread, cut-line}
-use mathlib.Core.Path.{sym, _∙_}
-use native.Mathlib.Omega.{arith}
+use mathlib.Core.Path.{_∙_}
 use borrow.Author.Needs.{needs}
 use Rattle.text.proofs.parse.Statement.{statement}
 use Rattle.text.proofs.parse.Tie as tie

@@ -1,13 +1,12 @@
 -- `scanned` meets its contract.
 use Rattle.text.proofs.Fields.{scan-end}
 use Rattle.text.proofs.Fields.{scan-field, scan-step}
-use Rattle.text.specs.Scan.{step-of, scan, ends-well}
+use Rattle.text.specs.Scan.{scan, ends-well}
 use Rattle.text.specs.declared.Scan.the-variants.{Blank}
-use Rattle.text.specs.declared.Scan.{Scan}
 use borrow.Author.Needs.{needs}
-use lib.ListN.{take, drop, getD}
-use mathlib.Core.Path.{_≡_, refl, sym, _∙_, ap}
-use Prim.Native.Nat.{_≤_, _-_, _+_, suc}
+use lib.ListN.{take, drop}
+use mathlib.Core.Path.{_≡_, sym, _∙_, ap}
+use Prim.Native.Nat.{_≤_, _-_, _+_}
 use native.Mathlib.Omega.{arith}
 use Rattle.text.proofs.scanned.Statement.{statement}
 use Rattle.text.proofs.scanned.Tie as tie

@@ -1,4 +1,4 @@
--- `check_lines` meets its contract.
+-- `check_entry_lines` meets its contract.
 use native.Mathlib.Omega.{arith}
 use borrow.Author.Needs.{needs}
 use Rattle.book_entries.proofs.Pass.{entry-line, ill-formed, at-fault-from, all-sound}
@@ -22,8 +22,8 @@ use Prim.Native.Nat.{_≤_, _-_, _+_}
 use mathlib.Core.List.{List}
 use mathlib.Core.Bool.{not, _&&_}
 use mathlib.Core.Path.{_≡_, refl, sym, ap, _∙_}
-use Rattle.book_entries.proofs.check_lines.Statement.{statement}
-use Rattle.book_entries.proofs.check_lines.Tie as tie
+use Rattle.book_entries.proofs.check_entry_lines.Statement.{statement}
+use Rattle.book_entries.proofs.check_entry_lines.Tie as tie
 
 abbrev Inv-loop : tie.InvT-loop
 Inv-loop text image first end roll₀ p e n i₀ low₀ roll i low = (first ≤ i)
@@ -145,8 +145,8 @@ same-length-3 c = c .before .loop .inv .5
 returns-3 : tie.Need-returns-3 Inv-loop μ-loop
 returns-3 c = let a = c .before .before .before .before .before .before .before .args in let l = c .before .loop in all-sound (program-in (a .image .now)) (a .text .now) (a .first) (a .end) (least-end (bad-line (a .text .now)) (a .end) (l .i) (c .loop-test .left) (l .inv .1)) (least-end (bad-at (program-in (a .image .now)) (a .text .now) (a .first) (a .end - a .first)) (a .end) (l .i) (c .loop-test .left) (l .inv .2))
 
-pub check-lines-spec : {M : Type 1} → statement M
-check-lines-spec =
+pub check-entry-lines-spec : {M : Type 1} → statement M
+check-entry-lines-spec =
     tie.close
     (tie.spec
     Inv-loop

@@ -1,11 +1,11 @@
--- A move is settled by its clash, or fires. Assumes nothing.
+-- A move whose walk met no refusal is settled: it clashes, or it fires. Assumes nothing.
 use mathlib.Core.Path.{_≡_, sym, ap, _∙_}
 use mathlib.Core.List.{List}
 use Prim.Native.Nat.{ℕ, _<_, _≤_}
 use native.Mathlib.Omega.{arith}
 use lib.ListN.{length}
 use Rattle.book.specs.Book.{Program, L}
-use Rattle.book.specs.Image.{held}
+use Rattle.book.specs.Image.{low-program}
 use Rattle.engine.specs.declared.Instruction.{Instruction}
 use Rattle.engine_instruction.specs.Code.{items}
 use Rattle.engine_clash.specs.Against.{least-clash}
@@ -17,7 +17,7 @@ use Rattle.engine.specs.Move as move
 use Rattle.engine_fire.specs.declared.Outcome.the-variants.{Fired, Clash}
 use Rattle.engine_clash.specs.Clash.{updates-by, clash-by}
 use Rattle.engine_fire.specs.Outcome.{move-by, write-marked, read-marked, contents-after, readers-after, writers-after, Settled}
-use Rattle.engine_fire.specs.Tables.{Tables}
+use Rattle.engine.specs.Tables.{Tables}
 
 module _ (image list : List ℕ) (n bit : ℕ) (t : Tables) where
   abbrev f : List ℕ → move.Fired
@@ -29,7 +29,7 @@ module _ (image list : List ℕ) (n bit : ℕ) (t : Tables) where
       record {
         outcome = q;
         contents = λ ls. sym (ap (contents-after (t .contents)) (q ls));
-        readers = λ ls. sym (ap (readers-after bit (held image) (t .contents) (t .readers)) (q ls));
+        readers = λ ls. sym (ap (readers-after bit (low-program image) (t .contents) (t .readers)) (q ls));
         writers = λ ls. sym (ap (writers-after bit (length (t .contents)) (t .writers)) (q ls));
       }
     where
@@ -39,14 +39,14 @@ module _ (image list : List ℕ) (n bit : ℕ) (t : Tables) where
   pub fire-settled :
       clash-by image (t .contents) list n ≡ Nowhere → (u : Tables) →
       u .contents ≡ fire (updates-by image (t .contents) list n) (t .contents) →
-      u .readers ≡ read-marked bit (held image) (items list n) (t .contents) (t .readers) →
+      u .readers ≡ read-marked bit (low-program image) (items list n) (t .contents) (t .readers) →
       u .writers ≡ write-marked bit (length (t .contents)) (updates-by image (t .contents) list n) (t .writers) → Settled image list n bit t Fired u
   unfolding fire-or-clash
   fire-settled e u h r k =
       record {
         outcome = q;
         contents = λ ls. h ∙ sym (ap (contents-after (t .contents)) (q ls));
-        readers = λ ls. r ∙ sym (ap (readers-after bit (held image) (t .contents) (t .readers)) (q ls));
+        readers = λ ls. r ∙ sym (ap (readers-after bit (low-program image) (t .contents) (t .readers)) (q ls));
         writers = λ ls. k ∙ sym (ap (writers-after bit (length (t .contents)) (t .writers)) (q ls));
       }
     where
@@ -55,14 +55,14 @@ module _ (image list : List ℕ) (n bit : ℕ) (t : Tables) where
 
 -- ---- what the code finds
 
-module _ (image c list : List ℕ) (n : ℕ) (k : ℕ) (high : L (held image) ≤ k) where
+module _ (image c list : List ℕ) (n : ℕ) (k : ℕ) (high : L (low-program image) ≤ k) where
   abbrev B : Program
-  B = held image
+  B = low-program image
 
   abbrev is : List Instruction
   is = items list n
 
-  -- r is found, begun from k
+  -- the search for a clash, begun from k, gives r
   pub clash-at : (r : ℕ) → r ≡ least-clash B c is is k → r < L B → clash-by image c list n ≡ Here r
   clash-at r q h = sym (best-least B c is k high (omega (arith, q, h))) ∙ ap Here (sym q)
 

@@ -24,7 +24,7 @@ use Rattle.order_lines.proofs.Places.{part-start, part-pass, part-stop,
 
 -- ---- lines of any kind
 
--- the n lines after line k. `bad` tells by the line before it, the line and its number whether one is at fault; `rest i` puts in those from line i on
+-- the n lines after line k. `bad` says by the line before it, the line and its number whether one is at fault; `rest i` puts in those from line i on
 module _ (text : List ℕ) (k n : ℕ) (bad : Line → Line → ℕ → Bool) (rest : ℕ → List ℕ → List ℕ) (s : List ℕ) where
   abbrev pub bad-at : ℕ → Bool
   bad-at i = bad (line text (k + i)) (line text (1 + k + i)) i
@@ -48,7 +48,7 @@ module _ (text : List ℕ) (k n : ℕ) (bad : Line → Line → ℕ → Bool) (r
         order = λ z. found-some z;
       }
 
-      -- the first line has none before it; v is the table with line i put in
+      -- one line more is read and put in, v being the table with it; the first line has none before it
       pub turned-turn : ((j l : Line) → bad j l 0 ≡ bad (line text (k + 0)) l 0) → p .ok ≡ true → (b : Bool) → b ≡ bad last (p .line) i → (r : Found)
           → r ≡ first-found found (if b then Here (1 + k + i) else Nowhere) → (u v : List ℕ) → u ≡ (if b then t else v)
           → (p .line ≡ line text (1 + k + i) → rest (i + 1) v ≡ rest i t) → Turned (i + 1) u (p .line) r
@@ -77,18 +77,18 @@ module _ (text : List ℕ) (k n : ℕ) (bad : Line → Line → ℕ → Bool) (r
 
 -- ---- the choice lines
 
--- a choice that is not at fault is of the 64 moves
+-- a choice line that is not at fault is of one of the 64 moves
 pub choice-within : (E m : ℕ) (k l : Line) (i : ℕ) (b : Bool) → m ≤ 64 → b ≡ bad-choice E m k l i → b ≡ false → l .a < 64
 choice-within E m k l i b small e z = omega (arith, choice-low E m k l i (sym e ∙ z) .0)
 
--- as the code puts it in
+-- the first pick of a move, as the code puts it in
 pub begun-first : (t : List ℕ) (i a : ℕ) → end-in t a ≡ 0 → set t (128 + a) i ≡ first-pick-put t i a
 begun-first t i a e = rw (eq-eqb (end-in t a) 0 e)
 
 pub begun-later : (t : List ℕ) (i a : ℕ) → end-in t a ≢ 0 → t ≡ first-pick-put t i a
 begun-later t i a n = rw (ne-eqb (end-in t a) 0 n)
 
--- the n choices of f from choice i on
+-- the table with the n choices of f from choice i on put in
 abbrev pub left : (ℕ → Choice) → ℕ → ℕ → List ℕ → List ℕ
 left f n i t = picks-put (table-from f i (n - i)) i t
 

@@ -34,7 +34,7 @@ module _ (A : ℕ) (text : List ℕ) (m : ℕ) where
       moved-stop e = record {
         ill = part-stop (bad-line text) 1 m i h (line-bad text (1 + i) p is e) (w .ill);
         fault = λ z. found-some z;
-        rows = λ z. found-some z;
+        predecessors = λ z. found-some z;
         agents = λ z. found-some z;
         picks = λ z. found-some z;
       }
@@ -53,7 +53,7 @@ module _ (A : ℕ) (text : List ℕ) (m : ℕ) where
     moved-end e = record {
       ill = part-end (bad-line text) 1 m i (omega arith) (w .ill);
       fault = λ z. w .fault ∙ rw e;
-      rows = λ z j k. w .table .rows j (omega arith);
+      predecessors = λ z j k. w .table .predecessors j (omega arith);
       agents = λ z j k. w .table .agents j (omega arith);
       picks = λ z j k. w .table .picks j (omega arith);
     }

@@ -17,7 +17,7 @@ use Rattle.engine_reads.specs.Marking.{members-from, first-and-rest}
 use Rattle.engine_walk.proofs.Steps.{runs-from}
 
 module _ (B : Program) (c : List ℕ) (bit u : ℕ) (f : ℕ → Walk → Reader Walked) where
-  -- those left, said otherwise
+  -- the members that are left may be given as an equal list
   pub sweep-as : (xs ys : List ℕ) (o z : Walked) (m n : List ℕ) → xs ≡ ys → Runs B c bit (after o (each f ys)) z m n → Runs B c bit (after o (each f xs)) z m n
   sweep-as xs ys o z m n e h = rw e h
 

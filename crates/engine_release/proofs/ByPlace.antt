@@ -1,4 +1,4 @@
--- A list that is swept from its start, each element put by its place. Assumes nothing.
+-- A list that is passed over from its start, each element put by its place. Assumes nothing.
 use mathlib.Core.Path.{_≡_, refl, sym, ap, _∙_}
 use mathlib.Core.Bool.{Bool, true, false}
 use mathlib.Core.List.{List, [], _∷_, _++_}
@@ -56,7 +56,7 @@ sweep-next f i s₀ s t v w e q =
         let o : k < i = omega (arith, n) in
         getD-set-other s i k v 0 n ∙ w .done k o m
 
--- places that are put as they are may be passed over
+-- places that keep their value may be passed over
 pub sweep-pass : (f : ℕ → ℕ → ℕ) (i j : ℕ) (s₀ s : List ℕ) → Swept f i s₀ s → i ≤ j → ((k : ℕ) → i ≤ k → k < j → f k (getD s₀ k 0) ≡ getD s₀ k 0)
     → Swept f j s₀ s
 sweep-pass f i j s₀ s w h same =
@@ -77,7 +77,7 @@ sweep-end f i s₀ s w h = each-is f s₀ s (w .same) (λ k l. place k l (ltb k 
     place k l true m = w .done k (ltb-true k i m) l
     place k l false m = let n : i ≤ k = ltb-false k i m in w .left k n ∙ sym (h k n l)
 
--- a whole pass that puts the places from i to j by g and leaves the rest
+-- a pass over the whole list that changes the places from i up to j by g and leaves the others
 pub sweep-run : (f g : ℕ → ℕ → ℕ) (i j : ℕ) (s₀ s t : List ℕ) → i ≤ j → Swept f i s₀ s → t ≡ by-place g 0 s
     → ((k : ℕ) → k < i → k < length s₀ → (v : ℕ) → g k v ≡ v)
     → ((k : ℕ) → i ≤ k → k < j → k < length s₀ → g k (getD s₀ k 0) ≡ f k (getD s₀ k 0))

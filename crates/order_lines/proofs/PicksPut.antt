@@ -22,7 +22,7 @@ use Rattle.order_lines.specs.Lines.{pick-put, picks-put}
 
 -- ---- one choice
 
--- a word that is put where the test passes
+-- the table with a word put, if the test passes
 abbrev put-if : Bool → List ℕ → ℕ → ℕ → List ℕ
 put-if b t p v = if b then set t p v else t
 
@@ -38,7 +38,7 @@ put-other : (b : Bool) (t : List ℕ) (p v j : ℕ) → j ≢ p → getD (put-if
 put-other true t p v j n = getD-set-other t p j v 0 n
 put-other false t p v j n = refl
 
--- pick k, the element y, of move x
+-- pick k, the element y, of move x is put in
 module _ (t : List ℕ) (k x y : ℕ) (long : length t ≡ 512) (few : x < 64) (most : k < 256) where
   abbrev with-first : List ℕ
   with-first = put-if (eqb (end-in t x) 0) t (128 + x) k
@@ -85,7 +85,7 @@ record Run (f : ℕ → Choice) (i k a e : ℕ) : Type 0 where
   after : (j : ℕ) → e ≤ j → j < k → f j .move ≢ i
 
 module _ (f : ℕ → Choice) (i k a e : ℕ) (w : Run f i k a e) where
-  -- choice k is of another move
+  -- choice k is of another move: the picks of move i stay
   run-other : f k .move ≢ i → Run f i (suc k) a e
   run-other n = record {
     first = w .first;
@@ -96,7 +96,7 @@ module _ (f : ℕ → Choice) (i k a e : ℕ) (w : Run f i k a e) where
     after = λ j p q. dite (ℕ-discrete j k) (λ (z : j ≡ k). rw z n) (λ (z : j ≢ k). w .after j p (omega arith));
   }
 
-  -- it is of this one: all since its first are
+  -- choice k is of move i, which has picks already: they end right before it
   run-joined : ((j l : ℕ) → j ≤ l → l ≤ k → f j .move ≤ f l .move) → f k .move ≡ i → 0 < e → e ≡ k
   run-joined up q h = dite (decLt e k)
       (λ (l : e < k). absurd (w .after (k - 1) (omega arith) (omega arith)
@@ -138,7 +138,7 @@ record Put (f : ℕ → Choice) (m : ℕ) (s : List ℕ) (k : ℕ) (t : List ℕ
   runs : (i : ℕ) → i < m → Run f i k (first-in t i) (end-in t i)
   elements : (j : ℕ) → j < k → getD t (256 + j) 0 ≡ f j .element
 
--- a part of a table whose words are known
+-- a part of a table, from its words
 part-is : (g : ℕ → ℕ) (t : List ℕ) (b a c : ℕ) → b + c ≤ length t → ((j : ℕ) → j < c → getD t (b + j) 0 ≡ g (a + j)) → take c (drop b t) ≡ table-from g a c
 unfolding table-from
 part-is g t b a zero h e = refl
@@ -227,9 +227,9 @@ module _
         (λ j l. let z : 256 + a + j ≡ 256 + (a + j) = omega arith in rw z (w .elements (a + j) (omega (arith, r .end))))
         ∙ sym (picks-run f i a e n (r .first) (r .end) (r .before) (r .inside) (r .after))
 
--- ---- the choice lines
+-- ---- the choice lines of a log
 
--- n of them, none at fault
+-- n choice lines, none at fault
 module _ (E m k : ℕ) (text : List ℕ) (n : ℕ) (none : least (bad-choice-at E m k text) n ≡ Nowhere) where
   abbrev f : ℕ → Choice
   f = choice-at k text
@@ -257,10 +257,10 @@ module _ (E m k : ℕ) (text : List ℕ) (n : ℕ) (none : least (bad-choice-at 
         let low : (j : ℕ) → j < n → f j .move < m = λ j h. low-parts j h .0 in
         rw z at (put-all f m n few most low all-up s n 0 s (omega arith) (put-start f m n few most low all-up s long clear))
 
-    -- each move has its picks
+    -- each move has its picks in the table
     pub choices-picks : (i : ℕ) → i < m → picks-in (picks-put (table (choice-at k text) n) 0 s) i ≡ picks-of (table (choice-at k text) n) i
     choices-picks = put-picks f m n few most (λ j h. low-parts j h .0) all-up s (picks-put (table f n) 0 s) all-put
 
-    -- rows and agents stay
+    -- predecessors and agents stay in the table
     pub choices-keep : (j : ℕ) → j < 128 → getD (picks-put (table (choice-at k text) n) 0 s) j 0 ≡ getD s j 0
     choices-keep = all-put .kept
