@@ -1,5 +1,6 @@
-/* What C can call of the rule engine. A text or a table is its first element and its length; nothing is kept or freed. docs/SPECIFICATION.md says
-   what each function does for every input (section 9), and docs/REFUSALS.md has the refusals, their numbers and their places. */
+/* What C can call of the rule engine. A text or a table is its first element and its length; tables must not overlap; nothing is
+   kept or freed. docs/SPECIFICATION.md says
+   what each function does for every input (sections 9 and 10), and docs/REFUSALS.md has the refusals, their numbers and their places. */
 #ifndef RENTAL_H
 #define RENTAL_H
 
@@ -14,7 +15,7 @@ uint64_t rental_check_book(const uint8_t *book, size_t length);
    pick without a choice are refused. A pick is an element's number in 64 bits, so that no number is cut: any number not below the book's count of
    elements is refused, 9 with p its index + 1, at most 16,777,215. Picks are only read, and `picks` may be any pointer when picks_length is 0. `lent`
    is how many instruction records the caller has; 256 are enough. */
-uint64_t rental_move(const uint8_t *book, size_t length, uint16_t *contents, size_t locations, size_t agent, const uint64_t *picks,
+uint64_t rental_move(const uint8_t *book, size_t length, uint16_t *contents, size_t contents_length, size_t agent, const uint64_t *picks,
                      size_t picks_length, size_t lent);
 
 /* The run of a log from the start of its book: 0 when it is accepted, else number * 2^48 + p * 2^24 + q. The tables get the contents reached and, for

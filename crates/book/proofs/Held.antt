@@ -1,4 +1,4 @@
--- What the engine takes an image to hold, compared with the image's program. Assumes nothing.
+-- What the engine takes an image to hold, compared with the image's program.
 use mathlib.Core.Path.{_≡_, refl, sym, _∙_, ap, ap₂}
 use mathlib.Core.List.{List, [], _∷_, map}
 use Prim.Native.Nat.{ℕ, suc, _<_, _≤_}

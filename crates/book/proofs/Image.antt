@@ -1,4 +1,4 @@
--- The image: what its program has, and what its rows hold after they are stored. Assumes nothing.
+-- The image: what its program has, and what its rows hold after they are stored.
 use mathlib.Core.Path.{_≡_, refl, sym, _∙_, ap}
 use mathlib.Core.Bool.{Bool, true, false}
 use mathlib.Core.List.{List, _∷_}

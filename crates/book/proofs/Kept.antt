@@ -1,4 +1,4 @@
--- What an image keeps of a program: check 5 says the same of every node, and a program whose nodes pass it is kept whole. Assumes nothing.
+-- What an image keeps of a program: check 5 says the same of every node, and a program whose nodes pass it is kept whole.
 use mathlib.Core.Path.{_≡_, refl, sym, _∙_, ap}
 use mathlib.Core.Bool.{true, false, and-false}
 use mathlib.Core.Logic.{_⊎_, inl, inr}

@@ -79,23 +79,23 @@ argument-of E arity x y z k e = go (eqb arity 0) (eqb arity 1) e
 -- ---- the locations of a book
 
 -- what is known of function f's location at x and y
-pub record Spot (B : Program) (f x y : ℕ) : Type 0 where
+pub record Located (B : Program) (f x y : ℕ) : Type 0 where
   pub where-at : place B (location B f x y) ≡ record { function = function-at B f; index = offset (B .E) (function-at B f .arity) x y }
   pub inside : location B f x y < L B
 
 module _ (B : Program) (ok : Lawful B) where
-  pub spot : (f x y : ℕ) → f < length (B .functions) → x < B .E → y < B .E → Spot B f x y
-  spot f x y h a b =
+  pub located : (f x y : ℕ) → f < length (B .functions) → x < B .E → y < B .E → Located B f x y
+  located f x y h a b =
       let r = place-laid (B .E) 0 (B .functions) (ok .laid) f (offset (B .E) (function-at B f .arity) x y) h (offset-fits (B .E) (function-at B f .arity) x y a b) in
       let e : location B f x y - 0 ≡ location B f x y = omega arith in
       record { where-at = rw e at (r .0); inside = omega (arith, r .2) }
 
   -- the arguments of function f's location at x and y are x and y
   pub held-argument : (f x y z : ℕ) → f < length (B .functions) → x < B .E → y < B .E → Argument B z (location B f x y) → (z ≡ x) ⊎ (z ≡ y)
-  held-argument f x y z h a b e = argument-of (B .E) (function-at B f .arity) x y z b (rw (spot f x y h a b .where-at) at e)
+  held-argument f x y z h a b e = argument-of (B .E) (function-at B f .arity) x y z b (rw (located f x y h a b .where-at) at e)
 
   pub held-first : (f x : ℕ) → f < length (B .functions) → x < B .E → function-at B f .arity ≡ 1 → Argument B x (location B f x 0)
-  held-first f x h a e = rw (spot f x 0 h a (omega arith) .where-at, e, eq-eqb x x refl)
+  held-first f x h a e = rw (located f x 0 h a (omega arith) .where-at, e, eq-eqb x x refl)
 
   -- ---- Reserve's locations are the first E, and all others come after them
 
@@ -105,7 +105,7 @@ module _ (B : Program) (ok : Lawful B) where
   pub roll-place : (x : ℕ) → x < B .E → place B x ≡ record { function = function-at B 0; index = x }
   roll-place x h =
       let e : offset (B .E) (function-at B 0 .arity) x 0 ≡ x = rw (ok .reserve) in
-      rw (roll-location x 0, e) at (spot 0 x 0 (ok .some) h (omega arith) .where-at)
+      rw (roll-location x 0, e) at (located 0 x 0 (ok .some) h (omega arith) .where-at)
 
   pub roll-inside : B .E ≤ L B
   unfolding total

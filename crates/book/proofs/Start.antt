@@ -17,7 +17,7 @@ use Rattle.book.specs.declared.Entry.{Entry}
 use Rattle.book.specs.Book.{Program, Book, L, no-entry, true-element, boolean, relation, dynamic, defaults, enter, start, location, entry-location, function-at, entry-at, place, relation-at, dynamic-at, default-at}
 use Rattle.book.specs.Contents.{in-bounds, in-form, least-location, rolled, untraced, bad-entry}
 use Rattle.book.specs.Sound.{Lawful, at, Argument, OnRoll, Sound}
-use Rattle.book.proofs.Places.{Spot, spot, held-argument, roll-place, roll-location, past-roll, roll-argument, boolean-low, default-low}
+use Rattle.book.proofs.Places.{Located, located, held-argument, roll-place, roll-location, past-roll, roll-argument, boolean-low, default-low}
 
 -- ---- entry i
 
@@ -151,11 +151,11 @@ module _ (b : Book) (ok : Lawful (b .program)) (right : (i : ℕ) → i < length
     abbrev d : List ℕ
     d = set c l v
 
-    s : Spot B (e .function) (e .arg1) (e .arg2)
-    s = spot B ok (e .function) (e .arg1) (e .arg2) (form .known) (form .first) (form .second)
+    s : Located B (e .function) (e .arg1) (e .arg2)
+    s = located B ok (e .function) (e .arg1) (e .arg2) (form .known) (form .first) (form .second)
 
-    by-place : (Q : ℕ → Type 0) (j : ℕ) → (j ≡ l → Q v) → (j ≢ l → Q (at c j)) → Q (at d j)
-    by-place Q j here-it other = dite (ℕ-discrete j l) (λ q. rw (q, getD-set-same c l v 0 (omega (arith, s .inside, k .sound .long))) (here-it q))
+    by-location : (Q : ℕ → Type 0) (j : ℕ) → (j ≡ l → Q v) → (j ≢ l → Q (at c j)) → Q (at d j)
+    by-location Q j here-it other = dite (ℕ-discrete j l) (λ q. rw (q, getD-set-same c l v 0 (omega (arith, s .inside, k .sound .long))) (here-it q))
         (λ n. rw (getD-set-other c l j v 0 n) (other n))
 
     -- the arguments of the entry's location are those of the entry
@@ -178,7 +178,7 @@ module _ (b : Book) (ok : Lawful (b .program)) (right : (i : ℕ) → i < length
 
     -- a label on the roll is this entry's, or was on it
     on-roll : (y : ℕ) → OnRoll B d y → ((y ≡ l) × (e .function ≡ 0)) ⊎ OnRoll B c y
-    on-roll y (h, q) = by-place (λ w. w ≡ true-element → ((y ≡ l) × (e .function ≡ 0)) ⊎ OnRoll B c y) y
+    on-roll y (h, q) = by-location (λ w. w ≡ true-element → ((y ≡ l) × (e .function ≡ 0)) ⊎ OnRoll B c y) y
         (λ z w. inl (z, reserved (rw z at h) .0)) (λ n w. inr (h, w)) q
 
     label-of : (y : ℕ) → y ≡ l → e .function ≡ 0 → y < B .E → B .P ≤ y
@@ -209,10 +209,10 @@ module _ (b : Book) (ok : Lawful (b .program)) (right : (i : ℕ) → i < length
     arguments y j o h n a = go (on-roll y o)
       where
         go : ((y ≡ l) × (e .function ≡ 0)) ⊎ OnRoll B c y → at d j ≡ default-at B j
-        go (inl (z, q)) = by-place (λ w. w ≡ default-at B j) j (λ r. absurd (n (r ∙ sym z))) (λ r. dite (decLt j (B .E))
+        go (inl (z, q)) = by-location (λ w. w ≡ default-at B j) j (λ r. absurd (n (r ∙ sym z))) (λ r. dite (decLt j (B .E))
             (λ b. absurd (n (roll-argument B ok y j b a)))
             (λ (b : ¬ (j < B .E)). k .rest j (omega (arith, o .0, form .above)) h))
-        go (inr p) = by-place (λ w. w ≡ default-at B j) j (λ r. absurd (not-argument y j p r n a)) (λ r. k .sound .arguments y j p h n a)
+        go (inr p) = by-location (λ w. w ≡ default-at B j) j (λ r. absurd (not-argument y j p r n a)) (λ r. k .sound .arguments y j p h n a)
 
     -- while all entries so far are Reserve's, no value is a label
     roll-low : (j : ℕ) → j < L B → least-location B es i ≤ B .E → at c j ≤ 2
@@ -224,9 +224,9 @@ module _ (b : Book) (ok : Lawful (b .program)) (right : (i : ℕ) → i < length
     values y j o h = go (on-roll y o)
       where
         go : ((y ≡ l) × (e .function ≡ 0)) ⊎ OnRoll B c y → at d j ≢ y
-        go (inl (z, q)) = by-place (λ w. w ≢ y) j (λ r w. omega (arith, two-at-roll q, label-of y z q (o .0), ok .low))
+        go (inl (z, q)) = by-location (λ w. w ≢ y) j (λ r w. omega (arith, two-at-roll q, label-of y z q (o .0), ok .low))
             (λ r w. omega (arith, roll-low j h (omega (arith, o .0, form .above)), label-of y z q (o .0), ok .low))
-        go (inr p) = by-place (λ w. w ≢ y) j (λ r. not-value y p) (λ r. k .sound .values y j p h)
+        go (inr p) = by-location (λ w. w ≢ y) j (λ r. not-value y p) (λ r. k .sound .values y j p h)
 
     static-entry : (j : ℕ) → j ≡ l → dynamic-at B j ≡ false → (e .arg1 < B .P) × (e .arg2 < B .P) × (v < B .P)
     static-entry j q f = form .permanent (rw (q, s .where-at) at f)
@@ -240,15 +240,15 @@ module _ (b : Book) (ok : Lawful (b .program)) (right : (i : ℕ) → i < length
     one-entered = record {
       sound = record {
         long = length-set c l v ∙ k .sound .long;
-        small = λ j. by-place (λ w. w < B .E) j (λ q. form .small) (λ n. k .sound .small j);
-        booleans = λ j h r. by-place (λ w. boolean w ≡ true) j (λ q. rw (form .true-only (rw (q, s .where-at) at r))) (λ n. k .sound .booleans j h r);
-        fixed-values = λ j h f. by-place (λ w. w < B .P) j (λ q. static-entry j q f .2) (λ n. k .sound .fixed-values j h f);
-        fixed-arguments = λ j y h f p a. by-place (λ w. w ≡ default-at B j) j (λ q. absurd (permanent-argument y (static-entry j q f) p (by-argument y j q a))) (λ n. k .sound .fixed-arguments j y h f p a);
+        small = λ j. by-location (λ w. w < B .E) j (λ q. form .small) (λ n. k .sound .small j);
+        booleans = λ j h r. by-location (λ w. boolean w ≡ true) j (λ q. rw (form .true-only (rw (q, s .where-at) at r))) (λ n. k .sound .booleans j h r);
+        fixed-values = λ j h f. by-location (λ w. w < B .P) j (λ q. static-entry j q f .2) (λ n. k .sound .fixed-values j h f);
+        fixed-arguments = λ j y h f p a. by-location (λ w. w ≡ default-at B j) j (λ q. absurd (permanent-argument y (static-entry j q f) p (by-argument y j q a))) (λ n. k .sound .fixed-arguments j y h f p a);
         labels = labels;
         arguments = arguments;
         values = values;
       };
-      rest = λ j a h. by-place (λ w. w ≡ default-at B j) j (λ q. absurd (omega arith)) (λ n. k .rest j (omega (arith, form .above)) h);
+      rest = λ j a h. by-location (λ w. w ≡ default-at B j) j (λ q. absurd (omega arith)) (λ n. k .rest j (omega (arith, form .above)) h);
       roll = λ y o. roll y o (on-roll y o);
     }
       where

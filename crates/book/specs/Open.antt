@@ -1,4 +1,4 @@
--- One name that opens every definition of texts and books on an `unfolding` line, for theorems by computation.
+-- One name that opens on an `unfolding` line what the check of a book is computed from, for theorems by computation; not what Image and Scan define.
 use Prim.Native.Nat.{ℕ}
 use Rattle.text.specs.Words.{table-from, some-below, least-from, _>>_, none-at, must, _>>=_}
 use Rattle.text.specs.Text.{digits, field-ok, value-of, well-formed, numbers-of}

@@ -1,4 +1,4 @@
--- The checks that the code makes of an image, of rows and of lines are those of the definition, one after the other. Assumes nothing.
+-- The checks that the code makes of an image, of rows and of lines are those of the definition, one after the other.
 use mathlib.Core.Path.{_≡_, refl, sym, _∙_, ap, subst}
 use mathlib.Core.Logic.{_≢_}
 use mathlib.Core.Bool.{Bool, true, false, not}

@@ -1,4 +1,4 @@
--- The numbers of an accepted book fit in sixteen bits, so what the engine takes its image to hold is its program. Assumes nothing.
+-- The numbers of an accepted book fit in sixteen bits, so what the engine takes its image to hold is its program.
 use mathlib.Core.Path.{_≡_, ap}
 use mathlib.Core.List.{List}
 use Prim.Native.Nat.{ℕ, _≤_, _<_}
@@ -14,7 +14,7 @@ use Rattle.book.proofs.Accepted.{accepted}
 use Rattle.book.proofs.Image.{functions-most, nodes-most}
 use Rattle.book.proofs.Held.{held-same}
 use Rattle.book.proofs.Kept.{small-node}
-use Rattle.book.proofs.Places.{spot}
+use Rattle.book.proofs.Places.{located}
 use Rattle.book_check.specs.ImageOf.{ImageOf}
 
 -- ---- the image of a lawful book
@@ -31,7 +31,7 @@ module _ (m : List ℕ) (B : Program) (ok : Lawful B) (is : program-in m ≡ B) 
 
   function-same : (f : ℕ) → f < length (B .functions) → low-function (function-at B f) ≡ function-at B f
   function-same f h =
-      let s = spot B ok f 0 0 h (omega (arith, ok .low, ok .high)) (omega (arith, ok .low, ok .high)) .inside in
+      let s = located B ok f 0 0 h (omega (arith, ok .low, ok .high)) (omega (arith, ok .low, ok .high)) .inside in
       let first : function-at B f .first < 65536 = omega (arith, s, ok .locations) in
       rw (mod-eq-of-lt first)
 
@@ -54,5 +54,5 @@ module _ (m : List ℕ) (B : Program) (ok : Lawful B) (is : program-in m ≡ B) 
   lawful-held = held-same m B is (omega (arith, few-permanent)) function-same node-same agent-same
 
 -- the image that the check of an accepted book leaves holds, as the engine reads it, the book's program
-pub held-is : (text m : List ℕ) → ImageOf m (check-book text) → (b : Book) → check-book text ≡ good b → low-program m ≡ b .program
-held-is text m opened b e = lawful-held m (b .program) (accepted text b e) (opened b e .0)
+pub low-program-is : (text m : List ℕ) → ImageOf m (check-book text) → (b : Book) → check-book text ≡ good b → low-program m ≡ b .program
+low-program-is text m opened b e = lawful-held m (b .program) (accepted text b e) (opened b e .0)

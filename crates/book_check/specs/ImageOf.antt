@@ -13,6 +13,6 @@ use Rattle.book.specs.Check.{check-present, check-surplus, check-lines}
 abbrev pub ImageOf : List ℕ → Checked Book → Type 0
 ImageOf m r = (b : Book) → r ≡ good b → (program-in m ≡ b .program) × (word m 6 ≡ L (b .program)) × (word m 5 ≡ length (b .entries))
 
--- the check of a book whose header is known: refusal 1 on its lines, and refusals 4 to 8
+-- the check of a book whose header is known: refusal 1 on its lines, 4, 3 for L, and 5 to 8
 abbrev pub check-text : Header → List ℕ → Checked Book
 check-text h text = check-present h text >> (check-surplus h text >> check-lines h text)

@@ -1,4 +1,5 @@
-// The whole check of a book, refusals 1 and 3 to 8 in the order of SPECIFICATION 3. Each line of its text is read once.
+// The whole check of a book, refusals 1 and 3 to 8 in the order of SPECIFICATION 3. Each line is read once; from a contents line at
+// fault on, the form is read again.
 use book::Header;
 use book::Image;
 use text::Answer;
@@ -69,7 +70,7 @@ fn check_program(image: &mut Image) -> Answer
     text::none_at(text::AGENT_LINE, 0, book_nodes::bad_agents(image))
 }
 
-// Refusal 1 on all lines after the header, and refusals 4 to 8.
+// Refusal 1 on all lines after the header, 4, 3 for L, and 5 to 8.
 fn check_text(text: &[u8], h: Header, image: &mut Image) -> Answer
     requires { ⌜ (FitsImage h) × (least (bad-line (now text)) 2 ≡ Nowhere) ⌝ }
     ensures { λ r. ⌜ (r ≡ answer-of (check-text h (now (text .entry)))) × ImageOf (now (image .exit)) (check-text h (now (text .entry))) ⌝ }

@@ -1,4 +1,4 @@
--- What the pass over the contents lines finds, line by line. Assumes nothing.
+-- What the pass over the contents lines finds, line by line.
 use mathlib.Core.Path.{_≡_, sym, _∙_, ap}
 use mathlib.Core.List.{List}
 use Prim.Native.Nat.{ℕ, _+_, _-_, _<_, _≤_}

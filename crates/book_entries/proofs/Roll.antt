@@ -1,4 +1,4 @@
--- The table of the labels on the roll, and what the loop over contents lines has tested. Assumes nothing.
+-- The table of the labels on the roll, and what the loop over contents lines has tested.
 use mathlib.Core.Path.{_≡_, refl, sym, _∙_}
 use mathlib.Core.Bool.{Bool, true, false, not, _&&_, _||_}
 use mathlib.Core.List.{List}
@@ -16,12 +16,12 @@ use Rattle.book.specs.declared.Entry.{Entry}
 use Rattle.book.specs.Book.{Program, no-entry, function-at, entry-at, entry-location}
 use Rattle.book.specs.Lines.{entry-of}
 use Rattle.book.specs.Contents.{in-bounds, in-form, least-location, rolled, untraced, bad-entry}
-use Rattle.book_entries.specs.Roll.{entries-from, label-marked, roll-of, untraced-by, NoneMarked}
+use Rattle.book_entries.specs.Roll.{entries-from, roll-with, roll-of, untraced-by, RollEmpty}
 
 -- ---- the table has exactly the labels that the entries put on the roll
 
-length-marked : (e : Entry) (s : List ℕ) → length (label-marked e s) ≡ length s
-length-marked e s = go (eqb (e .function) 0)
+length-with : (e : Entry) (s : List ℕ) → length (roll-with e s) ≡ length s
+length-with e s = go (eqb (e .function) 0)
   where
     go : (b : Bool) → length (if b then set s (e .arg1) 1 else s) ≡ length s
     go true = length-set s (e .arg1) 1
@@ -30,12 +30,12 @@ length-marked e s = go (eqb (e .function) 0)
 length-roll : (es : List Entry) (i : ℕ) (s : List ℕ) → length (roll-of es i s) ≡ length s
 unfolding roll-of
 length-roll es zero s = refl
-length-roll es (suc i) s = length-marked (entry-at es i) (roll-of es i s) ∙ length-roll es i s
+length-roll es (suc i) s = length-with (entry-at es i) (roll-of es i s) ∙ length-roll es i s
 
-marked-at :
+roll-with-at :
     (e : Entry) (s : List ℕ) (x : ℕ) (r : Bool) → x < length s → eqb (getD s x 0) 0 ≡ not r →
-    eqb (getD (label-marked e s) x 0) 0 ≡ not (r || eqb (e .function) 0 && eqb (e .arg1) x)
-marked-at l s x r h p = go (eqb (l .function) 0) (eqb (l .arg1) x) refl
+    eqb (getD (roll-with e s) x 0) 0 ≡ not (r || eqb (e .function) 0 && eqb (e .arg1) x)
+roll-with-at l s x r h p = go (eqb (l .function) 0) (eqb (l .arg1) x) refl
   where
     last : (r : Bool) → false ≡ not (r || true)
     last true = refl
@@ -53,13 +53,13 @@ marked-at l s x r h p = go (eqb (l .function) 0) (eqb (l .arg1) x) refl
 roll-at : (es : List Entry) (x i : ℕ) (s : List ℕ) → x < length s → getD s x 0 ≡ 0 → eqb (getD (roll-of es i s) x 0) 0 ≡ not (rolled es x i)
 unfolding roll-of rolled
 roll-at es x zero s h p = rw p
-roll-at es x (suc i) s h p = marked-at (entry-at es i) (roll-of es i s) x (rolled es x i) (rw (length-roll es i s) h) (roll-at es x i s h p)
+roll-at es x (suc i) s h p = roll-with-at (entry-at es i) (roll-of es i s) x (rolled es x i) (rw (length-roll es i s) h) (roll-at es x i s h p)
 
-roll-clear : (es : List Entry) (E x i : ℕ) (s : List ℕ) → NoneMarked E s → x < E → eqb (getD (roll-of es i s) x 0) 0 ≡ not (rolled es x i)
+roll-clear : (es : List Entry) (E x i : ℕ) (s : List ℕ) → RollEmpty E s → x < E → eqb (getD (roll-of es i s) x 0) 0 ≡ not (rolled es x i)
 roll-clear es E x i s k h = roll-at es x i s (omega (arith, k .long)) (k .empty x h)
 
--- a table of zeros, at least one for each element, has no label marked
-pub clear : (E k : ℕ) → E ≤ k → NoneMarked E (replicate k 0)
+-- a table of zeros, at least one for each element, has no label on the roll
+pub clear : (E k : ℕ) → E ≤ k → RollEmpty E (replicate k 0)
 clear E k h =
     record {
       long = rw (length-replicate {A = ℕ} k 0) h;
@@ -72,7 +72,7 @@ pub roll-none : (es : List Entry) (s : List ℕ) → s ≡ roll-of es 0 s
 unfolding roll-of
 roll-none es s = refl
 
-pub roll-step : (es : List Entry) (i : ℕ) (s : List ℕ) (e : Entry) → entry-at es i ≡ e → roll-of es (i + 1) s ≡ label-marked e (roll-of es i s)
+pub roll-step : (es : List Entry) (i : ℕ) (s : List ℕ) (e : Entry) → entry-at es i ≡ e → roll-of es (i + 1) s ≡ roll-with e (roll-of es i s)
 unfolding roll-of
 roll-step es i s e p = rw (add-one i, ← p)
 
@@ -98,7 +98,7 @@ inside B e p =
     }
 
 rest-of :
-    (B : Program) (es : List Entry) (i : ℕ) (e : Entry) (s : List ℕ) → entry-at es i ≡ e → in-bounds B e ≡ true → NoneMarked (B .E) s →
+    (B : Program) (es : List Entry) (i : ℕ) (e : Entry) (s : List ℕ) → entry-at es i ≡ e → in-bounds B e ≡ true → RollEmpty (B .E) s →
     bad-entry B es i
     ≡ not
     (in-form (B .P) e (function-at B (e .function)) && leb (least-location B es i) (entry-location B e)
@@ -117,7 +117,7 @@ rest-of B es i e s at p k =
 module _ (B : Program) (es : List Entry) (i : ℕ) (e : Entry) (at : entry-at es i ≡ e) where
   -- the tests that the code makes of an entry say whether it is at fault
   pub bad-tests :
-      (s : List ℕ) → NoneMarked (B .E) s →
+      (s : List ℕ) → RollEmpty (B .E) s →
       bad-entry B es i
       ≡ not
       ((ltb (e .function) (length (B .functions)) && ltb (e .arg1) (B .E) && ltb (e .arg2) (B .E) && ltb (e .value) (B .E))

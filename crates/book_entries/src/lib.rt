@@ -15,7 +15,7 @@ ghost use Rattle.book.specs.Book.{true-element, relation, dynamic, default, off
 ghost use Rattle.book.specs.Lines.{entry-of};
 ghost use Rattle.book.specs.Contents.{in-form};
 ghost use Rattle.book.specs.Image.{program-in, first-entry-in, entry-count-in};
-ghost use Rattle.book_entries.specs.Roll.{label-marked, untraced-by, NoneMarked};
+ghost use Rattle.book_entries.specs.Roll.{roll-with, untraced-by, RollEmpty};
 ghost use Rattle.book_entries.specs.Pass.{faults, faults-from};
 
 // What the pass finds: the least line that is ill-formed, and if there is none the least at fault by refusal 8.
@@ -105,16 +105,16 @@ fn entry_location(e: u32, f: Function, x: Entry) -> u64
     }
 }
 
-// Marks the label that the entry puts on the roll, if it is an entry of Reserve.
-fn mark_label(roll: &mut [u8], x: Entry)
-    ensures { λ _. ⌜ now (roll .exit) ≡ label-marked x (now (roll .entry)) ⌝ }
+// Adds the label that the entry puts on the roll to the table of such labels, if it is an entry of Reserve.
+fn add_to_roll(roll: &mut [u8], x: Entry)
+    ensures { λ _. ⌜ now (roll .exit) ≡ roll-with x (now (roll .entry)) ⌝ }
 {
     if x.function == 0 {
         text::put_byte(roll, x.arg1 as usize, 1);
     }
 }
 
-// The entry is no trace of a label that is marked as on the roll.
+// The entry is no trace of a label that the table has on the roll.
 fn no_trace(roll: &[u8], x: Entry) -> bool
     ensures { λ r. ⌜ r ≡ untraced-by (now (roll .entry)) x ⌝ }
 {
@@ -141,7 +141,7 @@ fn fault_at(text: &[u8], i: u32, end: u32) -> Faults
     }
 }
 
-// Checks the lines from `first` up to `end`, with a table of labels in which none is marked to begin with.
+// Checks the lines from `first` up to `end`, with a table of the labels on the roll, which is empty to begin with.
 fn check_entry_lines<'a>(
     text: &'a [u8],
     image: &'a Image,
@@ -149,7 +149,7 @@ fn check_entry_lines<'a>(
     end: u32,
     roll: &mut [u8],
 ) -> Faults
-    requires { ⌜ NoneMarked (program-in (now image) .E) (now roll) ⌝ }
+    requires { ⌜ RollEmpty (program-in (now image) .E) (now roll) ⌝ }
     ensures { λ r. ⌜ r ≡ faults-from (program-in (now (image .entry))) (now (text .entry)) first (end - first) ⌝ }
 {
     let p = book_image::permanent(image);
@@ -171,7 +171,7 @@ fn check_entry_lines<'a>(
         if !(in_bounds(n, e, x) & (in_form(p, x, f) & (low <= place) & no_trace(roll, x))) {
             return fault_at(text, i, end);
         }
-        mark_label(roll, x);
+        add_to_roll(roll, x);
         low = place + 1;
         i += 1;
     }

@@ -1,4 +1,4 @@
--- The length of an image, and its counts compared with their bounds. Assumes nothing.
+-- The length of an image, and its counts compared with their bounds.
 use mathlib.Core.Path.{_≡_, sym, _∙_}
 use mathlib.Core.List.{List, map}
 use Prim.Native.Nat.{ℕ, _≤_, _<_}

@@ -42,7 +42,8 @@ pub fn row(image: &Image, r: u32) -> Line
     }
 }
 
-// Puts l as row r; past the end nothing is put. The contract also says how long an image is.
+// Puts l as row r; past the end nothing is put. The contract also says how long an image is, since
+// callers' proofs need it.
 pub fn store(image: &mut Image, r: u32, l: Line)
     ensures { λ _. ⌜ (now (image .exit) ≡ stored r l (now (image .entry))) × (length (now (image .entry)) ≡ image-length) ⌝ }
 {
@@ -175,7 +176,8 @@ fn no_node() -> Node
     }
 }
 
-// Node n; past the last one all fields are 0. Every term and rule is read through here, so the two bounds are tested one by one.
+// Node n; past the last one all fields are 0. Every term and rule is read through here, so the two bounds are tested one by one, which is
+// faster than taking the smaller first.
 pub fn node_at(image: &Image, n: u32) -> Node
     ensures { λ r. ⌜ r ≡ node-at (program-in (now (image .entry))) n ⌝ }
 {

@@ -1,4 +1,4 @@
--- The rows loaded from a text are its lines, and an image laid out from them holds the text's program. Assumes nothing.
+-- The rows loaded from a text are its lines, and an image laid out from them holds the text's program.
 use mathlib.Core.Path.{_≡_, refl, sym, _∙_, ap}
 use mathlib.Core.Logic.{_≢_, dite}
 use mathlib.Core.List.{List}

@@ -1,4 +1,4 @@
--- What fits a sort is what the definition says of that sort alone. Assumes nothing.
+-- What fits a sort is what the definition says of that sort alone.
 use mathlib.Core.Path.{_≡_, _∙_}
 use mathlib.Core.List.{List}
 use mathlib.Core.Bool.{or-false}

@@ -1,4 +1,4 @@
--- A function's part of the contents table: the location numbers that it has, and what a store in it does to the whole table. Assumes nothing.
+-- A function's part of the contents table: the location numbers that it has, and what a store in it does to the whole table.
 use mathlib.Core.Path.{_≡_, refl, sym, ap, ap₂, _∙_}
 use mathlib.Core.Bool.{Bool, true, false, and-false}
 use mathlib.Core.List.{List, [], _∷_, _++_}
@@ -12,7 +12,7 @@ use Rattle.text.specs.Words.{if_then_else_}
 use Rattle.book.specs.declared.Function.{Function}
 use Rattle.book.specs.Book.{Program, L, size, total, no-function, offset, location, function-at, Place, place-in, place}
 use Rattle.book.specs.Sound.{Lawful}
-use Rattle.book.proofs.Places.{spot}
+use Rattle.book.proofs.Places.{located}
 use Rattle.book_parts.specs.declared.Part.{Part}
 use Rattle.book_parts.specs.declared.Owner.{Owner}
 use Rattle.book_parts.specs.Part.{between, put-in, part-from, part-in, part-of, owner-of}
@@ -111,7 +111,7 @@ module _ (B : Program) where
   pub part-own : Lawful B → (f x y : ℕ) → f < length (B .functions) → x < B .E → y < B .E
       → part-of B (location B f x y) ≡ record { first = function-at B f .first; end = function-at B f .first + size (B .E) (function-at B f .arity) }
   part-own ok f x y h a b =
-      let s = spot B ok f x y h a b in
+      let s = located B ok f x y h a b in
       let p = part-of B (location B f x y) in
       let r : Numbered (B .E) (location B f x y) p (record { function = function-at B f; index = offset (B .E) (function-at B f .arity) x y }) = rw (s .where-at) at (part-numbered (location B f x y) (s .inside)) in
       let e : p .first ≡ function-at B f .first = omega (arith, r .number) in

@@ -1,4 +1,4 @@
--- The functions of a book one after the other: where each one's locations are. Assumes nothing.
+-- The functions of a book one after the other: where each one's locations are.
 use mathlib.Core.Path.{_≡_, refl, ap, _∙_}
 use mathlib.Core.List.{List, [], _∷_}
 use Prim.Native.Nat.{ℕ, _+_, _*_, _-_, _^_, _<_, _≤_}

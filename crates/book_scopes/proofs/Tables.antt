@@ -1,4 +1,4 @@
--- The tables that the code fills say of each node what the definitions say. Assumes nothing.
+-- The tables that the code fills say of each node what the definitions say.
 use mathlib.Core.Path.{_≡_, refl, sym, _∙_, ap}
 use mathlib.Core.Bool.{Bool, true, false, not, _&&_, _||_}
 use mathlib.Core.List.{List}
@@ -16,18 +16,18 @@ use Rattle.book.specs.Book.{Program, node-at, agent-at}
 use Rattle.book.specs.Kinds.{is-node, is-binder, forall-kind}
 use Rattle.book.specs.Use.{is-root, places, uses, bad-use}
 use Rattle.book.specs.Scopes.{bit-of, put-if, operands-given, all-given, deeper, as-it-is, forall-more, bound-more, depths, foralls, misplaced, bad-scope}
-use Rattle.book_scopes.specs.Tables.{one-more, use-added, operands-counted, roots-marked, uses-counted, depth-of, foralls-of, bound-of, scope-below, in-forall, in-binder, to-ab, to-c, misplaced-at}
+use Rattle.book_scopes.specs.Tables.{one-more, use-added, operands-counted, roots-counted, uses-counted, depth-of, foralls-of, bound-of, scope-below, in-forall, in-binder, to-ab, to-c, misplaced-at}
 use Rattle.text.proofs.Words.{set-at}
 use Rattle.book.proofs.Depth.{length-put-if, length-operands-given}
 
 -- ---- one step of each loop
 
-pub roots-step : (B : Program) (a : ℕ) (s : List ℕ) → roots-marked B (a + 1) s ≡ set (roots-marked B a s) (agent-at B a .root) 1
-unfolding roots-marked
+pub roots-step : (B : Program) (a : ℕ) (s : List ℕ) → roots-counted B (a + 1) s ≡ set (roots-counted B a s) (agent-at B a .root) 1
+unfolding roots-counted
 roots-step B a s = rw (add-one a)
 
-pub roots-none : (B : Program) (s : List ℕ) → s ≡ roots-marked B 0 s
-unfolding roots-marked
+pub roots-none : (B : Program) (s : List ℕ) → s ≡ roots-counted B 0 s
+unfolding roots-counted
 roots-none B s = refl
 
 pub tally-step : (B : Program) (m : ℕ) (s : List ℕ) → uses-counted B (m + 1) s ≡ operands-counted (node-at B m) (uses-counted B m s)
@@ -122,20 +122,20 @@ tally-at B (suc m) n k s h p =
 
 -- ---- roots
 
-length-roots : (B : Program) (a : ℕ) (s : List ℕ) → length (roots-marked B a s) ≡ length s
-unfolding roots-marked
+length-roots : (B : Program) (a : ℕ) (s : List ℕ) → length (roots-counted B a s) ≡ length s
+unfolding roots-counted
 length-roots B zero s = refl
-length-roots B (suc a) s = length-set (roots-marked B a s) (agent-at B a .root) 1 ∙ length-roots B a s
+length-roots B (suc a) s = length-set (roots-counted B a s) (agent-at B a .root) 1 ∙ length-roots B a s
 
 roots-at :
-    (B : Program) (a n : ℕ) (s : List ℕ) → n < length s → getD s n 0 ≡ 0 → getD (roots-marked B a s) n 0 ≡ one-if (some-below (λ i. eqb (agent-at B i .root) n) a)
-unfolding roots-marked some-below
+    (B : Program) (a n : ℕ) (s : List ℕ) → n < length s → getD s n 0 ≡ 0 → getD (roots-counted B a s) n 0 ≡ one-if (some-below (λ i. eqb (agent-at B i .root) n) a)
+unfolding roots-counted some-below
 roots-at B zero n s h p = p
 roots-at B (suc a) n s h p =
-    set-at (roots-marked B a s) (agent-at B a .root) 1 n (rw (length-roots B a s) h)
+    set-at (roots-counted B a s) (agent-at B a .root) 1 n (rw (length-roots B a s) h)
     ∙ go (some-below (λ i. eqb (agent-at B i .root) n) a) (eqb (agent-at B a .root) n) (roots-at B a n s h p)
   where
-    go : (r b : Bool) → getD (roots-marked B a s) n 0 ≡ one-if r → (if b then 1 else getD (roots-marked B a s) n 0) ≡ one-if (r || b)
+    go : (r b : Bool) → getD (roots-counted B a s) n 0 ≡ one-if r → (if b then 1 else getD (roots-counted B a s) n 0) ≡ one-if (r || b)
     go true true q = refl
     go false true q = refl
     go true false q = q
@@ -148,11 +148,11 @@ cap-bool false = refl
 -- the table of counts says exactly whether a node is used once
 pub used-once :
     (B : Program) (n : ℕ) (s : List ℕ) → n < length s → getD s n 0 ≡ 0 →
-    not (eqb (getD (uses-counted B (length (B .nodes)) (roots-marked B (length (B .agents)) s)) n 0) 1) ≡ bad-use B n
+    not (eqb (getD (uses-counted B (length (B .nodes)) (roots-counted B (length (B .agents)) s)) n 0) 1) ≡ bad-use B n
 unfolding bad-use
 used-once B n s h p =
     let r : Bool = is-root B n in
-    let t : List ℕ = roots-marked B (length (B .agents)) s in
+    let t : List ℕ = roots-counted B (length (B .agents)) s in
     let q : getD t n 0 ≡ cap (one-if r) = roots-at B (length (B .agents)) n s h p ∙ cap-bool r in
     rw (
       tally-at B (length (B .nodes)) n (one-if r) t (rw (length-roots B (length (B .agents)) s) h) q,

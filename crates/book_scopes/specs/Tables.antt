@@ -27,9 +27,9 @@ abbrev pub operands-counted : Node → List ℕ → List ℕ
 operands-counted y s = use-added (is-node (y .kind) 2) (y .c) (use-added (is-node (y .kind) 1) (y .b) (use-added (is-node (y .kind) 0) (y .a) s))
 
 -- the table s with 1 at the roots of the first i agents
-unfoldable pub roots-marked : Program → ℕ → List ℕ → List ℕ
-roots-marked B zero s = s
-roots-marked B (suc i) s = set (roots-marked B i s) (agent-at B i .root) 1
+unfoldable pub roots-counted : Program → ℕ → List ℕ → List ℕ
+roots-counted B zero s = s
+roots-counted B (suc i) s = set (roots-counted B i s) (agent-at B i .root) 1
 
 -- the counts s with the operand places of the first m nodes
 unfoldable pub uses-counted : Program → ℕ → List ℕ → List ℕ

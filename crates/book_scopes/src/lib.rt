@@ -11,7 +11,7 @@ ghost use Rattle.book.specs.Kinds.{sort-table, is-binder};
 ghost use Rattle.book.specs.Use.{bad-use};
 ghost use Rattle.book.specs.Scopes.{bit-of, binds, put-if, operands-given, all-given, misplaced, bad-scope};
 ghost use Rattle.book.specs.Image.{program-in};
-ghost use Rattle.book_scopes.specs.Tables.{one-more, use-added, operands-counted, roots-marked, uses-counted, scope-below, in-forall, in-binder, to-ab, to-c, misplaced-at};
+ghost use Rattle.book_scopes.specs.Tables.{one-more, use-added, operands-counted, roots-counted, uses-counted, scope-below, in-forall, in-binder, to-ab, to-c, misplaced-at};
 
 // A count plus 1, which stops at 2: that is already too many.
 fn one_more(k: u8) -> u8
@@ -41,9 +41,9 @@ fn count_operands(table: &[u8; 87], s: &mut [u8], y: Node)
     add_use(s, 9 <= o.c, y.c);
 }
 
-// Marks the roots of the first n agents in the counts. Agents may share a root.
-fn mark_roots(image: &Image, n: u32, s: &mut [u8])
-    ensures { λ _. ⌜ now (s .exit) ≡ roots-marked (program-in (now (image .entry))) n (now (s .entry)) ⌝ }
+// Puts 1 at the roots of the first n agents into the counts. Agents may share a root.
+fn count_roots(image: &Image, n: u32, s: &mut [u8])
+    ensures { λ _. ⌜ now (s .exit) ≡ roots-counted (program-in (now (image .entry))) n (now (s .entry)) ⌝ }
 {
     let mut i: u32 = 0;
     while i < n {
@@ -87,7 +87,7 @@ pub fn bad_use(image: &Image) -> Found
     let mut counts = [0u8; 1024];
     let a = book_image::agents(image) as u32;
     let n = book_image::nodes(image) as u32;
-    mark_roots(image, a, &mut counts);
+    count_roots(image, a, &mut counts);
     count_uses(image, n, &mut counts);
     not_once(&counts, n)
 }

@@ -1,4 +1,4 @@
--- What the code tests of one location is what refusal 8 says of it. Assumes nothing.
+-- What the code tests of one location is what refusal 8 says of it.
 use mathlib.Core.Path.{_≡_}
 use mathlib.Core.Bool.{Bool, true, false, _&&_, _||_, not}
 use mathlib.Core.List.{List}

@@ -1,4 +1,4 @@
--- Laws of numbers: the two arguments of the next location of a binary function, and the arguments of a location. Assumes nothing.
+-- Laws of numbers: the two arguments of the next location of a binary function, and the arguments of a location.
 use mathlib.Core.Path.{_≡_, refl, sym, ap, _∙_}
 use mathlib.Core.Bool.{Bool, true, false, _&&_, _||_}
 use Prim.Native.Nat.{ℕ, zero, suc, _+_, _*_, _/_, _%_, _<_}

@@ -1,4 +1,4 @@
--- The least place at fault, function after function. Assumes nothing.
+-- The least place at fault, function after function.
 use mathlib.Core.Path.{_≡_, refl, sym, _∙_}
 use mathlib.Core.Bool.{Bool, true, false}
 use mathlib.Core.List.{List}

@@ -1,4 +1,4 @@
--- A function's part, location after location: the least at fault from l on is the least of the part. Assumes nothing.
+-- A function's part, location after location: the least at fault from l on is the least of the part.
 use mathlib.Core.Path.{_≡_, sym, ap, _∙_}
 use mathlib.Core.Bool.{Bool, true, false}
 use mathlib.Core.List.{List}

@@ -1,4 +1,4 @@
--- Functions filled one after the other leave every location at its default. Assumes nothing.
+-- Functions filled one after the other leave every location at its default.
 use mathlib.Core.Path.{_≡_, refl, sym, ap, _∙_}
 use mathlib.Core.Bool.{Bool, true, false}
 use mathlib.Core.List.{List, [], _∷_, _++_}

@@ -1,4 +1,4 @@
--- The contents lines of an accepted book, put one by one over the defaults, are the start of a run. Assumes nothing.
+-- The contents lines of an accepted book, put one by one over the defaults, are the start of a run.
 use mathlib.Core.Path.{_≡_, refl, sym, ap, _∙_}
 use mathlib.Core.Bool.{true, false}
 use mathlib.Core.List.{List, _++_}
@@ -21,7 +21,7 @@ use Rattle.book.specs.Image.{word, capped, program-in, first-entry-in, low-prog
 use Rattle.book.specs.Check.{check-header, check-lines, check-book}
 use Rattle.book.specs.Sound.{Lawful}
 use Rattle.book.proofs.Accepted.{header-bounded, lines-book, book-lengths, accepted-lines, accepted, accepted-entries}
-use Rattle.book.proofs.Places.{spot}
+use Rattle.book.proofs.Places.{located}
 use Rattle.book.proofs.Start.{in-bounds-is}
 use Rattle.book_parts.proofs.Parts.{between-inside, part-numbered, part-own}
 use Rattle.book.proofs.Image.{uncapped}
@@ -54,7 +54,7 @@ record Small (B : Program) (l : Line) : Type 0 where
 module _ (B : Program) (ok : Lawful B) (few : length (B .functions) ≤ 32) (rest : List ℕ) where
   put-same : (l : Line) (c : List ℕ) → length c ≡ L B → Small B l → entry-put B l (c ++ rest) ≡ set c (entry-location B (entry-of l)) (l .d) ++ rest
   put-same l c e s =
-      let inside = spot B ok (l .a) (l .b) (l .c) (s .function) (s .first) (s .second) .inside in
+      let inside = located B ok (l .a) (l .b) (l .c) (s .function) (s .first) (s .second) .inside in
       let f = function-at B (l .a) in
       let own : entry-location B (entry-of l) < f .first + size (B .E) (f .arity) =
       rw (part-own B ok (l .a) (l .b) (l .c) (s .function) (s .first) (s .second)) at (part-numbered B (entry-location B (entry-of l)) inside .inside) in

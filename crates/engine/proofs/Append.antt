@@ -1,4 +1,4 @@
--- Laws of lists appended number by number. Assumes nothing.
+-- Laws of lists appended number by number.
 use mathlib.Core.Path.{_≡_, refl, sym, ap, ap₂, _∙_}
 use mathlib.Core.Logic.{_⊎_, inl, inr, dite}
 use mathlib.Core.Bool.{true, or-true, false≢true}

@@ -15,7 +15,7 @@ use Rattle.book.specs.Kinds.{sort, names-location}
 use Rattle.book.specs.Lines.{fits, bad-node, named}
 use Rattle.book.specs.Sound.{Lawful}
 use Rattle.engine.specs.Term.{Term, element, variable, self, at0, at1, at2, negated, joined, tree, term-at, Shape, an-element, a-variable, the-agent, of-none, of-one, of-two, a-not, no-term, a-join, shape, shapes}
-use Rattle.engine.specs.Rule.{Rule, skip, assign, pair, test, bind, for-all, import, release, choose, rule-tree, rule-at, RuleShape, a-skip, an-assign, a-pair, a-test, a-bind, a-for-all, an-import, a-release, a-choose, no-rule, rule-shape, rule-shapes}
+use Rattle.engine.specs.Rule.{Rule, skip, assign, block, test, bind, for-all, import, release, choose, rule-tree, rule-at, RuleShape, a-skip, an-assign, a-block, a-test, a-bind, a-for-all, an-import, a-release, a-choose, no-rule, rule-shape, rule-shapes}
 
 -- ---- terms and rules as check 5 leaves them
 
@@ -46,7 +46,7 @@ ProperTarget B (joined o a b) = ⊥
 abbrev pub ProperRule : Program → Rule → Type 0
 ProperRule B skip = Unit {0}
 ProperRule B (assign n t u) = ProperTarget B t × Proper B u
-ProperRule B (pair r s) = ProperRule B r × ProperRule B s
+ProperRule B (block r s) = ProperRule B r × ProperRule B s
 ProperRule B (test t r s) = Proper B t × ProperRule B r × ProperRule B s
 ProperRule B (bind x t r) = Proper B t × ProperRule B r
 ProperRule B (for-all x u r) = Named B u 1 × (relation (function-at B u) ≡ true) × ProperRule B r
@@ -169,7 +169,7 @@ module _ (B : Program) (ok : Lawful B) where
   FitsRule an-import x = Named B (x .b) 1 × (function-at B (x .b) .kind ≡ 3)
   FitsRule a-choose x = Named B (x .b) 1 × (relation (function-at B (x .b)) ≡ true)
   FitsRule a-skip x = Unit {0}
-  FitsRule a-pair x = Unit {0}
+  FitsRule a-block x = Unit {0}
   FitsRule a-test x = Unit {0}
   FitsRule a-bind x = Unit {0}
   FitsRule a-release x = Unit {0}
@@ -221,7 +221,7 @@ module _ (B : Program) (ok : Lawful B) where
       go no-rule f r = tt
       go a-skip f r = tt
       go an-assign f r = (proper-target d (ns n .a) (f .0) (f .1) (f .2), proper-term (suc d) (ns n .b))
-      go a-pair f r = (r (ns n .a), r (ns n .b))
+      go a-block f r = (r (ns n .a), r (ns n .b))
       go a-test f r = (proper-term (suc d) (ns n .a), r (ns n .b), r (ns n .c))
       go a-bind f r = (proper-term (suc d) (ns n .b), r (ns n .c))
       go a-for-all f r = (f .0, f .1, r (ns n .c))

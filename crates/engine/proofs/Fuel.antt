@@ -13,7 +13,7 @@ use Rattle.book.specs.Kinds.{sort, is-node}
 use Rattle.book.specs.Sound.{Lawful}
 use Rattle.book.proofs.Depth.{depth-at, operand, root-depth, operand-depth, depth-most}
 use Rattle.engine.specs.Term.{at1, negated, tree, term-at, Shape, an-element, a-variable, the-agent, of-none, of-one, of-two, a-not, no-term, a-join, shape, shapes}
-use Rattle.engine.specs.Rule.{Rule, for-all, import, release, choose, rule-tree, rule-at, RuleShape, a-skip, an-assign, a-pair, a-test, a-bind, a-for-all, an-import, a-release, a-choose, no-rule, rule-shape, rule-shapes}
+use Rattle.engine.specs.Rule.{Rule, for-all, import, release, choose, rule-tree, rule-at, RuleShape, a-skip, an-assign, a-block, a-test, a-bind, a-for-all, an-import, a-release, a-choose, no-rule, rule-shape, rule-shapes}
 
 module _ (B : Program) (ok : Lawful B) where
   abbrev ns : ℕ → Node
@@ -88,7 +88,7 @@ module _ (B : Program) (ok : Lawful B) where
 
   abbrev Parts : ℕ → RuleShape → Type 0
   Parts n an-assign = Below n (ns n .a) × Below n (ns n .b)
-  Parts n a-pair = Below n (ns n .a) × Below n (ns n .b)
+  Parts n a-block = Below n (ns n .a) × Below n (ns n .b)
   Parts n a-test = Below n (ns n .a) × Below n (ns n .b) × Below n (ns n .c)
   Parts n a-bind = Below n (ns n .b) × Below n (ns n .c)
   Parts n a-for-all = Below n (ns n .c)
@@ -135,7 +135,7 @@ module _ (B : Program) (ok : Lawful B) where
 
       go : (s : RuleShape) → Parts n s → rule-tree ns (suc (suc e)) s n (ns n) ≡ rule-tree ns (suc zero) s n (ns n)
       go an-assign b = deep (ns n .a) (b .0)
-      go a-pair b = deep (ns n .a) (b .0)
+      go a-block b = deep (ns n .a) (b .0)
       go a-test b = deep (ns n .a) (b .0)
       go a-bind b = deep (ns n .b) (b .0)
       go a-for-all b = deep (ns n .c) b
@@ -151,7 +151,7 @@ module _ (B : Program) (ok : Lawful B) where
       go : (s : RuleShape) → Parts n s → ((m : ℕ) → Below n m → term-at ns (suc e) m ≡ term-at ns (suc d) m)
           → ((m : ℕ) → Below n m → tree-at (suc e) m ≡ tree-at (suc d) m) → rule-tree ns (suc (suc e)) s n (ns n) ≡ rule-tree ns (suc (suc d)) s n (ns n)
       go an-assign b t r = rw (t (ns n .a) (b .0), t (ns n .b) (b .1))
-      go a-pair b t r = rw (r (ns n .a) (b .0), r (ns n .b) (b .1))
+      go a-block b t r = rw (r (ns n .a) (b .0), r (ns n .b) (b .1))
       go a-test b t r = rw (t (ns n .a) (b .0), r (ns n .b) (b .1), r (ns n .c) (b .2))
       go a-bind b t r = rw (t (ns n .b) (b .0), r (ns n .c) (b .1))
       go a-for-all b t r = ap (for-all (ns n .a) (ns n .b)) (r (ns n .c) b)

@@ -20,7 +20,7 @@ use Rattle.engine.specs.declared.Instruction.{Instruction}
 use Rattle.engine.specs.declared.Instruction.the-variants.{Update, Release}
 use Rattle.engine.specs.Reader.{Reader, value-in}
 use Rattle.engine.specs.Term.{eval, target}
-use Rattle.engine.specs.Rule.{Rule, skip, assign, pair, test, bind, for-all, import, release, choose, Walk, Walked, walking, refused-at, _then_, after, most-instructions, emit, take-label, take-pick, refuse-if, members, each, lowest, import-of, universe-at, choose-of, all-taken, not-boolean, unreleasable, not-member, walk, rule-tree, rule-at, RuleShape, a-skip, an-assign, a-pair, a-test, a-bind, a-for-all, an-import, a-release, a-choose, no-rule, rule-shape, no-variables}
+use Rattle.engine.specs.Rule.{Rule, skip, assign, block, test, bind, for-all, import, release, choose, Walk, Walked, walking, refused-at, _then_, after, most-instructions, emit, take-label, take-pick, refuse-if, members, each, lowest, import-of, universe-at, choose-of, all-taken, not-boolean, unreleasable, not-member, walk, rule-tree, rule-at, RuleShape, a-skip, an-assign, a-block, a-test, a-bind, a-for-all, an-import, a-release, a-choose, no-rule, rule-shape, no-variables}
 use Rattle.engine.specs.Move.{Input, Fired, Moved, fires, move-refused, unless-clash, updates, clashes, fired-of, walked, walk-reads, fire-or-clash, settle, move}
 use Rattle.engine.specs.Claims.{Inside}
 use Rattle.engine.proofs.Reader.{value-bind}
@@ -32,7 +32,7 @@ use Rattle.engine.proofs.Picks.{rule-walk, walked-ends}
 abbrev Below : ℕ → Rule → Type 0
 Below N skip = Unit {0}
 Below N (assign n t u) = n < N
-Below N (pair r s) = Below N r × Below N s
+Below N (block r s) = Below N r × Below N s
 Below N (test t r s) = Below N r × Below N s
 Below N (bind x t r) = Below N r
 Below N (for-all x u r) = Below N r
@@ -53,7 +53,7 @@ tree-below B (suc (suc d)) n =
         → ((m : ℕ) → Below (length (B .nodes)) (rule-tree (node-at B) (suc d) (rule-shape (node-at B m)) m (node-at B m)))
         → Below (length (B .nodes)) (rule-tree (node-at B) (suc (suc d)) s n (node-at B n))
     go h an-assign r = h
-    go h a-pair r = (r (node-at B n .a), r (node-at B n .b))
+    go h a-block r = (r (node-at B n .a), r (node-at B n .b))
     go h a-test r = (r (node-at B n .b), r (node-at B n .c))
     go h a-bind r = r (node-at B n .c)
     go h a-for-all r = r (node-at B n .c)
@@ -138,7 +138,7 @@ module _ (N : ℕ) (B : Program) (c : List ℕ) (me : ℕ) where
       (emit n (Update (value-in c (target B me vs t)) (value-in c (eval B me vs u))))
       (refuse-says N (not-boolean B t (value-in c (eval B me vs u))) non-boolean n w (inside-small 11 (omega arith) (omega arith), omega arith))
       (λ v. give-says N n (Update (value-in c (target B me vs t)) (value-in c (eval B me vs u))) v h))
-  walk-says (pair r s) vs w h = rw (value-bind c (walk B me r vs w) (λ o. after o (walk B me s vs)))
+  walk-says (block r s) vs w h = rw (value-bind c (walk B me r vs w) (λ o. after o (walk B me s vs)))
       (after-says (value-in c (walk B me r vs w)) (walk B me s vs) (walk-says r vs w (h .0)) (λ v. walk-says s vs v (h .1)))
   walk-says (test t r s) vs w h =
       rw (value-bind c (eval B me vs t) (λ x. if eqb x true-element then walk B me r vs w else walk B me s vs w))

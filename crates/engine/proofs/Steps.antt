@@ -11,7 +11,7 @@ use Rattle.book.specs.declared.Node.{Node}
 use Rattle.book.specs.Book.{undef, Program}
 use Rattle.engine.specs.Reader.{done}
 use Rattle.engine.specs.Term.{Op, element, variable, self, at0, at1, at2, negated, joined, Shape, no-term, shapes, shape, tree, term-at, target, function-of}
-use Rattle.engine.specs.Rule.{skip, assign, pair, test, bind, for-all, import, release, choose, no-rule, rule-shapes, rule-shape, rule-tree, rule-from}
+use Rattle.engine.specs.Rule.{skip, assign, block, test, bind, for-all, import, release, choose, no-rule, rule-shapes, rule-shape, rule-tree, rule-from}
 
 -- ---- a depth of at least one, or of at least two
 
@@ -95,10 +95,10 @@ module _ (ns : ℕ → Node) (d n : ℕ) (x : Node) (some : 2 ≤ d) (loaded : x
   rule-assign k =
       by-two (λ e f. rule-from ns e n ≡ assign n (term-at ns f (x .a)) (term-at ns f (x .b))) (λ e. rw (← loaded, k)) d some
 
-  pub rule-pair : x .kind ≡ 22 → rule-from ns d n ≡ pair (rule-from ns (d - 1) (x .a)) (rule-from ns (d - 1) (x .b))
+  pub rule-block : x .kind ≡ 22 → rule-from ns d n ≡ block (rule-from ns (d - 1) (x .a)) (rule-from ns (d - 1) (x .b))
   unfolding rule-tree
-  rule-pair k =
-      by-two (λ e f. rule-from ns e n ≡ pair (rule-from ns f (x .a)) (rule-from ns f (x .b))) (λ e. rw (← loaded, k)) d some
+  rule-block k =
+      by-two (λ e f. rule-from ns e n ≡ block (rule-from ns f (x .a)) (rule-from ns f (x .b))) (λ e. rw (← loaded, k)) d some
 
   pub rule-test : x .kind ≡ 23
       → rule-from ns d n ≡ test (term-at ns (d - 1) (x .a)) (rule-from ns (d - 1) (x .b)) (rule-from ns (d - 1) (x .c))

@@ -17,12 +17,12 @@ use Rattle.text.specs.declared.Found.the-variants.{Nowhere, Here}
 use Rattle.text.proofs.Words.{and-cases, or-no}
 use Rattle.book.specs.Book.{undef, true-element, false-element, boolean, truth, relation, dynamic, Program, L, location, reserve, function-at, place, relation-at, dynamic-at}
 use Rattle.book.specs.Sound.{Lawful, at, Argument, OnRoll, Sound}
-use Rattle.book.proofs.Places.{spot, held-argument, held-first, roll-place, roll-inside, roll-argument, past-roll, default-low}
+use Rattle.book.proofs.Places.{located, held-argument, held-first, roll-place, roll-inside, roll-argument, past-roll, default-low}
 use Rattle.engine.specs.declared.Instruction.{Instruction}
 use Rattle.engine.specs.declared.Instruction.the-variants.{Update, Release}
 use Rattle.engine.specs.Reader.{Reader, done, read, value-in, _>>=_}
-use Rattle.engine.specs.Term.{Op, equal, both, either, plus, minus, less, Term, element, variable, self, at0, at1, at2, negated, joined, number, apply, negate, eval, target, function-of}
-use Rattle.engine.specs.Rule.{Rule, skip, assign, pair, test, bind, for-all, import, release, choose, Walk, Walked, walking, refused-at, _then_, after, most-instructions, emit, take-label, take-pick, refuse-if, members, each, lowest, import-of, universe-at, choose-of, all-taken, not-boolean, unreleasable, not-member, walk}
+use Rattle.engine.specs.Term.{Op, equal, conjunction, disjunction, plus, minus, less, Term, element, variable, self, at0, at1, at2, negated, joined, number, apply, negate, eval, target, function-of}
+use Rattle.engine.specs.Rule.{Rule, skip, assign, block, test, bind, for-all, import, release, choose, Walk, Walked, walking, refused-at, _then_, after, most-instructions, emit, take-label, take-pick, refuse-if, members, each, lowest, import-of, universe-at, choose-of, all-taken, not-boolean, unreleasable, not-member, walk}
 use Rattle.engine.proofs.Reader.{value-bind}
 use Rattle.engine.proofs.Picks.{universe-member}
 use Rattle.engine.proofs.LocationsRead.{names-one, names-two}
@@ -172,8 +172,8 @@ module _ (B : Program) (c : List ℕ) where
     apply-low : (o : Op) (x y : ℕ) → apply (B .P) o x y < B .P
     unfolding apply
     apply-low equal x y = truth-low (eqb x y)
-    apply-low both x y = if-low (boolean x && boolean y) (truth (eqb x 2 && eqb y 2)) (λ e. truth-low (eqb x 2 && eqb y 2))
-    apply-low either x y = if-low (boolean x && boolean y) (truth (eqb x 2 || eqb y 2)) (λ e. truth-low (eqb x 2 || eqb y 2))
+    apply-low conjunction x y = if-low (boolean x && boolean y) (truth (eqb x 2 && eqb y 2)) (λ e. truth-low (eqb x 2 && eqb y 2))
+    apply-low disjunction x y = if-low (boolean x && boolean y) (truth (eqb x 2 || eqb y 2)) (λ e. truth-low (eqb x 2 || eqb y 2))
     apply-low plus x y = if-low (number (B .P) x && number (B .P) y && ltb (x + y - 3) (B .P)) (x + y - 3)
         (λ e. ltb-true (x + y - 3) (B .P) (and-cases (number (B .P) x && number (B .P) y) (ltb (x + y - 3) (B .P)) e .1))
     apply-low minus x y = if-low (number (B .P) x && number (B .P) y && leb y x) (3 + (x - y)) (λ e.
@@ -220,7 +220,7 @@ module _ (B : Program) (c : List ℕ) where
       aimed : (n f x y : ℕ) (t : Term) → (0 < f) × (f < length (B .functions)) → function-of t ≡ f → dynamic (function-at B f) ≡ true → Clean n x
           → Clean n y → Aimed n t (location B f x y)
       aimed n f x y t h e d p q =
-          let s = spot B B-ok f x y (h .1) (p .0) (q .0) in (
+          let s = located B B-ok f x y (h .1) (p .0) (q .0) in (
             s .inside,
             past-roll B B-ok f x y (h .0) (h .1),
             rw (s .where-at) d,
@@ -278,7 +278,7 @@ module _ (B : Program) (c : List ℕ) where
         where
           go : OnRoll B c y → ⊥
           go r =
-              let s = spot B B-ok u y 0 (p .1) h (omega (arith, B-ok .low, B-ok .high)) in
+              let s = located B B-ok u y 0 (p .1) h (omega (arith, B-ok .low, B-ok .high)) in
               let d = c-ok .arguments y (location B u y 0) r (s .inside) (omega (arith, past-roll B B-ok u y 0 (p .0) (p .1)))
               (held-first B B-ok u y (p .1) h (p .2)) in
               omega (arith, default-low (place B (location B u y 0) .function))
@@ -371,7 +371,7 @@ module _ (B : Program) (c : List ℕ) where
       universe-fine : (u y n : ℕ) → Named B u 1 → function-at B u .kind ≡ 3 → y < B .E → y < n → Fine n (Update (location B u y 0) true-element)
       universe-fine u y n p k h a =
           let z : 0 < B .E = omega arith in
-          let s = spot B B-ok u y 0 (p .1) h z in (
+          let s = located B B-ok u y 0 (p .1) h z in (
             s .inside,
             rw (s .where-at, k),
             low-clean n 2 (omega (arith, B-ok .low)),
@@ -480,7 +480,7 @@ module _ (B : Program) (c : List ℕ) where
           )
           (assign-comes n t (value-in c (target B me vs t)) (value-in c (eval B me vs u)) w m (target-aimed (w .next) vs t (p .0) f)
           (eval-clean (w .next) vs u (p .1) f))
-      walk-comes (pair r s) vs w p f m =
+      walk-comes (block r s) vs w p f m =
           rw (value-bind c (walk B me r vs w) (λ o. after o (walk B me s vs)))
           (after-comes (w .next) (value-in c (walk B me r vs w)) (walk B me s vs) (walk-comes r vs w (p .0) f m)
           (λ v a q. walk-comes s vs v (p .1) (vars-more (w .next) (v .next) vs a f) q))

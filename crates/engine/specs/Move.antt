@@ -17,13 +17,17 @@ use Rattle.engine.specs.Rule.{Walked, walking, refused-at, agent-walk}
 
 -- ---- updates: the values that instructions give each location
 
--- The values that one instruction gives location l. A release of x gives Reserve(x) the value true, and every other dynamic location that has x as argument, or
--- holds x before the move, its default.
+-- a release of x clears location l, which holds v before the move: it is dynamic, and has x as argument or holds x. Its traces, which are not at their
+-- default or hold x, are such locations; so are those with x as argument that are at their default.
+abbrev pub clears : Program → ℕ → ℕ → ℕ → Bool
+clears B l v x = dynamic-at B l && concerns B l v x
+
+-- The values that one instruction gives location l. A release of x gives Reserve(x) the value true, and every other location that it clears its default.
 unfoldable pub given : Program → List ℕ → ℕ → Instruction → List ℕ
 given B c l (Update k v) = if eqb k l then v ∷ [] else []
 given B c l (Release x) =
     if eqb (reserve x) l then true-element ∷ []
-    else if dynamic-at B l && concerns B l (getD c l 0) x then default-at B l ∷ []
+    else if clears B l (getD c l 0) x then default-at B l ∷ []
     else []
 
 -- the values that all instructions give location l, in order

@@ -17,11 +17,11 @@ use Rattle.engine.specs.declared.Instruction.the-variants.{Update, Relea
 use Rattle.engine.specs.Reader.{Reader, done, read, _>>=_}
 use Rattle.engine.specs.Term.{Term, term-at, eval, target, function-of}
 
--- A rule, as a tree. One that can be refused has its node first; assign is kind 21, pair 22, test 23, bind 24
+-- A rule, as a tree. One that can be refused has its node first; assign is kind 21, block 22, test 23, bind 24
 pub data Rule : Type 0 where
   skip : Rule
   assign : ℕ → Term → Term → Rule
-  pair : Rule → Rule → Rule
+  block : Rule → Rule → Rule
   test : Term → Rule → Rule → Rule
   bind : ℕ → Term → Rule → Rule
   for-all : ℕ → ℕ → Rule → Rule
@@ -31,11 +31,11 @@ pub data Rule : Type 0 where
 
 -- which rule a node is
 pub data RuleShape : Type 0 where
-  a-skip an-assign a-pair a-test a-bind a-for-all an-import a-release a-choose no-rule : RuleShape
+  a-skip an-assign a-block a-test a-bind a-for-all an-import a-release a-choose no-rule : RuleShape
 
 -- the shapes of kinds 20 to 28
 abbrev pub rule-shapes : List RuleShape
-rule-shapes = a-skip ∷ an-assign ∷ a-pair ∷ a-test ∷ a-bind ∷ a-for-all ∷ an-import ∷ a-release ∷ a-choose ∷ []
+rule-shapes = a-skip ∷ an-assign ∷ a-block ∷ a-test ∷ a-bind ∷ a-for-all ∷ an-import ∷ a-release ∷ a-choose ∷ []
 
 -- the shape of a node; that of no rule if its kind is none
 abbrev pub rule-shape : Node → RuleShape
@@ -48,10 +48,10 @@ rule-tree ns (suc zero) s n x = skip
 rule-tree ns (suc (suc d)) no-rule n x = skip
 rule-tree ns (suc (suc d)) a-skip n x = skip
 rule-tree ns (suc (suc d)) an-assign n x = assign n (term-at ns (suc d) (x .a)) (term-at ns (suc d) (x .b))
-rule-tree ns (suc (suc d)) a-pair n x =
+rule-tree ns (suc (suc d)) a-block n x =
     let a = ns (x .a) in
     let b = ns (x .b) in
-    pair (rule-tree ns (suc d) (rule-shape a) (x .a) a) (rule-tree ns (suc d) (rule-shape b) (x .b) b)
+    block (rule-tree ns (suc d) (rule-shape a) (x .a) a) (rule-tree ns (suc d) (rule-shape b) (x .b) b)
 rule-tree ns (suc (suc d)) a-test n x =
     let b = ns (x .b) in
     let c = ns (x .c) in
@@ -197,7 +197,7 @@ walk B me (assign n t u) vs w = do
   l ← target B me vs t
   v ← eval B me vs u
   done (refuse-if (not-boolean B t v) non-boolean n w then emit n (Update l v))
-walk B me (pair r s) vs w = do
+walk B me (block r s) vs w = do
   o ← walk B me r vs w
   after o (walk B me s vs)
 walk B me (test t r s) vs w = do

@@ -72,7 +72,7 @@ check-step book c i n = do
   good B
 
 -- What a single-move call leaves: its answer, the contents table, and the instructions of the move if its walk meets none of refusals 11 to 14, 18 and 19, so
--- that a clash can be looked into; none if the call is refused before the move. The specification leaves the instructions free (SPECIFICATION 9.5)
+-- that a clash can be looked into; none if the call is refused before the move. The specification leaves the instructions free after the move (SPECIFICATION 9.5)
 pub record Stepped : Type 0 where
   pub answer : Answer
   pub contents : List ℕ

@@ -11,7 +11,7 @@ use Rattle.engine.specs.Reader.{Reader, done, read, _>>=_}
 
 -- the operations of two operands, kinds 7 and 9 to 13
 pub data Op : Type 0 where
-  equal both either plus minus less : Op
+  equal conjunction disjunction plus minus less : Op
 
 -- a term, as a tree
 pub data Term : Type 0 where
@@ -32,7 +32,7 @@ pub data Shape : Type 0 where
 -- the shapes of kinds 0 to 13
 abbrev pub shapes : List Shape
 shapes =
-    no-term ∷ an-element ∷ a-variable ∷ the-agent ∷ of-none ∷ of-one ∷ of-two ∷ a-join equal ∷ a-not ∷ a-join both ∷ a-join either ∷ a-join plus
+    no-term ∷ an-element ∷ a-variable ∷ the-agent ∷ of-none ∷ of-one ∷ of-two ∷ a-join equal ∷ a-not ∷ a-join conjunction ∷ a-join disjunction ∷ a-join plus
     ∷ a-join minus
     ∷ a-join less
     ∷ []
@@ -74,8 +74,8 @@ number P x = leb zero-element x && ltb x P
 -- The value of an operation. An operand that is no Boolean or no number gives undef, and so does a sum or difference that is no number of the book
 unfoldable pub apply : ℕ → Op → ℕ → ℕ → ℕ
 apply P equal x y = truth (eqb x y)
-apply P both x y = if boolean x && boolean y then truth (eqb x true-element && eqb y true-element) else undef
-apply P either x y = if boolean x && boolean y then truth (eqb x true-element || eqb y true-element) else undef
+apply P conjunction x y = if boolean x && boolean y then truth (eqb x true-element && eqb y true-element) else undef
+apply P disjunction x y = if boolean x && boolean y then truth (eqb x true-element || eqb y true-element) else undef
 apply P plus x y = if number P x && number P y && ltb (x + y - zero-element) P then x + y - zero-element else undef
 apply P minus x y = if number P x && number P y && leb y x then zero-element + (x - y) else undef
 apply P less x y = if number P x && number P y then truth (ltb x y) else undef

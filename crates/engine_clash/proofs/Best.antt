@@ -1,4 +1,4 @@
--- The search for a clash: the least of the instructions' own locations that clash is the least location that clashes. Assumes nothing.
+-- The search for a clash: the least of the instructions' own locations that clash is the least location that clashes.
 use mathlib.Core.Path.{_≡_, refl, sym, ap, _∙_}
 use mathlib.Core.Bool.{Bool, true, false, _&&_, _||_, not, or-true}
 use mathlib.Core.List.{List, [], _∷_}
@@ -16,8 +16,8 @@ use Rattle.engine.specs.declared.Instruction.{Instruction}
 use Rattle.engine.specs.declared.Instruction.the-variants.{Update, Release}
 use Rattle.engine.specs.Move.{given, values, updates, released, other, two-values, sets-label, set-to-label, clashes}
 use Rattle.engine.proofs.Values.{length-updates, updates-at}
-use Rattle.engine_instruction.specs.Traces.{own, gets, any}
-use Rattle.engine_clash.specs.Against.{sets-released, clashes-by, least-with, least-clash}
+use Rattle.engine_instruction.specs.Given.{own, gets, any}
+use Rattle.engine_clash.specs.LeastClash.{sets-released, clashes-by, least-with, least-clash}
 use Rattle.engine_instruction.proofs.Laws.{and-none, other-append, own-given}
 
 -- ---- tests

@@ -1,4 +1,4 @@
--- Laws that several proofs cite: a location with its function and value, what it is given, a label that is released. Assumes nothing.
+-- Laws that several proofs cite: a location with its function and value, what it is given, a label that is released.
 use mathlib.Core.Path.{_≡_, refl, sym, ap, _∙_}
 use mathlib.Core.Bool.{Bool, _||_, or-false}
 use mathlib.Core.List.{List, [], _∷_}
@@ -11,10 +11,10 @@ use Rattle.book.specs.Book.{Program, place}
 use Rattle.engine.specs.declared.Instruction.{Instruction}
 use Rattle.engine.specs.declared.Instruction.the-variants.{Update, Release}
 use Rattle.engine.specs.Move.{given, values, label-of, released, other}
-use Rattle.engine_instruction.specs.Traces.{any}
+use Rattle.engine_instruction.specs.Given.{any}
 use Rattle.engine_instruction.proofs.Laws.{other-append}
 use Rattle.engine_clash.specs.declared.HeldPlace.{HeldPlace}
-use Rattle.engine_clash.specs.Against.{values-given, held-place}
+use Rattle.engine_clash.specs.LeastClash.{values-given, held-place}
 
 -- a location with its function and value, from its place
 pub held-place-is :

@@ -1,5 +1,4 @@
 -- Refusal 15 of updates alone: a pass that compares each with the last one before it at its location finds the least location with two values.
--- Assumes nothing.
 use mathlib.Core.Path.{_≡_, refl, sym, ap, _∙_}
 use mathlib.Core.Logic.{dite}
 use mathlib.Core.Bool.{Bool, true, false, _&&_, _||_, not, or-false, false≢true}
@@ -19,8 +18,8 @@ use Rattle.engine.specs.declared.Instruction.{Instruction}
 use Rattle.engine.specs.declared.Instruction.the-variants.{Update}
 use Rattle.engine.specs.Move.{values, label-of, released, other}
 use Rattle.engine_instruction.specs.Code.{decode-of, items}
-use Rattle.engine_instruction.specs.Traces.{any}
-use Rattle.engine_clash.specs.Against.{held-place, values-given, least-clash}
+use Rattle.engine_instruction.specs.Given.{any}
+use Rattle.engine_clash.specs.LeastClash.{held-place, values-given, least-clash}
 use Rattle.engine_clash.specs.Steps.{releases, location-of, slot-of, Last, Linked, Chain, least-with-update}
 use Rattle.engine_instruction.proofs.Laws.{or-assoc}
 use Rattle.engine_clash.proofs.Laws.{other-any, has-any}

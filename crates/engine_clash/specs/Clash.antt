@@ -9,7 +9,6 @@ use Rattle.engine.specs.Move.{updates, clashes}
 use Rattle.engine_instruction.specs.Code.{items}
 
 -- the updates of the first n instructions of a list, in the contents c of the book that an image holds
-
 abbrev pub updates-by : List ℕ → List ℕ → List ℕ → ℕ → List (List ℕ)
 updates-by image c list n = updates (low-program image) c (items list n)
 

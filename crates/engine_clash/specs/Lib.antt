@@ -1,3 +1,3 @@
-pub mod Against
+pub mod LeastClash
 pub mod Clash
 pub mod Steps

@@ -9,8 +9,8 @@ ghost use Rattle.text.specs.Words.{has};
 ghost use Rattle.book.specs.Image.{low-program};
 ghost use Rattle.engine.specs.Move.{label-of, released, other};
 ghost use Rattle.engine_instruction.specs.Code.{items};
-ghost use Rattle.engine_instruction.specs.Traces.{any, trace-in};
-ghost use Rattle.engine_clash.specs.Against.{held-place, values-given, sets-released, least-with, least-clash};
+ghost use Rattle.engine_instruction.specs.Given.{any, clears-in};
+ghost use Rattle.engine_clash.specs.LeastClash.{held-place, values-given, sets-released, least-with, least-clash};
 ghost use Prim.Native.Nat.{_<_, _≤_};
 ghost use lib.ListN.{length};
 ghost use Rattle.engine_clash.specs.Steps.{location-of, slot-of, Last, Chain, least-with-update};
@@ -25,17 +25,17 @@ struct HeldPlace {
 
 // ---- one location
 
-// The location of s is a trace of x.
-fn is_trace(e: Value, s: HeldPlace, x: Value) -> bool
-    ensures { λ r. ⌜ r ≡ trace-in e (s .function) (s .index) (s .held) x ⌝ }
+// A release of x clears the location of s.
+fn clears(e: Value, s: HeldPlace, x: Value) -> bool
+    ensures { λ r. ⌜ r ≡ clears-in e (s .function) (s .index) (s .held) x ⌝ }
 {
     let i = s.index;
     let n = e as usize;
     let f = s.function;
     if n == 0 {
-        return engine_instruction::is_trace_at(f, i, 0, i, s.held, x);
+        return engine_instruction::clears_at(f, i, 0, i, s.held, x);
     }
-    engine_instruction::is_trace_at(f, i, i / n, i % n, s.held, x)
+    engine_instruction::clears_at(f, i, i / n, i % n, s.held, x)
 }
 
 // Location l with its function and what it holds; past the last function there is none.
@@ -69,7 +69,7 @@ fn gives_other(e: Value, s: HeldPlace, w: Value, what: Instruction) -> bool
             if label as u32 == s.location {
                 return 2 != w;
             }
-            if is_trace(e, s, label) {
+            if clears(e, s, label) {
                 return book_parts::default_of(s.function) != w;
             }
             false

@@ -1,4 +1,4 @@
-// The instructions that a walk gives: how far it is, one instruction more, a pick taken, or a refusal.
+// The state of a walk, and its steps: an instruction given, a pick taken, a refusal.
 use book::Image;
 use engine::Instruction;
 use engine::Pick;
@@ -48,7 +48,7 @@ fn emit(list: &mut [u64], s: Progress, i: Instruction, n: u16) -> Progress
         return s;
     }
     let at = s.len as usize;
-    if at < 256 {
+    if at < engine::MOST_INSTRUCTIONS {
         list[at] = engine_instruction::code(i);
         Progress {
             len: s.len + 1,
@@ -68,12 +68,12 @@ pub fn target_function(image: &Image, depth: usize, n: u16) -> u16
     if depth == 0 {
         return 0;
     }
-    let row = book_parts::node(image, n);
-    let k = row.kind;
+    let node = book_parts::node(image, n);
+    let k = node.kind;
     match k {
-        4 => row.a,
-        5 => row.a,
-        6 => row.a,
+        4 => node.a,
+        5 => node.a,
+        6 => node.a,
         _ => 0,
     }
 }

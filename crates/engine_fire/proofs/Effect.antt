@@ -1,4 +1,4 @@
--- A move's effect, from how its walk ended and how it was finished. Assumes nothing.
+-- A move's effect, from how its walk ended and how it was finished.
 use mathlib.Core.Path.{_≡_, refl, sym, ap, subst, _∙_}
 use mathlib.Core.Bool.{Bool, true, false, _&&_, _||_}
 use mathlib.Core.List.{List, _++_}
@@ -21,24 +21,23 @@ use Rattle.engine.proofs.Moves.{fired-label}
 use Rattle.engine_fire.specs.Steps.{fire-reads}
 use Rattle.engine_fire.specs.Outcome.{contents-after, write-marked, read-marked, writers-after}
 use Rattle.engine_fire.proofs.Taken.{fire-reads-are}
-use Rattle.engine_term.specs.Marks.{marked}
+use Rattle.engine_term.specs.Marks.{marked, mark, marked-where}
 use Rattle.engine_term.proofs.Leaves.{placed}
 use Rattle.engine_term.proofs.Marking.{marked-append}
-use Rattle.engine_release.specs.Marks.{mark}
 use Rattle.engine_release.proofs.ByPlace.{length-each, getD-each, each-is}
-use Rattle.engine_walk.specs.declared.WalkEnd.{WalkEnd}
+use Rattle.engine_emit.specs.declared.Progress.{Progress}
 use Rattle.engine_walk.specs.Walk as walk
 use Rattle.engine_walk.specs.WalkMarks.{bits-cleared, WalkMarked}
 use Rattle.engine_walk.proofs.Kept.{taken-back}
-use Rattle.engine_fire.specs.Effect.{marks-joined, tables-left, move-answer, MoveFits, MoveEffect, AfterWalk}
-use Rattle.engine_fire.specs.Close.{readers-at-end-of, MoveFinished}
-use Rattle.engine_fire.proofs.Marks.{marked-joined}
+use Rattle.engine_fire.specs.Effect.{tables-left, move-answer, MoveFits, MoveEffect, AfterWalk}
+use Rattle.engine_fire.specs.Finish.{readers-at-end-of, MoveFinished}
+use Rattle.engine_fire.proofs.Marks.{marked-is-where}
 use Rattle.engine.specs.Tables.{Tables, tables}
 use Rattle.text.proofs.Words.{has-append}
 
-joined-same : (bit : ℕ) (s t : ℕ → Bool) (ms : List ℕ) → ((k : ℕ) → s k ≡ t k) → marks-joined bit s ms ≡ marks-joined bit t ms
+joined-same : (bit : ℕ) (s t : ℕ → Bool) (ms : List ℕ) → ((k : ℕ) → s k ≡ t k) → marked-where bit s ms ≡ marked-where bit t ms
 joined-same bit s t ms h =
-    each-is (λ (l m : ℕ). mark bit (t l) m) ms (marks-joined bit s ms) (length-each (λ (l m : ℕ). mark bit (s l) m) 0 ms)
+    each-is (λ (l m : ℕ). mark bit (t l) m) ms (marked-where bit s ms) (length-each (λ (l m : ℕ). mark bit (s l) m) 0 ms)
     (λ l k. getD-each (λ (l m : ℕ). mark bit (s l) m) ms l k ∙ ap (λ (b : Bool). mark bit b (getD ms l 0)) (h l))
 
 module _ (B : Program) (i : Input) (bit at : ℕ) (c rs ws : List ℕ) (fit : MoveFits B i bit (tables c rs ws)) where
@@ -46,8 +45,8 @@ module _ (B : Program) (i : Input) (bit at : ℕ) (c rs ws : List ℕ) (fit : Mo
   ls = walk-reads B c i
 
   -- the writer marks: contents of an accepted book have all its locations, so all writes are marked
-  all-marked : (is : List Instruction) → write-marked bit (length c) (updates B c is) ws ≡ marks-joined bit (writes (updates B c is)) ws
-  all-marked is =
+  write-marked-is : (is : List Instruction) → write-marked bit (length c) (updates B c is) ws ≡ marked-where bit (writes (updates B c is)) ws
+  write-marked-is is =
       each-is (λ (l m : ℕ). mark bit (writes (updates B c is) l) m) ws (write-marked bit (length c) (updates B c is) ws)
       (length-each (λ (l m : ℕ). mark bit (ltb l (length c) && writes (updates B c is) l) m) 0 ws)
       (λ l h. getD-each (λ (l m : ℕ). mark bit (ltb l (length c) && writes (updates B c is) l) m) ws l h
@@ -97,11 +96,11 @@ module _ (B : Program) (i : Input) (bit at : ℕ) (c rs ws : List ℕ) (fit : Mo
 
       -- firing adds marks for what it reads, which is what the definition says
       rest : move B c i ≡ fires f → least (clashes (f .instructions) (f .updates)) (length (f .updates)) ≡ Nowhere
-          → read-marked bit B (w .made) c rs′ ≡ marks-joined bit (has (f .reads)) rs
+          → read-marked bit B (w .made) c rs′ ≡ marked-where bit (has (f .reads)) rs
       rest fired e =
           ap (marked bit (fire-reads B (w .made) c)) noted
           ∙ sym (marked-append bit ls (fire-reads B (w .made) c) rs)
-          ∙ marked-joined bit (ls ++ fire-reads B (w .made) c) rs
+          ∙ marked-is-where bit (ls ++ fire-reads B (w .made) c) rs
           ∙ joined-same bit (has (ls ++ fire-reads B (w .made) c)) (has (f .reads)) rs
           (λ k. has-append ls (fire-reads B (w .made) c) k
           ∙ ap (λ (b : Bool). has ls k || b) (fire-reads-are B (fit .lawful) c (fit .sound .long) (w .made) e (λ x h. fired-label B (fit .lawful) c (fit .sound) i f fired x h .1) k)
@@ -110,11 +109,11 @@ module _ (B : Program) (i : Input) (bit at : ℕ) (c rs ws : List ℕ) (fit : Mo
       go : (x : Found) → least (clashes (f .instructions) (f .updates)) (length (f .updates)) ≡ x → MoveEffect B i bit at (tables c rs ws) r (tables c″ rs″ ws″)
       go Nowhere e =
           let fired : move B c i ≡ fires f = same (walking w) rs′ walks r c″ rs″ ws″ done ∙ rw e in
-          ends (walking w) rs′ walks r c″ rs″ ws″ done (fires f) (rw e) (rw (rest fired e, all-marked (w .made)))
+          ends (walking w) rs′ walks r c″ rs″ ws″ done (fires f) (rw e) (rw (rest fired e, write-marked-is (w .made)))
       go (Here l) e = ends (walking w) rs′ walks r c″ rs″ ws″ done (move-refused clash l) (rw e) (rw back)
 
 -- the effect of a move as the code has it: the walk, begun on t, left the tables c, rs and ws with its end s and the list l
-pub finished-effect : (B : Program) (i : Input) (bit at : ℕ) (t : Tables) (s : WalkEnd) (l c rs ws : List ℕ) → AfterWalk B i bit t s l (tables c rs ws) → (r : Answer) (u : Tables)
+pub finished-effect : (B : Program) (i : Input) (bit at : ℕ) (t : Tables) (s : Progress) (l c rs ws : List ℕ) → AfterWalk B i bit t s l (tables c rs ws) → (r : Answer) (u : Tables)
     → MoveFinished B bit at (walk.outcome s l) (tables c rs ws) r u → MoveEffect B i bit at t r u
 finished-effect B i bit at t s l c rs ws after r u done =
     subst (λ (x : Tables). MoveEffect B i bit at x r u) begun

@@ -1,4 +1,4 @@
--- Firing: clearing the traces release by release and then putting each instruction's own value is what the definitions say of each location. Assumes nothing.
+-- Firing: clearing the released labels one by one and then putting each instruction's own value is what the definitions say of each location.
 use mathlib.Core.Path.{_≡_, refl, sym, ap, ap₂, _∙_}
 use mathlib.Core.Bool.{Bool, true, false, _&&_, _||_, not, or-true, or-false}
 use mathlib.Core.List.{List, [], _∷_, _++_}
@@ -17,17 +17,17 @@ use Rattle.book.specs.Book.{Program, L, true-element, default-at}
 use Rattle.book_parts.proofs.Places.{place-past}
 use Rattle.engine.specs.declared.Instruction.{Instruction}
 use Rattle.engine.specs.declared.Instruction.the-variants.{Update, Release}
-use Rattle.engine.specs.Move.{given, values, updates, values-at, released, other, two-values, set-to-label, clashes, new-value, fire, is-some, writes}
+use Rattle.engine.specs.Move.{given, values, updates, values-at, released, other, two-values, set-to-label, clashes, new-value, fire, is-some, writes, clears}
 use Rattle.engine.proofs.Values.{length-updates, updates-at, updates-past, fire-inside}
 use Rattle.engine.proofs.Moves.{fire-length}
-use Rattle.engine_release.specs.Marks.{mark}
 use Rattle.engine_fire.specs.Outcome.{write-marked}
-use Rattle.engine_instruction.specs.Traces.{own, gets, any}
-use Rattle.engine_release.specs.Steps.{trace, value-cleared, instruction-cleared, instruction-marks, all-cleared, all-marks}
-use Rattle.engine_fire.specs.Steps.{puts, put-marks}
+use Rattle.engine_instruction.specs.Given.{own, gets, any}
+use Rattle.engine_release.specs.Steps.{value-cleared, instruction-cleared, instruction-marked, all-cleared, all-marked}
+use Rattle.engine_fire.specs.Steps.{puts, put-marked}
 use Rattle.engine_instruction.proofs.Laws.{and-none, other-append}
 use Rattle.engine_release.proofs.ByPlace.{length-each, getD-each, each-is}
 use Rattle.engine_instruction.proofs.Laws.{own-given}
+use Rattle.engine_term.specs.Marks.{mark}
 
 -- ---- marks: a bit that is there stays
 
@@ -73,46 +73,46 @@ module _ (B : Program) (l : ℕ) where
   abbrev pub about : Instruction → Bool
   about i = eqb (own i) l
 
-  -- the instruction is a release whose label has a trace at l
-  abbrev pub trace-of : ℕ → Instruction → Bool
-  trace-of v (Update k w) = false
-  trace-of v (Release x) = trace B l v x
+  -- the instruction is a release that clears l
+  abbrev pub instruction-clears : ℕ → Instruction → Bool
+  instruction-clears v (Update k w) = false
+  instruction-clears v (Release x) = clears B l v x
 
-  abbrev note-of : ℕ → Instruction → ℕ → ℕ → ℕ
-  note-of bit i v m = mark bit (trace-of v i) m
+  abbrev mark-of : ℕ → Instruction → ℕ → ℕ → ℕ
+  mark-of bit i v m = mark bit (instruction-clears v i) m
 
-  unfoldable note-by : ℕ → List Instruction → ℕ → ℕ → ℕ
-  note-by bit [] v m = m
-  note-by bit (i ∷ is) v m = note-by bit is (clear-of-value i v) (note-of bit i v m)
+  unfoldable mark-by : ℕ → List Instruction → ℕ → ℕ → ℕ
+  mark-by bit [] v m = m
+  mark-by bit (i ∷ is) v m = mark-by bit is (clear-of-value i v) (mark-of bit i v m)
 
-  -- past the last location there are no traces
-  past-trace : L B ≤ l → (v x : ℕ) → trace B l v x ≡ false
-  past-trace h v x = rw (place-past B l h)
+  -- past the last location nothing is cleared
+  clears-past : L B ≤ l → (v x : ℕ) → clears B l v x ≡ false
+  clears-past h v x = rw (place-past B l h)
 
-  past-traces : L B ≤ l → (v : ℕ) (is : List Instruction) → any (trace-of v) is ≡ false
+  none-clears-past : L B ≤ l → (v : ℕ) (is : List Instruction) → any (instruction-clears v) is ≡ false
   unfolding any
-  past-traces h v [] = refl
-  past-traces h v (Update k w ∷ is) = past-traces h v is
-  past-traces h v (Release x ∷ is) = rw (past-trace h v x) (past-traces h v is)
+  none-clears-past h v [] = refl
+  none-clears-past h v (Update k w ∷ is) = none-clears-past h v is
+  none-clears-past h v (Release x ∷ is) = rw (clears-past h v x) (none-clears-past h v is)
 
   past-clear : L B ≤ l → (is : List Instruction) (v : ℕ) → clear-by is v ≡ v
   unfolding clear-by
   past-clear h [] v = refl
   past-clear h (Update k w ∷ is) v = past-clear h is v
-  past-clear h (Release x ∷ is) v = rw (past-trace h v x) (past-clear h is v)
+  past-clear h (Release x ∷ is) v = rw (clears-past h v x) (past-clear h is v)
 
-  pub cleared-true : (x v : ℕ) → trace B l v x ≡ true → value-cleared B x l v ≡ rest
+  pub cleared-true : (x v : ℕ) → clears B l v x ≡ true → value-cleared B x l v ≡ rest
   cleared-true x v e = rw e
 
-  pub cleared-false : (x v : ℕ) → trace B l v x ≡ false → value-cleared B x l v ≡ v
+  pub cleared-false : (x v : ℕ) → clears B l v x ≡ false → value-cleared B x l v ≡ v
   cleared-false x v e = rw e
 
   -- the default stays the default
   clear-rest : (i : Instruction) → clear-of-value i rest ≡ rest
   clear-rest (Update k w) = refl
-  clear-rest (Release x) = step (trace B l rest x) refl
+  clear-rest (Release x) = step (clears B l rest x) refl
     where
-      step : (b : Bool) → trace B l rest x ≡ b → value-cleared B x l rest ≡ rest
+      step : (b : Bool) → clears B l rest x ≡ b → value-cleared B x l rest ≡ rest
       step true e = cleared-true x rest e
       step false e = cleared-false x rest e
 
@@ -128,27 +128,27 @@ module _ (B : Program) (l : ℕ) where
 
   -- ---- the mark of the location
 
-  note-again : (bit : ℕ) (is : List Instruction) (v m : ℕ) → note-by bit is v (mark bit true m) ≡ mark bit true m
-  unfolding note-by
-  note-again bit [] v m = refl
-  note-again bit (i ∷ is) v m =
-      ap (note-by bit is (clear-of-value i v)) (mark-mark bit (trace-of v i) true m ∙ ap (λ (b : Bool). mark bit b m) (or-true (trace-of v i)))
-      ∙ note-again bit is (clear-of-value i v) m
+  mark-by-again : (bit : ℕ) (is : List Instruction) (v m : ℕ) → mark-by bit is v (mark bit true m) ≡ mark bit true m
+  unfolding mark-by
+  mark-by-again bit [] v m = refl
+  mark-by-again bit (i ∷ is) v m =
+      ap (mark-by bit is (clear-of-value i v)) (mark-mark bit (instruction-clears v i) true m ∙ ap (λ (b : Bool). mark bit b m) (or-true (instruction-clears v i)))
+      ∙ mark-by-again bit is (clear-of-value i v) m
 
-  note-is : (bit : ℕ) (is : List Instruction) (v m : ℕ) → note-by bit is v m ≡ mark bit (any (trace-of v) is) m
-  unfolding note-by any
-  note-is bit [] v m = refl
-  note-is bit (i ∷ is) v m = step i (note-is bit is v m)
+  mark-by-is : (bit : ℕ) (is : List Instruction) (v m : ℕ) → mark-by bit is v m ≡ mark bit (any (instruction-clears v) is) m
+  unfolding mark-by any
+  mark-by-is bit [] v m = refl
+  mark-by-is bit (i ∷ is) v m = step i (mark-by-is bit is v m)
     where
-      step : (j : Instruction) → note-by bit is v m ≡ mark bit (any (trace-of v) is) m
-          → note-by bit is (clear-of-value j v) (note-of bit j v m) ≡ mark bit (trace-of v j || any (trace-of v) is) m
+      step : (j : Instruction) → mark-by bit is v m ≡ mark bit (any (instruction-clears v) is) m
+          → mark-by bit is (clear-of-value j v) (mark-of bit j v m) ≡ mark bit (instruction-clears v j || any (instruction-clears v) is) m
       step (Update k w) r = r
-      step (Release x) r = look (trace B l v x) refl
+      step (Release x) r = look (clears B l v x) refl
         where
-          look : (b : Bool) → trace B l v x ≡ b → note-by bit is (value-cleared B x l v) (mark bit (trace B l v x) m) ≡ mark bit (trace B l v x || any (trace-of v) is) m
-          look true e = rw e (note-again bit is rest m)
+          look : (b : Bool) → clears B l v x ≡ b → mark-by bit is (value-cleared B x l v) (mark bit (clears B l v x) m) ≡ mark bit (clears B l v x || any (instruction-clears v) is) m
+          look true e = rw e (mark-by-again bit is rest m)
           look false e =
-              ap₂ (note-by bit is) (cleared-false x v e) (ap (λ (b : Bool). mark bit b m) e) ∙ r ∙ ap (λ (b : Bool). mark bit (b || any (trace-of v) is) m) (sym e)
+              ap₂ (mark-by bit is) (cleared-false x v e) (ap (λ (b : Bool). mark bit b m) e) ∙ r ∙ ap (λ (b : Bool). mark bit (b || any (instruction-clears v) is) m) (sym e)
 
   -- ---- what the location is given in the contents c
 
@@ -160,7 +160,7 @@ module _ (B : Program) (l : ℕ) where
     unfolding given
     given-update k w h = rw h
 
-    given-release : (x : ℕ) (b : Bool) → eqb x l ≡ false → trace B l held x ≡ b → given B c l (Release x) ≡ (if b then rest ∷ [] else [])
+    given-release : (x : ℕ) (b : Bool) → eqb x l ≡ false → clears B l held x ≡ b → given B c l (Release x) ≡ (if b then rest ∷ [] else [])
     unfolding given
     given-release x b h e = rw (h, e)
 
@@ -173,9 +173,9 @@ module _ (B : Program) (l : ℕ) where
         step : (j : Instruction) → about j ≡ false → clear-by is held ≡ new-value held (values B c l is)
             → clear-by is (clear-of-value j held) ≡ new-value held (given B c l j ++ values B c l is)
         step (Update k w) f r = rw (given-update k w f) r
-        step (Release x) f r = look (trace B l held x) refl
+        step (Release x) f r = look (clears B l held x) refl
           where
-            look : (b : Bool) → trace B l held x ≡ b → clear-by is (value-cleared B x l held) ≡ new-value held (given B c l (Release x) ++ values B c l is)
+            look : (b : Bool) → clears B l held x ≡ b → clear-by is (value-cleared B x l held) ≡ new-value held (given B c l (Release x) ++ values B c l is)
             look true e = ap (clear-by is) (cleared-true x held e) ∙ clear-by-rest is ∙ rw (given-release x true f e)
             look false e = ap (clear-by is) (cleared-false x held e) ∙ r ∙ rw (given-release x false f e)
 
@@ -220,27 +220,27 @@ module _ (B : Program) (l : ℕ) where
     some-append [] ys = refl
     some-append (x ∷ xs) ys = refl
 
-    pub some-given : (i : Instruction) → is-some (given B c l i) ≡ about i || trace-of held i
+    pub some-given : (i : Instruction) → is-some (given B c l i) ≡ about i || instruction-clears held i
     unfolding given
     some-given (Update k w) = step (eqb k l)
       where
         step : (b : Bool) → is-some (if b then w ∷ [] else []) ≡ b || false
         step true = refl
         step false = refl
-    some-given (Release x) = step (eqb x l) (trace B l held x)
+    some-given (Release x) = step (eqb x l) (clears B l held x)
       where
         step : (b t : Bool) → is-some (if b then true-element ∷ [] else if t then rest ∷ [] else []) ≡ b || t
         step true t = refl
         step false true = refl
         step false false = refl
 
-    pub some-values : (is : List Instruction) → is-some (values B c l is) ≡ any about is || any (trace-of held) is
+    pub some-values : (is : List Instruction) → is-some (values B c l is) ≡ any about is || any (instruction-clears held) is
     unfolding values any
     some-values [] = refl
     some-values (i ∷ is) =
         some-append (given B c l i) (values B c l is)
         ∙ ap₂ _||_ (some-given i) (some-values is)
-        ∙ swap (about i) (trace-of held i) (any about is) (any (trace-of held) is)
+        ∙ swap (about i) (instruction-clears held i) (any about is) (any (instruction-clears held) is)
       where
         swap : (a b c d : Bool) → (a || b) || (c || d) ≡ (a || c) || (b || d)
         swap true b c d = refl
@@ -285,18 +285,18 @@ length-puts n [] c = refl
 length-puts n (i ∷ is) c =
     length-puts n is (if ltb (own i) n then set c (own i) (gets i) else c) ∙ length-put (ltb (own i) n) c (own i) (gets i)
 
-length-clear-marks-of : (bit : ℕ) (B : Program) (i : Instruction) (c ms : List ℕ) → length (instruction-marks bit B i c ms) ≡ length ms
+length-clear-marks-of : (bit : ℕ) (B : Program) (i : Instruction) (c ms : List ℕ) → length (instruction-marked bit B i c ms) ≡ length ms
 length-clear-marks-of bit B (Update k w) c ms = refl
-length-clear-marks-of bit B (Release x) c ms = length-each (λ (l m : ℕ). mark bit (ltb l (length c) && trace B l (getD c l 0) x) m) 0 ms
+length-clear-marks-of bit B (Release x) c ms = length-each (λ (l m : ℕ). mark bit (ltb l (length c) && clears B l (getD c l 0) x) m) 0 ms
 
-length-clear-marks : (bit : ℕ) (B : Program) (is : List Instruction) (c ms : List ℕ) → length (all-marks bit B is c ms) ≡ length ms
-unfolding all-marks
+length-clear-marks : (bit : ℕ) (B : Program) (is : List Instruction) (c ms : List ℕ) → length (all-marked bit B is c ms) ≡ length ms
+unfolding all-marked
 length-clear-marks bit B [] c ms = refl
 length-clear-marks bit B (i ∷ is) c ms =
-    length-clear-marks bit B is (instruction-cleared B i c) (instruction-marks bit B i c ms) ∙ length-clear-marks-of bit B i c ms
+    length-clear-marks bit B is (instruction-cleared B i c) (instruction-marked bit B i c ms) ∙ length-clear-marks-of bit B i c ms
 
-length-put-marks : (bit n : ℕ) (is : List Instruction) (ms : List ℕ) → length (put-marks bit n is ms) ≡ length ms
-unfolding put-marks
+length-put-marks : (bit n : ℕ) (is : List Instruction) (ms : List ℕ) → length (put-marked bit n is ms) ≡ length ms
+unfolding put-marked
 length-put-marks bit n [] ms = refl
 length-put-marks bit n (i ∷ is) ms = length-put-marks bit n is (set ms (own i) (mark bit (ltb (own i) n) (getD ms (own i) 0))) ∙ simp length-set
 
@@ -333,35 +333,35 @@ puts-past n (i ∷ is) c l k = puts-past n is (if ltb (own i) n then set c (own 
 
 clear-marks-of-at :
     (bit : ℕ) (B : Program) (i : Instruction) (c ms : List ℕ) (l : ℕ) → l < length ms →
-    getD (instruction-marks bit B i c ms) l 0 ≡ mark bit (ltb l (length c) && trace-of B l (getD c l 0) i) (getD ms l 0)
+    getD (instruction-marked bit B i c ms) l 0 ≡ mark bit (ltb l (length c) && instruction-clears B l (getD c l 0) i) (getD ms l 0)
 clear-marks-of-at bit B (Update k w) c ms l h = rw (and-none (ltb l (length c)))
-clear-marks-of-at bit B (Release x) c ms l h = getD-each (λ (l m : ℕ). mark bit (ltb l (length c) && trace B l (getD c l 0) x) m) ms l h
+clear-marks-of-at bit B (Release x) c ms l h = getD-each (λ (l m : ℕ). mark bit (ltb l (length c) && clears B l (getD c l 0) x) m) ms l h
 
 clear-marks-at :
     (bit : ℕ) (B : Program) (is : List Instruction) (c ms : List ℕ) (l : ℕ) → l < length ms → l < length c →
-    getD (all-marks bit B is c ms) l 0 ≡ note-by B l bit is (getD c l 0) (getD ms l 0)
-unfolding all-marks note-by
+    getD (all-marked bit B is c ms) l 0 ≡ mark-by B l bit is (getD c l 0) (getD ms l 0)
+unfolding all-marked mark-by
 clear-marks-at bit B [] c ms l h k = refl
 clear-marks-at bit B (i ∷ is) c ms l h k =
-    clear-marks-at bit B is (instruction-cleared B i c) (instruction-marks bit B i c ms) l (omega (arith, length-clear-marks-of bit B i c ms))
+    clear-marks-at bit B is (instruction-cleared B i c) (instruction-marked bit B i c ms) l (omega (arith, length-clear-marks-of bit B i c ms))
     (omega (arith, length-clear-of B i c))
-    ∙ ap₂ (note-by B l bit is) (clear-of-at B i c l k) (clear-marks-of-at bit B i c ms l h ∙ rw (lt-ltb l (length c) k))
+    ∙ ap₂ (mark-by B l bit is) (clear-of-at B i c l k) (clear-marks-of-at bit B i c ms l h ∙ rw (lt-ltb l (length c) k))
 
 clear-marks-out :
     (bit : ℕ) (B : Program) (is : List Instruction) (c ms : List ℕ) (l : ℕ) → l < length ms → length c ≤ l →
-    getD (all-marks bit B is c ms) l 0 ≡ getD ms l 0
-unfolding all-marks
+    getD (all-marked bit B is c ms) l 0 ≡ getD ms l 0
+unfolding all-marked
 clear-marks-out bit B [] c ms l h k = refl
 clear-marks-out bit B (i ∷ is) c ms l h k =
-    clear-marks-out bit B is (instruction-cleared B i c) (instruction-marks bit B i c ms) l (omega (arith, length-clear-marks-of bit B i c ms))
+    clear-marks-out bit B is (instruction-cleared B i c) (instruction-marked bit B i c ms) l (omega (arith, length-clear-marks-of bit B i c ms))
     (omega (arith, length-clear-of B i c))
     ∙ clear-marks-of-at bit B i c ms l h
     ∙ rw (le-ltb l (length c) k)
 
 put-marks-at :
     (bit n : ℕ) (is : List Instruction) (ms : List ℕ) (l : ℕ) → l < length ms →
-    getD (put-marks bit n is ms) l 0 ≡ mark bit (ltb l n && any (λ i. eqb (own i) l) is) (getD ms l 0)
-unfolding put-marks any
+    getD (put-marked bit n is ms) l 0 ≡ mark bit (ltb l n && any (λ i. eqb (own i) l) is) (getD ms l 0)
+unfolding put-marked any
 put-marks-at bit n [] ms l h = rw (and-none (ltb l n))
 put-marks-at bit n (i ∷ is) ms l h =
     let k = own i in
@@ -412,23 +412,23 @@ module _ (B : Program) (is : List Instruction) (c : List ℕ) where
   n = min (L B) (length (all-cleared B is c))
 
   pub marked-is : (bit : ℕ) (ms : List ℕ)
-      → put-marks bit n is (all-marks bit B is c ms) ≡ write-marked bit (length c) (updates B c is) ms
+      → put-marked bit n is (all-marked bit B is c ms) ≡ write-marked bit (length c) (updates B c is) ms
   marked-is bit ms =
-      each-is (λ (l m : ℕ). mark bit (ltb l (length c) && writes (updates B c is) l) m) ms (put-marks bit n is (all-marks bit B is c ms))
-      (length-put-marks bit n is (all-marks bit B is c ms) ∙ length-clear-marks bit B is c ms)
-      (λ l k. put-marks-at bit n is (all-marks bit B is c ms) l (omega (arith, length-clear-marks bit B is c ms))
+      each-is (λ (l m : ℕ). mark bit (ltb l (length c) && writes (updates B c is) l) m) ms (put-marked bit n is (all-marked bit B is c ms))
+      (length-put-marks bit n is (all-marked bit B is c ms) ∙ length-clear-marks bit B is c ms)
+      (λ l k. put-marks-at bit n is (all-marked bit B is c ms) l (omega (arith, length-clear-marks bit B is c ms))
       ∙ step l k (ltb l n) refl (ltb l (length c)) refl)
     where
       step : (l : ℕ) → l < length ms → (t : Bool) → ltb l n ≡ t → (u : Bool) → ltb l (length c) ≡ u
-          → mark bit (t && any (about B l) is) (getD (all-marks bit B is c ms) l 0) ≡ mark bit (u && writes (updates B c is) l) (getD ms l 0)
+          → mark bit (t && any (about B l) is) (getD (all-marked bit B is c ms) l 0) ≡ mark bit (u && writes (updates B c is) l) (getD ms l 0)
       step l k true e true f =
           let h : l < L B = omega (arith, ltb-true l n e) in
-          ap (mark bit (any (about B l) is)) (clear-marks-at bit B is c ms l k (ltb-true l (length c) f) ∙ note-is B l bit is (getD c l 0) (getD ms l 0))
-          ∙ mark-mark bit (any (about B l) is) (any (trace-of B l (getD c l 0)) is) (getD ms l 0)
+          ap (mark bit (any (about B l) is)) (clear-marks-at bit B is c ms l k (ltb-true l (length c) f) ∙ mark-by-is B l bit is (getD c l 0) (getD ms l 0))
+          ∙ mark-mark bit (any (about B l) is) (any (instruction-clears B l (getD c l 0)) is) (getD ms l 0)
           ∙ ap (λ (b : Bool). mark bit b (getD ms l 0)) (sym (ap is-some (updates-at B c is l h) ∙ some-values B l c is))
       step l k true e false f = absurd (omega (arith, ltb-true l n e, ltb-false l (length c) f, length-clears B is c))
       step l k false e true f =
           let h : L B ≤ l = omega (arith, ltb-false l n e, ltb-true l (length c) f, length-clears B is c) in
-          clear-marks-at bit B is c ms l k (ltb-true l (length c) f) ∙ note-is B l bit is (getD c l 0) (getD ms l 0)
-          ∙ rw (past-traces B l h (getD c l 0) is, updates-past B c is l h)
+          clear-marks-at bit B is c ms l k (ltb-true l (length c) f) ∙ mark-by-is B l bit is (getD c l 0) (getD ms l 0)
+          ∙ rw (none-clears-past B l h (getD c l 0) is, updates-past B c is l h)
       step l k false e false f = clear-marks-out bit B is c ms l k (ltb-false l (length c) f)

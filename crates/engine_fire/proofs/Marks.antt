@@ -10,12 +10,10 @@ use lib.Dec.{eqb}
 use lib.ListN.{length, getD, length-set}
 use lib.Seq.{getD-set-same, getD-set-other}
 use Rattle.text.specs.Words.{has}
-use Rattle.engine_term.specs.Marks.{mark-one, marked}
+use Rattle.engine_term.specs.Marks.{mark-one, marked, mark, marked-where}
 use Rattle.engine_term.proofs.Marking.{length-marked}
-use Rattle.engine_release.specs.Marks.{mark}
 use Rattle.engine_release.proofs.ByPlace.{each-is}
 use Rattle.engine_fire.proofs.Fires.{mark-mark}
-use Rattle.engine_fire.specs.Effect.{marks-joined}
 
 mark-one-at : (bit l : ℕ) (m : List ℕ) (k : ℕ) → k < length m → getD (mark-one bit l m) k 0 ≡ mark bit (eqb l k) (getD m k 0)
 mark-one-at bit l m k h = go (eqb l k) refl
@@ -37,5 +35,5 @@ marked-at bit (l ∷ ls) m k h =
     turned true b = sym (or-true b)
     turned false b = sym (or-false b)
 
-pub marked-joined : (bit : ℕ) (ls m : List ℕ) → marked bit ls m ≡ marks-joined bit (has ls) m
-marked-joined bit ls m = each-is (λ l v. mark bit (has ls l) v) m (marked bit ls m) (length-marked bit ls m) (marked-at bit ls m)
+pub marked-is-where : (bit : ℕ) (ls m : List ℕ) → marked bit ls m ≡ marked-where bit (has ls) m
+marked-is-where bit ls m = each-is (λ l v. mark bit (has ls l) v) m (marked bit ls m) (length-marked bit ls m) (marked-at bit ls m)

@@ -1,4 +1,4 @@
--- A move whose walk met no refusal is settled: it clashes, or it fires. Assumes nothing.
+-- A move whose walk met no refusal is settled: it clashes, or it fires.
 use mathlib.Core.Path.{_≡_, sym, ap, _∙_}
 use mathlib.Core.List.{List}
 use Prim.Native.Nat.{ℕ, _<_, _≤_}
@@ -8,7 +8,7 @@ use Rattle.book.specs.Book.{Program, L}
 use Rattle.book.specs.Image.{low-program}
 use Rattle.engine.specs.declared.Instruction.{Instruction}
 use Rattle.engine_instruction.specs.Code.{items}
-use Rattle.engine_clash.specs.Against.{least-clash}
+use Rattle.engine_clash.specs.LeastClash.{least-clash}
 use Rattle.engine_clash.proofs.Best.{best-least, best-none}
 use Rattle.text.specs.declared.Found.the-variants.{Nowhere, Here}
 use Rattle.text.specs.Refusals.{clash}

@@ -1,4 +1,4 @@
--- A value that is put in its function's part is put in the whole table, and its mark likewise. Assumes nothing.
+-- A value that is put in its function's part is put in the whole table, and its mark likewise.
 use mathlib.Core.Path.{_≡_, refl, sym, ap, _∙_}
 use mathlib.Core.Bool.{Bool, true, false, _&&_}
 use mathlib.Core.List.{List, _++_}
@@ -14,8 +14,8 @@ use Rattle.book.specs.Book.{Program, L}
 use Rattle.book_parts.specs.declared.Part.{Part}
 use Rattle.book_parts.specs.Part.{put-in, part-of}
 use Rattle.book_parts.proofs.Parts.{between-inside, between-after, part-starts, part-alike, part-numbered, part-past, put-back}
-use Rattle.engine_release.specs.Marks.{mark}
 use Rattle.engine_fire.specs.Steps.{part-after}
+use Rattle.engine_term.specs.Marks.{mark}
 
 -- ---- the part held from one location to the next
 

@@ -17,25 +17,25 @@ use Rattle.book.specs.Sound.{Lawful}
 use Rattle.book.proofs.Places.{roll-place, default-low}
 use Rattle.engine.specs.declared.Instruction.{Instruction}
 use Rattle.engine.specs.declared.Instruction.the-variants.{Update, Release}
-use Rattle.engine.specs.Move.{given, values, updates, released, other, two-values, clashes, new-value, is-some, append-from, release-gives, release-reads, taken-reads, changed-reads, extra-reads}
+use Rattle.engine.specs.Move.{given, values, updates, released, other, two-values, clashes, new-value, is-some, append-from, release-gives, release-reads, taken-reads, changed-reads, extra-reads, clears}
 use Rattle.engine.proofs.Append.{append-has, append-in}
 use Rattle.engine.proofs.Extra.{release-in, taken-in, taken-has}
 use Rattle.engine.proofs.Values.{Releases, updates-at, releases-values, only-value}
-use Rattle.engine_instruction.specs.Traces.{own, gets, any}
+use Rattle.engine_instruction.specs.Given.{own, gets, any}
 use Rattle.engine_release.specs.Part.{cleared-reads}
-use Rattle.engine_release.specs.Steps.{trace, value-cleared, instruction-cleared, label-reads, all-cleared, all-reads}
+use Rattle.engine_release.specs.Steps.{value-cleared, instruction-cleared, label-reads, all-cleared, all-reads}
 use Rattle.engine_fire.specs.Steps.{put-reads, fire-reads}
-use Rattle.engine_fire.proofs.Fires.{rest, clear-by, about, trace-of, cleared-true, cleared-false, clear-by-rest, own-is, both, some-given, some-values, length-clear-of, length-clears, length-put, clear-of-at, clears-at, unclashed}
+use Rattle.engine_fire.proofs.Fires.{rest, clear-by, about, instruction-clears, cleared-true, cleared-false, clear-by-rest, own-is, both, some-given, some-values, length-clear-of, length-clears, length-put, clear-of-at, clears-at, unclashed}
 
 module _ (B : Program) where
-  -- ---- traces cleared
+  -- ---- labels cleared
 
   -- why location k is read where location l, which held v, is cleared
   abbrev Why : ℕ → ℕ → ℕ → Type 0
   Why l v k = (k ≡ l) ⊎ ((B .P ≤ v) × (default-at B l ≢ v) × (k ≡ v))
 
   abbrev cleared-at : ℕ → List ℕ → ℕ → List ℕ
-  cleared-at x c l = if trace B l (getD c l 0) x then cleared-reads (B .P) (default-at B l) l (getD c l 0) else []
+  cleared-at x c l = if clears B l (getD c l 0) x then cleared-reads (B .P) (default-at B l) l (getD c l 0) else []
 
   why-read : (l v k : ℕ) → has (cleared-reads (B .P) (default-at B l) l v) k ≡ true → Why l v k
   why-read l v k h = go (or-cases (eqb l k) (has (taken-reads (B .P) v (default-at B l)) k) h)
@@ -49,21 +49,21 @@ module _ (B : Program) where
   read-why l v k (inr (p, n, e)) = rw (e, taken-has (B .P) v (default-at B l) p n) (or-true (eqb l v))
 
   clear-in : (x : ℕ) (c : List ℕ) (k : ℕ) → has (label-reads B x c) k ≡ true
-      → (l : ℕ) × (l < length c) × (trace B l (getD c l 0) x ≡ true) × Why l (getD c l 0) k
-  clear-in x c k h = let s = append-in (cleared-at x c) 0 (length c) k h in go (s .0) (s .1) (trace B (s .0) (getD c (s .0) 0) x) refl (s .2)
+      → (l : ℕ) × (l < length c) × (clears B l (getD c l 0) x ≡ true) × Why l (getD c l 0) k
+  clear-in x c k h = let s = append-in (cleared-at x c) 0 (length c) k h in go (s .0) (s .1) (clears B (s .0) (getD c (s .0) 0) x) refl (s .2)
     where
-      go : (l : ℕ) → l < 0 + length c → (b : Bool) → trace B l (getD c l 0) x ≡ b
+      go : (l : ℕ) → l < 0 + length c → (b : Bool) → clears B l (getD c l 0) x ≡ b
           → has (if b then cleared-reads (B .P) (default-at B l) l (getD c l 0) else []) k ≡ true
-          → (l : ℕ) × (l < length c) × (trace B l (getD c l 0) x ≡ true) × Why l (getD c l 0) k
+          → (l : ℕ) × (l < length c) × (clears B l (getD c l 0) x ≡ true) × Why l (getD c l 0) k
       go l m true e h = (l, omega arith, e, why-read l (getD c l 0) k h)
       go l m false e h = absurd (false≢true h)
 
-  clear-has : (x : ℕ) (c : List ℕ) (l k : ℕ) → l < length c → trace B l (getD c l 0) x ≡ true → Why l (getD c l 0) k → has (label-reads B x c) k ≡ true
+  clear-has : (x : ℕ) (c : List ℕ) (l k : ℕ) → l < length c → clears B l (getD c l 0) x ≡ true → Why l (getD c l 0) k → has (label-reads B x c) k ≡ true
   clear-has x c l k h e w = append-has (cleared-at x c) 0 (length c) l k (omega arith) (omega arith) (rw e (read-why l (getD c l 0) k w))
 
   -- k is read where some location is cleared: what that held before the first release decides
   abbrev ClearedAt : List Instruction → List ℕ → ℕ → Type 0
-  ClearedAt is c k = (l : ℕ) × (l < length c) × (any (trace-of B l (getD c l 0)) is ≡ true) × Why l (getD c l 0) k
+  ClearedAt is c k = (l : ℕ) × (l < length c) × (any (instruction-clears B l (getD c l 0)) is ≡ true) × Why l (getD c l 0) k
 
   clears-in : (is : List Instruction) (c : List ℕ) (k : ℕ) → has (all-reads B is c) k ≡ true → ClearedAt is c k
   unfolding all-reads any
@@ -73,12 +73,12 @@ module _ (B : Program) where
       go (or-cases (has (label-reads B x c) k) (has (all-reads B is (instruction-cleared B (Release x) c)) k) (sym (has-append (label-reads B x c) (all-reads B is (instruction-cleared B (Release x) c)) k) ∙ h))
       (clears-in is (instruction-cleared B (Release x) c) k)
     where
-      later : (l : ℕ) → l < length c → (v : ℕ) → v ≡ value-cleared B x l (getD c l 0) → any (trace-of B l v) is ≡ true → Why l v k → (b : Bool) → trace B l (getD c l 0) x ≡ b → ClearedAt (Release x ∷ is) c k
+      later : (l : ℕ) → l < length c → (v : ℕ) → v ≡ value-cleared B x l (getD c l 0) → any (instruction-clears B l v) is ≡ true → Why l v k → (b : Bool) → clears B l (getD c l 0) x ≡ b → ClearedAt (Release x ∷ is) c k
       later l m v q a (inl e) true t = (l, m, rw t, inl e)
       later l m v q a (inr (p, n, e)) true t = absurd (n (sym (q ∙ cleared-true B l x (getD c l 0) t)))
       later l m v q a w false t =
           let s : v ≡ getD c l 0 = q ∙ cleared-false B l x (getD c l 0) t in
-          (l, m, rw (rw s at a) (or-true (trace B l (getD c l 0) x)), rw s at w)
+          (l, m, rw (rw s at a) (or-true (clears B l (getD c l 0) x)), rw s at w)
 
       go : (has (label-reads B x c) k ≡ true) ⊎ (has (all-reads B is (instruction-cleared B (Release x) c)) k ≡ true)
           → (has (all-reads B is (instruction-cleared B (Release x) c)) k ≡ true → ClearedAt is (instruction-cleared B (Release x) c) k) → ClearedAt (Release x ∷ is) c k
@@ -86,47 +86,47 @@ module _ (B : Program) where
       go (inr e) r =
           let s = r e in
           let m : s .0 < length c = omega (arith, s .1, length-clear-of B (Release x) c) in
-          later (s .0) m (getD (instruction-cleared B (Release x) c) (s .0) 0) (clear-of-at B (Release x) c (s .0) m) (s .2) (s .3) (trace B (s .0) (getD c (s .0) 0) x) refl
+          later (s .0) m (getD (instruction-cleared B (Release x) c) (s .0) 0) (clear-of-at B (Release x) c (s .0) m) (s .2) (s .3) (clears B (s .0) (getD c (s .0) 0) x) refl
 
-  clears-has : (is : List Instruction) (c : List ℕ) (l k : ℕ) → l < length c → any (trace-of B l (getD c l 0)) is ≡ true → Why l (getD c l 0) k
+  clears-has : (is : List Instruction) (c : List ℕ) (l k : ℕ) → l < length c → any (instruction-clears B l (getD c l 0)) is ≡ true → Why l (getD c l 0) k
       → has (all-reads B is c) k ≡ true
   unfolding all-reads any
   clears-has [] c l k h a w = absurd (false≢true a)
   clears-has (Update j v ∷ is) c l k h a w = clears-has is c l k h a w
   clears-has (Release x ∷ is) c l k h a w =
       has-append (label-reads B x c) (all-reads B is (instruction-cleared B (Release x) c)) k
-      ∙ go (trace B l (getD c l 0) x) refl (clears-has is (instruction-cleared B (Release x) c) l k (omega (arith, length-clear-of B (Release x) c)))
+      ∙ go (clears B l (getD c l 0) x) refl (clears-has is (instruction-cleared B (Release x) c) l k (omega (arith, length-clear-of B (Release x) c)))
     where
-      go : (b : Bool) → trace B l (getD c l 0) x ≡ b
-          → (any (trace-of B l (getD (instruction-cleared B (Release x) c) l 0)) is ≡ true → Why l (getD (instruction-cleared B (Release x) c) l 0) k → has (all-reads B is (instruction-cleared B (Release x) c)) k ≡ true)
+      go : (b : Bool) → clears B l (getD c l 0) x ≡ b
+          → (any (instruction-clears B l (getD (instruction-cleared B (Release x) c) l 0)) is ≡ true → Why l (getD (instruction-cleared B (Release x) c) l 0) k → has (all-reads B is (instruction-cleared B (Release x) c)) k ≡ true)
           → (has (label-reads B x c) k || has (all-reads B is (instruction-cleared B (Release x) c)) k) ≡ true
       go true t r = rw (clear-has x c l k h t w)
       go false t r =
           let q : getD (instruction-cleared B (Release x) c) l 0 ≡ getD c l 0 = clear-of-at B (Release x) c l h ∙ cleared-false B l x (getD c l 0) t in
-          let z : any (trace-of B l (getD c l 0)) is ≡ true = rw t at a in
+          let z : any (instruction-clears B l (getD c l 0)) is ≡ true = rw t at a in
           rw (r (rw q z) (rw q w)) (or-true (has (label-reads B x c) k))
 
   -- what clearing by these instructions leaves of v at l
-  clear-is : (l : ℕ) (is : List Instruction) (v : ℕ) → clear-by B l is v ≡ (if any (trace-of B l v) is then rest B l else v)
+  clear-is : (l : ℕ) (is : List Instruction) (v : ℕ) → clear-by B l is v ≡ (if any (instruction-clears B l v) is then rest B l else v)
   unfolding clear-by any
   clear-is l [] v = refl
   clear-is l (Update j w ∷ is) v = clear-is l is v
-  clear-is l (Release x ∷ is) v = go (trace B l v x) refl (clear-is l is v)
+  clear-is l (Release x ∷ is) v = go (clears B l v x) refl (clear-is l is v)
     where
-      go : (b : Bool) → trace B l v x ≡ b → clear-by B l is v ≡ (if any (trace-of B l v) is then rest B l else v)
-          → clear-by B l is (value-cleared B x l v) ≡ (if trace B l v x || any (trace-of B l v) is then rest B l else v)
+      go : (b : Bool) → clears B l v x ≡ b → clear-by B l is v ≡ (if any (instruction-clears B l v) is then rest B l else v)
+          → clear-by B l is (value-cleared B x l v) ≡ (if clears B l v x || any (instruction-clears B l v) is then rest B l else v)
       go true t r = ap (clear-by B l is) (cleared-true B l x v t) ∙ clear-by-rest B l is ∙ rw t
       go false t r = ap (clear-by B l is) (cleared-false B l x v t) ∙ r ∙ rw t
 
-  -- a trace that is cleared is one of a label that is released
-  trace-releases : (l v : ℕ) (is : List Instruction) → any (trace-of B l v) is ≡ true → (x : ℕ) × Releases x is × (trace B l v x ≡ true)
+  -- a location that is cleared is cleared by the release of some label
+  clears-released : (l v : ℕ) (is : List Instruction) → any (instruction-clears B l v) is ≡ true → (x : ℕ) × Releases x is × (clears B l v x ≡ true)
   unfolding any
-  trace-releases l v [] h = absurd (false≢true h)
-  trace-releases l v (Update j w ∷ is) h = trace-releases l v is h
-  trace-releases l v (Release x ∷ is) h = go (or-cases (trace B l v x) (any (trace-of B l v) is) h) (trace-releases l v is)
+  clears-released l v [] h = absurd (false≢true h)
+  clears-released l v (Update j w ∷ is) h = clears-released l v is h
+  clears-released l v (Release x ∷ is) h = go (or-cases (clears B l v x) (any (instruction-clears B l v) is) h) (clears-released l v is)
     where
-      go : (trace B l v x ≡ true) ⊎ (any (trace-of B l v) is ≡ true) → (any (trace-of B l v) is ≡ true → (y : ℕ) × Releases y is × (trace B l v y ≡ true))
-          → (y : ℕ) × Releases y (Release x ∷ is) × (trace B l v y ≡ true)
+      go : (clears B l v x ≡ true) ⊎ (any (instruction-clears B l v) is ≡ true) → (any (instruction-clears B l v) is ≡ true → (y : ℕ) × Releases y is × (clears B l v y ≡ true))
+          → (y : ℕ) × Releases y (Release x ∷ is) × (clears B l v y ≡ true)
       go (inl e) r = (x, inl refl, e)
       go (inr e) r = let s = r e in (s .0, inr (s .1), s .2)
 
@@ -232,26 +232,26 @@ module _ (B : Program) (ok : Lawful B) (c : List ℕ) (long : length c ≡ L B) 
   low : (l : ℕ) → default-at B l < B .P
   low l = omega (arith, ok .low, default-low (place B l .function))
 
-  -- a release gives a value exactly to the traces of its label
-  gives-trace : (l x : ℕ) → x < B .E → is-some (given B c l (Release x)) ≡ trace B l (getD c l 0) x
-  gives-trace l x h = some-given B l c (Release x) ∙ go (eqb x l) refl
+  -- a release gives a value exactly to the locations that it clears
+  gives-cleared : (l x : ℕ) → x < B .E → is-some (given B c l (Release x)) ≡ clears B l (getD c l 0) x
+  gives-cleared l x h = some-given B l c (Release x) ∙ go (eqb x l) refl
     where
-      go : (b : Bool) → eqb x l ≡ b → (eqb x l || trace B l (getD c l 0) x) ≡ trace B l (getD c l 0) x
+      go : (b : Bool) → eqb x l ≡ b → (eqb x l || clears B l (getD c l 0) x) ≡ clears B l (getD c l 0) x
       go false e = rw e
       go true e = rw (e, ← (eqb-true x l e), roll-place B ok x h, ok .reserve, eq-eqb x x refl)
 
   gives-any : (l : ℕ) (js : List Instruction) → ((x : ℕ) → has (released js) x ≡ true → x < B .E)
-      → release-gives B c (released js) l ≡ any (trace-of B l (getD c l 0)) js
+      → release-gives B c (released js) l ≡ any (instruction-clears B l (getD c l 0)) js
   unfolding release-gives released any
   gives-any l [] h = refl
   gives-any l (Update j w ∷ js) h = gives-any l js h
   gives-any l (Release x ∷ js) h =
-      rw (gives-trace l x (h x (rw (eq-eqb x x refl))), gives-any l js (λ y m. h y (rw m (or-true (eqb x y)))))
+      rw (gives-cleared l x (h x (rw (eq-eqb x x refl))), gives-any l js (λ y m. h y (rw m (or-true (eqb x y)))))
 
-  -- a location that is a trace gets a value that is no label
-  trace-new : (l : ℕ) → l < L B → any (trace-of B l (getD c l 0)) is ≡ true → new l < B .P
-  trace-new l h a =
-      let s = trace-releases B l (getD c l 0) is a in
+  -- a location that is cleared gets a value that is no label
+  cleared-new : (l : ℕ) → l < L B → any (instruction-clears B l (getD c l 0)) is ≡ true → new l < B .P
+  cleared-new l h a =
+      let s = clears-released B l (getD c l 0) is a in
       let t = and-cases (dynamic-at B l) (concerns B l (getD c l 0) (s .0)) (s .2) in
       dite (ℕ-discrete (s .0) l)
       (λ (e : s .0 ≡ l). omega (arith, given true-element (releases-values B c is (s .0) l true-element (s .1) (inl (e, refl))), ok .low))
@@ -260,7 +260,7 @@ module _ (B : Program) (ok : Lawful B) (c : List ℕ) (long : length c ≡ L B) 
       given : (v : ℕ) → has (values B c l is) v ≡ true → new l ≡ v
       given v m = only-value (getD c l 0) (values B c l is) v (unclashed B is c fired l h) m
 
-  wiped-at : (l : ℕ) → l < L B → getD (all-cleared B is c) l 0 ≡ (if any (trace-of B l (getD c l 0)) is then rest B l else getD c l 0)
+  wiped-at : (l : ℕ) → l < L B → getD (all-cleared B is c) l 0 ≡ (if any (instruction-clears B l (getD c l 0)) is then rest B l else getD c l 0)
   wiped-at l h = clears-at B is c l (omega (arith, long)) ∙ clear-is B l is (getD c l 0)
 
   changes : (l : ℕ) → l < L B → B .P ≤ getD c l 0 → new l ≢ getD c l 0 → has (append-from (changed-reads B c (updates B c is)) 0 (L B)) (getD c l 0) ≡ true
@@ -283,12 +283,12 @@ module _ (B : Program) (ok : Lawful B) (c : List ℕ) (long : length c ≡ L B) 
       has-append releases changed k
       ∙ go (or-cases (has (all-reads B is c) k) (has (put-reads (B .P) (L B) is (all-cleared B is c)) k) (sym (has-append (all-reads B is c) (put-reads (B .P) (L B) is (all-cleared B is c)) k) ∙ h))
     where
-      by-clearing : (l : ℕ) → l < L B → any (trace-of B l (getD c l 0)) is ≡ true → Why B l (getD c l 0) k → (has releases k || has changed k) ≡ true
+      by-clearing : (l : ℕ) → l < L B → any (instruction-clears B l (getD c l 0)) is ≡ true → Why B l (getD c l 0) k → (has releases k || has changed k) ≡ true
       by-clearing l b a (inl e) =
           let g : release-gives B c (released is) k ≡ true = rw e (gives-any l is labels ∙ a) in
           rw (append-has (release-reads B c (released is)) 0 (L B) k k (omega arith) (omega arith) (rw (g, eq-eqb k k refl)))
       by-clearing l b a (inr (p, n, e)) =
-          let m : has changed k ≡ true = rw e (changes l b p (λ z. omega (arith, trace-new l b a))) in
+          let m : has changed k ≡ true = rw e (changes l b p (λ z. omega (arith, cleared-new l b a))) in
           rw m (or-true (has releases k))
 
       by-putting : (l : ℕ) → l < L B → (v : ℕ) → B .P ≤ v → k ≡ v → new l ≢ v → (t : Bool) → v ≡ (if t then rest B l else getD c l 0) → (has releases k || has changed k) ≡ true
@@ -301,7 +301,7 @@ module _ (B : Program) (ok : Lawful B) (c : List ℕ) (long : length c ≡ L B) 
       go (inl e) = let s = clears-in B is c k e in by-clearing (s .0) (omega (arith, s .1, long)) (s .2) (s .3)
       go (inr e) =
           let s = puts-in (B .P) (L B) new is (alike is one) (all-cleared B is c) k e in
-          by-putting (s .0) (s .1) (getD (all-cleared B is c) (s .0) 0) (s .3) (s .4) (s .5) (any (trace-of B (s .0) (getD c (s .0) 0)) is) (wiped-at (s .0) (s .1))
+          by-putting (s .0) (s .1) (getD (all-cleared B is c) (s .0) 0) (s .3) (s .4) (s .5) (any (instruction-clears B (s .0) (getD c (s .0) 0)) is) (wiped-at (s .0) (s .1))
 
   from : (k : ℕ) → has (extra-reads B c is (updates B c is)) k ≡ true → has (fire-reads B is c) k ≡ true
   unfolding extra-reads
@@ -310,7 +310,7 @@ module _ (B : Program) (ok : Lawful B) (c : List ℕ) (long : length c ≡ L B) 
       ∙ go (or-cases (has releases k) (has changed k) (sym (has-append releases changed k) ∙ h))
     where
       -- a label that is taken out of a location is taken by a release, or else by a value that is put
-      by-taking : (l : ℕ) → l < L B → B .P ≤ getD c l 0 → new l ≢ getD c l 0 → getD c l 0 ≡ k → (t : Bool) → any (trace-of B l (getD c l 0)) is ≡ t → Read k
+      by-taking : (l : ℕ) → l < L B → B .P ≤ getD c l 0 → new l ≢ getD c l 0 → getD c l 0 ≡ k → (t : Bool) → any (instruction-clears B l (getD c l 0)) is ≡ t → Read k
       by-taking l b p n e true a = rw (clears-has B is c l k (omega (arith, long)) a (inr (p, (λ z. omega (arith, low l)), sym e)))
       by-taking l b p n e false a =
           let q : getD (all-cleared B is c) l 0 ≡ getD c l 0 = wiped-at l b ∙ rw a in
@@ -322,10 +322,10 @@ module _ (B : Program) (ok : Lawful B) (c : List ℕ) (long : length c ≡ L B) 
           given-about : (vs : List ℕ) → values B c l is ≡ vs → any (about B l) is ≡ true
           given-about [] r = absurd (n (rw r))
           given-about (v ∷ vs) r =
-              let g : any (about B l) is || any (trace-of B l (getD c l 0)) is ≡ true = sym (some-values B l c is) ∙ rw r in
-              pick (or-cases (any (about B l) is) (any (trace-of B l (getD c l 0)) is) g)
+              let g : any (about B l) is || any (instruction-clears B l (getD c l 0)) is ≡ true = sym (some-values B l c is) ∙ rw r in
+              pick (or-cases (any (about B l) is) (any (instruction-clears B l (getD c l 0)) is) g)
             where
-              pick : (any (about B l) is ≡ true) ⊎ (any (trace-of B l (getD c l 0)) is ≡ true) → any (about B l) is ≡ true
+              pick : (any (about B l) is ≡ true) ⊎ (any (instruction-clears B l (getD c l 0)) is ≡ true) → any (about B l) is ≡ true
               pick (inl x) = x
               pick (inr x) = absurd (true≢false (sym x ∙ a))
 
@@ -338,7 +338,7 @@ module _ (B : Program) (ok : Lawful B) (c : List ℕ) (long : length c ≡ L B) 
           let s = append-in (changed-reads B c (updates B c is)) 0 (L B) k e in
           let b : s .0 < L B = omega (arith, s .1) in
           let t = taken-in (B .P) (getD c (s .0) 0) (new (s .0)) k (rw (updates-at B c is (s .0) b) at (s .2)) in
-          by-taking (s .0) b (t .0) (t .1) (t .2) (any (trace-of B (s .0) (getD c (s .0) 0)) is) refl
+          by-taking (s .0) b (t .0) (t .1) (t .2) (any (instruction-clears B (s .0) (getD c (s .0) 0)) is) refl
 
   pub fire-reads-are : (k : ℕ) → has (fire-reads B is c) k ≡ has (extra-reads B c is (updates B c is)) k
   fire-reads-are k = both-ways (has (fire-reads B is c) k) (has (extra-reads B c is (updates B c is)) k) (to k) (from k)

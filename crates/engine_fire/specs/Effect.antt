@@ -1,4 +1,4 @@
--- What one move leaves of the contents and the marks: all of it or nothing (SPECIFICATION 4.9, 5.6, 8.3).
+-- What one move leaves of the contents and the marks: one that fires its updates and its bit, a refused one nothing (SPECIFICATION 4.9, 5.6, 8.3).
 use mathlib.Core.Path.{_≡_}
 use mathlib.Core.Bool.{Bool}
 use mathlib.Core.List.{List}
@@ -9,25 +9,21 @@ use Rattle.text.specs.Words.{has}
 use Rattle.book.specs.Book.{Program}
 use Rattle.book.specs.Sound.{Lawful, Sound}
 use Rattle.engine.specs.Move.{Input, Moved, fires, move-refused, move, fire, writes}
-use Rattle.engine_release.specs.Marks.{by-place, mark}
 use Rattle.engine_fire.specs.declared.Begun.{Begun}
 use Rattle.engine_fire.specs.Count.{instructions-given}
-use Rattle.engine_walk.specs.declared.WalkEnd.{WalkEnd}
+use Rattle.engine_emit.specs.declared.Progress.{Progress}
 use Rattle.engine_walk.specs.Walk.{outcome}
 use Rattle.engine_walk.specs.WalkMarks.{WalkMarked}
 use Rattle.engine.specs.Tables.{Tables}
-
--- the marks ms with the bit wherever the test passes
-abbrev pub marks-joined : ℕ → (ℕ → Bool) → List ℕ → List ℕ
-marks-joined bit test ms = by-place (λ l m. mark bit (test l) m) 0 ms
+use Rattle.engine_term.specs.Marks.{marked-where}
 
 -- the tables after a move: one that fires leaves its updates, and its bit where it reads and where it writes; a refused one leaves all as it was
 abbrev pub tables-left : ℕ → Tables → Moved → Tables
 tables-left bit t (fires f) =
     record {
       contents = fire (f .updates) (t .contents);
-      readers = marks-joined bit (has (f .reads)) (t .readers);
-      writers = marks-joined bit (writes (f .updates)) (t .writers);
+      readers = marked-where bit (has (f .reads)) (t .readers);
+      writers = marked-where bit (writes (f .updates)) (t .writers);
     }
 tables-left bit t (move-refused n q) = t
 
@@ -50,7 +46,7 @@ pub record MoveEffect (B : Program) (x : Input) (bit i : ℕ) (t : Tables) (r : 
   pub tables : u ≡ tables-left bit t (move B (t .contents) x)
 
 -- the walk of the move with input x, made on the tables t, ended as s says, with its instructions in the list l, and left the tables u
-pub record AfterWalk (B : Program) (x : Input) (bit : ℕ) (t : Tables) (s : WalkEnd) (l : List ℕ) (u : Tables) : Type 0 where
+pub record AfterWalk (B : Program) (x : Input) (bit : ℕ) (t : Tables) (s : Progress) (l : List ℕ) (u : Tables) : Type 0 where
   pub fit : MoveFits B x bit t
   pub contents : u .contents ≡ t .contents
   pub readers : WalkMarked B (t .contents) bit x (outcome s l) (t .readers) (u .readers)

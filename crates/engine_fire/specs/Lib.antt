@@ -1,5 +1,5 @@
 pub mod Outcome
 pub mod Steps
 pub mod Effect
-pub mod Close
+pub mod Finish
 pub mod Count

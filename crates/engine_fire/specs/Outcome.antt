@@ -12,8 +12,7 @@ use Rattle.engine.specs.declared.Instruction.{Instruction}
 use Rattle.engine.specs.Move.{Moved, fires, move-refused, fire, writes, fired-of, fire-or-clash}
 use Rattle.engine.specs.Move as move
 use Rattle.engine_instruction.specs.Code.{items}
-use Rattle.engine_term.specs.Marks.{marked}
-use Rattle.engine_release.specs.Marks.{by-place, mark}
+use Rattle.engine_term.specs.Marks.{marked, marked-where}
 use Rattle.engine_fire.specs.Steps.{fire-reads}
 use Rattle.engine_fire.specs.declared.Outcome.{Outcome}
 use Rattle.engine_fire.specs.declared.Outcome.the-variants.{Fired, Clash}
@@ -41,7 +40,7 @@ contents-after c (move-refused n q) = c
 
 -- the writer marks ms with the bit wherever the updates write a location of the contents, which are n long, changed or not
 abbrev pub write-marked : ℕ → ℕ → List (List ℕ) → List ℕ → List ℕ
-write-marked bit n us ms = by-place (λ l m. mark bit (ltb l n && writes us l) m) 0 ms
+write-marked bit n us ms = marked-where bit (λ l. ltb l n && writes us l) ms
 
 -- the writer marks after a move
 abbrev pub writers-after : ℕ → ℕ → List ℕ → Moved → List ℕ

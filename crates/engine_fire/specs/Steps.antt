@@ -9,9 +9,9 @@ use Rattle.book_parts.specs.declared.Part.{Part}
 use Rattle.book_parts.specs.Part.{between, part-of}
 use Rattle.engine.specs.declared.Instruction.{Instruction}
 use Rattle.engine.specs.Move.{taken-reads}
-use Rattle.engine_instruction.specs.Traces.{own, gets}
-use Rattle.engine_release.specs.Marks.{mark}
+use Rattle.engine_instruction.specs.Given.{own, gets}
 use Rattle.engine_release.specs.Steps.{all-cleared, all-reads}
+use Rattle.engine_term.specs.Marks.{mark}
 
 -- the part that l is in; the part held from the last location is tried first
 abbrev pub part-after : Program → Part → ℕ → Part
@@ -23,9 +23,9 @@ puts n [] c = c
 puts n (i ∷ is) c = puts n is (if ltb (own i) n then set c (own i) (gets i) else c)
 
 -- the writer marks ms with the bit at each instruction's own location; n is how many of the book's locations the contents have
-unfoldable pub put-marks : ℕ → ℕ → List Instruction → List ℕ → List ℕ
-put-marks bit n [] ms = ms
-put-marks bit n (i ∷ is) ms = put-marks bit n is (set ms (own i) (mark bit (ltb (own i) n) (getD ms (own i) 0)))
+unfoldable pub put-marked : ℕ → ℕ → List Instruction → List ℕ → List ℕ
+put-marked bit n [] ms = ms
+put-marked bit n (i ∷ is) ms = put-marked bit n is (set ms (own i) (mark bit (ltb (own i) n) (getD ms (own i) 0)))
 
 -- what putting the instructions' own values reads: each may take a label out of its location. n is how many locations the book has
 unfoldable pub put-reads : ℕ → ℕ → List Instruction → List ℕ → List ℕ
@@ -34,6 +34,6 @@ put-reads P n (i ∷ is) c =
     (if ltb (own i) (min n (length c)) then taken-reads P (getD c (own i) 0) (gets i) else [])
     ++ put-reads P n is (if ltb (own i) n then set c (own i) (gets i) else c)
 
--- what firing reads: first the traces of released labels are cleared, then each own value is put
+-- what firing reads: first the released labels are cleared, then each own value is put
 abbrev pub fire-reads : Program → List Instruction → List ℕ → List ℕ
 fire-reads B is c = all-reads B is c ++ put-reads (B .P) (L B) is (all-cleared B is c)

@@ -3,7 +3,7 @@
 use book::Image;
 use book_parts::Part;
 use engine::Pick;
-use engine_walk::WalkEnd;
+use engine_emit::Progress;
 use text::Answer;
 use text::Value;
 ghost use mathlib.Core.Path.{_≡_};
@@ -20,15 +20,14 @@ ghost use Rattle.book_parts.specs.Part.{put-in};
 ghost use Rattle.engine.specs.Move.{taken-reads, fire, Fired, input};
 ghost use Rattle.engine_instruction.specs.Code.{items};
 ghost use Rattle.engine_clash.specs.Clash.{updates-by, clash-by};
-ghost use Rattle.engine_term.specs.Marks.{marked};
-ghost use Rattle.engine_release.specs.Marks.{mark};
+ghost use Rattle.engine_term.specs.Marks.{marked, mark};
 ghost use Rattle.engine_fire.specs.Outcome.{write-marked, read-marked, Settled, moved-by};
-ghost use Rattle.engine_fire.specs.Steps.{part-after, puts, put-marks, put-reads};
-ghost use Rattle.engine.specs.Rule.{walking};
+ghost use Rattle.engine_fire.specs.Steps.{part-after, puts, put-marked, put-reads};
+ghost use Rattle.engine.specs.Rule.{walking, most-instructions};
 ghost use Rattle.engine_walk.specs.WalkMarks.{bits-cleared};
 ghost use Rattle.engine_walk.specs.Walk.{outcome};
 ghost use Rattle.engine_fire.specs.Effect.{move-answer, Begins};
-ghost use Rattle.engine_fire.specs.Close.{answer-at, readers-kept, MoveFinished};
+ghost use Rattle.engine_fire.specs.Finish.{answer-at, readers-kept, MoveFinished};
 ghost use Rattle.engine_fire.specs.Count.{instructions-given};
 ghost use Rattle.engine.specs.Tables.{tables-before, tables-after};
 
@@ -138,7 +137,7 @@ fn put_values(
 )
     ensures { λ _. ⌜ now (contents .exit) ≡ puts (L (low-program (now (image .entry)))) (items (now (list .entry)) len) (now (contents .entry)) ⌝ }
     ensures { λ _. ⌜ now (readers .exit) ≡ marked bit (put-reads (low-program (now (image .entry)) .P) (L (low-program (now (image .entry)))) (items (now (list .entry)) len) (now (contents .entry))) (now (readers .entry)) ⌝ }
-    ensures { λ _. ⌜ now (writers .exit) ≡ put-marks bit (min (L (low-program (now (image .entry)))) (length (now (contents .entry)))) (items (now (list .entry)) len) (now (writers .entry)) ⌝ }
+    ensures { λ _. ⌜ now (writers .exit) ≡ put-marked bit (min (L (low-program (now (image .entry)))) (length (now (contents .entry)))) (items (now (list .entry)) len) (now (writers .entry)) ⌝ }
 {
     let n = text::smaller(len, list.len());
     let p = book_parts::permanent(image);
@@ -155,7 +154,7 @@ fn put_values(
     }
 }
 
-// The contents and the marks after a move that does not clash: first the traces of released labels are cleared, then each own value is put.
+// The contents and the marks after a move that does not clash: first the released labels are cleared, then each own value is put.
 fn fire(
     image: &Image,
     contents: &mut [Value],
@@ -199,21 +198,19 @@ pub fn settle(
 
 // A move that is begun: how its walk ended, and how many instructions it gave.
 pub struct Begun {
-    pub walk: WalkEnd,
+    pub walk: Progress,
     pub count: usize,
 }
 
 // How many instructions a walk gave, by its end: none if it was refused.
-fn instructions_given(s: WalkEnd) -> usize
+fn instructions_given(s: Progress, list: &[u64]) -> usize
+    requires { ⌜ length (now list) ≡ most-instructions ⌝ }
     ensures { λ r. ⌜ r ≡ instructions-given s ⌝ }
 {
     if s.refused != 0 {
         return 0;
     }
-    if s.len < engine::MOST_INSTRUCTIONS {
-        return s.len;
-    }
-    engine::MOST_INSTRUCTIONS
+    text::smaller(s.len as usize, list.len())
 }
 
 // Begins an agent's move: its rule is walked with these picks, and what the walk reads is marked.
@@ -229,7 +226,7 @@ pub fn begin_move(
     ensures { λ r. ⌜ Begins (low-program (now (image .entry))) (now (contents .entry)) bit (input agent (now (picks .entry))) r (now (list .exit)) (now (readers .entry)) (now (readers .exit)) ⌝ }
 {
     let walk = engine_walk::walk_move(image, contents, readers, bit, list, agent, picks);
-    let count = instructions_given(walk);
+    let count = instructions_given(walk, list);
     Begun {
         walk: walk,
         count: count,
@@ -289,17 +286,18 @@ pub fn finish_move(
     writers: &mut [u64],
     bit: u64,
     list: &[u64; 256],
-    s: WalkEnd,
+    s: Progress,
     at: u32,
 ) -> Answer
     ensures { λ r. ⌜ MoveFinished (low-program (now (image .entry))) bit at (outcome s (now (list .entry))) (tables-before contents readers writers) r (tables-after contents readers writers) ⌝ }
 {
     if s.refused != 0 {
         return Answer {
-            number: s.refused,
+            number: s.refused as u32,
             p: at,
             q: s.node as u32,
         };
     }
-    settle_listed(image, contents, readers, writers, bit, list, s.len, at)
+    let len = s.len as usize;
+    settle_listed(image, contents, readers, writers, bit, list, len, at)
 }

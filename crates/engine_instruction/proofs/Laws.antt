@@ -1,4 +1,4 @@
--- Laws that several proofs cite: an instruction's own value, one more instruction of the list, some instruction passes a test. Assumes nothing.
+-- Laws that several proofs cite: an instruction's own value, one more instruction of the list, some instruction passes a test.
 use mathlib.Core.Path.{_≡_, refl, sym, ap, _∙_}
 use mathlib.Core.Bool.{Bool, true, false, _&&_, _||_, not}
 use mathlib.Core.List.{List, [], _∷_, _++_, map}
@@ -14,7 +14,7 @@ use Rattle.engine.specs.declared.Instruction.{Instruction}
 use Rattle.engine.specs.declared.Instruction.the-variants.{Update, Release}
 use Rattle.engine.specs.Move.{given, other}
 use Rattle.engine_instruction.specs.Code.{decode-of, items}
-use Rattle.engine_instruction.specs.Traces.{own, gets, any}
+use Rattle.engine_instruction.specs.Given.{own, gets, any}
 
 pub or-assoc : (a b c : Bool) → (a || b) || c ≡ a || (b || c)
 or-assoc true b c = refl

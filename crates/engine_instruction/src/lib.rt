@@ -1,5 +1,4 @@
-// A move's instructions as the code holds them, each one number; what one is about: its own location and value, and the traces of a label that it
-// releases.
+// A move's instructions as the code holds them, each one number; and what one gives: its own location and value, and whether it clears a location.
 use book::Function;
 use engine::Instruction;
 use text::Value;
@@ -7,7 +6,7 @@ ghost use mathlib.Core.Path.{_≡_};
 ghost use Rattle.engine_instruction.specs.Code.{decode-of};
 ghost use Rattle.text.specs.Words.{has};
 ghost use Rattle.contents_check.specs.Part.{arguments-by};
-ghost use Rattle.engine_instruction.specs.Traces.{own, gets, trace-by};
+ghost use Rattle.engine_instruction.specs.Given.{own, gets, clears-by};
 
 // From here on a number stands for a release.
 pub const RELEASES: u64 = 281474976710656;
@@ -72,9 +71,9 @@ fn has_argument(arity: u32, i: usize, row: usize, col: usize, x: Value) -> bool
     (row == y) | (col == y)
 }
 
-// Location i of f, holding `held`, is a trace of x; of a binary f, row and col are its arguments.
-pub fn is_trace_at(f: Function, i: usize, row: usize, col: usize, held: Value, x: Value) -> bool
-    ensures { λ r. ⌜ r ≡ trace-by f i row col held x ⌝ }
+// A release of x clears location i of f, holding `held`; of a binary f, row and col are its arguments.
+pub fn clears_at(f: Function, i: usize, row: usize, col: usize, held: Value, x: Value) -> bool
+    ensures { λ r. ⌜ r ≡ clears-by f i row col held x ⌝ }
 {
     book_parts::is_dynamic(f) & (has_argument(f.arity, i, row, col, x) | (held == x))
 }

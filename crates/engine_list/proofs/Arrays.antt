@@ -1,5 +1,4 @@
 -- A local array of numbers: made at once, lent whole, `&mut` or `&`, or as a slice, and room again in the end. It says nothing of the crate.
--- Assumes `Given`.
 use mathlib.Core.Path.{_≡_, refl}
 use Prim.Native.Nat.{ℕ, zero, suc, _^_, _<_}
 use mathlib.Core.List.{List, [], _∷_}
@@ -16,6 +15,7 @@ use ghost.Atoms.{Atoms, sem}
 use types.Kit.{Given, ‵, _$_, _∵_, !, qed, by, move, use1, drop, fsplit, fjoin, fpick, feqI, done}
 use types.SemTy.{Body}
 use denote.Shadow.{shadow}
+use denote.RattleType.{RattleType}
 use denote.Laws.{Is, shows}
 use denote.Memory.{partAt, partOf, mem}
 use denote.Plain.{UInt, uint-makes, uint-vals, uint-tells, uint-lawful}
@@ -40,12 +40,16 @@ module _ (w : Width) (n : ℕ) where
   abbrev pub LentArray : Lft → ℕ → GName → Fml
   LentArray κ b γ = flent κ (Body (mem (Array (UInt w) n)) b 0 γ)
 
-each-fresh : (w : Width) (n v : ℕ) → v < 2 ^ bits w → shadow (each ℕ (UInt w .own) (replicate n v) (replicate n (vint w v)))
-each-fresh w zero v h = tt
-each-fresh w (suc n) v h = ((refl, h), each-fresh w n v h)
+each-same : (R : RattleType) (n : ℕ) (x : R .Denot) (v : Val) → Is R x (v ∷ []) → shadow (each (R .Denot) (R .own) (replicate n x) (replicate n v))
+each-same R zero x v is = tt
+each-same R (suc n) x v is = (is, each-same R n x v is)
+
+-- n times the same element
+pub is-same : (R : RattleType) (n : ℕ) (x : R .Denot) (v : Val) → Is R x (v ∷ []) → Is (Array R n) (replicate n x) (arrayVal (replicate n v) ∷ [])
+is-same R n x v is = (replicate n v, ((refl, length-replicate n x), each-same R n x v is))
 
 is-fresh : (w : Width) (n v : ℕ) → v < 2 ^ bits w → Is (Array (UInt w) n) (replicate n v) (fresh w n v ∷ [])
-is-fresh w n v h = (replicate n (vint w v), ((refl, length-replicate n v), each-fresh w n v h))
+is-fresh w n v h = is-same (UInt w) n v (vint w v) (refl, h)
 
 module _ {M : Type 1} (𝓤 : URA M) (H : Heap 𝓤) (A : Atoms 𝓤) (W : Given 𝓤 H A) (w : Width) (n : ℕ) where
   pub fresh-typed : (v : ℕ) → v < 2 ^ bits w → Holds (hasTy (tyArray (tyInt w) n) (fresh w n v)) × WT (fresh w n v)

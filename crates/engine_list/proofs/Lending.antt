@@ -1,5 +1,4 @@
 -- The elements of a slice that lie in memory are lent for a lifetime, `&mut` or `&`, and come back once it is over. It says nothing of the crate.
--- Assumes `Given`.
 use mathlib.Core.Path.{_≡_, refl, sym}
 use Prim.Native.Nat.{ℕ}
 use mathlib.Core.List.{List, [], _∷_, _++_}

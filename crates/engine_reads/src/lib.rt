@@ -1,4 +1,4 @@
-// What rules read beside their terms: labels, Reserve, universes; and the marks of it.
+// What rules read beside their terms: Reserve and universes; each read marks its location.
 use book::Function;
 use book::Image;
 use text::Value;

@@ -1,4 +1,4 @@
--- A list that is passed over from its start, each element put by its place. Assumes nothing.
+-- A list that is passed over from its start, each element put by its place.
 use mathlib.Core.Path.{_≡_, refl, sym, ap, _∙_}
 use mathlib.Core.Bool.{Bool, true, false}
 use mathlib.Core.List.{List, [], _∷_, _++_}
@@ -8,7 +8,7 @@ use borrow.Author.Tests.{eqb-true, eqb-false, ltb-true, ltb-false}
 use lib.Dec.{eqb, ltb}
 use lib.ListN.{length, getD, set, take, drop, length-set, length-take, length-drop, take-append-drop, List·getD-eq-default}
 use lib.Seq.{ext-getD, getD-set-same, getD-set-other, length-take-le}
-use Rattle.engine_release.specs.Marks.{by-place}
+use Rattle.text.specs.Words.{by-place}
 
 pub length-each : (f : ℕ → ℕ → ℕ) (i : ℕ) (s : List ℕ) → length (by-place f i s) ≡ length s
 unfolding by-place

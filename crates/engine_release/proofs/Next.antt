@@ -1,4 +1,4 @@
--- Marks of the locations of a list of places, one place more. Assumes nothing.
+-- Marks of the locations of a list of places, one place more.
 use mathlib.Core.Path.{_≡_, sym, ap, _∙_}
 use mathlib.Core.List.{List, _++_}
 use Prim.Native.Nat.{ℕ, _+_}

@@ -1,4 +1,4 @@
--- The places of one row of a binary function, in which no argument is x. Assumes nothing.
+-- The places of one row of a binary function, in which no argument is x.
 use mathlib.Core.Path.{_≡_, sym, ap, _∙_}
 use mathlib.Core.Bool.{false}
 use mathlib.Core.List.{[], _∷_}

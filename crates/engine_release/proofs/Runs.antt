@@ -1,4 +1,4 @@
--- The traces of a label cleared function after function: what holds after each, and what was read. Assumes nothing.
+-- A label cleared from function after function: what holds after each, and what was read.
 use mathlib.Core.Path.{_≡_, refl, sym, ap, _∙_}
 use mathlib.Core.Bool.{Bool, true, false, _&&_}
 use mathlib.Core.List.{List, [], _++_}
@@ -15,12 +15,11 @@ use Rattle.book_parts.specs.declared.Owner.{Owner}
 use Rattle.book_parts.specs.Part.{between, part-from}
 use Rattle.book_parts.proofs.Parts.{between-before, between-inside, between-after}
 use Rattle.book_parts.proofs.Places.{From, from-start, from-at, from-next, from-past}
-use Rattle.engine.specs.Move.{append-from}
-use Rattle.engine_term.specs.Marks.{marked}
-use Rattle.engine_release.specs.Marks.{mark}
-use Rattle.engine_instruction.specs.Traces.{trace-in}
+use Rattle.engine.specs.Move.{append-from, clears}
+use Rattle.engine_term.specs.Marks.{marked, mark}
+use Rattle.engine_instruction.specs.Given.{clears-in}
 use Rattle.engine_release.specs.Part.{value-cleared-in, part-cleared, part-marked, cleared-reads, reads-in, part-reads}
-use Rattle.engine_release.specs.Steps.{function-cleared, function-marked, function-reads, trace, value-cleared, label-cleared, label-marks, label-reads}
+use Rattle.engine_release.specs.Steps.{function-cleared, function-marked, function-reads, value-cleared, label-cleared, label-marked, label-reads}
 use Rattle.engine_instruction.proofs.Laws.{and-none}
 use Rattle.engine.proofs.Append.{append-split, append-same, append-past}
 use Rattle.engine_term.proofs.Marking.{marked-on}
@@ -52,7 +51,7 @@ module _ (E : ℕ) (f : Function) (x bit first end : ℕ) (c ms : List ℕ) (ord
   part-at k h l i = getD-take (b - a) (drop a c) (k - first) 0 (omega arith) ∙ getD-drop a c (k - first) 0 ∙ ap (λ (z : ℕ). getD c z 0) (omega arith)
 
   seen : (k : ℕ) → first ≤ k → k < end → (v : ℕ) (t : Bool) → ltb k (length c) ≡ t
-      → ltb (k - first) (length part) && trace-in E f (k - first) (getD part (k - first) 0) x ≡ t && trace-in E f (k - first) (getD c k 0) x
+      → ltb (k - first) (length part) && clears-in E f (k - first) (getD part (k - first) 0) x ≡ t && clears-in E f (k - first) (getD c k 0) x
   seen k h l v true e =
       let i : k < length c = ltb-true k (length c) e in
       let m : k - first < length part = rw (length-take, length-drop) (omega arith) in
@@ -67,8 +66,8 @@ module _ (E : ℕ) (f : Function) (x bit first end : ℕ) (c ms : List ℕ) (ord
       ys ≡ part-marked bit E f x (take (b - a) (drop a c)) (take (r - p) (drop p ms)) →
       take p ms ++ (ys ++ drop (r - p) (drop p ms)) ≡ function-marked bit E f x first end c ms
   run-marks p r ys p-is r-is q =
-      part-back (λ (i m : ℕ). mark bit (ltb i (length part) && trace-in E f i (getD part i 0) x) m)
-      (λ (l m : ℕ). mark bit (between first end l && (ltb l (length c) && trace-in E f (l - first) (getD c l 0) x)) m) p r ms ys (omega arith) (omega arith)
+      part-back (λ (i m : ℕ). mark bit (ltb i (length part) && clears-in E f i (getD part i 0) x) m)
+      (λ (l m : ℕ). mark bit (between first end l && (ltb l (length c) && clears-in E f (l - first) (getD c l 0) x)) m) p r ms ys (omega arith) (omega arith)
       (λ k h v. rw (between-before first end k (omega arith)))
       (λ k h l v.
       let n : p ≡ first = omega arith in
@@ -76,7 +75,7 @@ module _ (E : ℕ) (f : Function) (x bit first end : ℕ) (c ms : List ℕ) (ord
       (λ k h l v. rw (between-after first end k (omega arith)))
       q
 
-  -- the part ends where the contents do; past them the function has no traces
+  -- the part ends where the contents do; past them nothing of the function is cleared
   pub run-read : (P : ℕ) → part-reads E P f x first (take (b - a) (drop a c)) ≡ function-reads E P f x first end c
   run-read P =
       let n : length part ≡ b - a = cut-length a b c (omega arith) in
@@ -86,7 +85,7 @@ module _ (E : ℕ) (f : Function) (x bit first end : ℕ) (c ms : List ℕ) (ord
       ∙ ap (append-from at first) m
     where
       at : ℕ → List ℕ
-      at l = if ltb l (length c) && trace-in E f (l - first) (getD c l 0) x then cleared-reads P (default f) l (getD c l 0) else []
+      at l = if ltb l (length c) && clears-in E f (l - first) (getD c l 0) x then cleared-reads P (default f) l (getD c l 0) else []
 
       inside : (k : ℕ) → k < length part → reads-in E P f x first (0 + k) (getD part (0 + k) 0) ≡ at (first + k)
       inside k h =
@@ -105,22 +104,22 @@ module _ (B : Program) (x bit : ℕ) (c₀ ms₀ rs₀ : List ℕ) where
   abbrev clear-value : ℕ → ℕ → ℕ
   clear-value l v = value-cleared B x l v
 
-  abbrev note : ℕ → ℕ → ℕ
-  note l m = mark bit (ltb l (length c₀) && trace B l (getD c₀ l 0) x) m
+  abbrev mark-place : ℕ → ℕ → ℕ
+  mark-place l m = mark bit (ltb l (length c₀) && clears B l (getD c₀ l 0) x) m
 
   abbrev read : ℕ → List ℕ
-  read l = if ltb l (length c₀) && trace B l (getD c₀ l 0) x then cleared-reads (B .P) (default-at B l) l (getD c₀ l 0) else []
+  read l = if ltb l (length c₀) && clears B l (getD c₀ l 0) x then cleared-reads (B .P) (default-at B l) l (getD c₀ l 0) else []
 
   -- the functions before g are cleared; their locations are those below `first`
   pub record Upto (first g : ℕ) (c ms rs : List ℕ) : Type 0 where
     pub contents : Swept clear-value first c₀ c
-    pub marks : Swept note first ms₀ ms
+    pub marks : Swept mark-place first ms₀ ms
     pub reads : rs ≡ marked bit (append-from read 0 first) rs₀
     pub at : From B g first
 
   pub upto-start : Upto 0 0 c₀ ms₀ rs₀
   unfolding append-from marked
-  upto-start = record { contents = sweep-start clear-value c₀; marks = sweep-start note ms₀; reads = refl; at = from-start B }
+  upto-start = record { contents = sweep-start clear-value c₀; marks = sweep-start mark-place ms₀; reads = refl; at = from-start B }
 
   module _ (first g : ℕ) (c ms rs : List ℕ) (u : Upto first g c ms rs) (more : g < length (B .functions)) where
     abbrev end : ℕ
@@ -133,7 +132,7 @@ module _ (B : Program) (x bit : ℕ) (c₀ ms₀ rs₀ : List ℕ) where
     -- what clearing this function reads
     run-here : function-reads (B .E) (B .P) (function-at B g) x first end c ≡ append-from read (0 + first) (end - first)
     run-here =
-        append-same (λ (l : ℕ). if ltb l (length c) && trace-in (B .E) (function-at B g) (l - first) (getD c l 0) x then cleared-reads (B .P) (default (function-at B g)) l (getD c l 0) else [])
+        append-same (λ (l : ℕ). if ltb l (length c) && clears-in (B .E) (function-at B g) (l - first) (getD c l 0) x then cleared-reads (B .P) (default (function-at B g)) l (getD c l 0) else [])
         read first (0 + first) (end - first)
         (λ k h.
         let z : 0 + first ≡ first = omega arith in
@@ -152,7 +151,7 @@ module _ (B : Program) (x bit : ℕ) (c₀ ms₀ rs₀ : List ℕ) where
               (λ k h l m. rw (between-inside first end k h l, here k h l))
               (λ k h l v. rw (between-after first end k h));
           marks =
-              sweep-run note (λ (l m : ℕ). mark bit (between first end l && (ltb l (length c) && trace-in (B .E) (function-at B g) (l - first) (getD c l 0) x)) m) first end ms₀ ms ms′
+              sweep-run mark-place (λ (l m : ℕ). mark bit (between first end l && (ltb l (length c) && clears-in (B .E) (function-at B g) (l - first) (getD c l 0) x)) m) first end ms₀ ms ms′
               (omega arith) (u .marks) q
               (λ k h l v. rw (between-before first end k h))
               (λ k h l m. rw (between-inside first end k h l, here k h l, u .contents .left k h, u .contents .same))
@@ -171,19 +170,19 @@ module _ (B : Program) (x bit : ℕ) (c₀ ms₀ rs₀ : List ℕ) where
     upto-next own c′ ms′ rs′ is p q r = rw is (upto-function c′ ms′ rs′ (rw is at p) (rw is at q) (rw is at r))
 
   module _ (first g : ℕ) (c ms rs : List ℕ) (u : Upto first g c ms rs) (done : length (B .functions) ≤ g) where
-    -- past the last function's locations there are no traces, and past the contents nothing is read
+    -- past the last function's locations nothing is cleared, and past the contents nothing is read
     all-read : append-from read 0 first ≡ label-reads B x c₀
     all-read =
         let n : first + (length c₀ - first) ≡ length c₀ + (first - length c₀) = omega arith in
         sym (append-past read 0 first (length c₀ - first) (λ k h. rw (from-past B g first (u .at) done (0 + first + k) (omega arith), and-none)))
         ∙ ap (append-from read 0) n
         ∙ append-past read 0 (length c₀) (first - length c₀) (λ k h. rw (le-ltb (0 + length c₀ + k) (length c₀) (omega arith)))
-        ∙ append-same read (λ (l : ℕ). if trace B l (getD c₀ l 0) x then cleared-reads (B .P) (default-at B l) l (getD c₀ l 0) else []) 0 0 (length c₀)
+        ∙ append-same read (λ (l : ℕ). if clears B l (getD c₀ l 0) x then cleared-reads (B .P) (default-at B l) l (getD c₀ l 0) else []) 0 0 (length c₀)
         (λ k h. rw (lt-ltb (0 + k) (length c₀) (omega arith)))
 
-    pub upto-end : (c ≡ label-cleared B x c₀) × (ms ≡ label-marks bit B x c₀ ms₀) × (rs ≡ marked bit (label-reads B x c₀) rs₀)
+    pub upto-end : (c ≡ label-cleared B x c₀) × (ms ≡ label-marked bit B x c₀ ms₀) × (rs ≡ marked bit (label-reads B x c₀) rs₀)
     upto-end = (
       sweep-end clear-value first c₀ c (u .contents) (λ k h l. rw (from-past B g first (u .at) done k h)),
-      sweep-end note first ms₀ ms (u .marks) (λ k h l. rw (from-past B g first (u .at) done k h, and-none)),
+      sweep-end mark-place first ms₀ ms (u .marks) (λ k h l. rw (from-past B g first (u .at) done k h, and-none)),
       u .reads ∙ ap (λ (s : List ℕ). marked bit s rs₀) all-read,
     )

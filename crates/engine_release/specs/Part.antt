@@ -1,27 +1,27 @@
--- The traces of a label x cleared in a function's part, and what clearing them reads.
+-- A label x cleared from a function's part: every location of the part that a release of x clears gets its default. And what clearing reads.
 use mathlib.Core.Bool.{_&&_}
 use mathlib.Core.List.{List, [], _∷_}
 use Prim.Native.Nat.{ℕ, _+_}
 use lib.Dec.{ltb}
 use lib.ListN.{length, getD}
-use Rattle.text.specs.Words.{if_then_else_}
+use Rattle.text.specs.Words.{if_then_else_, by-place}
 use Rattle.book.specs.declared.Function.{Function}
 use Rattle.book.specs.Book.{default}
 use Rattle.engine.specs.Move.{append-from, taken-reads}
-use Rattle.engine_instruction.specs.Traces.{trace-in}
-use Rattle.engine_release.specs.Marks.{by-place, mark}
+use Rattle.engine_instruction.specs.Given.{clears-in}
+use Rattle.engine_term.specs.Marks.{marked-where}
 
--- what location i of f, holding v, has after the traces of x are cleared
+-- what location i of f, holding v, has after x is cleared
 abbrev pub value-cleared-in : ℕ → Function → ℕ → ℕ → ℕ → ℕ
-value-cleared-in E f x i v = if trace-in E f i v x then default f else v
+value-cleared-in E f x i v = if clears-in E f i v x then default f else v
 
--- the part after the traces of x in it are cleared
+-- the part after x is cleared from it
 abbrev pub part-cleared : ℕ → Function → ℕ → List ℕ → List ℕ
 part-cleared E f x part = by-place (value-cleared-in E f x) 0 part
 
--- the writer marks of the part after the traces of x in it are cleared
+-- the writer marks of the part after x is cleared from it
 abbrev pub part-marked : ℕ → ℕ → Function → ℕ → List ℕ → List ℕ → List ℕ
-part-marked bit E f x part ms = by-place (λ i m. mark bit (ltb i (length part) && trace-in E f i (getD part i 0) x) m) 0 ms
+part-marked bit E f x part ms = marked-where bit (λ i. ltb i (length part) && clears-in E f i (getD part i 0) x) ms
 
 -- ---- what clearing reads
 
@@ -29,10 +29,10 @@ part-marked bit E f x part ms = by-place (λ i m. mark bit (ltb i (length part) 
 abbrev pub cleared-reads : ℕ → ℕ → ℕ → ℕ → List ℕ
 cleared-reads P d l v = l ∷ taken-reads P v d
 
--- what clearing the traces of x reads at location i of f, holding v, where f's part starts at location `first`
+-- what clearing x reads at location i of f, holding v, where f's part starts at location `first`
 abbrev pub reads-in : ℕ → ℕ → Function → ℕ → ℕ → ℕ → ℕ → List ℕ
-reads-in E P f x first i v = if trace-in E f i v x then cleared-reads P (default f) (first + i) v else []
+reads-in E P f x first i v = if clears-in E f i v x then cleared-reads P (default f) (first + i) v else []
 
--- what clearing the traces of x reads in the whole part
+-- what clearing x reads in the whole part
 abbrev pub part-reads : ℕ → ℕ → Function → ℕ → ℕ → List ℕ → List ℕ
 part-reads E P f x first part = append-from (λ i. reads-in E P f x first i (getD part i 0)) 0 (length part)

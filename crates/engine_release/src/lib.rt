@@ -1,5 +1,5 @@
-// The traces of released labels cleared, in a function's part of the contents and in all: each gets the default, and what that reads and writes is
-// marked.
+// Released labels cleared, from a function's part of the contents and from all: every location that a release clears gets its default, and what that
+// reads and writes is marked.
 use book::Function;
 use book::Image;
 use engine::Instruction;
@@ -13,15 +13,14 @@ ghost use lib.ListN.{length, getD, set};
 ghost use Rattle.text.specs.Words.{has};
 ghost use Rattle.book.specs.Book.{default, arguments};
 ghost use Rattle.engine.specs.Move.{taken-reads};
-ghost use Rattle.engine_term.specs.Marks.{marked};
-ghost use Rattle.engine_instruction.specs.Traces.{trace-in};
-ghost use Rattle.engine_release.specs.Marks.{mark};
+ghost use Rattle.engine_term.specs.Marks.{marked, mark};
+ghost use Rattle.engine_instruction.specs.Given.{clears-in};
 ghost use Rattle.engine_release.specs.Part.{value-cleared-in, part-cleared, part-marked, cleared-reads, reads-in, part-reads};
 ghost use Rattle.book.specs.Image.{low-program};
 ghost use Rattle.engine_instruction.specs.Code.{items};
-ghost use Rattle.engine_release.specs.Steps.{function-cleared, function-marked, function-reads, label-cleared, label-marks, label-reads, instruction-cleared, instruction-marks, instruction-reads, all-cleared, all-marks, all-reads};
+ghost use Rattle.engine_release.specs.Steps.{function-cleared, function-marked, function-reads, label-cleared, label-marked, label-reads, instruction-cleared, instruction-marked, instruction-reads, all-cleared, all-marked, all-reads};
 
-// A label that a move releases, and what clearing its traces in a function's part needs: E and P, the function with its first location, the move's bit.
+// A label that a move releases, and what clearing it from a function's part needs: E and P, the function with its first location, the move's bit.
 pub struct Released {
     pub label: Value,
     pub elements: Value,
@@ -128,10 +127,10 @@ fn pass_values(part: &[Value], x: Value, i: usize, stop: usize) -> usize
     k
 }
 
-// A place from i on up to which none is a trace of the label: most of a part is passed over.
+// A place from i on up to which the label's release clears none: most of a part is passed over.
 fn pass_over(part: &[Value], r: Released, i: usize) -> usize
     requires { ⌜ i ≤ length (now part) ⌝ }
-    ensures { λ j. ⌜ (i ≤ j) × (j ≤ length (now (part .entry))) × ((k : ℕ) → i ≤ k → k < j → trace-in (r .elements) (r .function) k (getD (now (part .entry)) k 0) (r .label) ≡ false) ⌝ }
+    ensures { λ j. ⌜ (i ≤ j) × (j ≤ length (now (part .entry))) × ((k : ℕ) → i ≤ k → k < j → clears-in (r .elements) (r .function) k (getD (now (part .entry)) k 0) (r .label) ≡ false) ⌝ }
 {
     let n = part.len();
     let f = r.function;
@@ -142,26 +141,26 @@ fn pass_over(part: &[Value], r: Released, i: usize) -> usize
     n
 }
 
-// ---- traces cleared
+// ---- labels cleared
 
-// Location i of the part gets its default, if it is a trace of the label; what that reads and writes is marked.
+// Location i of the part gets its default, if the label's release clears it; what that reads and writes is marked.
 fn clear_one(part: &mut [Value], readers: &mut [u64], writers: &mut [u64], r: Released, i: usize)
     requires { ⌜ i < length (now part) ⌝ }
     ensures { λ _. ⌜ now (part .exit) ≡ set (now (part .entry)) i (value-cleared-in (r .elements) (r .function) (r .label) i (getD (now (part .entry)) i 0)) ⌝ }
-    ensures { λ _. ⌜ now (writers .exit) ≡ set (now (writers .entry)) i (mark (r .bit) (trace-in (r .elements) (r .function) i (getD (now (part .entry)) i 0) (r .label)) (getD (now (writers .entry)) i 0)) ⌝ }
+    ensures { λ _. ⌜ now (writers .exit) ≡ set (now (writers .entry)) i (mark (r .bit) (clears-in (r .elements) (r .function) i (getD (now (part .entry)) i 0) (r .label)) (getD (now (writers .entry)) i 0)) ⌝ }
     ensures { λ _. ⌜ now (readers .exit) ≡ marked (r .bit) (reads-in (r .elements) (r .permanent) (r .function) (r .label) (r .first) i (getD (now (part .entry)) i 0)) (now (readers .entry)) ⌝ }
 {
     let held = part[i];
     let row = row_of(r.elements, i);
     let col = column_of(r.elements, i);
-    if engine_instruction::is_trace_at(r.function, i, row, col, held, r.label) {
+    if engine_instruction::clears_at(r.function, i, row, col, held, r.label) {
         part[i] = book_parts::default_of(r.function);
         mark_cleared(readers, r, i, held);
         engine_term::mark(writers, r.bit, i);
     }
 }
 
-// Each trace of the label in the part gets its default; what that reads and writes is marked.
+// Each location of the part that the label's release clears gets its default; what that reads and writes is marked.
 pub fn clear_part(part: &mut [Value], readers: &mut [u64], writers: &mut [u64], r: Released)
     ensures { λ _. ⌜ now (part .exit) ≡ part-cleared (r .elements) (r .function) (r .label) (now (part .entry)) ⌝ }
     ensures { λ _. ⌜ now (writers .exit) ≡ part-marked (r .bit) (r .elements) (r .function) (r .label) (now (part .entry)) (now (writers .entry)) ⌝ }
@@ -176,7 +175,7 @@ pub fn clear_part(part: &mut [Value], readers: &mut [u64], writers: &mut [u64], 
 
 // ---- function after function
 
-// Clears the traces of the label in the function's part, from its first location up to `end`. Only the part and its writer marks are lent on.
+// Clears the label from the function's part, from its first location up to `end`. Only the part and its writer marks are lent on.
 fn clear_function(
     contents: &mut [Value],
     readers: &mut [u64],
@@ -199,7 +198,7 @@ fn clear_function(
     clear_part(&mut contents[a..b], readers, &mut writers[p..q], r);
 }
 
-// Clears the traces of x in all functions.
+// Clears x from all functions.
 fn clear_label(
     image: &Image,
     contents: &mut [Value],
@@ -209,7 +208,7 @@ fn clear_label(
     bit: u64,
 )
     ensures { λ _. ⌜ now (contents .exit) ≡ label-cleared (low-program (now (image .entry))) x (now (contents .entry)) ⌝ }
-    ensures { λ _. ⌜ now (writers .exit) ≡ label-marks bit (low-program (now (image .entry))) x (now (contents .entry)) (now (writers .entry)) ⌝ }
+    ensures { λ _. ⌜ now (writers .exit) ≡ label-marked bit (low-program (now (image .entry))) x (now (contents .entry)) (now (writers .entry)) ⌝ }
     ensures { λ _. ⌜ now (readers .exit) ≡ marked bit (label-reads (low-program (now (image .entry))) x (now (contents .entry))) (now (readers .entry)) ⌝ }
 {
     let e = book_image::elements(image);
@@ -234,7 +233,7 @@ fn clear_label(
     }
 }
 
-// Clears the traces of the label that the instruction releases, if it is a release.
+// Clears the label that the instruction releases, if it is a release.
 fn clear_instruction(
     image: &Image,
     contents: &mut [Value],
@@ -244,7 +243,7 @@ fn clear_instruction(
     bit: u64,
 )
     ensures { λ _. ⌜ now (contents .exit) ≡ instruction-cleared (low-program (now (image .entry))) what (now (contents .entry)) ⌝ }
-    ensures { λ _. ⌜ now (writers .exit) ≡ instruction-marks bit (low-program (now (image .entry))) what (now (contents .entry)) (now (writers .entry)) ⌝ }
+    ensures { λ _. ⌜ now (writers .exit) ≡ instruction-marked bit (low-program (now (image .entry))) what (now (contents .entry)) (now (writers .entry)) ⌝ }
     ensures { λ _. ⌜ now (readers .exit) ≡ marked bit (instruction-reads (low-program (now (image .entry))) what (now (contents .entry))) (now (readers .entry)) ⌝ }
 {
     match what {
@@ -258,7 +257,7 @@ fn clear_instruction(
     }
 }
 
-// Clears the traces of every label that the list releases.
+// Clears every label that the list releases.
 pub fn clear_released(
     image: &Image,
     contents: &mut [Value],
@@ -269,7 +268,7 @@ pub fn clear_released(
     bit: u64,
 )
     ensures { λ _. ⌜ now (contents .exit) ≡ all-cleared (low-program (now (image .entry))) (items (now (list .entry)) len) (now (contents .entry)) ⌝ }
-    ensures { λ _. ⌜ now (writers .exit) ≡ all-marks bit (low-program (now (image .entry))) (items (now (list .entry)) len) (now (contents .entry)) (now (writers .entry)) ⌝ }
+    ensures { λ _. ⌜ now (writers .exit) ≡ all-marked bit (low-program (now (image .entry))) (items (now (list .entry)) len) (now (contents .entry)) (now (writers .entry)) ⌝ }
     ensures { λ _. ⌜ now (readers .exit) ≡ marked bit (all-reads (low-program (now (image .entry))) (items (now (list .entry)) len) (now (contents .entry))) (now (readers .entry)) ⌝ }
 {
     let n = text::smaller(len, list.len());

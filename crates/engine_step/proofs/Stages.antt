@@ -19,7 +19,7 @@ use Rattle.engine_fire.specs.declared.Begun.{Begun}
 use Rattle.engine_fire.specs.Count.{instructions-given}
 use Rattle.engine_fire.specs.Outcome.{contents-after}
 use Rattle.engine_fire.specs.Effect.{move-answer}
-use Rattle.engine_fire.specs.Close.{MoveFinished}
+use Rattle.engine_fire.specs.Finish.{MoveFinished}
 use Rattle.engine_fire.proofs.Count.{given-few, made-of, same-outcome}
 use Rattle.engine_step.specs.declared.BegunCall.{BegunCall}
 use Rattle.engine_step.specs.Leaves.{CallLeaves}

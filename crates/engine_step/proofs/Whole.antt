@@ -14,7 +14,7 @@ use Rattle.engine.specs.Single.{check-agent, check-picks, check-step-lengths, c
 use Rattle.engine_step.specs.Call.{check-call}
 use Rattle.engine_step.specs.Leaves.{CallLeaves}
 use Rattle.book_check.specs.ImageOf.{ImageOf}
-use Rattle.book_check.proofs.Fits.{held-is}
+use Rattle.book_check.proofs.Fits.{low-program-is}
 use Rattle.engine_step.proofs.UpToTen.{book-numbered, call-numbered, accepts}
 use Rattle.engine_step.proofs.Checks.{lengths-are, Passed, call-passed}
 
@@ -73,7 +73,7 @@ module _ (text c l : List ℕ) (k : Input) (n : ℕ) where
     B = accepted-as .0 .program
 
     is-held : low-program m ≡ B
-    is-held = held-is text m opened (accepted-as .0) (accepted-as .1)
+    is-held = low-program-is text m opened (accepted-as .0) (accepted-as .1)
 
     located : word m 6 ≡ L B
     located = opened (accepted-as .0) (accepted-as .1) .1

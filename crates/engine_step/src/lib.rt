@@ -3,8 +3,8 @@
 use book::Image;
 use engine::Pick;
 use engine::Record;
+use engine_emit::Progress;
 use engine_fire::Begun;
-use engine_walk::WalkEnd;
 use text::Answer;
 use text::Found;
 use text::Value;
@@ -61,7 +61,11 @@ fn check_lent(image: &Image, contents: &[Value], lent: usize) -> Answer
         return text::answer_at(text::LENT_SHORT, locations, text::CONTENTS_TABLE);
     }
     if lent < engine::MOST_INSTRUCTIONS {
-        return text::answer_at(text::LENT_SHORT, 256, text::INSTRUCTIONS_TABLE);
+        return text::answer_at(
+            text::LENT_SHORT,
+            engine::MOST_INSTRUCTIONS as u32,
+            text::INSTRUCTIONS_TABLE,
+        );
     }
     text::answer_at(0, 0, 0)
 }
@@ -115,7 +119,7 @@ pub struct BegunCall {
 fn refused_call(answer: Answer) -> BegunCall
     ensures { λ r. ⌜ (r .answer ≡ answer) × (r .begun .count ≡ 0) ⌝ }
 {
-    let walk = WalkEnd {
+    let walk = Progress {
         len: 0,
         label: 0,
         refused: 0,
@@ -131,7 +135,7 @@ fn refused_call(answer: Answer) -> BegunCall
     }
 }
 
-// Begins the move, on the records of a lent table that the book has locations for.
+// Begins the move on the first L records of the lent table, with no marks: their tables have length 0.
 fn walk_call(
     image: &Image,
     contents: &[Value],

@@ -13,8 +13,8 @@ use borrow.Author.Tests.{ltb-true, lt-ltb}
 use Rattle.text.specs.Words.{if_then_else_}
 use Rattle.book.specs.Book.{undef, Program, dynamic, no-function, function-at, location, dynamic-at}
 use Rattle.book.specs.Sound.{Lawful}
-use Rattle.book.proofs.Places.{spot, roll-place}
-use Rattle.engine_term.specs.Held.{variables-of}
+use Rattle.book.proofs.Places.{located, roll-place}
+use Rattle.engine_term.specs.Scope.{variables-of}
 use Rattle.engine_term.specs.Marks.{dynamic-of, Placed}
 
 -- ---- a lawful book has its locations placed
@@ -22,7 +22,7 @@ use Rattle.engine_term.specs.Marks.{dynamic-of, Placed}
 pub placed : (B : Program) → Lawful B → Placed B
 placed B ok =
     record {
-      own = λ f x y h a b. rw (spot B ok f x y h a b .where-at);
+      own = λ f x y h a b. rw (located B ok f x y h a b .where-at);
       roll = λ x h. rw (roll-place B ok x h, ok .reserve);
     }
 

@@ -10,8 +10,8 @@ use lib.ListN.{getD}
 use borrow.Author.Tests.{eqb-true, ltb-true, leb-true}
 use Rattle.text.proofs.Words.{or-cases, and-cases}
 use Rattle.book.specs.Book.{undef, boolean, truth}
-use Rattle.engine.specs.Term.{Op, equal, both, either, plus, minus, less, number, shapes, no-term, a-join}
-use Rattle.engine_term.specs.Held.{operator-value}
+use Rattle.engine.specs.Term.{Op, equal, conjunction, disjunction, plus, minus, less, number, shapes, no-term, a-join}
+use Rattle.engine_term.specs.Scope.{operator-value}
 
 -- the product of two numbers up to m is at most m × m
 pub product : (m : ℕ) {a b : ℕ} → a ≤ m → b ≤ m → a * b ≤ m * m
@@ -42,8 +42,8 @@ join-kind (suc (suc (suc (suc (suc zero))))) a b n = absurd (omega arith)
 join-kind (suc (suc (suc (suc (suc (suc zero)))))) a b n = absurd (omega arith)
 join-kind (suc (suc (suc (suc (suc (suc (suc zero))))))) a b n = (equal, refl)
 join-kind (suc (suc (suc (suc (suc (suc (suc (suc zero)))))))) a b n = absurd (n refl)
-join-kind (suc (suc (suc (suc (suc (suc (suc (suc (suc zero))))))))) a b n = (both, refl)
-join-kind (suc (suc (suc (suc (suc (suc (suc (suc (suc (suc zero)))))))))) a b n = (either, refl)
+join-kind (suc (suc (suc (suc (suc (suc (suc (suc (suc zero))))))))) a b n = (conjunction, refl)
+join-kind (suc (suc (suc (suc (suc (suc (suc (suc (suc (suc zero)))))))))) a b n = (disjunction, refl)
 join-kind (suc (suc (suc (suc (suc (suc (suc (suc (suc (suc (suc zero))))))))))) a b n = (plus, refl)
 join-kind (suc (suc (suc (suc (suc (suc (suc (suc (suc (suc (suc (suc zero)))))))))))) a b n = (minus, refl)
 join-kind (suc (suc (suc (suc (suc (suc (suc (suc (suc (suc (suc (suc (suc zero))))))))))))) a b n = (less, refl)

@@ -1,24 +1,35 @@
--- Reader marks: each location has the set of the moves that read it, a move being one bit of a number (SPECIFICATION 5.6).
+-- Marks: each location has the set of the moves that read it, and the set of those that write it, a move being one bit of a number (SPECIFICATION 5.6).
+-- A bit is put in at a list of locations, as what is read has it, or wherever a test passes, as what is written has it. The two are one where the test is
+-- to be in the list (`marked-is-where`, engine_fire/proofs/Marks).
 use mathlib.Core.Path.{_≡_}
-use mathlib.Core.Bool.{Bool, true, _&&_}
+use mathlib.Core.Bool.{Bool, true, false, _&&_}
 use mathlib.Core.List.{List, [], _∷_}
 use Prim.Native.Nat.{ℕ, _<_}
 use lib.Bits.{bitOr}
 use lib.Dec.{ltb}
 use lib.ListN.{length, getD, set}
-use Rattle.text.specs.Words.{if_then_else_}
+use Rattle.text.specs.Words.{if_then_else_, by-place}
 use Rattle.book.specs.Book.{Program, dynamic, dynamic-at, function-at, location}
 use Rattle.engine.specs.Reader.{Reader, value-in, locations-read}
 use Rattle.engine.specs.Move.{dynamic-among}
 
+-- the mark m with this bit put in, if the test passes
+abbrev pub mark : ℕ → Bool → ℕ → ℕ
+mark bit true m = bitOr m bit
+mark bit false m = m
+
 -- the marks m with this bit put in at location l; past their end nothing is put
 abbrev pub mark-one : ℕ → ℕ → List ℕ → List ℕ
-mark-one bit l m = set m l (bitOr (getD m l 0) bit)
+mark-one bit l m = set m l (mark bit true (getD m l 0))
 
 -- the marks m with this bit put in at each of these locations
 unfoldable pub marked : ℕ → List ℕ → List ℕ → List ℕ
 marked bit [] m = m
 marked bit (l ∷ ls) m = marked bit ls (mark-one bit l m)
+
+-- the marks m with this bit put in wherever the test passes
+abbrev pub marked-where : ℕ → (ℕ → Bool) → List ℕ → List ℕ
+marked-where bit test m = by-place (λ l v. mark bit (test l) v) 0 m
 
 -- the marks m with this bit put in at location l, if it is dynamic
 abbrev pub marked-if-dynamic : Program → ℕ → ℕ → List ℕ → List ℕ
@@ -28,7 +39,7 @@ marked-if-dynamic B bit l m = if dynamic-at B l then mark-one bit l m else m
 abbrev pub dynamic-of : Program → ℕ → ℕ → ℕ → Bool
 dynamic-of B f x y = if ltb f (length (B .functions)) && ltb x (B .E) && ltb y (B .E) then dynamic (function-at B f) else dynamic-at B (location B f x y)
 
--- Each function's locations lie where its row says, and the first E are Reserve's. Every lawful book has this: see `placed`.
+-- Each function's locations lie where its row says, and the first E are Reserve's. Every lawful book has this (`placed`, proofs/Leaves).
 pub record Placed (B : Program) : Type 0 where
   pub own : (f x y : ℕ) → f < length (B .functions) → x < B .E → y < B .E → dynamic-at B (location B f x y) ≡ dynamic (function-at B f)
   pub roll : (x : ℕ) → x < B .E → dynamic-at B x ≡ true

@@ -8,8 +8,8 @@ ghost use lib.ListN.{getD};
 ghost use Rattle.book.specs.Book.{undef, truth, offset, location, dynamic-at};
 ghost use Rattle.text.specs.Words.{if_then_else_};
 ghost use Rattle.engine.specs.Reader.{read};
-ghost use Rattle.engine.specs.Term.{both, either, plus, minus, less, number, negate, apply, shapes, no-term};
-ghost use Rattle.engine_term.specs.Held.{variables-of, value-at, target-at, operator-value};
+ghost use Rattle.engine.specs.Term.{conjunction, disjunction, plus, minus, less, number, negate, apply, shapes, no-term};
+ghost use Rattle.engine_term.specs.Scope.{variables-of, value-at, target-at, operator-value};
 ghost use Rattle.book.specs.Image.{low, low-program};
 ghost use Rattle.engine_term.specs.Marks.{mark-one, dynamic-of, Runs};
 
@@ -133,7 +133,7 @@ fn not(x: Value) -> Value
 
 // The value of and.
 fn and(x: Value, y: Value) -> Value
-    ensures { λ r. ⌜ r ≡ apply 0 both x y ⌝ }
+    ensures { λ r. ⌜ r ≡ apply 0 conjunction x y ⌝ }
 {
     if book_parts::is_boolean(x) {
         if book_parts::is_boolean(y) {
@@ -148,7 +148,7 @@ fn and(x: Value, y: Value) -> Value
 
 // The value of or.
 fn or(x: Value, y: Value) -> Value
-    ensures { λ r. ⌜ r ≡ apply 0 either x y ⌝ }
+    ensures { λ r. ⌜ r ≡ apply 0 disjunction x y ⌝ }
 {
     if book_parts::is_boolean(x) {
         if book_parts::is_boolean(y) {
@@ -241,27 +241,27 @@ pub fn eval(
         return 0;
     }
     let less = depth - 1;
-    let row = book_parts::node(image, n);
-    let k = row.kind;
+    let node = book_parts::node(image, n);
+    let k = node.kind;
     match k {
         1..=13 => match k {
-            1 => row.a,
-            2 => variable(scope, row.a),
+            1 => node.a,
+            2 => variable(scope, node.a),
             3 => scope[8],
-            4 => read(image, contents, readers, bit, row.a, 0, 0),
+            4 => read(image, contents, readers, bit, node.a, 0, 0),
             5 => {
-                let x = eval(image, contents, readers, bit, scope, less, row.b);
-                read(image, contents, readers, bit, row.a, x, 0)
+                let x = eval(image, contents, readers, bit, scope, less, node.b);
+                read(image, contents, readers, bit, node.a, x, 0)
             }
             6 => {
-                let x = eval(image, contents, readers, bit, scope, less, row.b);
-                let y = eval(image, contents, readers, bit, scope, less, row.c);
-                read(image, contents, readers, bit, row.a, x, y)
+                let x = eval(image, contents, readers, bit, scope, less, node.b);
+                let y = eval(image, contents, readers, bit, scope, less, node.c);
+                read(image, contents, readers, bit, node.a, x, y)
             }
-            8 => not(eval(image, contents, readers, bit, scope, less, row.a)),
+            8 => not(eval(image, contents, readers, bit, scope, less, node.a)),
             _ => {
-                let x = eval(image, contents, readers, bit, scope, less, row.a);
-                let y = eval(image, contents, readers, bit, scope, less, row.b);
+                let x = eval(image, contents, readers, bit, scope, less, node.a);
+                let y = eval(image, contents, readers, bit, scope, less, node.b);
                 operate(book_parts::permanent(image), k, x, y)
             }
         },
@@ -285,18 +285,18 @@ pub fn target_location(
         return 0;
     }
     let less = depth - 1;
-    let row = book_parts::node(image, n);
-    let k = row.kind;
+    let node = book_parts::node(image, n);
+    let k = node.kind;
     match k {
-        4 => location(image, row.a, 0, 0),
+        4 => location(image, node.a, 0, 0),
         5 => {
-            let x = eval(image, contents, readers, bit, scope, less, row.b);
-            location(image, row.a, x, 0)
+            let x = eval(image, contents, readers, bit, scope, less, node.b);
+            location(image, node.a, x, 0)
         }
         6 => {
-            let x = eval(image, contents, readers, bit, scope, less, row.b);
-            let y = eval(image, contents, readers, bit, scope, less, row.c);
-            location(image, row.a, x, y)
+            let x = eval(image, contents, readers, bit, scope, less, node.b);
+            let y = eval(image, contents, readers, bit, scope, less, node.c);
+            location(image, node.a, x, y)
         }
         _ => 0,
     }

@@ -1,4 +1,4 @@
--- Laws of a walk's steps: what it came to, scopes, and the rules one by one.
+-- Laws of a walk's steps: scopes, and the rules one by one.
 use mathlib.Core.Path.{_≡_, refl, sym, ap, _∙_}
 use mathlib.Core.Logic.{dite, inl, inr}
 use mathlib.Core.Bool.{Bool, true, false}
@@ -17,9 +17,9 @@ use Rattle.book.specs.declared.Node.{Node}
 use Rattle.book.specs.Book.{Program}
 use Rattle.engine.specs.Reader.{Reader, done, value-in, _>>=_}
 use Rattle.engine.specs.Term.{term-at, eval}
-use Rattle.engine.specs.Rule.{Rule, skip, pair, test, Walk, Walked, walking, refused-at, after, take-pick, refuse-if, universe-at, not-member, import-of, choose-of, walk, rule-from}
-use Rattle.engine.proofs.Steps.{rule-pair, rule-test, rule-skip, no-rule-at}
-use Rattle.engine_term.specs.Held.{variables-of, agent-of}
+use Rattle.engine.specs.Rule.{Rule, skip, block, test, Walk, Walked, walking, refused-at, after, take-pick, refuse-if, universe-at, not-member, import-of, choose-of, walk, rule-from}
+use Rattle.engine.proofs.Steps.{rule-block, rule-test, rule-skip, no-rule-at}
+use Rattle.engine_term.specs.Scope.{variables-of, agent-of}
 use Rattle.engine_term.specs.Marks.{Runs}
 use Rattle.engine.proofs.Picks.{universe-high}
 use Rattle.engine_term.proofs.Marking.{runs-done, runs-bind, runs-as}
@@ -27,22 +27,6 @@ use Rattle.engine_emit.specs.declared.Progress.{Progress}
 use Rattle.engine_emit.specs.Emit.{walk-from, reached, importing, importing-found, next-pick, picked}
 use Rattle.engine_emit.proofs.Steps.{reached-walking}
 use Rattle.engine_reads.specs.Marking.{found-below}
-use Rattle.engine_walk.specs.declared.WalkEnd.{WalkEnd}
-use Rattle.engine_walk.specs.Walk.{walk-of, outcome}
-
--- ---- what a walk came to
-
-pub outcome-walking : (s : WalkEnd) (l : List ℕ) → s .refused ≡ 0 → outcome s l ≡ walking (walk-of s l)
-unfolding outcome
-outcome-walking s l e = rw (eq-eqb (s .refused) 0 e)
-
-pub outcome-refused : (s : WalkEnd) (l : List ℕ) → ((s .refused ≡ 0) → ⊥) → outcome s l ≡ refused-at (s .refused) (s .node)
-unfolding outcome
-outcome-refused s l e = rw (ne-eqb (s .refused) 0 e)
-
-pub outcome-reached : (s : Progress) (l : List ℕ) → outcome (record { len = s .len; label = s .label; refused = s .refused; node = s .node }) l ≡ reached [] s l
-unfolding outcome reached
-outcome-reached s l = refl
 
 -- ---- scopes
 
@@ -88,17 +72,17 @@ module _ (B : Program) (c : List ℕ) (bit : ℕ) where
       → Runs B c bit (walk B me r vs (walk-from ys s l)) z m n → Runs B c bit (after (reached ys s l) (walk B me t vs)) z m n
   runs-rule me vs t r ys s l z m n h e k = rw e (runs-after (walk B me r vs) ys s l h z m n k)
 
-  -- ---- rules: a pair, a test, an import, none
+  -- ---- rules: a block, a test, an import, none
 
   module _ (me : ℕ) (vs : List ℕ) (ns : ℕ → Node) (d i : ℕ) (x : Node) (some : 2 ≤ d) (loaded : x ≡ ns i) (ys : List ℕ) (s : Progress) (l : List ℕ) (h : s .refused ≡ 0) where
     abbrev go : ℕ → Walk → Reader Walked
     go p = walk B me (rule-from ns (d - 1) p) vs
 
-    pub runs-pair : (p z : Walked) (j m n : List ℕ) → x .kind ≡ 22 → Runs B c bit (after (reached ys s l) (go (x .a))) p j m → Runs B c bit (after p (go (x .b))) z m n
+    pub runs-block : (p z : Walked) (j m n : List ℕ) → x .kind ≡ 22 → Runs B c bit (after (reached ys s l) (go (x .a))) p j m → Runs B c bit (after p (go (x .b))) z m n
         → Runs B c bit (after (reached ys s l) (walk B me (rule-from ns d i) vs)) z j n
     unfolding walk
-    runs-pair p z j m n k r t =
-        runs-rule me vs (rule-from ns d i) (pair (rule-from ns (d - 1) (x .a)) (rule-from ns (d - 1) (x .b))) ys s l z j n h (rule-pair ns d i x some loaded k)
+    runs-block p z j m n k r t =
+        runs-rule me vs (rule-from ns d i) (block (rule-from ns (d - 1) (x .a)) (rule-from ns (d - 1) (x .b))) ys s l z j n h (rule-block ns d i x some loaded k)
         (runs-bind B c bit (go (x .a) (walk-from ys s l)) (λ o. after o (go (x .b))) p z j m n (runs-from (go (x .a)) ys s l h p j m r) t)
 
     pub runs-test : (v next : ℕ) (z : Walked) (j m n : List ℕ) → x .kind ≡ 23 → next ≡ (if eqb v 2 then x .b else x .c)

@@ -10,23 +10,16 @@ use Rattle.engine.specs.Reader.{Reader}
 use Rattle.engine.specs.Term.{term-at}
 use Rattle.engine.specs.Rule.{Rule, assign, bind, for-all, import, release, choose, Walk, Walked, walking, refused-at, walk, after, rule-from}
 use Rattle.engine_instruction.specs.Code.{items}
-use Rattle.engine_term.specs.Held.{variables-of, agent-of}
+use Rattle.engine_term.specs.Scope.{variables-of, agent-of}
 use Rattle.book.specs.Image.{low-program}
 use Rattle.book_parts.specs.declared.StoredNode.{StoredNode}
 use Rattle.engine_term.specs.Marks.{Runs}
 use Rattle.engine_emit.specs.declared.Progress.{Progress}
 use Rattle.engine_emit.specs.Emit.{picks-left, walk-from, reached}
-use Rattle.engine_walk.specs.declared.WalkEnd.{WalkEnd}
 
--- ---- the walk that its end in the code stands for
-
--- the walk that came to the end s with the list l: no pick is left
-abbrev pub walk-of : WalkEnd → List ℕ → Walk
-walk-of s l = record { made = items l (s .len); next = s .label; left = [] }
-
--- what a walk came to, by its end s; a refusal's number is not 0
-unfoldable pub outcome : WalkEnd → List ℕ → Walked
-outcome s l = if eqb (s .refused) 0 then walking (walk-of s l) else refused-at (s .refused) (s .node)
+-- what a walk that is over came to, by its state s and its list l: no pick is left
+abbrev pub outcome : Progress → List ℕ → Walked
+outcome s l = reached [] s l
 
 -- ---- the walk of the rule at node n, built at most d nodes deep, in the book of the image m with the scope s
 
@@ -105,6 +98,6 @@ RuleWalked f r x y =
 abbrev pub NodeWalked : Frame → ℕ → ℕ → WalkState → WalkState → Type 0
 NodeWalked f d n x y = Leads f (after (reached (x .picks) (x .progress) (x .list)) (walk-at (f .image) (f .scope) d n)) x y
 
--- the body of the binder b is walked so, with its variable at v
+-- the body of the binder b is walked, at most d nodes down, with its variable at v, unless the walk is refused at x
 abbrev pub BodyWalked : Frame → ℕ → StoredNode → ℕ → WalkState → WalkState → Type 0
 BodyWalked f d b v x y = Leads f (after (reached (x .picks) (x .progress) (x .list)) (body-at (f .image) (f .scope) d (b .c) (b .a) v)) x y

@@ -25,7 +25,11 @@ LowerBits bit m = (i : ℕ) → getD m i 0 < bit
 
 -- The walk of a move with this input came to the outcome o, and the marks m became n.
 pub record WalkMarked (B : Program) (c : List ℕ) (bit : ℕ) (i : Input) (o : Walked) (m n : List ℕ) : Type 0 where
+  -- what the walk came to
   pub outcome : o ≡ walked B c i
+  -- not refused: what it reads has the bit
   pub fired : Placed B → (w : Walk) → o ≡ walking w → n ≡ marked bit (walk-reads B c i) m
+  -- refused: the marks are as before, if all had lower bits
   pub refused : Placed B → (r q : ℕ) → o ≡ refused-at r q → (k : ℕ) → bit ≡ 2 ^ k → LowerBits bit m → n ≡ m
+  -- the bit 0 marks nothing
   pub silent : Placed B → bit ≡ 0 → n ≡ m

@@ -12,20 +12,11 @@ ghost use lib.ListN.{length, set};
 ghost use Rattle.text.specs.Words.{if_then_else_};
 ghost use Rattle.engine.specs.Move.{input};
 ghost use Rattle.engine.specs.Rule.{import, after, most-instructions, walk};
-ghost use Rattle.engine_term.specs.Held.{variables-of, agent-of};
+ghost use Rattle.engine_term.specs.Scope.{variables-of, agent-of};
 ghost use Rattle.book.specs.Image.{low-program};
 ghost use Rattle.engine_emit.specs.Emit.{reached};
 ghost use Rattle.engine_walk.specs.WalkMarks.{bits-cleared, WalkMarked};
 ghost use Rattle.engine_walk.specs.Walk.{outcome, assign-rule, let-rule, forall-rule, import-rule, release-rule, choose-rule, frame, state-before, state-after, state-before-with, state-after-with, RuleWalked, NodeWalked, BodyWalked};
-
-// How a walk ended: how many instructions it has given, the label from which the next import would search,
-// its refusal (0 for none) and the refusal's node.
-pub struct WalkEnd {
-    pub len: usize,
-    pub label: Value,
-    pub refused: u32,
-    pub node: u16,
-}
 
 // Puts variable a of the scope at x.
 fn bind_variable(scope: &mut [Value; 9], a: u16, x: Value)
@@ -54,14 +45,14 @@ fn walk_assign(
     depth: usize,
     s: Progress,
     n: u16,
-    row: StoredNode,
+    node: StoredNode,
 ) -> Progress
     requires { ⌜ s .refused ≡ 0 ⌝ }
-    ensures { λ r. ⌜ ((ys : List ℕ) → RuleWalked (frame image contents bit scope) (assign-rule (now (image .entry)) depth n row) (state-before-with ys s list readers) (state-after-with ys r list readers)) ⌝ }
+    ensures { λ r. ⌜ ((ys : List ℕ) → RuleWalked (frame image contents bit scope) (assign-rule (now (image .entry)) depth n node) (state-before-with ys s list readers) (state-after-with ys r list readers)) ⌝ }
 {
-    let at = engine_term::target_location(image, contents, readers, bit, scope, depth, row.a);
-    let x = engine_term::eval(image, contents, readers, bit, scope, depth, row.b);
-    let f = engine_emit::target_function(image, depth, row.a);
+    let at = engine_term::target_location(image, contents, readers, bit, scope, depth, node.a);
+    let x = engine_term::eval(image, contents, readers, bit, scope, depth, node.b);
+    let f = engine_emit::target_function(image, depth, node.a);
     engine_emit::emit_update(image, list, s, n, f, at, x)
 }
 
@@ -76,12 +67,12 @@ fn walk_release(
     depth: usize,
     s: Progress,
     n: u16,
-    row: StoredNode,
+    node: StoredNode,
 ) -> Progress
     requires { ⌜ s .refused ≡ 0 ⌝ }
-    ensures { λ r. ⌜ ((ys : List ℕ) → RuleWalked (frame image contents bit scope) (release-rule (now (image .entry)) depth n row) (state-before-with ys s list readers) (state-after-with ys r list readers)) ⌝ }
+    ensures { λ r. ⌜ ((ys : List ℕ) → RuleWalked (frame image contents bit scope) (release-rule (now (image .entry)) depth n node) (state-before-with ys s list readers) (state-after-with ys r list readers)) ⌝ }
 {
-    let x = engine_term::eval(image, contents, readers, bit, scope, depth, row.a);
+    let x = engine_term::eval(image, contents, readers, bit, scope, depth, node.a);
     let v = engine_reads::read_reserve(image, contents, readers, bit, x);
     engine_emit::emit_release(image, list, s, n, x, v)
 }
@@ -110,9 +101,9 @@ fn walk(
         if r.refused != 0 {
             return r;
         }
-        let row = book_parts::node(image, at);
+        let node = book_parts::node(image, at);
         let less = left - 1;
-        let k = row.kind;
+        let k = node.kind;
         match k {
             20..=28 => match k {
                 21 => return walk_assign(
@@ -125,7 +116,7 @@ fn walk(
                     less,
                     r,
                     at,
-                    row,
+                    node,
                 ),
                 22 => {
                     r = walk(
@@ -139,13 +130,13 @@ fn walk(
                         scope,
                         less,
                         r,
-                        row.a,
+                        node.a,
                     );
-                    at = row.b;
+                    at = node.b;
                 }
                 23 => {
-                    let x = engine_term::eval(image, contents, readers, bit, scope, less, row.a);
-                    at = branch(x, row.b, row.c);
+                    let x = engine_term::eval(image, contents, readers, bit, scope, less, node.a);
+                    at = branch(x, node.b, node.c);
                 }
                 24 => return walk_let(
                     image,
@@ -158,7 +149,7 @@ fn walk(
                     scope,
                     less,
                     r,
-                    row,
+                    node,
                 ),
                 25 => return walk_forall(
                     image,
@@ -171,7 +162,7 @@ fn walk(
                     scope,
                     less,
                     r,
-                    row,
+                    node,
                 ),
                 26 => return walk_import(
                     image,
@@ -185,7 +176,7 @@ fn walk(
                     less,
                     r,
                     at,
-                    row,
+                    node,
                 ),
                 27 => return walk_release(
                     image,
@@ -197,7 +188,7 @@ fn walk(
                     less,
                     r,
                     at,
-                    row,
+                    node,
                 ),
                 28 => return walk_choose(
                     image,
@@ -211,7 +202,7 @@ fn walk(
                     less,
                     r,
                     at,
-                    row,
+                    node,
                 ),
                 _ => return r,
             },
@@ -234,13 +225,13 @@ fn walk_body(
     scope: &[Value; 9],
     depth: usize,
     s: Progress,
-    row: StoredNode,
+    node: StoredNode,
     x: Value,
 ) -> Progress
-    ensures { λ r. ⌜ BodyWalked (frame image contents bit scope) depth row x (state-before picks used s list readers) (state-after picks used r list readers) ⌝ }
+    ensures { λ r. ⌜ BodyWalked (frame image contents bit scope) depth node x (state-before picks used s list readers) (state-after picks used r list readers) ⌝ }
 {
     let mut inner = *scope;
-    bind_variable(&mut inner, row.a, x);
+    bind_variable(&mut inner, node.a, x);
     walk(
         image,
         contents,
@@ -252,7 +243,7 @@ fn walk_body(
         &inner,
         depth,
         s,
-        row.c,
+        node.c,
     )
 }
 
@@ -268,12 +259,12 @@ fn walk_let(
     scope: &[Value; 9],
     depth: usize,
     s: Progress,
-    row: StoredNode,
+    node: StoredNode,
 ) -> Progress
     requires { ⌜ s .refused ≡ 0 ⌝ }
-    ensures { λ r. ⌜ RuleWalked (frame image contents bit scope) (let-rule (now (image .entry)) depth row) (state-before picks used s list readers) (state-after picks used r list readers) ⌝ }
+    ensures { λ r. ⌜ RuleWalked (frame image contents bit scope) (let-rule (now (image .entry)) depth node) (state-before picks used s list readers) (state-after picks used r list readers) ⌝ }
 {
-    let x = engine_term::eval(image, contents, readers, bit, scope, depth, row.b);
+    let x = engine_term::eval(image, contents, readers, bit, scope, depth, node.b);
     walk_body(
         image,
         contents,
@@ -285,7 +276,7 @@ fn walk_let(
         scope,
         depth,
         s,
-        row,
+        node,
         x,
     )
 }
@@ -302,14 +293,14 @@ fn walk_forall(
     scope: &[Value; 9],
     depth: usize,
     s: Progress,
-    row: StoredNode,
+    node: StoredNode,
 ) -> Progress
     requires { ⌜ s .refused ≡ 0 ⌝ }
-    ensures { λ r. ⌜ RuleWalked (frame image contents bit scope) (forall-rule (now (image .entry)) depth row) (state-before picks used s list readers) (state-after picks used r list readers) ⌝ }
+    ensures { λ r. ⌜ RuleWalked (frame image contents bit scope) (forall-rule (now (image .entry)) depth node) (state-before picks used s list readers) (state-after picks used r list readers) ⌝ }
 {
-    engine_reads::mark_universe(image, readers, bit, row.b);
+    engine_reads::mark_universe(image, readers, bit, node.b);
     let e = book_image::elements(image);
-    let f = book_image::function_at(image, row.b as u32);
+    let f = book_image::function_at(image, node.b as u32);
     let mut r = s;
     let mut y = engine_reads::next_member(contents, f, e, 0);
     while y < e {
@@ -324,7 +315,7 @@ fn walk_forall(
             scope,
             depth,
             r,
-            row,
+            node,
             y,
         );
         if r.refused != 0 {
@@ -348,13 +339,13 @@ fn walk_import(
     depth: usize,
     s: Progress,
     n: u16,
-    row: StoredNode,
+    node: StoredNode,
 ) -> Progress
     requires { ⌜ s .refused ≡ 0 ⌝ }
-    ensures { λ r. ⌜ RuleWalked (frame image contents bit scope) (import-rule (now (image .entry)) depth n row) (state-before picks used s list readers) (state-after picks used r list readers) ⌝ }
+    ensures { λ r. ⌜ RuleWalked (frame image contents bit scope) (import-rule (now (image .entry)) depth n node) (state-before picks used s list readers) (state-after picks used r list readers) ⌝ }
 {
     let x = engine_reads::lowest_label(image, contents, readers, bit, s.label);
-    let t = engine_emit::import_label(image, list, s, n, row.b, x);
+    let t = engine_emit::import_label(image, list, s, n, node.b, x);
     walk_body(
         image,
         contents,
@@ -366,7 +357,7 @@ fn walk_import(
         scope,
         depth,
         t,
-        row,
+        node,
         x,
     )
 }
@@ -384,13 +375,13 @@ fn walk_choose(
     depth: usize,
     s: Progress,
     n: u16,
-    row: StoredNode,
+    node: StoredNode,
 ) -> Progress
     requires { ⌜ s .refused ≡ 0 ⌝ }
-    ensures { λ r. ⌜ RuleWalked (frame image contents bit scope) (choose-rule (now (image .entry)) depth n row) (state-before picks used s list readers) (state-after picks used r list readers) ⌝ }
+    ensures { λ r. ⌜ RuleWalked (frame image contents bit scope) (choose-rule (now (image .entry)) depth n node) (state-before picks used s list readers) (state-after picks used r list readers) ⌝ }
 {
     let x = engine_emit::next_pick(image, picks, used);
-    let v = engine_reads::read_universe(image, contents, readers, bit, row.b, x);
+    let v = engine_reads::read_universe(image, contents, readers, bit, node.b, x);
     let t = engine_emit::take_pick(picks, used, s, n, v);
     walk_body(
         image,
@@ -403,7 +394,7 @@ fn walk_choose(
         scope,
         depth,
         t,
-        row,
+        node,
         x,
     )
 }
@@ -417,19 +408,7 @@ pub fn clear_marks(readers: &mut [u64], bit: u64)
     }
 }
 
-// How a walk ended, from its state.
-fn walk_end(s: Progress, list: &[u64]) -> WalkEnd
-    ensures { λ r. ⌜ outcome r (now (list .entry)) ≡ reached [] s (now (list .entry)) ⌝ }
-{
-    WalkEnd {
-        len: s.len as usize,
-        label: s.label,
-        refused: s.refused as u32,
-        node: s.node,
-    }
-}
-
-// Walks an agent's rule with the move's picks, and marks what it reads; a walk that is refused leaves no marks. The list keeps its length.
+// Walks an agent's rule with the move's picks, and marks what it reads; a walk that is refused leaves no marks.
 pub fn walk_move(
     image: &Image,
     contents: &[Value],
@@ -438,9 +417,8 @@ pub fn walk_move(
     list: &mut [u64; 256],
     agent: u32,
     picks: &[Pick],
-) -> WalkEnd
+) -> Progress
     ensures { λ r. ⌜ WalkMarked (low-program (now (image .entry))) (now (contents .entry)) bit (input agent (now (picks .entry))) (outcome r (now (list .exit))) (now (readers .entry)) (now (readers .exit)) ⌝ }
-    ensures { λ _. ⌜ length (now (list .exit)) ≡ most-instructions ⌝ }
 {
     let who = book_image::agent_at(image, agent);
     let root = text::low(who.root);
@@ -467,8 +445,8 @@ pub fn walk_move(
     );
     let r = engine_emit::all_used(picks, &used, w, root);
     if r.refused == 0 {
-        return walk_end(r, list);
+        return r;
     }
     clear_marks(readers, bit);
-    walk_end(r, list)
+    r
 }

@@ -18,12 +18,12 @@ use Rattle.engine.proofs.Moves.{fired-length}
 use Rattle.order.specs.Pairs.{predecessors, ordered-by, PairFound, no-pair, a-pair, least-pair}
 use Rattle.order.specs.declared.Lengths.{Lengths}
 use Rattle.order.specs.Log.{Log, move-at, check-log}
-use Rattle.order.specs.Run.{Run, RunOutcome, ran, halted, run, touch, fired-at, unordered-touching, LogAnswer, order-checked, finish, run-from, run-log}
+use Rattle.order.specs.Run.{Run, RunOutcome, ran, halted, run, touch, fired-at, unordered-touching, LogAnswer, order-checked, run-answer, run-from, run-log}
 use Rattle.order.specs.Call.{lengths, check-lent, check-all, left-past, log-answer, log-call}
 use Rattle.order.specs.Orders.{Moves, listed, one, more, from, Keeps, Agrees, LeastPair}
 use Rattle.order.specs.Demand.{PairOf, moves-of, count, OrderedByPairs, Does, AllFire, UnorderedTouch, Passes, Demand3}
 use Rattle.order.proofs.Listed.{agrees}
-use Rattle.order.proofs.Rows.{rows-set}
+use Rattle.order.proofs.Predecessors.{rows-set}
 use Rattle.order.proofs.Pairs.{Passing, two-none, two-least}
 use Rattle.order.proofs.Marks.{Left, run-left, run-through, halted-number}
 use Rattle.order.proofs.Log.{Passed, passed}
@@ -114,7 +114,7 @@ module _ (B : Program) (g : Log) (c : List ℕ) where
 
     accepted-to : run-from B g c .answer .number ≡ 0
         → AllFire B g c m × ((i j : ℕ) → ¬ UnorderedTouch B g c i j) × (run-from B g c .contents ≡ listed S c m)
-    unfolding run-from finish
+    unfolding run-from run-answer
     accepted-to e = go (run B g c m) refl e
       where
         on-two : (s : Run) → run B g c m ≡ ran s → (o : PairFound) → found s ≡ o → order-checked B s o .answer .number ≡ 0
@@ -124,20 +124,20 @@ module _ (B : Program) (g : Log) (c : List ℕ) where
             let k = run-left B g c m s q in
             (all-fire s k, (λ i j t. two-none (test s) m .0 p i j (unordered-touch-iff s k i j .1 t)), k .contents)
 
-        go : (o : RunOutcome) → run B g c m ≡ o → finish B g o .answer .number ≡ 0
-            → AllFire B g c m × ((i j : ℕ) → ¬ UnorderedTouch B g c i j) × (finish B g o .contents ≡ listed S c m)
+        go : (o : RunOutcome) → run B g c m ≡ o → run-answer B g o .answer .number ≡ 0
+            → AllFire B g c m × ((i j : ℕ) → ¬ UnorderedTouch B g c i j) × (run-answer B g o .contents ≡ listed S c m)
         go (halted a b d s) q f = absurd (omega (arith, halted-number B g c m a b d s q .0))
         go (ran s) q f = on-two s q (found s) refl f
 
     accepted-from : AllFire B g c m → ((i j : ℕ) → ¬ UnorderedTouch B g c i j) → run-from B g c .answer .number ≡ 0
-    unfolding run-from finish
+    unfolding run-from run-answer
     accepted-from f n =
         let t = run-through B g c m f in
         let k = run-left B g c m (t .0) (t .1) in
         rw (t .1, two-none (test (t .0)) m .1 (λ i j p. n i j (unordered-touch-iff (t .0) k i j .0 p)))
 
     refused-to : (i j : ℕ) → Is17 (run-from B g c) i j → AllFire B g c m × LeastPair (UnorderedTouch B g c) i j
-    unfolding run-from finish
+    unfolding run-from run-answer
     refused-to i j e = go (run B g c m) refl e
       where
         on-two : (s : Run) → run B g c m ≡ ran s → (o : PairFound) → found s ≡ o → Is17 (order-checked B s o) i j
@@ -147,12 +147,12 @@ module _ (B : Program) (g : Log) (c : List ℕ) where
             let k = run-left B g c m s q in
             (all-fire s k, least-iff s k i j .0 (two-least (test s) m i j .0 (p ∙ ap₂ a-pair (f .1) (f .2))))
 
-        go : (o : RunOutcome) → run B g c m ≡ o → Is17 (finish B g o) i j → AllFire B g c m × LeastPair (UnorderedTouch B g c) i j
+        go : (o : RunOutcome) → run B g c m ≡ o → Is17 (run-answer B g o) i j → AllFire B g c m × LeastPair (UnorderedTouch B g c) i j
         go (halted a b d s) q f = absurd (halted-number B g c m a b d s q .0 .3 (f .0))
         go (ran s) q f = on-two s q (found s) refl f
 
     refused-from : (i j : ℕ) → AllFire B g c m → LeastPair (UnorderedTouch B g c) i j → Is17 (run-from B g c) i j
-    unfolding run-from finish
+    unfolding run-from run-answer
     refused-from i j f n =
         let t = run-through B g c m f in
         let k = run-left B g c m (t .0) (t .1) in
@@ -160,7 +160,7 @@ module _ (B : Program) (g : Log) (c : List ℕ) where
 
     -- if some two unordered moves touch, whichever they are, the run gets refusal 17
     seventeen-from : (i j : ℕ) → AllFire B g c m → UnorderedTouch B g c i j → run-from B g c .answer .number ≡ 17
-    unfolding run-from finish
+    unfolding run-from run-answer
     seventeen-from i j f n =
         let t = run-through B g c m f in
         let k = run-left B g c m (t .0) (t .1) in

@@ -2,7 +2,7 @@ pub mod Order
 pub mod Free
 pub mod Listed
 pub mod Sets
-pub mod Rows
+pub mod Predecessors
 pub mod Pairs
 pub mod Marks
 pub mod Log

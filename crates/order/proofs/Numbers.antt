@@ -17,7 +17,7 @@ use Rattle.book.proofs.Refusals.{Fits, book-before}
 use Rattle.order.specs.Pairs.{PairFound, no-pair, a-pair, least-pair, no-pair-at}
 use Rattle.order.specs.declared.Lengths.{Lengths}
 use Rattle.order.specs.Log.{Log, move-at, log-lines, log-of, check-agents, check-log-header, check-log-text, check-log-lines, read-log, check-log}
-use Rattle.order.specs.Run.{Run, RunOutcome, ran, halted, run, touching, order-checked, finish, run-from}
+use Rattle.order.specs.Run.{Run, RunOutcome, ran, halted, run, touching, order-checked, run-answer, run-from}
 use Rattle.order.specs.Call.{lengths, check-lengths, check-lent, check-all, log-answer, log-call}
 use Rattle.order.specs.Demand.{count}
 use Rattle.order.proofs.Pairs.{two-least}
@@ -93,14 +93,14 @@ all-early book log n = bind-ends (book-before book) (λ b fits. bind-ends (log-e
 -- ---- the call
 
 run-small : (B : Program) (g : Log) (c : List ℕ) → Fits B → count g ≤ 64 → Small (run-from B g c .answer)
-unfolding run-from finish
+unfolding run-from run-answer
 run-small B g c fits few = go (run B g c (count g)) refl
   where
     two-way : (s : Run) (o : PairFound) → ((i j : ℕ) → o ≡ a-pair i j → (i < count g) × (j < count g)) → Small (order-checked B s o .answer)
     two-way s no-pair h = record { number = omega arith; not-16 = λ e. omega (arith, e); p = omega arith; q = omega arith }
     two-way s (a-pair i j) h = let r = h i j refl in record { number = omega arith; not-16 = λ e. omega (arith, e); p = omega (arith, r .0); q = omega (arith, r .1) }
 
-    go : (o : RunOutcome) → run B g c (count g) ≡ o → Small (finish B g o .answer)
+    go : (o : RunOutcome) → run B g c (count g) ≡ o → Small (run-answer B g o .answer)
     go (ran s) e = two-way s (touching B g (s .fired)) (found-pair _ (count g))
     go (halted a p q s) e =
         let m = halted-number B g c (count g) a p q s e in

@@ -1,4 +1,4 @@
--- The choice lines of a move stand together: its picks are the elements of those lines, which is how the table of a log has them. Assumes nothing.
+-- The choice lines of a move stand together: its picks are the elements of those lines, which is how the table of a log has them.
 use mathlib.Core.Path.{_≡_, refl, ap}
 use mathlib.Core.Logic.{_≢_}
 use mathlib.Core.List.{List, [], _∷_}

@@ -20,7 +20,7 @@ use Rattle.order.specs.Call.{log-call}
 use Rattle.order.specs.Demand.{PairOf, moves-of}
 use Rattle.engine.specs.Tables.{Tables}
 
--- ---- freedom of order, over any moves, start, list of moves and pair relation, from the law of two moves
+-- ---- freedom of order, over any moves, start, list of moves and pair relation, from the laws of moves (`Laws`)
 
 -- what the run in the listed order has to show, so that all orders that keep the pairs agree with it
 pub record Listing (S : Moves) (start : S .Con) (m : ℕ) (pair : ℕ → ℕ → Type 0) : Type 0 where
@@ -35,7 +35,7 @@ abbrev pub OrdersAgree : Type 1
 OrdersAgree = (S : Moves) → Laws S → (start : S .Con) (m : ℕ) (pair : ℕ → ℕ → Type 0) → Listing S start m pair
     → (is : List ℕ) → Keeps (from 0 m) pair is → Agrees S start m is
 
--- the moves of a log over a lawful book have the laws frame, keep and swap
+-- the moves of a log over a lawful book have the laws frame, keep, swap and ext
 abbrev pub MovesSwap : Type 0
 MovesSwap = (B : Program) → Lawful B → (g : Log) → Laws (moves-of B g)
 
@@ -48,8 +48,8 @@ TakingTouches = (B : Program) → Lawful B → (g : Log) (i j : ℕ) (c d : List
 -- ---- predecessors are exactly the order that follows from the pairs by chaining
 
 -- move i is in the set of j's predecessors exactly if it comes before j
-abbrev pub RowsAreOrder : Type 0
-RowsAreOrder = (ps : List Pair) → ((a b : ℕ) → PairOf ps a b → a < b) → (m j i : ℕ) → j < m
+abbrev pub PredecessorsAreOrder : Type 0
+PredecessorsAreOrder = (ps : List Pair) → ((a b : ℕ) → PairOf ps a b → a < b) → (m j i : ℕ) → j < m
     → (bit (getD (predecessors ps m) j 0) i ≡ true) ↔ Before (PairOf ps) i j
 
 -- ---- marks are exactly the reads and writes of the moves that fired, in the contents that each got

@@ -103,14 +103,14 @@ log-of h text =
 -- ---- Refusal 10
 
 -- moves i < j are of one agent, and the predecessors rs leave them unordered
-abbrev pub loose : List ℕ → Log → ℕ → ℕ → Bool
-loose rs g i j = eqb (move-at g i .agent) (move-at g j .agent) && not (ordered-by rs i j)
+abbrev pub one-agent-unordered : List ℕ → Log → ℕ → ℕ → Bool
+one-agent-unordered rs g i j = eqb (move-at g i .agent) (move-at g j .agent) && not (ordered-by rs i j)
 
 -- Refusal 10: the least pair of moves of one agent that are unordered
 unfoldable pub check-agents : Log → Checked (Unit {0})
 check-agents g =
     let m = length (g .moves) in
-    no-pair-at agent-unordered (least-pair (loose (predecessors (g .pairs) m) g) m)
+    no-pair-at agent-unordered (least-pair (one-agent-unordered (predecessors (g .pairs) m) g) m)
 
 -- ---- the log's checks, in order
 

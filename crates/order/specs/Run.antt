@@ -115,13 +115,13 @@ order-checked B s no-pair = left-by B s 0 0 0
 order-checked B s (a-pair i j) = left-by B s unordered-touch i j
 
 -- what a run leaves: a move's refusal, or else refusal 17, or accepted
-unfoldable pub finish : Program → Log → RunOutcome → LogAnswer
-finish B g (halted n p q s) = left-by B s n p q
-finish B g (ran s) = order-checked B s (touching B g (s .fired))
+unfoldable pub run-answer : Program → Log → RunOutcome → LogAnswer
+run-answer B g (halted n p q s) = left-by B s n p q
+run-answer B g (ran s) = order-checked B s (touching B g (s .fired))
 
 -- what the run of a log from the contents c leaves
 unfoldable pub run-from : Program → Log → List ℕ → LogAnswer
-run-from B g c = finish B g (run B g c (length (g .moves)))
+run-from B g c = run-answer B g (run B g c (length (g .moves)))
 
 -- what the run of a log leaves, from the start of its book
 abbrev pub run-log : Book → Log → LogAnswer

@@ -1,4 +1,4 @@
-// A log of moves: the types of its marks, of the table that holds its order and picks, and of the lengths of lent tables.
+// A log of moves: its bounds, and the types of the table that holds its order and picks and of the lengths of lent tables.
 
 // Bounds of a log: moves, pairs and picks.
 pub const MOST_MOVES: u32 = 64;
@@ -7,12 +7,9 @@ pub const MOST_PAIRS: u32 = 2016;
 
 pub const MOST_PICKS: u32 = 256;
 
-// A reader mark or a writer mark of a location: a set of 64 moves.
-pub type Mark = u64;
-
 // The order of a log and its picks, as specs/Table lays them out: for each of 64 moves the set of its predecessors, then its
 // agent, its first pick, and the end of its picks; then 256 picks.
-pub type Order = [u64; 512];
+pub type OrderTable = [u64; 512];
 
 // Where in this table the agents begin, the first picks, the ends of the picks, and the picks themselves.
 pub const AGENTS: usize = 64;

@@ -2,7 +2,7 @@
 // for callers that have no records.
 use book::Image;
 use engine::Record;
-use order::Order;
+use order::OrderTable;
 use order_run::RunState;
 use text::Answer;
 use text::Value;
@@ -18,7 +18,7 @@ fn make_moves(
     writers: &mut [u64],
     instructions: &mut [Record],
     image: &Image,
-    order: &Order,
+    order: &OrderTable,
     first: RunState,
 ) -> Answer
     ensures { λ r. ⌜ MadeOn (now (image .entry)) (now (order .entry)) first (tables-before contents readers writers) (now (instructions .entry)) r (tables-after contents readers writers) (now (instructions .exit)) ⌝ }
@@ -41,7 +41,7 @@ pub fn run_from(
     writers: &mut [u64],
     instructions: &mut [Record],
     image: &Image,
-    order: &Order,
+    order: &OrderTable,
     first: RunState,
 ) -> Answer
     ensures { λ r. ⌜ RunToEnd (now (image .entry)) (now (order .entry)) first (tables-before contents readers writers) (now (instructions .entry)) r (tables-after contents readers writers) (now (instructions .exit)) ⌝ }
@@ -111,7 +111,7 @@ pub fn run_from_own_list(
     writers: &mut [u64],
     lent: usize,
     image: &Image,
-    order: &Order,
+    order: &OrderTable,
     first: RunState,
 ) -> Answer
     ensures { λ r. ⌜ RunToEndOwn (now (image .entry)) (now (order .entry)) first (tables-before contents readers writers) lent r (tables-after contents readers writers) ⌝ }

@@ -1,5 +1,5 @@
 // The lines of a log checked: the least that is ill-formed, and the least at fault; and its choice lines.
-use order::Order;
+use order::OrderTable;
 use text::Found;
 use text::Line;
 ghost use mathlib.Core.Path.{_≡_};
@@ -43,7 +43,7 @@ fn bad_choice(elements: u32, m: u32, k: Line, l: Line, i: u32) -> bool
 }
 
 // Puts pick i into the table, unless its line is at fault: its element, and where its move's picks begin and end.
-fn put_pick(order: &mut Order, l: Line, i: u32, bad: bool)
+fn put_pick(order: &mut OrderTable, l: Line, i: u32, bad: bool)
     requires { ⌜ (i < 256) × (bad ≡ false → l .a < 64) ⌝ }
     ensures { λ _. ⌜ now (order .exit) ≡ (if bad then now (order .entry) else pick-put (now (order .entry)) i (l .a) (l .b)) ⌝ }
 {
@@ -58,7 +58,14 @@ fn put_pick(order: &mut Order, l: Line, i: u32, bad: bool)
 }
 
 // Reads the n choice lines of m moves, which begin after line k. They ascend by their move, so that a move's picks are one part of the table.
-fn read_bounded(log: &[u8], elements: u32, m: u32, k: u32, n: u32, order: &mut Order) -> LineFaults
+fn read_bounded(
+    log: &[u8],
+    elements: u32,
+    m: u32,
+    k: u32,
+    n: u32,
+    order: &mut OrderTable,
+) -> LineFaults
     requires { ⌜ (m ≤ 64) × (k ≤ 2080) × (n ≤ 256) ⌝ }
     ensures { λ r. ⌜ ChoiceLinesRead elements (now (log .entry)) m k n (now (order .entry)) (now (order .exit)) r ⌝ }
 {
@@ -98,12 +105,13 @@ pub fn read_choices(
     m: u32,
     k: u32,
     n: u32,
-    order: &mut Order,
+    order: &mut OrderTable,
 ) -> LineFaults
     ensures { λ r. ⌜ ChoiceLinesRead elements (now (log .entry)) (min m 64) (min k 2080) (min n 256) (now (order .entry)) (now (order .exit)) r ⌝ }
 {
-    let moves = text::smaller(m as usize, 64) as u32;
-    let after = text::smaller(k as usize, 2080) as u32;
-    let lines = text::smaller(n as usize, 256) as u32;
+    let moves = text::smaller(m as usize, order::MOST_MOVES as usize) as u32;
+    let most = order::MOST_MOVES + order::MOST_PAIRS;
+    let after = text::smaller(k as usize, most as usize) as u32;
+    let lines = text::smaller(n as usize, order::MOST_PICKS as usize) as u32;
     read_bounded(log, elements, moves, after, lines, order)
 }

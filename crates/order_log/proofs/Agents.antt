@@ -18,25 +18,25 @@ use Rattle.text.proofs.Words.{and-cases}
 use Rattle.book.specs.Book.{Program}
 use Rattle.order.specs.Sets.{bit}
 use Rattle.order.specs.Pairs.{predecessors, no-pair-at}
-use Rattle.order.specs.Log.{Log, move-at, loose, check-agents, read-log, check-log}
+use Rattle.order.specs.Log.{Log, move-at, one-agent-unordered, check-agents, read-log, check-log}
 use Rattle.order.specs.Table.{agent-in, OrderTable}
 use Rattle.order.proofs.Sets.{bit-or, bit-one, bit-empty}
 use Rattle.order.proofs.Masks.{shl-one, row-none, bit-and, bit-not, least-in, least-below}
 use Rattle.order.proofs.Search.{two-same}
 use Rattle.order.proofs.Best.{Best, best-found, best-none}
 use Rattle.order.proofs.Log.{read-passed}
-use Rattle.order_log.specs.Agents.{agent-told, loose-in, check-agents-in, LeastUnordered}
+use Rattle.order_log.specs.Agents.{agent-below-16, one-agent-unordered-in, check-agents-in, LeastUnordered}
 
 -- ---- the least move of a set that is not in another
 
-module _ (own row : ℕ) (fit : row < 2 ^ 64) where
+module _ (own predecessors : ℕ) (fit : predecessors < 2 ^ 64) where
   abbrev left : ℕ
-  left = bitAnd own ((2 ^ 64 - 1) - row)
+  left = bitAnd own ((2 ^ 64 - 1) - predecessors)
 
-  left-bit : (i : ℕ) → i < 64 → bit left i ≡ (bit own i && not (bit row i))
-  left-bit i h = bit-and own ((2 ^ 64 - 1) - row) i ∙ rw (bit-not 64 row i fit h)
+  left-bit : (i : ℕ) → i < 64 → bit left i ≡ (bit own i && not (bit predecessors i))
+  left-bit i h = bit-and own ((2 ^ 64 - 1) - predecessors) i ∙ rw (bit-not 64 predecessors i fit h)
 
-  pub nearest-is : LeastUnordered own row (trailingZeros 64 (bitAnd own ((2 ^ 64 - 1) - row)))
+  pub nearest-is : LeastUnordered own predecessors (trailingZeros 64 (bitAnd own ((2 ^ 64 - 1) - predecessors)))
   nearest-is = record {
     hit = λ h. sym (left-bit (trailingZeros 64 left) h) ∙ least-in 64 left h;
     low = λ i h e. dite (decLt i (trailingZeros 64 left))
@@ -55,7 +55,7 @@ module _ (t : List ℕ) where
   -- own has for each of 16 agents the set of its moves among the first j
   pub record Own (j : ℕ) (own : List ℕ) : Type 0 where
     pub long : length own ≡ 16
-    pub bits : (a i : ℕ) → a < 16 → bit (getD own a 0) i ≡ (ltb i j && eqb (agent-told t i) a)
+    pub bits : (a i : ℕ) → a < 16 → bit (getD own a 0) i ≡ (ltb i j && eqb (agent-below-16 t i) a)
 
   pub own-start : Own 0 (replicate 16 0)
   own-start = record {
@@ -65,7 +65,7 @@ module _ (t : List ℕ) where
 
   module _ (j : ℕ) (own : List ℕ) (h : j < 64) (w : Own j own) where
     abbrev k : ℕ
-    k = agent-told t j
+    k = agent-below-16 t j
 
     abbrev own′ : List ℕ
     own′ = set own k (bitOr (getD own k 0) ((1 * 2 ^ j) % 2 ^ 64))
@@ -73,7 +73,7 @@ module _ (t : List ℕ) where
     k-low : k < 16
     k-low = omega arith
 
-    here : (i : ℕ) → bit (getD own′ k 0) i ≡ (ltb i (j + 1) && eqb (agent-told t i) k)
+    here : (i : ℕ) → bit (getD own′ k 0) i ≡ (ltb i (j + 1) && eqb (agent-below-16 t i) k)
     here i =
         rw (
           getD-set-same own k (bitOr (getD own k 0) ((1 * 2 ^ j) % 2 ^ 64)) 0 (omega (arith, w .long, k-low)),
@@ -84,49 +84,49 @@ module _ (t : List ℕ) where
         )
         (dite (ℕ-discrete i j)
         (λ (e : i ≡ j). rw (e, eq-eqb j j refl, lt-ltb j (j + 1) (omega arith), eq-eqb k k refl) (or-true (ltb j j && true)))
-        (λ (n : i ≢ j). rw (ne-eqb j i (λ (e : j ≡ i). n (sym e)), below-same i j n) (or-false (ltb i j && eqb (agent-told t i) k))))
+        (λ (n : i ≢ j). rw (ne-eqb j i (λ (e : j ≡ i). n (sym e)), below-same i j n) (or-false (ltb i j && eqb (agent-below-16 t i) k))))
 
-    other : (a i : ℕ) → a < 16 → a ≢ k → bit (getD own′ a 0) i ≡ (ltb i (j + 1) && eqb (agent-told t i) a)
+    other : (a i : ℕ) → a < 16 → a ≢ k → bit (getD own′ a 0) i ≡ (ltb i (j + 1) && eqb (agent-below-16 t i) a)
     other a i l n =
         ap (λ (x : ℕ). bit x i) (getD-set-other own k a (bitOr (getD own k 0) ((1 * 2 ^ j) % 2 ^ 64)) 0 n) ∙ w .bits a i l
         ∙ dite (ℕ-discrete i j)
         (λ (e : i ≡ j). rw (e, ne-eqb k a (λ (q : k ≡ a). n (sym q))) (and-false (ltb j j) ∙ sym (and-false (ltb j (j + 1)))))
         (λ (m : i ≢ j). rw (below-same i j m))
 
-    pub own-turn : Own (j + 1) (set own (agent-told t j) (bitOr (getD own (agent-told t j) 0) ((1 * 2 ^ j) % 2 ^ 64)))
+    pub own-turn : Own (j + 1) (set own (agent-below-16 t j) (bitOr (getD own (agent-below-16 t j) 0) ((1 * 2 ^ j) % 2 ^ 64)))
     own-turn = record {
       long = length-set own k (bitOr (getD own k 0) ((1 * 2 ^ j) % 2 ^ 64)) ∙ w .long;
       bits = λ a i l. dite (ℕ-discrete a k) (λ (e : a ≡ k). rw e (here i)) (λ (n : a ≢ k). other a i l n);
     }
 
     -- the least of the agent's earlier moves that is not ordered with move j
-    module _ (r : ℕ) (n : LeastUnordered (getD own (agent-told t j) 0) (getD t j 0) r) where
-      pub own-hit : r < 64 → (r < j) × (loose-in t r j ≡ true)
+    module _ (r : ℕ) (n : LeastUnordered (getD own (agent-below-16 t j) 0) (getD t j 0) r) where
+      pub own-hit : r < 64 → (r < j) × (one-agent-unordered-in t r j ≡ true)
       own-hit l =
           let e = and-cases (bit (getD own k 0) r) (not (bit (getD t j 0) r)) (n .hit l) in
-          let f = and-cases (ltb r j) (eqb (agent-told t r) k) (sym (w .bits k r k-low) ∙ e .0) in
+          let f = and-cases (ltb r j) (eqb (agent-below-16 t r) k) (sym (w .bits k r k-low) ∙ e .0) in
           (ltb-true r j (f .0), rw (f .1, e .1))
 
-      pub own-low : (i : ℕ) → i < j → loose-in t i j ≡ true → r ≤ i
+      pub own-low : (i : ℕ) → i < j → one-agent-unordered-in t i j ≡ true → r ≤ i
       own-low i l e =
-          let f = and-cases (eqb (agent-told t i) k) (not (bit (getD t j 0) i)) e in
+          let f = and-cases (eqb (agent-below-16 t i) k) (not (bit (getD t j 0) i)) e in
           let b : bit (getD own k 0) i ≡ true = w .bits k i k-low ∙ rw (lt-ltb i j l, f .0) in
           n .low i (omega arith) (rw (b, f .1))
 
   -- refusal 10 at the least pair, as the code answers it
-  pub ten : (m a b n : ℕ) (r : Answer) → m ≡ min n 64 → Best (loose-in t) m a b → r ≡ answer-of (must (leb 64 a) 10 a b) → r ≡ answer-of (check-agents-in t n)
+  pub ten : (m a b n : ℕ) (r : Answer) → m ≡ min n 64 → Best (one-agent-unordered-in t) m a b → r ≡ answer-of (must (leb 64 a) 10 a b) → r ≡ answer-of (check-agents-in t n)
   unfolding check-agents-in no-pair-at must
   ten m a b n r q s e = dite (decLt a 64)
-      (λ (h : a < 64). let f = best-found (loose-in t) m a b s h in e ∙ rw (lt-leb 64 a h, ← q, f))
+      (λ (h : a < 64). let f = best-found (one-agent-unordered-in t) m a b s h in e ∙ rw (lt-leb 64 a h, ← q, f))
       (λ (h : ¬ (a < 64)).
-      let f = best-none (loose-in t) m a b (omega arith) s (omega arith) in
+      let f = best-none (one-agent-unordered-in t) m a b (omega arith) s (omega arith) in
       let l : leb 64 a ≡ true = le-leb 64 a (omega arith) in
       e ∙ rw (l, ← q, f))
 
 -- ---- for callers: of the table of a log whose agents are below 16
 
 module _ (g : Log) (t : List ℕ) (o : OrderTable g t) (few : length (g .moves) ≤ 64) (low : (i : ℕ) → i < length (g .moves) → move-at g i .agent < 16) where
-  agent-is : (i : ℕ) → i < length (g .moves) → agent-told t i ≡ move-at g i .agent
+  agent-is : (i : ℕ) → i < length (g .moves) → agent-below-16 t i ≡ move-at g i .agent
   agent-is i h = omega (arith, o .agents i h, low i h)
 
   pub agents-checked : check-agents-in t (length (g .moves)) ≡ check-agents g
@@ -134,7 +134,7 @@ module _ (g : Log) (t : List ℕ) (o : OrderTable g t) (few : length (g .moves) 
   agents-checked =
       let m = length (g .moves) in
       let e : min m 64 ≡ m = omega arith in
-      rw e (ap (no-pair-at 10) (two-same (loose-in t) (loose (predecessors (g .pairs) m) g) m
+      rw e (ap (no-pair-at 10) (two-same (one-agent-unordered-in t) (one-agent-unordered (predecessors (g .pairs) m) g) m
       (λ i j a b. rw (agent-is i (omega arith), agent-is j b, o .predecessors j b))))
 
   -- what `agent_of_move` gives is the agent of the move

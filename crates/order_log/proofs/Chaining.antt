@@ -17,7 +17,7 @@ use Rattle.order.specs.Pairs.{Pair, predecessors}
 use Rattle.order.specs.Orders.{Before, one, more}
 use Rattle.order.specs.Demand.{PairOf}
 use Rattle.order.proofs.Sets.{bit-or, bit-with, bit-empty}
-use Rattle.order.proofs.Rows.{rows-set}
+use Rattle.order.proofs.Predecessors.{rows-set}
 use Rattle.order.proofs.Masks.{bit-ext}
 use Rattle.order_log.specs.Read.{pair-put, pairs-put}
 

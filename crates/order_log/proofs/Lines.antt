@@ -24,7 +24,7 @@ use Rattle.order_lines.specs.declared.LineFaults.{LineFaults}
 use Rattle.order_lines.specs.Lines.{first-found, shifted, picks-put, ChoiceLinesRead}
 use Rattle.order_lines.proofs.Places.{least-split}
 use Rattle.order_lines.proofs.PicksPut.{choices-picks, choices-keep}
-use Rattle.order_log.specs.Read.{pair-at, pairs-put, MovesRead, PairsRead, both, LinesRead}
+use Rattle.order_log.specs.Read.{pair-at, pairs-put, MovesRead, PairsRead, join-faults, LinesRead}
 use Rattle.order_log.proofs.Chaining.{closed-rows, close-past, close-long}
 use Rattle.order_log.proofs.Parts.{up}
 
@@ -84,7 +84,7 @@ module _
     k = h .a + h .b
 
     abbrev all : LineFaults
-    all = both (both mv pr) ch
+    all = join-faults (join-faults mv pr) ch
 
     all-ill : all .ill ≡ least-from (bad-line text) (h .a + h .b + h .c) 1
     all-ill = sym (least-split (bad-line text) k (h .c) 1 ∙ rw (least-split (bad-line text) (h .a) (h .b) 1, ms .ill, ps .ill, cs .ill))
@@ -176,5 +176,5 @@ module _
             let m = how-many h text in
             record { predecessors = λ j l. rw m (row-is j (omega arith)); agents = λ i l. agent-is i (omega arith); picks = λ i l. picks-are i (omega arith) }
 
-    pub lines-joined : LinesRead A E text h u (both (both mv pr) ch)
+    pub lines-joined : LinesRead A E text h u (join-faults (join-faults mv pr) ch)
     lines-joined = record { ill = all-ill; fault = all-faults; order = ordered }

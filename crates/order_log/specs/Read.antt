@@ -56,8 +56,8 @@ abbrev pub PairsRead : List ℕ → ℕ → ℕ → List ℕ → List ℕ → Li
 PairsRead text m n s t r = KindRead text m n (bad-pair-at m text) (pairs-put (table (pair-at m text) n) s) t r
 
 -- what is found in the lines of two kinds, the first before the second
-abbrev pub both : LineFaults → LineFaults → LineFaults
-both a b = record { ill = first-found (a .ill) (b .ill); fault = first-found (a .fault) (b .fault) }
+abbrev pub join-faults : LineFaults → LineFaults → LineFaults
+join-faults a b = record { ill = first-found (a .ill) (b .ill); fault = first-found (a .fault) (b .fault) }
 
 -- the lines after the header h are read: r has what refusals 1 and 9 find in them; if nothing is found, the table t is that of the log
 pub record LinesRead (A E : ℕ) (text : List ℕ) (h : Line) (t : List ℕ) (r : LineFaults) : Type 0 where

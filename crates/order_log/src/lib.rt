@@ -1,5 +1,5 @@
 // The log: its text read once into the table of its order and picks, with refusals 1 and 9; and refusal 10 by sets of moves.
-use order::Order;
+use order::OrderTable;
 use order_lines::LineFaults;
 use text::Answer;
 use text::Found;
@@ -12,7 +12,7 @@ ghost use lib.ListN.{length, getD, take, drop};
 ghost use Rattle.text.specs.Words.{if_then_else_, answer-of};
 ghost use Rattle.order.specs.Log.{log-header-ok, bad-move, bad-pair};
 ghost use Rattle.order.specs.Table.{agent-in, picks-in};
-ghost use Rattle.order_log.specs.Read.{header-checked, lines-checked, pair-put, MovesRead, PairsRead, both, LinesRead, LogIsRead};
+ghost use Rattle.order_log.specs.Read.{header-checked, lines-checked, pair-put, MovesRead, PairsRead, join-faults, LinesRead, LogIsRead};
 ghost use Rattle.order_log.specs.Agents.{LeastUnordered, check-agents-in};
 
 // What reading a log gives: its answer, and when accepted how many moves it has.
@@ -76,7 +76,7 @@ fn read_moves(log: &[u8], agents: u32, m: u32, order: &mut [u64]) -> LineFaults
 }
 
 // Puts a pair into the table, unless its line is at fault: to the predecessors of its later move come those of its earlier one, and that one.
-fn put_pair(order: &mut Order, l: Line, bad: bool)
+fn put_pair(order: &mut OrderTable, l: Line, bad: bool)
     requires { ⌜ (bad ≡ false → (l .a < 64) × (l .b < 64)) ⌝ }
     ensures { λ _. ⌜ now (order .exit) ≡ (if bad then now (order .entry) else pair-put (now (order .entry)) (l .a) (l .b)) ⌝ }
 {
@@ -90,7 +90,7 @@ fn put_pair(order: &mut Order, l: Line, bad: bool)
 
 // Reads the n pair lines of m moves. They ascend by their earlier move, so that its predecessors are complete when they are used: one
 // pass is enough.
-fn read_pairs(log: &[u8], m: u32, n: u32, order: &mut Order) -> LineFaults
+fn read_pairs(log: &[u8], m: u32, n: u32, order: &mut OrderTable) -> LineFaults
     requires { ⌜ (m ≤ 64) × (n ≤ 2016) ⌝ }
     ensures { λ r. ⌜ PairsRead (now (log .entry)) m n (now (order .entry)) (now (order .exit)) r ⌝ }
 {
@@ -124,8 +124,8 @@ fn read_pairs(log: &[u8], m: u32, n: u32, order: &mut Order) -> LineFaults
 }
 
 // What is found in the lines of two kinds, the first before the second.
-fn both(a: LineFaults, b: LineFaults) -> LineFaults
-    ensures { λ r. ⌜ r ≡ both a b ⌝ }
+fn join_faults(a: LineFaults, b: LineFaults) -> LineFaults
+    ensures { λ r. ⌜ r ≡ join-faults a b ⌝ }
 {
     let ill = a.ill;
     let later_ill = b.ill;
@@ -140,14 +140,14 @@ fn both(a: LineFaults, b: LineFaults) -> LineFaults
 }
 
 // Reads the lines after the header h, which is within its bounds.
-fn read_lines(log: &[u8], agents: u32, elements: u32, h: Line, order: &mut Order) -> LineFaults
+fn read_lines(log: &[u8], agents: u32, elements: u32, h: Line, order: &mut OrderTable) -> LineFaults
     requires { ⌜ log-header-ok h ≡ true ⌝ }
     ensures { λ r. ⌜ LinesRead agents elements (now (log .entry)) h (now (order .exit)) r ⌝ }
 {
     let moves = read_moves(log, agents, h.a, order);
     let pairs = read_pairs(log, h.a, h.b, order);
     let picks = order_lines::read_choices(log, elements, h.a, h.a + h.b, h.c, order);
-    both(both(moves, pairs), picks)
+    join_faults(join_faults(moves, pairs), picks)
 }
 
 // Refusals 1 and 9, in this order, on the header line.
@@ -179,7 +179,7 @@ fn check_lines(size: usize, lines: u32, ill: Found, fault: Found) -> Answer
 }
 
 // Refusals 1 and 9, for a book of so many agents and elements: the log's order and picks are left in the table. Each line is read once.
-pub fn read_log(log: &[u8], agents: u32, elements: u32, order: &mut Order) -> LogRead
+pub fn read_log(log: &[u8], agents: u32, elements: u32, order: &mut OrderTable) -> LogRead
     ensures { λ r. ⌜ LogIsRead agents elements (now (log .entry)) (now (order .exit)) r ⌝ }
 {
     let head = text::parse(log, 0);
@@ -201,20 +201,20 @@ pub fn read_log(log: &[u8], agents: u32, elements: u32, order: &mut Order) -> Lo
     }
 }
 
-// The least move of the set `own` that is not in the set `row` of predecessors; 64 for none.
-fn least_unordered(own: u64, row: u64) -> u32
-    ensures { λ r. ⌜ LeastUnordered own row r ⌝ }
+// The least move of the set `own` that is not in the set of predecessors; 64 for none.
+fn least_unordered(own: u64, predecessors: u64) -> u32
+    ensures { λ r. ⌜ LeastUnordered own predecessors r ⌝ }
 {
-    u64::trailing_zeros(own & !row)
+    u64::trailing_zeros(own & !predecessors)
 }
 
 // Refusal 10: the least pair of the first `moves` moves that are of one agent and unordered. The code's `own` has each agent's moves so far.
-pub fn check_agents(order: &Order, moves: u32) -> Answer
+pub fn check_agents(order: &OrderTable, moves: u32) -> Answer
     ensures { λ r. ⌜ r ≡ answer-of (check-agents-in (now (order .entry)) moves) ⌝ }
 {
-    let m = text::smaller(moves as usize, 64);
+    let m = text::smaller(moves as usize, order::MOST_MOVES as usize);
     let mut own: [u64; 16] = [0; 16];
-    let mut first: u32 = 64;
+    let mut first: u32 = order::MOST_MOVES;
     let mut second: usize = 0;
     let mut j: usize = 0;
     while j < m {
@@ -227,7 +227,12 @@ pub fn check_agents(order: &Order, moves: u32) -> Answer
         own[a] = own[a] | (1u64 << j);
         j += 1;
     }
-    text::must(first >= 64, text::AGENT_UNORDERED, first, second as u32)
+    text::must(
+        first >= order::MOST_MOVES,
+        text::AGENT_UNORDERED,
+        first,
+        second as u32,
+    )
 }
 
 // The number at an index of a list, 0 past its end.
@@ -238,7 +243,7 @@ fn number_at(s: &[u64], i: usize) -> u64
 }
 
 // The agent of move i, 0 past the table.
-pub fn agent_of_move(order: &Order, i: u32) -> u32
+pub fn agent_of_move(order: &OrderTable, i: u32) -> u32
     ensures { λ r. ⌜ r ≡ agent-in (now (order .entry)) i % 2 ^ 32 ⌝ }
 {
     (number_at(order, order::AGENTS + i as usize) % 4294967296) as u32
@@ -251,13 +256,13 @@ pub struct PickPart {
 }
 
 // The part of the table that has the picks of move i.
-pub fn picks_of_move(order: &Order, i: u32) -> PickPart
+pub fn picks_of_move(order: &OrderTable, i: u32) -> PickPart
     ensures { λ r. ⌜ (r .first ≤ r .end) × (r .end ≤ 512) × (take (r .end - r .first) (drop (r .first) (now (order .entry))) ≡ picks-in (now (order .entry)) i) ⌝ }
 {
     let a = number_at(order, order::FIRST_PICKS + i as usize);
     let b = number_at(order, order::PICK_ENDS + i as usize);
-    let first = text::smaller(a as usize, 256);
-    let end = text::smaller(b as usize, 256);
+    let first = text::smaller(a as usize, order::MOST_PICKS as usize);
+    let end = text::smaller(b as usize, order::MOST_PICKS as usize);
     if first < end {
         return PickPart {
             first: order::PICKS + first,

@@ -28,7 +28,7 @@ use Rattle.order_log.specs.Agents.{check-agents-in}
 use Rattle.order_log.proofs.Agents.{log-checked}
 use Rattle.order_run.proofs.RunTables.{Enough, lengths-good}
 use Rattle.book_check.specs.ImageOf as image
-use Rattle.book_check.proofs.Fits.{held-is}
+use Rattle.book_check.proofs.Fits.{low-program-is}
 use Rattle.order_run.specs.declared.CheckedCall.{CheckedCall}
 use Rattle.order_run.specs.Runs.{Runnable, answer-with}
 use Rattle.order_run.specs.Checked.{CallChecked, run-lists}
@@ -177,11 +177,11 @@ module _ (book log : List ℕ) (n : Lengths) where
         B = book-is .0
 
         agents-same : (b : Book) → check-book book ≡ good b → agents ≡ length (b .program .agents)
-        agents-same b e = ek ∙ ap (λ (y : Program). length (y .agents)) (held-is book m opened b e)
+        agents-same b e = ek ∙ ap (λ (y : Program). length (y .agents)) (low-program-is book m opened b e)
 
         reads : (b : Book) → check-book book ≡ good b → LogIsRead (length (b .program .agents)) (b .program .E) log o c
         reads b e =
-            subst (λ (k : ℕ). LogIsRead (length (b .program .agents)) k log o c) (ee ∙ ap (λ (y : Program). y .E) (held-is book m opened b e))
+            subst (λ (k : ℕ). LogIsRead (length (b .program .agents)) k log o c) (ee ∙ ap (λ (y : Program). y .E) (low-program-is book m opened b e))
             (subst (λ (k : ℕ). LogIsRead k elements log o c) (agents-same b e) read)
 
         few : (b : Book) → check-book book ≡ good b → length (b .program .agents) ≤ 16
@@ -227,7 +227,7 @@ module _ (book log : List ℕ) (n : Lengths) where
                     let k = reads b (p .0) in
                     let f = log-read (b .program) log h (p .1) in
                     let o = opened b (p .0) in
-                    record { image = held-is book m opened b (p .0); program = o .0; entries = o .2; locations = (el, o .1); moves = k .moves h f; order = k .order h f };
+                    record { image = low-program-is book m opened b (p .0); program = o .0; entries = o .2; locations = (el, o .1); moves = k .moves h f; order = k .order h f };
                 image = opened;
               }
 

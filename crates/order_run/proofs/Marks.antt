@@ -13,13 +13,12 @@ use lib.ListN.{length, getD, replicate}
 use Rattle.text.specs.Words.{if_then_else_, has, table-from, table}
 use Rattle.text.proofs.Words.{length-table-from, getD-table, getD-table-past}
 use Rattle.engine.specs.Move.{Fired, writes}
-use Rattle.engine_release.specs.Marks.{mark}
 use Rattle.engine_release.proofs.ByPlace.{each-is}
-use Rattle.engine_fire.specs.Effect.{marks-joined}
 use Rattle.order.specs.Sets.{bit, with-move}
 use Rattle.order.specs.Run.{moves-that, reads-at, writes-at, readers, writers}
 use Rattle.order.proofs.Sets.{bit-or}
 use Rattle.order.proofs.Masks.{bit-ext}
+use Rattle.engine_term.specs.Marks.{mark, marked-where}
 
 -- ---- one location
 
@@ -70,7 +69,7 @@ module _ (t : ℕ → Fired → Bool) (n : ℕ) where
   abbrev marks : List Fired → List ℕ
   marks fs = table (λ l. moves-that (t l) 0 fs) n
 
-  marks-more : (fs : List Fired) (f : Fired) → marks (fs ++ (f ∷ [])) ≡ marks-joined (2 ^ length fs) (λ l. t l f) (marks fs)
+  marks-more : (fs : List Fired) (f : Fired) → marks (fs ++ (f ∷ [])) ≡ marked-where (2 ^ length fs) (λ l. t l f) (marks fs)
   marks-more fs f =
       let long = length-table-from (λ l. moves-that (t l) 0 fs) 0 n in
       each-is (λ l m. mark (2 ^ length fs) (t l f) m) (marks fs) (marks (fs ++ (f ∷ []))) (length-table-from (λ l. moves-that (t l) 0 (fs ++ (f ∷ []))) 0 n ∙ sym long)
@@ -93,11 +92,11 @@ none-from i (suc n) = ap (_∷_ 0) (none-from (suc i) n)
 -- ---- readers and writers
 
 module _ (n : ℕ) (fs : List Fired) where
-  pub readers-more : (f : Fired) → readers n (fs ++ (f ∷ [])) ≡ marks-joined (2 ^ length fs) (has (f .reads)) (readers n fs)
+  pub readers-more : (f : Fired) → readers n (fs ++ (f ∷ [])) ≡ marked-where (2 ^ length fs) (has (f .reads)) (readers n fs)
   unfolding readers
   readers-more f = marks-more reads-at n fs f
 
-  pub writers-more : (f : Fired) → writers n (fs ++ (f ∷ [])) ≡ marks-joined (2 ^ length fs) (writes (f .updates)) (writers n fs)
+  pub writers-more : (f : Fired) → writers n (fs ++ (f ∷ [])) ≡ marked-where (2 ^ length fs) (writes (f .updates)) (writers n fs)
   unfolding writers
   writers-more f = marks-more writes-at n fs f
 

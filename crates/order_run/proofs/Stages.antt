@@ -18,13 +18,13 @@ use Rattle.engine_walk.specs.Walk.{outcome}
 use Rattle.engine_walk.specs.WalkMarks.{WalkMarked}
 use Rattle.engine_fire.specs.declared.Begun.{Begun}
 use Rattle.engine_fire.specs.Effect.{MoveFits, MoveEffect}
-use Rattle.engine_fire.specs.Close.{MoveFinished}
+use Rattle.engine_fire.specs.Finish.{MoveFinished}
 use Rattle.engine_fire.specs.Count.{instructions-given}
 use Rattle.engine_fire.proofs.Count.{made-of, given-few, same-outcome}
 use Rattle.engine_fire.proofs.Effect.{finished-effect}
 use Rattle.order.specs.Pairs.{PairFound, no-pair, a-pair, least-pair}
 use Rattle.order.specs.Log.{Log, move-at}
-use Rattle.order.specs.Run.{Run, ran, halted, run, touching, order-checked, finish, run-from}
+use Rattle.order.specs.Run.{Run, ran, halted, run, touching, order-checked, run-answer, run-from}
 use Rattle.order.specs.Lists.{lists-from}
 use Rattle.order.specs.Table.{input-in}
 use Rattle.order_touch.specs.Marked.{unordered-marked, clipped}
@@ -58,12 +58,12 @@ module _ (B : Program) (g : Log) (c : List ℕ) where
   module _ (s : Run) (d rs ws : List ℕ) (h : RunTables B s d rs ws) where
     -- the end of a run in which a move was refused
     ends-halted : (a : Answer) → run B g c (length (g .moves)) ≡ halted (a .number) (a .p) (a .q) s → answer-with a d rs ws ≡ run-from B g c
-    unfolding run-from finish
+    unfolding run-from run-answer
     ends-halted a e = rw (e, h .contents, h .readers, h .writers)
 
     -- the end of a run in which all moves fired
     ends-ran : run B g c (length (g .moves)) ≡ ran s → (a : Answer) → a ≡ order-checked B s (touching B g (s .fired)) .answer → answer-with a d rs ws ≡ run-from B g c
-    unfolding run-from finish
+    unfolding run-from run-answer
     ends-ran e a f = rw e (go (touching B g (s .fired)) f)
       where
         go : (o : PairFound) → a ≡ order-checked B s o .answer → answer-with a d rs ws ≡ order-checked B s o

@@ -19,7 +19,7 @@ use Rattle.order_run.specs.Checked.{CallPassed, run-lists}
 
 -- ---- on tables of just the records needed; m is the image, o the order's table
 
--- after i of so many moves, with these marks: the next one's turn, or the order checked
+-- i of the moves have fired and left these marks: r says that move i is next, or has the answer of the order check
 abbrev pub NextMove : List ℕ → ℕ → ℕ → List ℕ → List ℕ → RunState → Type 0
 NextMove o moves i rs ws r = (m c d : List ℕ) (g : Log) → moves ≡ length (g .moves) → FiredSoFar m o g c i d rs ws
     → RunAt m o g c (lists-from (low-program m) g c (moves - i) i) r d rs ws

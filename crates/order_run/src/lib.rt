@@ -2,7 +2,7 @@
 use book::Image;
 use engine_fire::Begun;
 use order::Lengths;
-use order::Order;
+use order::OrderTable;
 use text::Answer;
 use text::Value;
 ghost use mathlib.Core.Path.{_≡_};
@@ -40,7 +40,11 @@ pub fn check_lent(locations: u32, lent: Lengths) -> Answer
         return text::answer_at(text::LENT_SHORT, locations, text::WRITERS_TABLE);
     }
     if lent.instructions < engine::MOST_INSTRUCTIONS {
-        return text::answer_at(text::LENT_SHORT, 256, text::INSTRUCTIONS_TABLE);
+        return text::answer_at(
+            text::LENT_SHORT,
+            engine::MOST_INSTRUCTIONS as u32,
+            text::INSTRUCTIONS_TABLE,
+        );
     }
     text::answer_at(0, 0, 0)
 }
@@ -73,7 +77,7 @@ pub fn start_tables(
 }
 
 // Refusal 17, of so many moves, by the order's table and the marks.
-pub fn check_order(readers: &[u64], writers: &[u64], order: &Order, moves: u32) -> Answer
+pub fn check_order(readers: &[u64], writers: &[u64], order: &OrderTable, moves: u32) -> Answer
     ensures { λ r. ⌜ r ≡ touch-answer (least-pair (unordered-marked (now (order .entry)) (now (readers .entry)) (now (writers .entry)) (clipped (now (readers .entry)) (now (writers .entry)) (length (now (readers .entry))))) moves) ⌝ }
 {
     let pair = order_touch::least_touching_pair(readers, writers, order, moves, readers.len());
@@ -119,7 +123,7 @@ pub fn check_all(
     log: &[u8],
     lent: Lengths,
     image: &mut Image,
-    order: &mut Order,
+    order: &mut OrderTable,
 ) -> CheckedCall
     ensures { λ r. ⌜ CallChecked (now (book .entry)) (now (log .entry)) lent r (now (image .exit)) (now (order .exit)) ⌝ }
 {
@@ -168,24 +172,24 @@ fn run_over(answer: Answer) -> RunState
 fn move_bit(i: u32) -> u64
     ensures { λ r. ⌜ (i < 64 → r ≡ 2 ^ i) ⌝ }
 {
-    if i < 64 {
+    if i < order::MOST_MOVES {
         return 1u64 << i;
     }
     0
 }
 
-// The number after i; for a number that no move of a log has, one that no move has.
+// i + 1 for a move's number, else 65, which no move has: so the moves left fall.
 fn number_after(i: u32) -> u32
     ensures { λ r. ⌜ (i < 64 → r ≡ i + 1) × (65 - r ≤ 64 - i) ⌝ }
 {
-    if i < 64 {
+    if i < order::MOST_MOVES {
         return i + 1;
     }
-    65
+    order::MOST_MOVES + 1
 }
 
 // Move i is next, if there is one; otherwise the order is checked, and the run is over.
-fn next_move(readers: &[u64], writers: &[u64], order: &Order, moves: u32, i: u32) -> RunState
+fn next_move(readers: &[u64], writers: &[u64], order: &OrderTable, moves: u32, i: u32) -> RunState
     ensures { λ r. ⌜ NextMove (now (order .entry)) moves i (now (readers .entry)) (now (writers .entry)) r ⌝ }
     ensures { λ r. ⌜ moves-left r ≤ 65 - i ⌝ }
 {
@@ -205,7 +209,7 @@ fn next_move(readers: &[u64], writers: &[u64], order: &Order, moves: u32, i: u32
 fn start_on_part(
     book: &[u8],
     image: &Image,
-    order: &Order,
+    order: &OrderTable,
     contents: &mut [Value],
     readers: &mut [u64],
     writers: &mut [u64],
@@ -249,7 +253,7 @@ pub fn begin_next(
     contents: &[Value],
     readers: &mut [u64],
     image: &Image,
-    order: &Order,
+    order: &OrderTable,
     list: &mut [u64; 256],
     t: RunState,
 ) -> Begun
@@ -278,7 +282,7 @@ pub fn finish_next(
     readers: &mut [u64],
     writers: &mut [u64],
     image: &Image,
-    order: &Order,
+    order: &OrderTable,
     list: &[u64; 256],
     t: RunState,
     s: Begun,
@@ -314,7 +318,7 @@ pub fn start_run(
     readers: &mut [u64],
     writers: &mut [u64],
     image: &Image,
-    order: &Order,
+    order: &OrderTable,
     checked: CheckedCall,
 ) -> RunState
     ensures { λ r. ⌜ CallStarted (now (book .entry)) (now (image .entry)) (now (order .entry)) checked (tables-before contents readers writers) (tables-after contents readers writers) r ⌝ }
@@ -340,7 +344,7 @@ pub fn prepare(
     writers: &mut [u64],
     lent: usize,
     image: &mut Image,
-    order: &mut Order,
+    order: &mut OrderTable,
 ) -> RunState
     ensures { λ r. ⌜ CallPrepared (now (book .entry)) (now (log .entry)) lent (tables-before contents readers writers) (tables-after contents readers writers) (now (image .exit)) (now (order .exit)) r ⌝ }
 {

@@ -26,28 +26,28 @@ use Rattle.order_touch.specs.Marked.{unordered-marked, clipped, pair-as,
 pub shifted-pos : (j : ℕ) → j < 64 → 1 ≤ (1 * 2 ^ j) % 2 ^ 64
 shifted-pos j h = rw (shl-one j h) (pow-pos j)
 
-module _ (met row j : ℕ) (fit : met < 2 ^ 64) (row-fit : row < 2 ^ 64) (small : j < 64) where
+module _ (touching predecessors j : ℕ) (fit : touching < 2 ^ 64) (predecessors-fit : predecessors < 2 ^ 64) (small : j < 64) where
   abbrev near : ℕ
-  near = bitAnd (bitAnd met ((2 ^ 64 - 1) - row)) (2 ^ j - 1)
+  near = bitAnd (bitAnd touching ((2 ^ 64 - 1) - predecessors)) (2 ^ j - 1)
 
-  near-bit : (i : ℕ) → i < 64 → bit near i ≡ ((bit met i && not (bit row i)) && bit (2 ^ j - 1) i)
-  near-bit i h = bit-and (bitAnd met ((2 ^ 64 - 1) - row)) (2 ^ j - 1) i ∙ rw (bit-and met ((2 ^ 64 - 1) - row) i, bit-not 64 row i row-fit h)
+  near-bit : (i : ℕ) → i < 64 → bit near i ≡ ((bit touching i && not (bit predecessors i)) && bit (2 ^ j - 1) i)
+  near-bit i h = bit-and (bitAnd touching ((2 ^ 64 - 1) - predecessors)) (2 ^ j - 1) i ∙ rw (bit-and touching ((2 ^ 64 - 1) - predecessors) i, bit-not 64 predecessors i predecessors-fit h)
 
-  near-hit : trailingZeros 64 near < 64 → (trailingZeros 64 near < j) × ((not (bit row (trailingZeros 64 near)) && bit met (trailingZeros 64 near)) ≡ true)
+  near-hit : trailingZeros 64 near < 64 → (trailingZeros 64 near < j) × ((not (bit predecessors (trailingZeros 64 near)) && bit touching (trailingZeros 64 near)) ≡ true)
   near-hit h =
       let r = trailingZeros 64 near in
-      let e = and-cases (bit met r && not (bit row r)) (bit (2 ^ j - 1) r) (sym (near-bit r h) ∙ least-in 64 near h) in
-      let f = and-cases (bit met r) (not (bit row r)) (e .0) in
+      let e = and-cases (bit touching r && not (bit predecessors r)) (bit (2 ^ j - 1) r) (sym (near-bit r h) ∙ least-in 64 near h) in
+      let f = and-cases (bit touching r) (not (bit predecessors r)) (e .0) in
       (below-bit j r (e .1), rw (f .0, f .1))
 
-  near-low : (i : ℕ) → i < j → (not (bit row i) && bit met i) ≡ true → trailingZeros 64 near ≤ i
+  near-low : (i : ℕ) → i < j → (not (bit predecessors i) && bit touching i) ≡ true → trailingZeros 64 near ≤ i
   near-low i h e =
-      let f = and-cases (not (bit row i)) (bit met i) e in
+      let f = and-cases (not (bit predecessors i)) (bit touching i) e in
       let b : bit near i ≡ true = near-bit i (omega arith) ∙ rw (f .0, f .1, bit-below j i h) in
       dite (decLt i (trailingZeros 64 near)) (λ (y : i < trailingZeros 64 near). absurd (true≢false (sym b ∙ least-below 64 near i y)))
       (λ (n : ¬ (i < trailingZeros 64 near)). omega arith)
 
-  pub near-is : LeastTouching met row j (trailingZeros 64 (bitAnd (bitAnd met ((2 ^ 64 - 1) - row)) ((1 * 2 ^ j) % 2 ^ 64 - 1)))
+  pub near-is : LeastTouching touching predecessors j (trailingZeros 64 (bitAnd (bitAnd touching ((2 ^ 64 - 1) - predecessors)) ((1 * 2 ^ j) % 2 ^ 64 - 1)))
   near-is = rw (shl-one j small) (record { hit = near-hit; low = near-low })
 
 -- ---- the least pair, as the code gives it

@@ -137,8 +137,8 @@ sofar-end r w t u left n e z s = record {
         rw (none, bit-empty j, bit-or r w j, others-bit r w j i) (touch-bool (bit r i) (bit w i) (bit r j) (bit w j))
 
 -- where no move writes, nothing touches
-pub met-unwritten : (r w : ℕ) (t : List ℕ) → w ≡ 0 → TouchAdded r w t t
-met-unwritten r w t z = record {
+pub touching-unwritten : (r w : ℕ) (t : List ℕ) → w ≡ 0 → TouchAdded r w t t
+touching-unwritten r w t z = record {
   long = refl;
   bits = λ j i. sym (rw (z, bit-empty i, bit-empty j) (or-false (bit (getD t j 0) i)));
 }
@@ -159,7 +159,7 @@ module _ (rs ws : List ℕ) where
   all-unwritten a zero t z m = let e : a + 0 ≡ a = omega arith in rw e m
   all-unwritten a (suc n) t z m =
       let e : a + suc n ≡ a + n + 1 = omega arith in
-      rw e (all-turn (a + n) t t (all-unwritten a n t (λ k h. z k (omega arith)) m) (met-unwritten (getD rs (a + n) 0) (getD ws (a + n) 0) t (z n (omega arith))))
+      rw e (all-turn (a + n) t t (all-unwritten a n t (λ k h. z k (omega arith)) m) (touching-unwritten (getD rs (a + n) 0) (getD ws (a + n) 0) t (z n (omega arith))))
 
 -- the part of the marks that the code tests is that of the table
 pub unwritten : (ws : List ℕ) (a n k : ℕ) → k < n → getD (take (a + n - a) (drop a ws)) k 0 ≡ 0 → getD ws (a + k) 0 ≡ 0

@@ -43,7 +43,7 @@ pub record TouchSets (rs ws : List ℕ) (n : ℕ) (u : List ℕ) : Type 0 where
   pub long : length u ≡ 64
   pub bits : (j i : ℕ) → bit (getD u j 0) i ≡ marked-touch rs ws n i j
 
--- r is the least move below j that is in the set `met` of the moves that touch j and not in the set `row` of j's predecessors; 64 for none
-pub record LeastTouching (met row j r : ℕ) : Type 0 where
-  pub hit : r < 64 → (r < j) × ((not (bit row r) && bit met r) ≡ true)
-  pub low : (i : ℕ) → i < j → (not (bit row i) && bit met i) ≡ true → r ≤ i
+-- r is the least move below j that is in the set of the moves that touch j and not in the set of its predecessors; 64 for none
+pub record LeastTouching (touching predecessors j r : ℕ) : Type 0 where
+  pub hit : r < 64 → (r < j) × ((not (bit predecessors r) && bit touching r) ≡ true)
+  pub low : (i : ℕ) → i < j → (not (bit predecessors i) && bit touching i) ≡ true → r ≤ i

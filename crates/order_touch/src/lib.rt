@@ -1,5 +1,5 @@
 // The order check, refusal 17: the least pair of unordered moves that touch, from the marks alone.
-use order::Order;
+use order::OrderTable;
 ghost use mathlib.Core.Path.{_≡_};
 ghost use mathlib.Core.Bool.{_&&_, not};
 ghost use Prim.Native.Nat.{ℕ, _<_, _≤_};
@@ -20,9 +20,9 @@ pub struct MovePair {
 
 // Adds to the moves that touch each of 64 those that do so at a location with these marks: all its
 // users if the move writes it, its writers if it only reads it.
-fn add_touching(readers: u64, writers: u64, met: &mut [u64; 64])
-    requires { ⌜ length (now met) ≡ 64 ⌝ }
-    ensures { λ _. ⌜ TouchAdded readers writers (now (met .entry)) (now (met .exit)) ⌝ }
+fn add_touching(readers: u64, writers: u64, touching: &mut [u64; 64])
+    requires { ⌜ length (now touching) ≡ 64 ⌝ }
+    ensures { λ _. ⌜ TouchAdded readers writers (now (touching .entry)) (now (touching .exit)) ⌝ }
 {
     let users = readers | writers;
     let mut left = users;
@@ -33,19 +33,19 @@ fn add_touching(readers: u64, writers: u64, met: &mut [u64; 64])
         if (writers >> j) & 1 == 1 {
             others = users;
         }
-        met[j] = met[j] | others;
+        touching[j] = touching[j] | others;
         left = left & (left - 1);
         count -= 1;
     }
 }
 
 // Adds to the moves that touch each of 64 those that do so at a location with these marks; where no move writes, nothing touches.
-fn add_if_written(readers: u64, writers: u64, met: &mut [u64; 64])
-    requires { ⌜ length (now met) ≡ 64 ⌝ }
-    ensures { λ _. ⌜ TouchAdded readers writers (now (met .entry)) (now (met .exit)) ⌝ }
+fn add_if_written(readers: u64, writers: u64, touching: &mut [u64; 64])
+    requires { ⌜ length (now touching) ≡ 64 ⌝ }
+    ensures { λ _. ⌜ TouchAdded readers writers (now (touching .entry)) (now (touching .exit)) ⌝ }
 {
     if writers != 0 {
-        add_touching(readers, writers, met);
+        add_touching(readers, writers, touching);
     }
 }
 
@@ -63,13 +63,13 @@ fn all_marks(part: &[u64]) -> u64
 }
 
 // Adds what touches at the locations from a up to b to what touches at the first a.
-fn add_part(readers: &[u64], writers: &[u64], a: usize, b: usize, met: &mut [u64; 64])
-    requires { ⌜ (a ≤ b) × (b ≤ length (now readers)) × (b ≤ length (now writers)) × TouchSets (now readers) (now writers) a (now met) ⌝ }
-    ensures { λ _. ⌜ TouchSets (now (readers .entry)) (now (writers .entry)) b (now (met .exit)) ⌝ }
+fn add_part(readers: &[u64], writers: &[u64], a: usize, b: usize, touching: &mut [u64; 64])
+    requires { ⌜ (a ≤ b) × (b ≤ length (now readers)) × (b ≤ length (now writers)) × TouchSets (now readers) (now writers) a (now touching) ⌝ }
+    ensures { λ _. ⌜ TouchSets (now (readers .entry)) (now (writers .entry)) b (now (touching .exit)) ⌝ }
 {
     let mut l = a;
     while l < b {
-        add_if_written(readers[l], writers[l], met);
+        add_if_written(readers[l], writers[l], touching);
         l += 1;
     }
 }
@@ -79,44 +79,44 @@ fn touching_sets(readers: &[u64], writers: &[u64], n: usize) -> [u64; 64]
     requires { ⌜ (n ≤ length (now readers)) × (n ≤ length (now writers)) ⌝ }
     ensures { λ r. ⌜ TouchSets (now (readers .entry)) (now (writers .entry)) n r ⌝ }
 {
-    let mut met: [u64; 64] = [0; 64];
+    let mut touching: [u64; 64] = [0; 64];
     let mut a: usize = 0;
     while a < n {
         let b = a + text::smaller(n - a, BLOCK);
         if all_marks(&writers[a..b]) != 0 {
-            add_part(readers, writers, a, b, &mut met);
+            add_part(readers, writers, a, b, &mut touching);
         }
         a = b;
     }
-    met
+    touching
 }
 
-// The least move below j that touches j and is not one of its predecessors, `row`; 64 for none.
-fn least_touching(met: u64, row: u64, j: usize) -> u32
+// The least move below j that touches j and is not one of its predecessors; 64 for none. Both are sets of moves.
+fn least_touching(touching: u64, predecessors: u64, j: usize) -> u32
     requires { ⌜ j < 64 ⌝ }
-    ensures { λ r. ⌜ LeastTouching met row j r ⌝ }
+    ensures { λ r. ⌜ LeastTouching touching predecessors j r ⌝ }
 {
     let earlier = (1u64 << j) - 1;
-    u64::trailing_zeros(met & !row & earlier)
+    u64::trailing_zeros(touching & !predecessors & earlier)
 }
 
-// The least pair of the first m moves that touch and are unordered, by its first move and then its second; `met` has what touches each move.
-fn least_pair(met: &[u64; 64], order: &Order, m: usize) -> MovePair
+// The least pair of the first m moves that touch and are unordered, by its first move and then its second; `touching` has what touches each move.
+fn least_pair(touching: &[u64; 64], order: &OrderTable, m: usize) -> MovePair
     requires { ⌜ m ≤ 64 ⌝ }
-    ensures { λ r. ⌜ r ≡ pair-as (least-pair (λ i j. not (ordered-by (now (order .entry)) i j) && bit (getD (now (met .entry)) j 0) i) m) ⌝ }
+    ensures { λ r. ⌜ r ≡ pair-as (least-pair (λ i j. not (ordered-by (now (order .entry)) i j) && bit (getD (now (touching .entry)) j 0) i) m) ⌝ }
 {
-    let mut first: u32 = 64;
+    let mut first: u32 = order::MOST_MOVES;
     let mut second: usize = 0;
     let mut j: usize = 0;
     while j < m {
-        let i = least_touching(met[j], order[j], j);
+        let i = least_touching(touching[j], order[j], j);
         if i < first {
             first = i;
             second = j;
         }
         j += 1;
     }
-    if first < 64 {
+    if first < order::MOST_MOVES {
         MovePair {
             found: true,
             first: first,
@@ -136,13 +136,17 @@ fn least_pair(met: &[u64; 64], order: &Order, m: usize) -> MovePair
 pub fn least_touching_pair(
     readers: &[u64],
     writers: &[u64],
-    order: &Order,
+    order: &OrderTable,
     moves: u32,
     locations: usize,
 ) -> MovePair
     ensures { λ r. ⌜ r ≡ pair-as (least-pair (unordered-marked (now (order .entry)) (now (readers .entry)) (now (writers .entry)) (clipped (now (readers .entry)) (now (writers .entry)) locations)) moves) ⌝ }
 {
     let n = text::smaller(locations, text::smaller(readers.len(), writers.len()));
-    let met = touching_sets(readers, writers, n);
-    least_pair(&met, order, text::smaller(moves as usize, 64))
+    let touching = touching_sets(readers, writers, n);
+    least_pair(
+        &touching,
+        order,
+        text::smaller(moves as usize, order::MOST_MOVES as usize),
+    )
 }

@@ -1,4 +1,4 @@
--- The checks of an input are those of its book's lines and of what stands after them, as the log entry makes them. Assumes nothing.
+-- The checks of an input are those of its book's lines and of what stands after them, as the log entry makes them.
 use mathlib.Core.Path.{_≡_, refl, sym, ap, _∙_}
 use mathlib.Core.List.{List}
 use Prim.Native.Nat.{ℕ, _+_, _*_, _≤_, _<_}

@@ -1,4 +1,4 @@
--- One name that opens every definition on an `unfolding` line, for theorems by computation.
+-- One name that opens on an `unfolding` line what the printing is computed from, for theorems by computation.
 use Prim.Native.Nat.{ℕ}
 use Rattle.order.specs.Open.{open-order}
 use Rattle.report.specs.Report.{check-input, part-lines, lines-from, lines-written, print-answer, rental}

@@ -1,4 +1,4 @@
--- Lines put one after the other: what a loop that prints has yet to print, how many lines there are at most, and the whole text. Assumes nothing.
+-- Lines put one after the other: what a loop that prints has yet to print, how many lines there are at most, and the whole text.
 use mathlib.Core.Path.{_≡_, refl, sym, ap, _∙_}
 use mathlib.Core.Bool.{Bool, true, false}
 use mathlib.Core.List.{List, [], _∷_, _++_, append-assoc, append-nil}

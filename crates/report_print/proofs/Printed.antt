@@ -1,4 +1,4 @@
--- What is printed is the text of the definition: the contents that a run leaves, the book in the image, and the checks of an input. Assumes nothing.
+-- What is printed is the text of the definition: the contents that a run leaves, the book in the image, and the checks of an input.
 use mathlib.Core.Path.{_≡_, refl, sym, ap, subst, _∙_}
 use mathlib.Core.Logic.{_≢_}
 use mathlib.Core.List.{List, _++_, append-nil}
@@ -21,7 +21,7 @@ use Rattle.engine.specs.Single.{over-first}
 use Rattle.engine.proofs.Moves.{fire-length}
 use Rattle.order.specs.Log.{Log, move-at}
 use Rattle.order.specs.Pairs.{PairFound, no-pair, a-pair}
-use Rattle.order.specs.Run.{Run, RunOutcome, ran, halted, moved, next-move, run, touching, LogAnswer, order-checked, finish, run-from, run-log}
+use Rattle.order.specs.Run.{Run, RunOutcome, ran, halted, moved, next-move, run, touching, LogAnswer, order-checked, run-answer, run-from, run-log}
 use Rattle.order.specs.Call.{check-all, left-past}
 use Rattle.report.specs.Report.{most-input, own-tables, lines-written, first-line, print-answer, print-checked, rental}
 use Rattle.report.proofs.Split.{input-long}
@@ -59,14 +59,14 @@ run-length B g c (suc n) = go (run B g c n) (run-length B g c n)
     go (halted a p q s) e = e
 
 log-length : (B : Program) (g : Log) (c : List ℕ) → length (run-from B g c .contents) ≡ length c
-unfolding run-from finish ran-of
+unfolding run-from run-answer ran-of
 log-length B g c = go (run B g c (length (g .moves))) (run-length B g c (length (g .moves)))
   where
     two-way : (s : Run) (o : PairFound) → order-checked B s o .contents ≡ s .contents
     two-way s no-pair = refl
     two-way s (a-pair i j) = refl
 
-    go : (o : RunOutcome) → length (ran-of o .contents) ≡ length c → length (finish B g o .contents) ≡ length c
+    go : (o : RunOutcome) → length (ran-of o .contents) ≡ length c → length (run-answer B g o .contents) ≡ length c
     go (ran s) e = ap length (two-way s (touching B g (s .fired))) ∙ e
     go (halted a p q s) e = e
 
@@ -80,7 +80,7 @@ contents-left book b g e c =
 
 module _ (a : Answer) (m after : List ℕ) where
   pub refusal-shown : after ≡ put-bytes 0 (written (first-line a 0)) m → most-output ≤ length m → Shown (written (first-line a 0)) m 25 after
-  refusal-shown e h = (refl, e ∙ put-front (written (first-line a 0)) m (omega arith))
+  refusal-shown e h = record { count = refl; bytes = e ∙ put-front (written (first-line a 0)) m (omega arith) }
 
 refused-text : (B : Program) (a : Answer) (c : List ℕ) → a .number ≢ 0 → answer-printed B a c ≡ written (first-line a 0)
 unfolding print-answer lines-written
@@ -111,7 +111,7 @@ module _ (book : List ℕ) (b : Book) (g : Log) (r : CheckedCall) (m o : List �
         let x : answer-printed (program-in m) a (take (min (word m 6) (length c)) c) ≡ print-answer B (run-log b g) =
         rw (p .program, n, left, contents-left book b g accepted (t .contents), same) (sym (print-same B (run-log b g))) in
         let y : L (program-in m) ≤ 2048 = rw (p .program) (p .few) in
-        (s .long ∙ ap length x, subst (λ (z : List ℕ). after ≡ z ++ drop (length z) out) x (s .whole y room))
+        record { count = s .long ∙ ap length x; bytes = subst (λ (z : List ℕ). after ≡ z ++ drop (length z) out) x (s .whole y room) }
 
     -- what is printed of a run that is refused
     pub halt-shown : a .number ≢ 0 → Shown (written (first-line a 0)) out k after → Shown (print-answer B (run-log b g)) out k after

@@ -1,4 +1,4 @@
--- Where the book of an input ends, by the tests of its header; the checks of the input are those of its two parts. Assumes nothing.
+-- Where the book of an input ends, by the tests of its header; the checks of the input are those of its two parts.
 use mathlib.Core.Path.{_≡_, refl, sym, _∙_}
 use mathlib.Core.Logic.{_≢_}
 use mathlib.Core.Bool.{Bool, true, false, _&&_, not}

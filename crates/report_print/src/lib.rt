@@ -2,7 +2,7 @@
 use book::Function;
 use book::Image;
 use order::Lengths;
-use order::Order;
+use order::OrderTable;
 use order_run::CheckedCall;
 use text::Answer;
 use text::Line;
@@ -148,12 +148,6 @@ pub fn book_bytes(input: &[u8]) -> usize
 
 // ---- the whole answer to an input
 
-// The most bytes of input.
-const MOST_INPUT: usize = 60000;
-
-// How many records each table of `rental` has.
-const RECORDS: usize = 2048;
-
 // Prints the line of a refusal.
 fn print_refusal(answer: Answer, output: &mut [u8]) -> usize
     requires { ⌜ most-output ≤ length (now output) ⌝ }
@@ -184,7 +178,7 @@ fn report_on(
     readers: &mut [u64],
     writers: &mut [u64],
     image: &Image,
-    order: &Order,
+    order: &OrderTable,
     checked: CheckedCall,
     output: &mut [u8],
 ) -> usize
@@ -196,7 +190,7 @@ fn report_on(
         contents,
         readers,
         writers,
-        RECORDS,
+        report::RECORDS,
         image,
         order,
         t,
@@ -211,7 +205,7 @@ fn report_on(
 fn report_small(
     book: &[u8],
     image: &Image,
-    order: &Order,
+    order: &OrderTable,
     checked: CheckedCall,
     output: &mut [u8],
 ) -> usize
@@ -237,7 +231,7 @@ fn report_small(
 fn report_large(
     book: &[u8],
     image: &Image,
-    order: &Order,
+    order: &OrderTable,
     checked: CheckedCall,
     output: &mut [u8],
 ) -> usize
@@ -267,10 +261,10 @@ fn report_parts(book: &[u8], log: &[u8], output: &mut [u8]) -> usize
     let mut image = [0u32; 2248];
     let mut order = [0u64; 512];
     let lent = Lengths {
-        contents: RECORDS,
-        readers: RECORDS,
-        writers: RECORDS,
-        instructions: RECORDS,
+        contents: report::RECORDS,
+        readers: report::RECORDS,
+        writers: report::RECORDS,
+        instructions: report::RECORDS,
     };
     let checked = order_run::check_all(book, log, lent, &mut image, &mut order);
     let answer = checked.answer;
@@ -288,7 +282,7 @@ fn report_input(input: &[u8], output: &mut [u8]) -> usize
     requires { ⌜ most-output ≤ length (now output) ⌝ }
     ensures { λ r. ⌜ Shown (rental (now (input .entry))) (now (output .entry)) r (now (output .exit)) ⌝ }
 {
-    if input.len() > MOST_INPUT {
+    if input.len() > report::MOST_INPUT {
         let long = Answer {
             number: text::LENT_SHORT,
             p: 60000,

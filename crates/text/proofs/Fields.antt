@@ -1,4 +1,4 @@
--- The columns of a field, one by one: what the code's scan and pushes give is what the definitions say. Assumes nothing.
+-- The columns of a field, one by one: what the code's scan and pushes give is what the definitions say.
 use mathlib.Core.Path.{_≡_, refl, sym, _∙_, ap}
 use mathlib.Core.Bool.{Bool, true, false, _&&_, _||_, not, and-true, and-assoc}
 use mathlib.Core.List.{List, [], _∷_, _++_}

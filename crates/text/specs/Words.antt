@@ -38,6 +38,11 @@ module _ {A : Type 0} where
   abbrev pub table : (ℕ → A) → ℕ → List A
   table f n = table-from f 0 n
 
+-- each number of a list changed by f, which also gets its place, counted from i
+unfoldable pub by-place : (ℕ → ℕ → ℕ) → ℕ → List ℕ → List ℕ
+by-place f i [] = []
+by-place f i (v ∷ vs) = f i v ∷ by-place f (suc i) vs
+
 -- the test passes at one of the places below n
 unfoldable pub some-below : (ℕ → Bool) → ℕ → Bool
 some-below test zero = false

@@ -1,4 +1,4 @@
--- Laws of bytes put into a text: one after the other, apart from each other, and where they fit. Assumes nothing.
+-- Laws of bytes put into a text: one after the other, apart from each other, and where they fit.
 use mathlib.Core.Path.{_≡_, refl, sym, _∙_}
 use mathlib.Core.List.{List, [], _∷_, _++_, append-assoc}
 use Prim.Native.Nat.{ℕ, suc, _+_, _≤_, _<_}

@@ -4,7 +4,7 @@ use borrow.Author.Needs.{needs}
 use Rattle.book_entries.proofs.Pass.{entry-line, ill-formed, at-fault-from, all-sound}
 use Rattle.book_entries.proofs.Roll.{bad-tests, roll-none, roll-step, low-none, low-step}
 use Rattle.book_entries.specs.Pass.{bad-at}
-use Rattle.book_entries.specs.Roll.{entries-from, label-marked, roll-of}
+use Rattle.book_entries.specs.Roll.{entries-from, roll-with, roll-of}
 use Rattle.book.proofs.Image.{elements-most}
 use Rattle.book.specs.Image.{program-in}
 use Rattle.book.specs.Contents.{bad-entry, least-location}
@@ -124,8 +124,8 @@ same-length-2 c = c .before .before .before .before .before .before .before .bef
 returns-2 : tie.Need-returns-2 Inv-loop μ-loop
 returns-2 c = let a = c .before .before .before .before .before .before .before .before .before .before .before .before .before .before .before .before .before .before .before .args in let l = c .before .before .before .before .before .before .before .before .before .before .before .before .before .loop in at-fault-from (program-in (a .image .now)) (a .text .now) (a .first) (a .end) _ (l .i) (c .fault-at .ensures) (l .inv .1) (least-stop (bad-at (program-in (a .image .now)) (a .text .now) (a .first) (a .end - a .first)) (a .end) (l .i) (c .before .before .before .before .before .before .before .before .before .before .before .before .loop-test .taken) (rest (c .before .before) ∙ c .before .if2 .taken) (l .inv .2))
 
-mark-label-requires : tie.Need-mark-label-requires Inv-loop μ-loop
-mark-label-requires c κs = search needs
+add-to-roll-requires : tie.Need-add-to-roll-requires Inv-loop μ-loop
+add-to-roll-requires c κs = search needs
 
 add-low : tie.Need-add-low Inv-loop μ-loop
 add-low c = omega (arith, c .before .before .before .before .before .before .before .before .before .entry-location .ensures .1)
@@ -137,7 +137,7 @@ loop-less : tie.Need-loop-less Inv-loop μ-loop
 loop-less c = search needs
 
 loop-again : tie.Need-loop-again Inv-loop μ-loop
-loop-again c = let a = c .before .before .before .before .before .before .before .before .before .before .before .before .before .before .before .before .before .before .before .before .before .before .args in let l = c .before .before .before .before .before .before .before .before .before .before .before .before .before .before .before .before .loop in let x = c .before .before .before .before .before .before .before .before .before .before .before .entry .result in let z : l .i + 1 - a .first ≡ l .i - a .first + 1 = omega arith in let w = parsed-ok (a .text .now) (l .i) _ (c .before .before .before .before .before .before .before .before .before .before .before .before .before .before .parse .ensures) in (search needs, least-pass (bad-line (a .text .now)) (a .end) (l .i) (c .before .before .before .before .before .before .before .before .before .before .before .before .before .before .before .loop-test .taken) (ap not (sym w) ∙ c .before .before .before .before .before .before .before .before .before .before .before .before .if1 .left) (l .inv .1), least-pass (bad-at (program-in (a .image .now)) (a .text .now) (a .first) (a .end - a .first)) (a .end) (l .i) (c .before .before .before .before .before .before .before .before .before .before .before .before .before .before .before .loop-test .taken) (rest (c .before .before .before .before .before) ∙ c .before .before .before .before .if2 .left) (l .inv .2), rw z (c .before .before .mark-label .ensures ∙ ap (label-marked x) (l .inv .3) ∙ sym (roll-step (entries-from (a .text .now) (a .first) (a .end - a .first)) (l .i - a .first) (a .roll .now) x (there (c .before .before .before .before .before .before .before .before .before .before .before)))), rw (z, c .before .before .before .before .before .before .before .before .before .entry-location .ensures .0, c .before .before .before .before .before .before .before .before .before .before .function-at .ensures, c .before .before .before .before .before .before .before .before .before .before .before .before .before .before .before .before .before .before .elements .ensures) (sym (low-step (program-in (a .image .now)) (entries-from (a .text .now) (a .first) (a .end - a .first)) (l .i - a .first) x (there (c .before .before .before .before .before .before .before .before .before .before .before)))), c .before .before .mark-label .kept .0 ∙ l .inv .5)
+loop-again c = let a = c .before .before .before .before .before .before .before .before .before .before .before .before .before .before .before .before .before .before .before .before .before .before .args in let l = c .before .before .before .before .before .before .before .before .before .before .before .before .before .before .before .before .loop in let x = c .before .before .before .before .before .before .before .before .before .before .before .entry .result in let z : l .i + 1 - a .first ≡ l .i - a .first + 1 = omega arith in let w = parsed-ok (a .text .now) (l .i) _ (c .before .before .before .before .before .before .before .before .before .before .before .before .before .before .parse .ensures) in (search needs, least-pass (bad-line (a .text .now)) (a .end) (l .i) (c .before .before .before .before .before .before .before .before .before .before .before .before .before .before .before .loop-test .taken) (ap not (sym w) ∙ c .before .before .before .before .before .before .before .before .before .before .before .before .if1 .left) (l .inv .1), least-pass (bad-at (program-in (a .image .now)) (a .text .now) (a .first) (a .end - a .first)) (a .end) (l .i) (c .before .before .before .before .before .before .before .before .before .before .before .before .before .before .before .loop-test .taken) (rest (c .before .before .before .before .before) ∙ c .before .before .before .before .if2 .left) (l .inv .2), rw z (c .before .before .add-to-roll .ensures ∙ ap (roll-with x) (l .inv .3) ∙ sym (roll-step (entries-from (a .text .now) (a .first) (a .end - a .first)) (l .i - a .first) (a .roll .now) x (there (c .before .before .before .before .before .before .before .before .before .before .before)))), rw (z, c .before .before .before .before .before .before .before .before .before .entry-location .ensures .0, c .before .before .before .before .before .before .before .before .before .before .function-at .ensures, c .before .before .before .before .before .before .before .before .before .before .before .before .before .before .before .before .before .before .elements .ensures) (sym (low-step (program-in (a .image .now)) (entries-from (a .text .now) (a .first) (a .end - a .first)) (l .i - a .first) x (there (c .before .before .before .before .before .before .before .before .before .before .before)))), c .before .before .add-to-roll .kept .0 ∙ l .inv .5)
 
 same-length-3 : tie.Need-same-length-3 Inv-loop μ-loop
 same-length-3 c = c .before .loop .inv .5
@@ -169,7 +169,7 @@ check-entry-lines-spec =
     fault-at-requires
     same-length-2
     returns-2
-    mark-label-requires
+    add-to-roll-requires
     add-low
     add-i
     loop-less

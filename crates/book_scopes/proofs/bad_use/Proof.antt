@@ -24,11 +24,11 @@ nodes-requires c κs = search needs
 cast-n : tie.Need-cast-n
 cast-n c = search needs
 
-slice-aggregate-mark-roots : tie.Need-slice-aggregate-mark-roots
-slice-aggregate-mark-roots c = search needs
+slice-aggregate-count-roots : tie.Need-slice-aggregate-count-roots
+slice-aggregate-count-roots c = search needs
 
-mark-roots-requires : tie.Need-mark-roots-requires
-mark-roots-requires c κs = search needs
+count-roots-requires : tie.Need-count-roots-requires
+count-roots-requires c κs = search needs
 
 slice-aggregate-count-uses : tie.Need-slice-aggregate-count-uses
 slice-aggregate-count-uses c = search needs
@@ -43,7 +43,7 @@ not-once-requires : tie.Need-not-once-requires
 not-once-requires c κs = search needs
 
 returns : tie.Need-returns
-returns c = let m = c .before .before .before .before .before .before .before .before .before .before .args .image .now in c .not-once .ensures ∙ rw (c .before .before .before .count-uses .ensures, c .before .before .before .before .before .before .mark-roots .ensures, c .before .before .before .before .before .before .before .before .nodes .ensures, c .before .before .before .before .before .before .before .before .before .agents .ensures) (least-same _ (bad-use (program-in m)) (length (program-in m .nodes)) (λ j l. used-once (program-in m) j (replicate 1024 0) (rw (length-replicate {A = ℕ} 1024 0) (omega (arith, nodes-most m))) (getD-replicate {A = ℕ} 1024 j 0 0 (omega (arith, nodes-most m)))))
+returns c = let m = c .before .before .before .before .before .before .before .before .before .before .args .image .now in c .not-once .ensures ∙ rw (c .before .before .before .count-uses .ensures, c .before .before .before .before .before .before .count-roots .ensures, c .before .before .before .before .before .before .before .before .nodes .ensures, c .before .before .before .before .before .before .before .before .before .agents .ensures) (least-same _ (bad-use (program-in m)) (length (program-in m .nodes)) (λ j l. used-once (program-in m) j (replicate 1024 0) (rw (length-replicate {A = ℕ} 1024 0) (omega (arith, nodes-most m))) (getD-replicate {A = ℕ} 1024 j 0 0 (omega (arith, nodes-most m)))))
 
 pub bad-use-spec : {M : Type 1} → statement M
 bad-use-spec =
@@ -53,8 +53,8 @@ bad-use-spec =
     cast-a
     nodes-requires
     cast-n
-    slice-aggregate-mark-roots
-    mark-roots-requires
+    slice-aggregate-count-roots
+    count-roots-requires
     slice-aggregate-count-uses
     count-uses-requires
     slice-aggregate-not-once

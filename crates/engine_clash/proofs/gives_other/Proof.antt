@@ -2,7 +2,7 @@
 use borrow.Author.Tests.{eq-eqb, ne-eqb}
 use mathlib.Core.Bool.{or-false}
 use Rattle.engine.specs.Move.{other}
-use Rattle.engine_clash.specs.Against.{values-given}
+use Rattle.engine_clash.specs.LeastClash.{values-given}
 use borrow.Author.Needs.{needs}
 use Rattle.engine_clash.proofs.gives_other.Statement.{statement}
 use Rattle.engine_clash.proofs.gives_other.Tie as tie
@@ -24,15 +24,15 @@ returns-2 : tie.Need-returns-2
 unfolding other values-given
 returns-2 c = rw (c .before .before .before .what2 .given .1, eq-eqb _ _ (c .if2 .taken), or-false)
 
-is-trace-requires : tie.Need-is-trace-requires
-is-trace-requires c κs = search needs
+clears-requires : tie.Need-clears-requires
+clears-requires c κs = search needs
 
 default-of-requires : tie.Need-default-of-requires
 default-of-requires c κs = search needs
 
 returns-3 : tie.Need-returns-3
 unfolding other values-given
-returns-3 c = rw (c .before .before .before .before .before .before .what2 .given .1, ne-eqb _ _ (c .before .before .before .if2 .left), ← (c .before .before .is-trace .ensures), c .before .if3 .taken, ← (c .default-of .ensures), or-false)
+returns-3 c = rw (c .before .before .before .before .before .before .what2 .given .1, ne-eqb _ _ (c .before .before .before .if2 .left), ← (c .before .before .clears .ensures), c .before .if3 .taken, ← (c .default-of .ensures), or-false)
 
 returns-4 : tie.Need-returns-4
 unfolding other values-given
@@ -40,7 +40,7 @@ returns-4 c = rw (c .before .before .before .what .given .1, ne-eqb _ _ (c .if1 
 
 returns-5 : tie.Need-returns-5
 unfolding other values-given
-returns-5 c = rw (c .before .before .before .before .before .what2 .given .1, ne-eqb _ _ (c .before .before .if2 .left), ← (c .before .is-trace .ensures), c .if3 .left)
+returns-5 c = rw (c .before .before .before .before .before .what2 .given .1, ne-eqb _ _ (c .before .before .if2 .left), ← (c .before .clears .ensures), c .if3 .left)
 
 pub gives-other-spec : {M : Type 1} → statement M
 gives-other-spec =
@@ -51,7 +51,7 @@ gives-other-spec =
     enum-known-what-2
     cast-if2
     returns-2
-    is-trace-requires
+    clears-requires
     default-of-requires
     returns-3
     returns-4

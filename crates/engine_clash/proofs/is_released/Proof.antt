@@ -7,7 +7,7 @@ use borrow.Author.Needs.{needs}
 use lib.ListN.{drop}
 use Rattle.engine.specs.declared.Instruction.{Instruction}
 use Rattle.engine_instruction.specs.Code.{items}
-use Rattle.engine_instruction.specs.Traces.{any}
+use Rattle.engine_instruction.specs.Given.{any}
 use Rattle.engine_instruction.proofs.Laws.{next, found, ended}
 use Rattle.engine.specs.Move.{label-of}
 use Rattle.text.specs.Words.{has}

@@ -7,7 +7,7 @@ use lib.ListN.{getD, drop}
 use Rattle.book.specs.Image.{low-program}
 use Rattle.engine.specs.declared.Instruction.{Instruction}
 use Rattle.engine_instruction.specs.Code.{decode-of, items}
-use Rattle.engine_clash.specs.Against.{least-with, least-clash}
+use Rattle.engine_clash.specs.LeastClash.{least-with, least-clash}
 use Rattle.engine_instruction.proofs.Laws.{items-cons, items-end}
 use Rattle.engine_clash.proofs.least_of_all.Statement.{statement}
 use Rattle.engine_clash.proofs.least_of_all.Tie as tie

@@ -6,7 +6,7 @@ use borrow.Author.Tests.{le-ltb, lt-ltb}
 use Rattle.book.specs.Image.{low-program}
 use Rattle.engine.specs.Move.{other, values}
 use Rattle.engine_instruction.specs.Code.{items}
-use Rattle.engine_instruction.specs.Traces.{own, gets}
+use Rattle.engine_instruction.specs.Given.{own, gets}
 use Rattle.engine_clash.proofs.Laws.{other-any}
 use Rattle.book.proofs.Held.{elements-held}
 use borrow.Author.Needs.{needs}

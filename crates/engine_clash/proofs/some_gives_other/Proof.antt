@@ -6,10 +6,10 @@ use borrow.Author.Needs.{needs}
 use lib.ListN.{drop}
 use Rattle.engine.specs.declared.Instruction.{Instruction}
 use Rattle.engine_instruction.specs.Code.{items}
-use Rattle.engine_instruction.specs.Traces.{any}
+use Rattle.engine_instruction.specs.Given.{any}
 use Rattle.engine_instruction.proofs.Laws.{next, found, ended}
 use Rattle.engine.specs.Move.{other}
-use Rattle.engine_clash.specs.Against.{values-given}
+use Rattle.engine_clash.specs.LeastClash.{values-given}
 use Rattle.engine_clash.proofs.some_gives_other.Statement.{statement}
 use Rattle.engine_clash.proofs.some_gives_other.Tie as tie
 

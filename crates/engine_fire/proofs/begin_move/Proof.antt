@@ -1,4 +1,5 @@
 -- `begin_move` meets its contract.
+use native.Mathlib.Omega.{arith}
 use borrow.Author.Needs.{needs}
 use Rattle.engine_fire.proofs.begin_move.Statement.{statement}
 use Rattle.engine_fire.proofs.begin_move.Tie as tie
@@ -13,7 +14,7 @@ same-length : tie.Need-same-length
 same-length c = search needs
 
 returns : tie.Need-returns
-returns c = let g = c .before .before .before .walk-move in (g .ensures .0, c .instructions-given .ensures, g .ensures .1)
+returns c = (c .before .before .before .before .before .walk-move .ensures, c .instructions-given .ensures, omega (arith, c .before .instructions-given-arg2 .given))
 
 pub begin-move-spec : {M : Type 1} → statement M
 begin-move-spec = tie.close (tie.spec walk-move-requires instructions-given-requires same-length returns)

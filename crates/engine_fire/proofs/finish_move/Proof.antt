@@ -1,26 +1,33 @@
 -- `finish_move` meets its contract.
 use mathlib.Core.Path.{refl, sym, subst}
+use mathlib.Core.List.{[]}
 use borrow.Author.Needs.{needs}
 use Rattle.book.specs.Image.{low-program}
 use Rattle.engine.specs.Rule.{Walked}
 use Rattle.engine.specs.Move.{settle}
-use Rattle.engine_walk.proofs.Steps.{outcome-walking, outcome-refused}
-use Rattle.engine_fire.specs.Close.{answer-at, MoveFinished}
+use Rattle.engine_emit.proofs.Steps.{reached-walking, reached-refused}
+use Rattle.engine_fire.specs.Finish.{answer-at, MoveFinished}
 use Rattle.engine_fire.proofs.finish_move.Statement.{statement}
 use Rattle.engine_fire.proofs.finish_move.Tie as tie
 use Rattle.engine.specs.Tables.{tables}
 
-cast-t10 : tie.Need-cast-t10
-cast-t10 c = search needs
+cast-t11 : tie.Need-cast-t11
+cast-t11 c = search needs
+
+cast-t12 : tie.Need-cast-t12
+cast-t12 c = search needs
 
 returns : tie.Need-returns
 unfolding settle
 returns c =
-    let a = c .before .before .before .before .before .before .args in
+    let a = c .before .before .before .before .before .before .before .args in
     let t = tables (a .contents .now) (a .readers .now) (a .writers .now) in
     subst (λ (w : Walked). MoveFinished (low-program (a .image .now)) (a .bit) (a .at) w t (answer-at (a .s .refused) (a .at) (a .s .node)) t)
-    (sym (outcome-refused (a .s) (a .list .now) (c .before .if1 .taken)))
+    (sym (reached-refused [] (a .s) (a .list .now) (c .before .before .if1 .taken)))
     (record { answer = λ ls. refl; contents = λ ls. refl; readers = λ ls. refl; writers = λ ls. refl })
+
+cast-len : tie.Need-cast-len
+cast-len c = search needs
 
 settle-listed-requires : tie.Need-settle-listed-requires
 settle-listed-requires c κs = search needs
@@ -36,19 +43,21 @@ same-length-3 c = search needs
 
 returns-2 : tie.Need-returns-2
 returns-2 c =
-    let a = c .before .before .before .before .before .before .before .before .before .before .before .before .before .before .before .args in
+    let a = c .before .before .before .before .before .before .before .before .before .before .before .before .before .before .before .before .args in
     let f = c .before .before .before .before .before .before .settle-listed in
     subst
     (λ (w : Walked). MoveFinished (low-program (a .image .now)) (a .bit) (a .at) w (tables (a .contents .now) (a .readers .now) (a .writers .now)) (f .result) (tables (f .last .1 .0) (f .last .1 .1 .0) (f .last .1 .1 .1 .0)))
-    (sym (outcome-walking (a .s) (a .list .now) (c .before .before .before .before .before .before .before .before .before .before .if1 .left)))
+    (sym (reached-walking [] (a .s) (a .list .now) (c .before .before .before .before .before .before .before .before .before .before .before .if1 .left)))
     (f .ensures (a .s .label))
 
 pub finish-move-spec : {M : Type 1} → statement M
 finish-move-spec =
     tie.close
     (tie.spec
-    cast-t10
+    cast-t11
+    cast-t12
     returns
+    cast-len
     settle-listed-requires
     same-length
     same-length-2

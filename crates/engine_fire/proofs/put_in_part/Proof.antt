@@ -6,7 +6,6 @@ use borrow.Author.Tests.{lt-ltb, le-ltb}
 use lib.Dec.{ltb}
 use lib.ListN.{length, getD}
 use lib.Seq.{set-out, set-getD}
-use Rattle.engine_release.specs.Marks.{mark}
 use Rattle.engine_fire.proofs.Own.{put-inside, put-outside}
 use borrow.Author.Needs.{needs}
 use Rattle.engine_fire.proofs.put_in_part.Statement.{statement}
@@ -16,6 +15,7 @@ use Rattle.engine_fire.proofs.put_in_part.Lts as lts
 use Rattle.engine_fire.proofs.mark_in.Reads as mark-in-reads
 use Rattle.engine_fire.proofs.put_value.Reads as put-value-reads
 use Rattle.text.proofs.smaller.Reads as smaller-reads
+use Rattle.engine_term.specs.Marks.{mark}
 
 smaller-requires : tie.Need-smaller-requires
 smaller-requires c κs = search needs

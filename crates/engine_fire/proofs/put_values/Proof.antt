@@ -12,12 +12,11 @@ use Rattle.book_parts.specs.Part.{part-of}
 use Rattle.book_parts.proofs.Parts.{part-starts}
 use Rattle.engine.specs.declared.Instruction.{Instruction}
 use Rattle.engine.specs.Move.{taken-reads}
-use Rattle.engine_term.specs.Marks.{marked}
+use Rattle.engine_term.specs.Marks.{marked, mark}
 use Rattle.engine_term.proofs.Marking.{marked-append}
 use Rattle.engine_instruction.specs.Code.{decode-of, items}
-use Rattle.engine_release.specs.Marks.{mark}
-use Rattle.engine_instruction.specs.Traces.{own, gets}
-use Rattle.engine_fire.specs.Steps.{puts, put-marks, put-reads}
+use Rattle.engine_instruction.specs.Given.{own, gets}
+use Rattle.engine_fire.specs.Steps.{puts, put-marked, put-reads}
 use Rattle.engine_instruction.proofs.Laws.{items-cons, items-end}
 use Rattle.engine_fire.proofs.Own.{Whole, none-held, next-held, own-part, part-min, put-value, put-mark}
 use Rattle.engine_fire.proofs.put_values.Statement.{statement}
@@ -27,7 +26,7 @@ abbrev Inv-loop : tie.InvT-loop
 Inv-loop image contents₀ readers₀ writers₀ list len bit n p part₀ j₀ contents readers writers part j =
     (puts (L (low-program image)) (drop j (items list len)) contents ≡ puts (L (low-program image)) (items list len) contents₀)
     × (marked bit (put-reads (low-program image .P) (L (low-program image)) (drop j (items list len)) contents) readers ≡ marked bit (put-reads (low-program image .P) (L (low-program image)) (items list len) contents₀) readers₀)
-    × (put-marks bit (min (L (low-program image)) (length contents₀)) (drop j (items list len)) writers ≡ put-marks bit (min (L (low-program image)) (length contents₀)) (items list len) writers₀)
+    × (put-marked bit (min (L (low-program image)) (length contents₀)) (drop j (items list len)) writers ≡ put-marked bit (min (L (low-program image)) (length contents₀)) (items list len) writers₀)
     × (length contents ≡ length contents₀) × (length readers ≡ length readers₀) × (length writers ≡ length writers₀) × Whole (low-program image) part
 
 abbrev μ-loop : tie.MeasureT-loop
@@ -80,7 +79,7 @@ loop-less : tie.Need-loop-less Inv-loop μ-loop
 loop-less c = search needs
 
 loop-again : tie.Need-loop-again Inv-loop μ-loop
-unfolding puts put-marks put-reads
+unfolding puts put-marked put-reads
 loop-again c =
     let a = c .before .before .before .before .before .before .before .before .before .before .before .before .before .before .before .before .before .before .before .before .before .before .before .before .before .args in
     let B = low-program (a .image .now) in
@@ -105,7 +104,7 @@ loop-again c =
       ap₂ (λ (C R : List ℕ). marked (a .bit) (put-reads (B .P) (L B) (drop (l .j + 1) is) C) R) q o
           ∙ sym (marked-append (a .bit) taken (put-reads (B .P) (L B) (drop (l .j + 1) is) stored) (l .readers))
           ∙ sym (ap (λ (is : List Instruction). marked (a .bit) (put-reads (B .P) (L B) is (l .contents)) (l .readers)) d) ∙ l .inv .1,
-      ap (put-marks (a .bit) k (drop (l .j + 1) is)) p ∙ sym (ap (λ (is : List Instruction). put-marks (a .bit) k is (l .writers)) d) ∙ l .inv .2,
+      ap (put-marked (a .bit) k (drop (l .j + 1) is)) p ∙ sym (ap (λ (is : List Instruction). put-marked (a .bit) k is (l .writers)) d) ∙ l .inv .2,
       r .kept .0 ∙ l .inv .3,
       t .kept .1 .0 ∙ l .inv .4,
       r .kept .1 .0 ∙ l .inv .5,
@@ -122,7 +121,7 @@ same-length-3 : tie.Need-same-length-3 Inv-loop μ-loop
 same-length-3 c = c .before .loop .inv .5
 
 returns : tie.Need-returns Inv-loop μ-loop
-unfolding puts put-marks put-reads marked
+unfolding puts put-marked put-reads marked
 returns c =
     let a = c .before .before .before .before .before .before .before .before .args in
     let n = c .before .before .before .smaller in
@@ -131,7 +130,7 @@ returns c =
       sym (ap (λ (is : List Instruction). puts (L (low-program (a .image .now))) is (l .contents)) d) ∙ l .inv .0,
       (
         sym (ap (λ (is : List Instruction). marked (a .bit) (put-reads (low-program (a .image .now) .P) (L (low-program (a .image .now))) is (l .contents)) (l .readers)) d) ∙ l .inv .1,
-        sym (ap (λ (is : List Instruction). put-marks (a .bit) (min (L (low-program (a .image .now))) (length (a .contents .now))) is (l .writers)) d) ∙ l .inv .2,
+        sym (ap (λ (is : List Instruction). put-marked (a .bit) (min (L (low-program (a .image .now))) (length (a .contents .now))) is (l .writers)) d) ∙ l .inv .2,
       ),
     )
 

@@ -4,7 +4,7 @@ use borrow.Author.Needs.{needs}
 use Rattle.engine.specs.Move.{settle}
 use Rattle.engine_fire.specs.Outcome.{move-by}
 use Rattle.engine_fire.specs.Effect.{move-answer}
-use Rattle.engine_fire.specs.Close.{readers-kept}
+use Rattle.engine_fire.specs.Finish.{readers-kept}
 use Rattle.engine_fire.proofs.settle_listed.Statement.{statement}
 use Rattle.engine_fire.proofs.settle_listed.Tie as tie
 

@@ -1,6 +1,5 @@
 -- `engine_list::pass` meets its contract: a walk of its MIR, by hand. Both slices are opened once and closed once; between the two each is lent for a call
 -- and comes back, to `write_records` and then to `read_records`, of which the proof knows only that they meet their contracts.
--- Assumes nothing.
 use mathlib.Core.Path.{_≡_, refl, sym, _∙_, ap, subst}
 use Prim.Native.Nat.{ℕ, _<_, _^_, min}
 use mathlib.Core.List.{List, [], _∷_, map}

@@ -4,7 +4,7 @@ use mathlib.Core.Bool.{true, false}
 use lib.ListN.{getD}
 use lib.Seq.{set-getD}
 use Rattle.engine_term.specs.Marks.{marked}
-use Rattle.engine_instruction.specs.Traces.{trace-in}
+use Rattle.engine_instruction.specs.Given.{clears-in}
 use borrow.Author.Needs.{needs}
 use Rattle.engine_release.proofs.clear_one.Statement.{statement}
 use Rattle.engine_release.proofs.clear_one.Tie as tie
@@ -21,8 +21,8 @@ row-of-requires c κs = search needs
 column-of-requires : tie.Need-column-of-requires
 column-of-requires c κs = search needs
 
-is-trace-at-requires : tie.Need-is-trace-at-requires
-is-trace-at-requires c κs = search needs
+clears-at-requires : tie.Need-clears-at-requires
+clears-at-requires c κs = search needs
 
 default-of-requires : tie.Need-default-of-requires
 default-of-requires c κs = search needs
@@ -51,16 +51,16 @@ same-length-3 c = search needs
 returns : tie.Need-returns
 returns c =
     let a = c .before .before .before .before .before .before .before .before .before .before .before .before .before .before .before .before .before .args in
-    let q : trace-in (a .r .elements) (a .r .function) (a .i) (getD (a .part .now) (a .i) 0) (a .r .label) ≡ true =
-    sym (c .before .before .before .before .before .before .before .before .before .before .is-trace-at .ensures ∙ rw (c .before .before .before .before .before .before .before .before .before .before .before .before .row-of .ensures, c .before .before .before .before .before .before .before .before .before .before .before .column-of .ensures)) ∙ c .before .before .before .before .before .before .before .before .before .if1 .taken in
+    let q : clears-in (a .r .elements) (a .r .function) (a .i) (getD (a .part .now) (a .i) 0) (a .r .label) ≡ true =
+    sym (c .before .before .before .before .before .before .before .before .before .before .clears-at .ensures ∙ rw (c .before .before .before .before .before .before .before .before .before .before .before .before .row-of .ensures, c .before .before .before .before .before .before .before .before .before .before .before .column-of .ensures)) ∙ c .before .before .before .before .before .before .before .before .before .if1 .taken in
     (rw (q, c .before .before .before .before .before .before .before .before .default-of .ensures), (c .before .before .mark .ensures ∙ rw q, c .before .before .before .before .before .before .mark-cleared .ensures ∙ rw q))
 
 returns-2 : tie.Need-returns-2
 unfolding marked
 returns-2 c =
     let a = c .before .before .before .before .before .before .before .before .args in
-    let q : trace-in (a .r .elements) (a .r .function) (a .i) (getD (a .part .now) (a .i) 0) (a .r .label) ≡ false =
-    sym (c .before .is-trace-at .ensures ∙ rw (c .before .before .before .row-of .ensures, c .before .before .column-of .ensures)) ∙ c .if1 .left in
+    let q : clears-in (a .r .elements) (a .r .function) (a .i) (getD (a .part .now) (a .i) 0) (a .r .label) ≡ false =
+    sym (c .before .clears-at .ensures ∙ rw (c .before .before .before .row-of .ensures, c .before .before .column-of .ensures)) ∙ c .if1 .left in
     (rw q (sym (set-getD (a .part .now) (a .i) 0)), (rw q (sym (set-getD (a .writers .now) (a .i) 0)), rw q))
 
 pub clear-one-spec : {M : Type 1} → statement M
@@ -71,7 +71,7 @@ clear-one-spec =
     slice-read-held
     row-of-requires
     column-of-requires
-    is-trace-at-requires
+    clears-at-requires
     default-of-requires
     mul-part
     slice-write-part

@@ -9,7 +9,7 @@ use Rattle.engine.specs.declared.Instruction.{Instruction}
 use Rattle.engine_term.specs.Marks.{marked}
 use Rattle.engine_term.proofs.Marking.{marked-append}
 use Rattle.engine_instruction.specs.Code.{decode-of, items}
-use Rattle.engine_release.specs.Steps.{instruction-cleared, instruction-marks, instruction-reads, all-cleared, all-marks, all-reads}
+use Rattle.engine_release.specs.Steps.{instruction-cleared, instruction-marked, instruction-reads, all-cleared, all-marked, all-reads}
 use Rattle.engine_instruction.proofs.Laws.{items-cons, items-end}
 use Rattle.engine_release.proofs.clear_released.Statement.{statement}
 use Rattle.engine_release.proofs.clear_released.Tie as tie
@@ -17,7 +17,7 @@ use Rattle.engine_release.proofs.clear_released.Tie as tie
 abbrev Inv-loop : tie.InvT-loop
 Inv-loop image contents₀ readers₀ writers₀ list len bit n j₀ contents readers writers j =
     (all-cleared (low-program image) (drop j (items list len)) contents ≡ all-cleared (low-program image) (items list len) contents₀)
-    × (all-marks bit (low-program image) (drop j (items list len)) contents writers ≡ all-marks bit (low-program image) (items list len) contents₀ writers₀)
+    × (all-marked bit (low-program image) (drop j (items list len)) contents writers ≡ all-marked bit (low-program image) (items list len) contents₀ writers₀)
     × (marked bit (all-reads (low-program image) (drop j (items list len)) contents) readers ≡ marked bit (all-reads (low-program image) (items list len) contents₀) readers₀)
     × (length contents ≡ length contents₀) × (length readers ≡ length readers₀) × (length writers ≡ length writers₀)
 
@@ -49,7 +49,7 @@ loop-less : tie.Need-loop-less Inv-loop μ-loop
 loop-less c = search needs
 
 loop-again : tie.Need-loop-again Inv-loop μ-loop
-unfolding all-cleared all-marks all-reads
+unfolding all-cleared all-marked all-reads
 loop-again c =
     let a = c .before .before .before .before .before .before .before .before .before .before .before .before .before .before .before .before .before .before .before .args in
     let B = low-program (a .image .now) in
@@ -62,10 +62,10 @@ loop-again c =
     let rest = drop (l .j + 1) is in
     let d = items-cons (a .list .now) (a .len) (n .result) (n .ensures) (l .j) (c .before .before .before .before .before .before .before .before .before .before .before .before .loop-test .taken) in
     let q : step .last .1 .0 ≡ instruction-cleared B w (l .contents) = step .ensures .0 ∙ rw what in
-    let p : step .last .1 .1 .1 .0 ≡ instruction-marks (a .bit) B w (l .contents) (l .writers) = step .ensures .1 .0 ∙ rw what in
+    let p : step .last .1 .1 .1 .0 ≡ instruction-marked (a .bit) B w (l .contents) (l .writers) = step .ensures .1 .0 ∙ rw what in
     let r : step .last .1 .1 .0 ≡ marked (a .bit) (instruction-reads B w (l .contents)) (l .readers) = step .ensures .1 .1 ∙ rw what in (
       ap (all-cleared B rest) q ∙ sym (ap (λ (xs : List Instruction). all-cleared B xs (l .contents)) d) ∙ l .inv .0,
-      ap₂ (all-marks (a .bit) B rest) q p ∙ sym (ap (λ (xs : List Instruction). all-marks (a .bit) B xs (l .contents) (l .writers)) d) ∙ l .inv .1,
+      ap₂ (all-marked (a .bit) B rest) q p ∙ sym (ap (λ (xs : List Instruction). all-marked (a .bit) B xs (l .contents) (l .writers)) d) ∙ l .inv .1,
       ap₂ (λ (c rs : List ℕ). marked (a .bit) (all-reads B rest c) rs) q r
           ∙ sym (marked-append (a .bit) (instruction-reads B w (l .contents)) (all-reads B rest (instruction-cleared B w (l .contents))) (l .readers))
           ∙ sym (ap (λ (xs : List Instruction). marked (a .bit) (all-reads B xs (l .contents)) (l .readers)) d) ∙ l .inv .2,
@@ -84,7 +84,7 @@ same-length-3 : tie.Need-same-length-3 Inv-loop μ-loop
 same-length-3 c = c .before .loop .inv .5
 
 returns : tie.Need-returns Inv-loop μ-loop
-unfolding all-cleared all-marks all-reads marked
+unfolding all-cleared all-marked all-reads marked
 returns c =
     let a = c .before .before .before .before .before .before .before .args in
     let B = low-program (a .image .now) in
@@ -93,7 +93,7 @@ returns c =
     let d = items-end (a .list .now) (a .len) (n .result) (n .ensures) (l .j) (c .loop-test .left) in (
       sym (ap (λ (xs : List Instruction). all-cleared B xs (l .contents)) d) ∙ l .inv .0,
       (
-        sym (ap (λ (xs : List Instruction). all-marks (a .bit) B xs (l .contents) (l .writers)) d) ∙ l .inv .1,
+        sym (ap (λ (xs : List Instruction). all-marked (a .bit) B xs (l .contents) (l .writers)) d) ∙ l .inv .1,
         sym (ap (λ (xs : List Instruction). marked (a .bit) (all-reads B xs (l .contents)) (l .readers)) d) ∙ l .inv .2,
       ),
     )

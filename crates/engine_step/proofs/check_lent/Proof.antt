@@ -20,6 +20,9 @@ answer-at-requires c κs = search needs
 returns : tie.Need-returns
 returns c = let a = c .before .before .before .before .args in let t = c .before .before .locations .ensures in c .answer-at .ensures ∙ ap (λ (x : ℕ). Refusal 2 x 0) t ∙ contents-short (word (a .image .now) 6) (a .contents .now) (a .lent) (omega (arith, c .before .if1 .taken, t))
 
+cast-answer-at : tie.Need-cast-answer-at
+cast-answer-at c = search needs
+
 answer-at-requires-2 : tie.Need-answer-at-requires-2
 answer-at-requires-2 c κs = search needs
 
@@ -40,6 +43,7 @@ check-lent-spec =
     cast-if1
     answer-at-requires
     returns
+    cast-answer-at
     answer-at-requires-2
     returns-2
     answer-at-requires-3

@@ -1,7 +1,6 @@
 -- `engine_step::step` meets its contract: a walk of its MIR, by hand, straight through: `begin_call`, `pass` and `finish_call`, of which the proof knows only
 -- that they meet their contracts. The contents are opened once and closed once; they and the two local arrays are lent for each call and come back. The list
 -- goes to `pass` for good.
--- Assumes nothing.
 use mathlib.Core.Path.{_≡_, refl, sym, _∙_, ap, subst}
 use Prim.Native.Nat.{ℕ, _<_, _≤_, _^_}
 use native.Mathlib.Omega.{arith}

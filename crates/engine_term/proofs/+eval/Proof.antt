@@ -7,7 +7,7 @@ use Rattle.book.specs.Book.{node-at, location}
 use Rattle.engine.specs.Reader.{read, done, _>>=_}
 use Rattle.engine.specs.Term.{eval as value, negate, apply}
 use Rattle.engine.proofs.Steps.{term-zero, term-element, term-variable, term-agent, term-none, term-one, term-two, term-not, term-join, no-term-at}
-use Rattle.engine_term.specs.Held.{agent-of, value-at}
+use Rattle.engine_term.specs.Scope.{agent-of, value-at}
 use Rattle.book_parts.specs.StoredNodes.{stored-node}
 use Rattle.book.specs.Image.{low-program}
 use Rattle.engine_term.proofs.Values.{join-kind}

@@ -4,7 +4,7 @@ use Rattle.book.specs.Book.{node-at, location}
 use Rattle.engine.specs.Reader.{done, _>>=_}
 use Rattle.engine.specs.Term.{target}
 use Rattle.engine.proofs.Steps.{term-zero, term-none, term-one, term-two, no-target}
-use Rattle.engine_term.specs.Held.{variables-of, agent-of, value-at}
+use Rattle.engine_term.specs.Scope.{variables-of, agent-of, value-at}
 use Rattle.book_parts.specs.StoredNodes.{stored-node}
 use Rattle.book.specs.Image.{low-program}
 use Rattle.engine_term.proofs.Marking.{runs-done, runs-value, runs-bind}

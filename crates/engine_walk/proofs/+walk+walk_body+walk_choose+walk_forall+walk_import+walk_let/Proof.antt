@@ -9,7 +9,7 @@ use Rattle.book.specs.Book.{node-at}
 use Rattle.engine.specs.Reader.{Reader}
 use Rattle.engine.specs.Rule.{Walk, Walked, after, lowest, import-of, each as for-each, walk as walked, rule-from}
 use Rattle.engine.proofs.Steps.{rule-last, rule-assign, rule-bind, rule-for-all, rule-import, rule-release, rule-choose, no-rule-at}
-use Rattle.engine_term.specs.Held.{variables-of, agent-of, value-at}
+use Rattle.engine_term.specs.Scope.{variables-of, agent-of, value-at}
 use Rattle.book_parts.specs.StoredNodes.{stored-node}
 use Rattle.book.specs.Image.{low-function, low-program}
 use Rattle.engine_term.specs.Marks.{Runs}
@@ -19,7 +19,7 @@ use Rattle.engine_emit.proofs.Steps.{reached-walking, reached-refused}
 use Rattle.engine_reads.specs.Marking.{found-below, members-from, first-and-rest}
 use Rattle.engine_reads.proofs.Members.{universe-placed, members-next}
 use Rattle.engine_walk.specs.Walk.{body-at, walk-at as node-walk}
-use Rattle.engine_walk.proofs.Steps.{runs-scope, runs-from, runs-refused, runs-rule, runs-skip, runs-pair, runs-test, import-as, runs-choose, rule-none}
+use Rattle.engine_walk.proofs.Steps.{runs-scope, runs-from, runs-refused, runs-rule, runs-skip, runs-block, runs-test, import-as, runs-choose, rule-none}
 use Rattle.engine_walk.proofs.Forall.{sweep-as, sweep-more, sweep-end, runs-for-all}
 use Rattle.book.proofs.Held.{elements-held, function-held}
 use borrow.Author.Needs.{needs}
@@ -154,7 +154,7 @@ walk-choose-returns t c =
     let a = c .before .before .before .before .before .before .before .before .before .before .before .before .before .before .before .before .before .args in
     let m = a .image .now in
     let B = low-program m in
-    let x = a .row in
+    let x = a .node in
     let ys = picks-left (a .picks .now) (a .used .now) in
     let w = walk-from ys (a .s) (a .list .now) in
     let body : ℕ → Walk → Reader Walked = body-at m (a .scope .now) (a .depth) (x .c) (x .a) in
@@ -193,9 +193,9 @@ walk-forall-loop-holds : (t : ℕ) → walk-forall-lts.Need-loop-holds (claims-w
 walk-forall-loop-holds t c =
     let a = c .before .before .before .before .before .before .before .before .before .before .before .args in
     let B = low-program (a .image .now) in
-    let f : ℕ → Walk → Reader Walked = body-at (a .image .now) (a .scope .now) (a .depth) (a .row .c) (a .row .a) in (
+    let f : ℕ → Walk → Reader Walked = body-at (a .image .now) (a .scope .now) (a .depth) (a .node .c) (a .node .a) in (
       refl,
-      λ z n h. sweep-as B (a .contents .now) (a .bit) (a .row .b) f _ _ (reached (picks-left (a .picks .now) (a .used .now)) (a .s) (a .list .now)) z _ n (members-next B (a .contents .now) (a .row .b) (low-function (c .before .function-at .result)) (c .before .before .before .elements .result) 0 (c .next-member .result) (function-held _ _ _ (c .before .function-at .ensures)) (elements-held _ _ (c .before .before .before .elements .ensures) .0) (c .next-member .ensures .1)) h,
+      λ z n h. sweep-as B (a .contents .now) (a .bit) (a .node .b) f _ _ (reached (picks-left (a .picks .now) (a .used .now)) (a .s) (a .list .now)) z _ n (members-next B (a .contents .now) (a .node .b) (low-function (c .before .function-at .result)) (c .before .before .before .elements .result) 0 (c .next-member .result) (function-held _ _ _ (c .before .function-at .ensures)) (elements-held _ _ (c .before .before .before .elements .ensures) .0) (c .next-member .ensures .1)) h,
     )
 
 walk-forall-within-requires : (t : ℕ) → walk-forall-lts.Need-walk-body-requires (claims-walk-forall t) (walk-forall-at t) walk-forall.Post each-Inv-loop each-μ-loop
@@ -208,13 +208,13 @@ walk-forall-returns : (t : ℕ) → walk-forall-lts.Need-returns (claims-walk-fo
 walk-forall-returns t c =
     let a = c .before .before .before .before .before .before .before .before .before .before .before .before .before .before .before .before .before .before .before .before .before .args in
     let B = low-program (a .image .now) in
-    let f : ℕ → Walk → Reader Walked = body-at (a .image .now) (a .scope .now) (a .depth) (a .row .c) (a .row .a) in
+    let f : ℕ → Walk → Reader Walked = body-at (a .image .now) (a .scope .now) (a .depth) (a .node .c) (a .node .a) in
     let l = c .before .before .before .before .before .before .before .before .before .loop in
     let k = c .before .before .before .before .walk-body in
     let h : l .y < B .E = rw (← elements-held _ _ (c .before .before .before .before .before .before .before .before .before .before .before .before .before .elements .ensures) .0) (c .before .before .before .before .before .before .before .before .loop-test .taken) in
-    runs-for-all B (a .contents .now) (a .bit) (agent-of (a .scope .now)) (variables-of (a .scope .now)) (a .row .a) (a .row .b) (rule-from (node-at B) (a .depth) (a .row .c)) (picks-left (a .picks .now) (a .used .now)) (a .s) (a .list .now) _ _ _ _ (c .before .before .before .before .before .before .before .before .before .before .before .before .before .before .before .before .before .before .before .before .before .pre .1) (λ p. c .before .before .before .before .before .before .before .before .before .before .before .before .before .before .before .before .mark-universe .ensures ∙ universe-placed B p (a .contents .now) (a .row .b) (a .bit) (a .readers .now))
+    runs-for-all B (a .contents .now) (a .bit) (agent-of (a .scope .now)) (variables-of (a .scope .now)) (a .node .a) (a .node .b) (rule-from (node-at B) (a .depth) (a .node .c)) (picks-left (a .picks .now) (a .used .now)) (a .s) (a .list .now) _ _ _ _ (c .before .before .before .before .before .before .before .before .before .before .before .before .before .before .before .before .before .before .before .before .before .pre .1) (λ p. c .before .before .before .before .before .before .before .before .before .before .before .before .before .before .before .before .mark-universe .ensures ∙ universe-placed B p (a .contents .now) (a .node .b) (a .bit) (a .readers .now))
     (l .inv .1 _ _
-    (sweep-more B (a .contents .now) (a .bit) (a .row .b) f (l .y) (reached (picks-left (a .picks .now) (l .used)) (l .r) (l .list)) _ _ _ _ _ h (k .ensures)
+    (sweep-more B (a .contents .now) (a .bit) (a .node .b) f (l .y) (reached (picks-left (a .picks .now) (l .used)) (l .r) (l .list)) _ _ _ _ _ h (k .ensures)
     (runs-refused B (a .contents .now) (a .bit) _ _ _ _ _ (reached-refused _ (k .result) _ (c .if1 .taken)))))
 
 walk-forall-add-next-member : (t : ℕ) → walk-forall-lts.Need-add-next-member (claims-walk-forall t) (walk-forall-at t) walk-forall.Post each-Inv-loop each-μ-loop
@@ -230,14 +230,14 @@ walk-forall-loop-again : (t : ℕ) → walk-forall-lts.Need-loop-again (claims-w
 walk-forall-loop-again t c =
     let a = c .before .before .before .before .before .before .before .before .before .before .before .before .before .before .before .before .before .before .before .before .before .before .args in
     let B = low-program (a .image .now) in
-    let f : ℕ → Walk → Reader Walked = body-at (a .image .now) (a .scope .now) (a .depth) (a .row .c) (a .row .a) in
+    let f : ℕ → Walk → Reader Walked = body-at (a .image .now) (a .scope .now) (a .depth) (a .node .c) (a .node .a) in
     let l = c .before .before .before .before .before .before .before .before .before .before .loop in
     let k = c .before .before .before .before .before .walk-body in
     let h : l .y < B .E = rw (← elements-held _ _ (c .before .before .before .before .before .before .before .before .before .before .before .before .before .before .elements .ensures) .0) (c .before .before .before .before .before .before .before .before .before .loop-test .taken) in (
       k .kept .1 .1 .0 ∙ l .inv .0,
       λ z n t. l .inv .1 z n
-          (sweep-more B (a .contents .now) (a .bit) (a .row .b) f (l .y) (reached (picks-left (a .picks .now) (l .used)) (l .r) (l .list)) _ z _ _ n h (k .ensures)
-          (sweep-as B (a .contents .now) (a .bit) (a .row .b) f _ _ (reached (picks-left (a .picks .now) (k .last .1 .1 .1 .1 .1 .1 .0)) (k .result) (k .last .1 .1 .1 .1 .0)) z _ n (members-next B (a .contents .now) (a .row .b) (low-function (c .before .before .before .before .before .before .before .before .before .before .before .before .function-at .result)) (c .before .before .before .before .before .before .before .before .before .before .before .before .before .before .elements .result) (l .y + 1) (c .next-member2 .result) (function-held _ _ _ (c .before .before .before .before .before .before .before .before .before .before .before .before .function-at .ensures)) (elements-held _ _ (c .before .before .before .before .before .before .before .before .before .before .before .before .before .before .elements .ensures) .0) (c .next-member2 .ensures .1)) t)),
+          (sweep-more B (a .contents .now) (a .bit) (a .node .b) f (l .y) (reached (picks-left (a .picks .now) (l .used)) (l .r) (l .list)) _ z _ _ n h (k .ensures)
+          (sweep-as B (a .contents .now) (a .bit) (a .node .b) f _ _ (reached (picks-left (a .picks .now) (k .last .1 .1 .1 .1 .1 .1 .0)) (k .result) (k .last .1 .1 .1 .1 .0)) z _ n (members-next B (a .contents .now) (a .node .b) (low-function (c .before .before .before .before .before .before .before .before .before .before .before .before .function-at .result)) (c .before .before .before .before .before .before .before .before .before .before .before .before .before .before .elements .result) (l .y + 1) (c .next-member2 .result) (function-held _ _ _ (c .before .before .before .before .before .before .before .before .before .before .before .before .function-at .ensures)) (elements-held _ _ (c .before .before .before .before .before .before .before .before .before .before .before .before .before .before .elements .ensures) .0) (c .next-member2 .ensures .1)) t)),
     )
 
 walk-forall-same-length-2 : (t : ℕ) → walk-forall-lts.Need-same-length-2 (claims-walk-forall t) (walk-forall-at t) walk-forall.Post each-Inv-loop each-μ-loop
@@ -247,11 +247,11 @@ walk-forall-returns-2 : (t : ℕ) → walk-forall-lts.Need-returns-2 (claims-wal
 walk-forall-returns-2 t c =
     let a = c .before .before .before .before .before .before .before .before .before .before .before .before .before .args in
     let B = low-program (a .image .now) in
-    let f : ℕ → Walk → Reader Walked = body-at (a .image .now) (a .scope .now) (a .depth) (a .row .c) (a .row .a) in
+    let f : ℕ → Walk → Reader Walked = body-at (a .image .now) (a .scope .now) (a .depth) (a .node .c) (a .node .a) in
     let l = c .before .loop in
     let h : B .E ≤ l .y = rw (← elements-held _ _ (c .before .before .before .before .before .elements .ensures) .0) (c .loop-test .left) in
-    runs-for-all B (a .contents .now) (a .bit) (agent-of (a .scope .now)) (variables-of (a .scope .now)) (a .row .a) (a .row .b) (rule-from (node-at B) (a .depth) (a .row .c)) (picks-left (a .picks .now) (a .used .now)) (a .s) (a .list .now) _ _ _ _ (c .before .before .before .before .before .before .before .before .before .before .before .before .before .pre .1) (λ p. c .before .before .before .before .before .before .before .before .mark-universe .ensures ∙ universe-placed B p (a .contents .now) (a .row .b) (a .bit) (a .readers .now))
-    (l .inv .1 _ _ (sweep-end B (a .contents .now) (a .bit) (a .row .b) f (l .y) (reached (picks-left (a .picks .now) (l .used)) (l .r) (l .list)) (l .readers) h))
+    runs-for-all B (a .contents .now) (a .bit) (agent-of (a .scope .now)) (variables-of (a .scope .now)) (a .node .a) (a .node .b) (rule-from (node-at B) (a .depth) (a .node .c)) (picks-left (a .picks .now) (a .used .now)) (a .s) (a .list .now) _ _ _ _ (c .before .before .before .before .before .before .before .before .before .before .before .before .before .pre .1) (λ p. c .before .before .before .before .before .before .before .before .mark-universe .ensures ∙ universe-placed B p (a .contents .now) (a .node .b) (a .bit) (a .readers .now))
+    (l .inv .1 _ _ (sweep-end B (a .contents .now) (a .bit) (a .node .b) f (l .y) (reached (picks-left (a .picks .now) (l .used)) (l .r) (l .list)) (l .readers) h))
 
 walk-import-lowest-requires : (t : ℕ) → walk-import-lts.Need-lowest-label-requires (claims-walk-import t) (walk-import-at t) walk-import.Post
 walk-import-lowest-requires t c κs = search needs
@@ -271,7 +271,7 @@ walk-import-returns t c =
     let a = c .before .before .before .before .before .before .before .before .before .before .before .before .before .before .before .args in
     let m = a .image .now in
     let B = low-program m in
-    let x = a .row in
+    let x = a .node in
     let w = walk-from (picks-left (a .picks .now) (a .used .now)) (a .s) (a .list .now) in
     let body : ℕ → Walk → Reader Walked = body-at m (a .scope .now) (a .depth) (x .c) (x .a) in
     let y = c .before .before .before .before .before .before .before .before .before .before .lowest-label .result in
@@ -296,7 +296,7 @@ walk-let-returns t c =
     let m = a .image .now in
     let B = low-program m in
     let s = a .scope .now in
-    let x = a .row in
+    let x = a .node in
     runs-bind B (a .contents .now) (a .bit) (value-at m s (a .depth) (x .b)) (λ y. body-at m s (a .depth) (x .c) (x .a) y (walk-from (picks-left (a .picks .now) (a .used .now)) (a .s) (a .list .now))) _ _ _ _ _ (c .before .before .before .before .before .before .before .before .eval .ensures)
     (runs-from B (a .contents .now) (a .bit) (body-at m s (a .depth) (x .c) (x .a) (c .before .before .before .before .before .before .before .before .eval .result)) (picks-left (a .picks .now) (a .used .now)) (a .s) (a .list .now) (c .before .before .before .before .before .before .before .before .before .before .before .before .before .pre .1) _ _ _ (c .before .before .walk-body .ensures))
 
@@ -480,7 +480,7 @@ walk-loop-again t c =
       omega arith,
       k .kept .1 .1 .0 ∙ l .inv .1,
       λ z m h. l .inv .2 z m
-          (runs-pair B (a .contents .now) (a .bit) (agent-of (a .scope .now)) (variables-of (a .scope .now)) (node-at B) (l .left) (l .at) (stored-node (c .before .before .before .before .before .before .before .before .before .node .result)) (c .before .before .before .before .before .before .before .before .before .before .before .before .loop-test .taken) (c .before .before .before .before .before .before .before .before .before .node .ensures) (picks-left (a .picks .now) (l .used)) (l .r) (l .list) (c .before .before .before .before .before .before .before .before .before .before .if1 .left) _ z _ _ m (c .before .before .before .before .before .before .match .keys2) (k .ensures) h),
+          (runs-block B (a .contents .now) (a .bit) (agent-of (a .scope .now)) (variables-of (a .scope .now)) (node-at B) (l .left) (l .at) (stored-node (c .before .before .before .before .before .before .before .before .before .node .result)) (c .before .before .before .before .before .before .before .before .before .before .before .before .loop-test .taken) (c .before .before .before .before .before .before .before .before .before .node .ensures) (picks-left (a .picks .now) (l .used)) (l .r) (l .list) (c .before .before .before .before .before .before .before .before .before .before .if1 .left) _ z _ _ m (c .before .before .before .before .before .before .match .keys2) (k .ensures) h),
     )
 
 walk-loop-less-2 : (t : ℕ) → walk-lts.Need-loop-less-2 (claims-walk t) (walk-at t) walk.Post walk-Inv-loop walk-μ-loop
@@ -522,7 +522,7 @@ walk-body-returns : (t : ℕ) → walk-body-lts.Need-returns (claims-walk-body t
 walk-body-returns t c =
     let a = c .before .before .before .before .before .before .before .before .before .before .before .before .before .args in
     let B = low-program (a .image .now) in
-    runs-scope B (a .contents .now) (a .bit) (c .before .before .before .before .before .before .before .bind-variable .last .0) (set (variables-of (a .scope .now)) (a .row .a) (a .x)) (agent-of (a .scope .now)) (rule-from (node-at B) (a .depth) (a .row .c)) (reached (picks-left (a .picks .now) (a .used .now)) (a .s) (a .list .now)) _ _ _ (c .before .before .before .before .before .before .before .bind-variable .ensures .0) (c .before .before .before .before .before .before .before .bind-variable .ensures .1) (c .before .before .walk .ensures)
+    runs-scope B (a .contents .now) (a .bit) (c .before .before .before .before .before .before .before .bind-variable .last .0) (set (variables-of (a .scope .now)) (a .node .a) (a .x)) (agent-of (a .scope .now)) (rule-from (node-at B) (a .depth) (a .node .c)) (reached (picks-left (a .picks .now) (a .used .now)) (a .s) (a .list .now)) _ _ _ (c .before .before .before .before .before .before .before .bind-variable .ensures .0) (c .before .before .before .before .before .before .before .bind-variable .ensures .1) (c .before .before .walk .ensures)
 
 pub +walk+walk-body+walk-choose+walk-forall+walk-import+walk-let-spec : {M : Type 1} → statement M
 +walk+walk-body+walk-choose+walk-forall+walk-import+walk-let-spec =

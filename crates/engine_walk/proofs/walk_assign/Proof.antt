@@ -6,7 +6,7 @@ use Rattle.engine.specs.declared.Instruction.the-variants.{Update}
 use Rattle.engine.specs.Reader.{done, _>>=_}
 use Rattle.engine.specs.Term.{term-at}
 use Rattle.engine.specs.Rule.{walk, refuse-if, not-boolean, emit, _then_}
-use Rattle.engine_term.specs.Held.{value-at, target-at}
+use Rattle.engine_term.specs.Scope.{value-at, target-at}
 use Rattle.book.specs.Image.{low-program}
 use Rattle.engine_term.proofs.Marking.{runs-bind, runs-value}
 use Rattle.engine_emit.specs.Emit.{walk-from}
@@ -37,11 +37,11 @@ returns c =
     let m = a .image .now in
     let B = low-program m in
     let s = a .scope .now in
-    let t = term-at (node-at B) (a .depth) (a .row .a) in
+    let t = term-at (node-at B) (a .depth) (a .node .a) in
     λ ys.
     let w = walk-from ys (a .s) (a .list .now) in
-    runs-bind B (a .contents .now) (a .bit) (target-at m s (a .depth) (a .row .a)) (λ l. value-at m s (a .depth) (a .row .b) >>= λ v. done (refuse-if (not-boolean B t v) non-boolean (a .n) w then emit (a .n) (Update l v))) _ _ _ _ _ (c .before .before .before .before .before .before .before .before .before .target-location .ensures)
-    (runs-bind B (a .contents .now) (a .bit) (value-at m s (a .depth) (a .row .b)) (λ v. done (refuse-if (not-boolean B t v) non-boolean (a .n) w then emit (a .n) (Update (c .before .before .before .before .before .before .before .before .before .target-location .result) v))) _ _ _ _ _ (c .before .before .before .before .before .eval .ensures)
+    runs-bind B (a .contents .now) (a .bit) (target-at m s (a .depth) (a .node .a)) (λ l. value-at m s (a .depth) (a .node .b) >>= λ v. done (refuse-if (not-boolean B t v) non-boolean (a .n) w then emit (a .n) (Update l v))) _ _ _ _ _ (c .before .before .before .before .before .before .before .before .before .target-location .ensures)
+    (runs-bind B (a .contents .now) (a .bit) (value-at m s (a .depth) (a .node .b)) (λ v. done (refuse-if (not-boolean B t v) non-boolean (a .n) w then emit (a .n) (Update (c .before .before .before .before .before .before .before .before .before .target-location .result) v))) _ _ _ _ _ (c .before .before .before .before .before .eval .ensures)
     (runs-value B (a .contents .now) (a .bit) _ _ _ (c .emit-update .ensures ys ∙ rw (reached-walking ys (a .s) (a .list .now) (c .before .before .before .before .before .before .before .before .before .before .before .before .before .pre), c .before .before .target-function .ensures))))
 
 pub walk-assign-spec : {M : Type 1} → statement M

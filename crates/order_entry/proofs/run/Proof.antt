@@ -1,6 +1,5 @@
 -- `order_entry::run` meets its contract: a walk of its MIR, by hand. The tables and the list are opened once and closed once; between the two they and the
 -- local arrays are lent for each call, `prepare` and then `run_from`, of which the proof knows only that they meet their contracts, and come back.
--- Assumes nothing.
 use mathlib.Core.Path.{_≡_, refl, sym, _∙_, ap, subst}
 use Prim.Native.Nat.{ℕ, _+_, _-_, _<_, _≤_}
 use mathlib.Core.List.{List, [], _∷_}

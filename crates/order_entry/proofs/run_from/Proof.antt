@@ -1,6 +1,5 @@
 -- `order_entry::run_from` meets its contract: a walk of its MIR, by hand, straight through: the tables are opened, their first records are lent to
 -- `make_moves`, of which the proof knows only that it meets its contract, and come back; the list is lent on as it is.
--- Assumes nothing.
 use mathlib.Core.Path.{_≡_, refl, sym, _∙_, ap, subst}
 use Prim.Native.Nat.{ℕ, min}
 use native.Mathlib.Omega.{arith}

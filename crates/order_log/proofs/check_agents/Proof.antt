@@ -3,7 +3,7 @@ use mathlib.Core.Path.{_≡_}
 use mathlib.Core.Logic.{⊎-elim}
 use Prim.Native.Nat.{_-_, _≤_, _<_}
 use Rattle.order.proofs.Best.{Best, best-start, best-new, best-old}
-use Rattle.order_log.specs.Agents.{loose-in}
+use Rattle.order_log.specs.Agents.{one-agent-unordered-in}
 use Rattle.order_log.proofs.Agents.{Own, own-start, own-turn, own-hit, own-low, ten}
 use native.Mathlib.Omega.{arith}
 use borrow.Author.Needs.{needs}
@@ -16,10 +16,13 @@ use Rattle.text.proofs.smaller.Reads as smaller-reads
 use Rattle.text.proofs.must.Reads as must-reads
 
 abbrev Inv-loop : tie.InvT-loop
-Inv-loop order moves m own₀ first₀ second₀ j₀ own first second j = (j ≤ m) × (second ≤ 64) × Own order j own × Best (loose-in order) j first second
+Inv-loop order moves m own₀ first₀ second₀ j₀ own first second j = (j ≤ m) × (second ≤ 64) × Own order j own × Best (one-agent-unordered-in order) j first second
 
 abbrev μ-loop : tie.MeasureT-loop
 μ-loop order moves m own₀ first₀ second₀ j₀ own first second j = m - j
+
+cast-smaller : tie.Need-cast-smaller Inv-loop μ-loop
+cast-smaller c = search needs
 
 smaller-requires : tie.Need-smaller-requires Inv-loop μ-loop
 smaller-requires c κs = search needs
@@ -87,8 +90,8 @@ loop-again c =
     let hit = own-hit o (l .j) (l .own) lim (l .inv .2) (n .result) (n .ensures) in
     let low = own-low o (l .j) (l .own) lim (l .inv .2) (n .result) (n .ensures) in
     ⊎-elim
-    (λ y. rw (y .1, y .2) (omega arith, omega arith, own-turn o (l .j) (l .own) lim (l .inv .2), best-new (loose-in o) (l .j) (l .first) (l .second) (n .result) lim (l .inv .3) hit low (y .0 .taken)))
-    (λ y. rw (y .1, y .2) (omega arith, omega arith, own-turn o (l .j) (l .own) lim (l .inv .2), best-old (loose-in o) (l .j) (l .first) (l .second) (n .result) lim (l .inv .3) hit low (y .0 .left)))
+    (λ y. rw (y .1, y .2) (omega arith, omega arith, own-turn o (l .j) (l .own) lim (l .inv .2), best-new (one-agent-unordered-in o) (l .j) (l .first) (l .second) (n .result) lim (l .inv .3) hit low (y .0 .taken)))
+    (λ y. rw (y .1, y .2) (omega arith, omega arith, own-turn o (l .j) (l .own) lim (l .inv .2), best-old (one-agent-unordered-in o) (l .j) (l .first) (l .second) (n .result) lim (l .inv .3) hit low (y .0 .left)))
     (c .if1 .came)
 
 cast-must : tie.Need-cast-must Inv-loop μ-loop
@@ -110,6 +113,7 @@ check-agents-spec =
     (tie.spec
     Inv-loop
     μ-loop
+    cast-smaller
     smaller-requires
     loop-holds
     add-a

@@ -20,8 +20,14 @@ add-number-at-2 c = search needs
 number-at-requires-2 : tie.Need-number-at-requires-2
 number-at-requires-2 c κs = search needs
 
+cast-smaller : tie.Need-cast-smaller
+cast-smaller c = search needs
+
 smaller-requires : tie.Need-smaller-requires
 smaller-requires c κs = search needs
+
+cast-smaller-2 : tie.Need-cast-smaller-2
+cast-smaller-2 c = search needs
 
 smaller-requires-2 : tie.Need-smaller-requires-2
 smaller-requires-2 c κs = search needs
@@ -58,7 +64,9 @@ picks-of-move-spec =
     number-at-requires
     add-number-at-2
     number-at-requires-2
+    cast-smaller
     smaller-requires
+    cast-smaller-2
     smaller-requires-2
     add-t14
     add-t15

@@ -20,11 +20,11 @@ add-read-choices c = omega (arith, header-small (c .before .before .before .befo
 read-choices-requires : tie.Need-read-choices-requires
 read-choices-requires c κs = search needs
 
-both-requires : tie.Need-both-requires
-both-requires c κs = search needs
+join-faults-requires : tie.Need-join-faults-requires
+join-faults-requires c κs = search needs
 
-both-requires-2 : tie.Need-both-requires-2
-both-requires-2 c κs = search needs
+join-faults-requires-2 : tie.Need-join-faults-requires-2
+join-faults-requires-2 c κs = search needs
 
 returns : tie.Need-returns
 returns c =
@@ -36,7 +36,7 @@ returns c =
     let few : a .h .a + a .h .b ≤ 2080 = omega (arith, small .0, small .1) in
     let lines : ChoiceLinesRead (a .elements) (a .log .now) (a .h .a) (a .h .a + a .h .b) (a .h .c) (pairs .last .1 .1 .1 .0) (picks .last .1 .1 .1 .1 .1 .0) (picks .result) =
     rw (min-eq-left (small .0), min-eq-left few, min-eq-left (small .2)) at (picks .ensures) in
-    rw (c .both2 .ensures, c .before .both .ensures)
+    rw (c .join-faults2 .ensures, c .before .join-faults .ensures)
     (lines-joined (a .agents) (a .elements) (a .log .now) (a .h) (c .before .before .before .before .before .before .before .before .before .before .pre) (moves .last .1 .1 .1 .0) (pairs .last .1 .1 .1 .0) (picks .last .1 .1 .1 .1 .1 .0)
     (omega (arith, moves .kept .1 .1 .1 .0, c .before .before .before .before .before .before .before .before .read-moves-arg .given .0 .1)) (moves .result) (pairs .result) (picks .result) (moves .ensures) (pairs .ensures) lines)
 
@@ -48,6 +48,6 @@ read-lines-spec =
     read-pairs-requires
     add-read-choices
     read-choices-requires
-    both-requires
-    both-requires-2
+    join-faults-requires
+    join-faults-requires-2
     returns)

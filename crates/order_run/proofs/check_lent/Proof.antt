@@ -23,6 +23,9 @@ answer-at-requires-3 c κs = search needs
 returns-3 : tie.Need-returns-3
 returns-3 c = let a = c .before .before .before .before .before .before .before .args in c .answer-at3 .ensures ∙ lent-2 (a .lent) (a .locations) (c .before .before .before .before .before .if1 .left) (c .before .before .before .if2 .left) (c .before .if3 .taken)
 
+cast-answer-at : tie.Need-cast-answer-at
+cast-answer-at c = search needs
+
 answer-at-requires-4 : tie.Need-answer-at-requires-4
 answer-at-requires-4 c κs = search needs
 
@@ -45,6 +48,7 @@ check-lent-spec =
     returns-2
     answer-at-requires-3
     returns-3
+    cast-answer-at
     answer-at-requires-4
     returns-4
     answer-at-requires-5

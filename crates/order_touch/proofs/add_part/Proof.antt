@@ -12,10 +12,10 @@ use Rattle.order_touch.proofs.add_part.Lts as lts
 use Rattle.order_touch.proofs.add_if_written.Reads as add-if-written-reads
 
 abbrev Inv-loop : tie.InvT-loop
-Inv-loop readers writers a b met₀ l₀ met l = (l ≤ b) × TouchSets readers writers l met
+Inv-loop readers writers a b touching₀ l₀ touching l = (l ≤ b) × TouchSets readers writers l touching
 
 abbrev μ-loop : tie.MeasureT-loop
-μ-loop readers writers a b met₀ l₀ met l = b - l
+μ-loop readers writers a b touching₀ l₀ touching l = b - l
 
 loop-holds : tie.Need-loop-holds Inv-loop μ-loop
 loop-holds c = (search needs, c .before .before .pre .3)
@@ -42,7 +42,7 @@ loop-less : tie.Need-loop-less Inv-loop μ-loop
 loop-less c = search needs
 
 loop-again : tie.Need-loop-again Inv-loop μ-loop
-loop-again c = let a = c .before .before .before .before .before .before .before .before .args in let l = c .before .before .before .before .before .loop in (omega arith, all-turn (a .readers .now) (a .writers .now) (l .l) (l .met) (c .add-if-written .last .1 .1 .0) (l .inv .1) (c .add-if-written .ensures))
+loop-again c = let a = c .before .before .before .before .before .before .before .before .args in let l = c .before .before .before .before .before .loop in (omega arith, all-turn (a .readers .now) (a .writers .now) (l .l) (l .touching) (c .add-if-written .last .1 .1 .0) (l .inv .1) (c .add-if-written .ensures))
 
 returns : tie.Need-returns Inv-loop μ-loop
 returns c = let l = c .before .loop in let e : l .l ≡ c .before .before .before .before .args .b = omega arith in rw e at (l .inv .1)

@@ -14,7 +14,7 @@ sub-earlier : tie.Need-sub-earlier
 sub-earlier c = shifted-pos (c .args .j) (c .pre)
 
 returns : tie.Need-returns
-returns c = near-is (c .args .met) (c .args .row) (c .args .j) (omega arith) (omega arith) (c .pre)
+returns c = near-is (c .args .touching) (c .args .predecessors) (c .args .j) (omega arith) (omega arith) (c .pre)
 
 pub least-touching-spec : {M : Type 1} → statement M
 least-touching-spec = tie.close (tie.spec shl-earlier sub-earlier returns)

@@ -20,6 +20,9 @@ smaller-requires-2 c κs = search needs
 touching-sets-requires : tie.Need-touching-sets-requires
 touching-sets-requires c κs = search needs
 
+cast-smaller : tie.Need-cast-smaller
+cast-smaller c = search needs
+
 smaller-requires-3 : tie.Need-smaller-requires-3
 smaller-requires-3 c κs = search needs
 
@@ -36,6 +39,7 @@ least-touching-pair-spec =
     smaller-requires
     smaller-requires-2
     touching-sets-requires
+    cast-smaller
     smaller-requires-3
     least-pair-requires
     returns)

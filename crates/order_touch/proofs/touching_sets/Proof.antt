@@ -14,10 +14,10 @@ use Rattle.order_touch.proofs.all_marks.Reads as all-marks-reads
 use Rattle.order_touch.proofs.add_part.Reads as add-part-reads
 
 abbrev Inv-loop : tie.InvT-loop
-Inv-loop readers writers n met₀ a₀ met a = (a ≤ n) × TouchSets readers writers a met
+Inv-loop readers writers n touching₀ a₀ touching a = (a ≤ n) × TouchSets readers writers a touching
 
 abbrev μ-loop : tie.MeasureT-loop
-μ-loop readers writers n met₀ a₀ met a = n - a
+μ-loop readers writers n touching₀ a₀ touching a = n - a
 
 loop-holds : tie.Need-loop-holds Inv-loop μ-loop
 loop-holds c = (search needs, all-start _ _)
@@ -63,7 +63,7 @@ loop-again-2 c = let a = c .before .before .before .before .before .before .befo
     let l = c .before .before .before .before .before .loop in
     let s = c .before .before .before .smaller .result in
     let none = c .before .all-marks .ensures (c .if1 .left) in
-    (omega (arith, c .before .before .before .smaller .ensures), all-unwritten (a .readers .now) (a .writers .now) (l .a) s (l .met) (λ k h. unwritten (a .writers .now) (l .a) s k h (none k)) (l .inv .1))
+    (omega (arith, c .before .before .before .smaller .ensures), all-unwritten (a .readers .now) (a .writers .now) (l .a) s (l .touching) (λ k h. unwritten (a .writers .now) (l .a) s k h (none k)) (l .inv .1))
 
 returns : tie.Need-returns Inv-loop μ-loop
 returns c = let l = c .before .loop in let e : l .a ≡ c .before .before .before .before .args .n = omega arith in rw e at (l .inv .1)

@@ -7,7 +7,7 @@ use Rattle.report_print.proofs.report.Statement.{statement}
 use Rattle.report_print.proofs.report.Tie as tie
 
 returns : tie.Need-returns
-returns c = rw (lt-ltb _ most-output (c .if1 .taken)) (refl, refl)
+returns c = rw (lt-ltb _ most-output (c .if1 .taken)) (record { count = refl; bytes = refl })
 
 report-input-requires : tie.Need-report-input-requires
 report-input-requires c κs = search needs

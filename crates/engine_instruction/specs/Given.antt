@@ -1,4 +1,4 @@
--- An instruction's own location and value, and the traces of a label.
+-- What one instruction gives: a value to its own location, and, of a release, the default to the locations that it clears.
 use mathlib.Core.Bool.{Bool, false, _&&_, _||_}
 use mathlib.Core.List.{List, [], _∷_}
 use Prim.Native.Nat.{ℕ}
@@ -25,10 +25,10 @@ unfoldable pub any : (Instruction → Bool) → List Instruction → Bool
 any p [] = false
 any p (i ∷ is) = p i || any p is
 
--- location i of f, holding v, is a trace of x: dynamic, with x as argument or holding it; of a binary f, row and col are i's arguments
-abbrev pub trace-by : Function → ℕ → ℕ → ℕ → ℕ → ℕ → Bool
-trace-by f i row col v x = dynamic f && (has (arguments-by (f .arity) i row col) x || eqb v x)
+-- a release of x clears location i of f, holding v (`clears`, engine/specs/Move), where row and col are the arguments of i in a binary f
+abbrev pub clears-by : Function → ℕ → ℕ → ℕ → ℕ → ℕ → Bool
+clears-by f i row col v x = dynamic f && (has (arguments-by (f .arity) i row col) x || eqb v x)
 
--- location i of f, holding v, is a trace of x: dynamic, with x as argument or holding it
-abbrev pub trace-in : ℕ → Function → ℕ → ℕ → ℕ → Bool
-trace-in E f i v x = dynamic f && (has (arguments E (f .arity) i) x || eqb v x)
+-- a release of x clears location i of f, holding v (`clears`, engine/specs/Move)
+abbrev pub clears-in : ℕ → Function → ℕ → ℕ → ℕ → Bool
+clears-in E f i v x = dynamic f && (has (arguments E (f .arity) i) x || eqb v x)

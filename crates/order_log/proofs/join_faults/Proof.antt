@@ -1,7 +1,7 @@
--- `both` meets its contract.
+-- `join_faults` meets its contract.
 use borrow.Author.Needs.{needs}
-use Rattle.order_log.proofs.both.Statement.{statement}
-use Rattle.order_log.proofs.both.Tie as tie
+use Rattle.order_log.proofs.join_faults.Statement.{statement}
+use Rattle.order_log.proofs.join_faults.Tie as tie
 
 first-found-requires : tie.Need-first-found-requires
 first-found-requires c κs = search needs
@@ -12,5 +12,5 @@ first-found-requires-2 c κs = search needs
 returns : tie.Need-returns
 returns c = rw (c .before .first-found .ensures, c .first-found2 .ensures)
 
-pub both-spec : {M : Type 1} → statement M
-both-spec = tie.close (tie.spec first-found-requires first-found-requires-2 returns)
+pub join-faults-spec : {M : Type 1} → statement M
+join-faults-spec = tie.close (tie.spec first-found-requires first-found-requires-2 returns)

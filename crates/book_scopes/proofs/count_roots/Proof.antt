@@ -1,18 +1,18 @@
--- `mark_roots` meets its contract.
+-- `count_roots` meets its contract.
 use Rattle.book_scopes.proofs.Tables.{roots-step, roots-none}
-use Rattle.book_scopes.specs.Tables.{roots-marked}
+use Rattle.book_scopes.specs.Tables.{roots-counted}
 use Rattle.book.specs.Image.{program-in}
 use borrow.Author.Needs.{needs}
 use native.Mathlib.Omega.{arith}
 use lib.ListN.{length}
 use Prim.Native.Nat.{_≤_, _-_}
 use mathlib.Core.Path.{_≡_, refl, _∙_}
-use Rattle.book_scopes.proofs.mark_roots.Statement.{statement}
-use Rattle.book_scopes.proofs.mark_roots.Tie as tie
+use Rattle.book_scopes.proofs.count_roots.Statement.{statement}
+use Rattle.book_scopes.proofs.count_roots.Tie as tie
 
 abbrev Inv-loop : tie.InvT-loop
 Inv-loop image n s₀ i₀ s i =
-    (i ≤ n) × (length s ≡ length s₀) × (s ≡ roots-marked (program-in image) i s₀)
+    (i ≤ n) × (length s ≡ length s₀) × (s ≡ roots-counted (program-in image) i s₀)
 
 abbrev μ-loop : tie.MeasureT-loop
 μ-loop image n s₀ i₀ s i = n - i
@@ -44,8 +44,8 @@ same-length c = c .before .loop .inv .1
 returns : tie.Need-returns Inv-loop μ-loop
 returns c = let a = c .before .before .before .args in let l = c .before .loop in let e : l .i ≡ a .n = omega arith in rw (← e) (l .inv .2)
 
-pub mark-roots-spec : {M : Type 1} → statement M
-mark-roots-spec =
+pub count-roots-spec : {M : Type 1} → statement M
+count-roots-spec =
     tie.close
     (tie.spec
     Inv-loop

@@ -1,8 +1,8 @@
--- `mark_label` meets its contract.
+-- `add_to_roll` meets its contract.
 use borrow.Author.Tests.{eq-eqb, ne-eqb}
 use borrow.Author.Needs.{needs}
-use Rattle.book_entries.proofs.mark_label.Statement.{statement}
-use Rattle.book_entries.proofs.mark_label.Tie as tie
+use Rattle.book_entries.proofs.add_to_roll.Statement.{statement}
+use Rattle.book_entries.proofs.add_to_roll.Tie as tie
 
 cast-put-byte : tie.Need-cast-put-byte
 cast-put-byte c = search needs
@@ -19,5 +19,5 @@ returns c = simp (eq-eqb _ _ (c .before .before .before .before .before .if1 .ta
 returns-2 : tie.Need-returns-2
 returns-2 c = simp (ne-eqb _ _ (c .if1 .left))
 
-pub mark-label-spec : {M : Type 1} → statement M
-mark-label-spec = tie.close (tie.spec cast-put-byte put-byte-requires same-length returns returns-2)
+pub add-to-roll-spec : {M : Type 1} → statement M
+add-to-roll-spec = tie.close (tie.spec cast-put-byte put-byte-requires same-length returns returns-2)

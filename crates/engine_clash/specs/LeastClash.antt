@@ -9,7 +9,7 @@ use Rattle.book.specs.Book.{Program, true-element, default, place}
 use Rattle.engine.specs.declared.Instruction.{Instruction}
 use Rattle.engine.specs.declared.Instruction.the-variants.{Update, Release}
 use Rattle.engine.specs.Move.{values, released, other}
-use Rattle.engine_instruction.specs.Traces.{own, gets, trace-in}
+use Rattle.engine_instruction.specs.Given.{own, gets, clears-in}
 use Rattle.engine_clash.specs.declared.HeldPlace.{HeldPlace}
 
 -- ---- one location
@@ -23,7 +23,7 @@ unfoldable pub values-given : ℕ → HeldPlace → Instruction → List ℕ
 values-given E s (Update l v) = if eqb l (s .location) then v ∷ [] else []
 values-given E s (Release x) =
     if eqb x (s .location) then true-element ∷ []
-    else if trace-in E (s .function) (s .index) (s .held) x then default (s .function) ∷ []
+    else if clears-in E (s .function) (s .index) (s .held) x then default (s .function) ∷ []
     else []
 
 -- ---- all instructions
