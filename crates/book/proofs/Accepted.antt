@@ -115,7 +115,7 @@ record Passed (h : Header) (text : List ℕ) : Type 0 where
   pub locations : L (program-of h text) ≤ 65536
   pub nodes : (n : ℕ) → n < h .nodes → bad-node (program-of h text) n ≡ false
   pub uses : (n : ℕ) → n < h .nodes → bad-use (program-of h text) n ≡ false
-  pub around : (n : ℕ) → n < h .nodes → bad-scope (program-of h text) n ≡ false
+  pub scopes : (n : ℕ) → n < h .nodes → bad-scope (program-of h text) n ≡ false
   pub agents : (i : ℕ) → i < h .agents → bad-agent (program-of h text) (line text (first-agent h + i)) i ≡ false
   pub entries : (i : ℕ) → i < h .contents → bad-entry (program-of h text) (entries-of h text) i ≡ false
 
@@ -138,7 +138,7 @@ passed h text b e =
         locations = leb-true (L A) most-locations (e3 .0);
         nodes = least-none (bad-node A) (h .nodes) (e5 .0);
         uses = least-none (bad-use A) (h .nodes) (e6 .0);
-        around = least-none (bad-scope A) (h .nodes) (e6′ .0);
+        scopes = least-none (bad-scope A) (h .nodes) (e6′ .0);
         agents = least-none bad7 (h .agents) e7;
         entries = least-none (bad-entry A (entries-of h text)) (h .contents) (e8 .0);
       },
@@ -179,7 +179,7 @@ book-lawful h text b p =
       reserve = first-good (h .elements) at (h .functions) (b .functions .0) (p .functions 0 (b .functions .0));
       nodes = λ n q. p .nodes n (omega (arith, long .1));
       uses = λ n q. p .uses n (omega (arith, long .1));
-      around = λ n q. p .around n (omega (arith, long .1));
+      scopes = λ n q. p .scopes n (omega (arith, long .1));
       roots = λ k q.
           let r : k < h .agents = omega (arith, long .2) in
           let g = agent-good A (line text (first-agent h + k)) k (p .agents k r) in

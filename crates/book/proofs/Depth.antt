@@ -272,4 +272,4 @@ module _ (B : Program) (ok : Lawful B) where
   unfolding misplaced
   depth-most n h =
       ltb-false most-depth (depth-at B n)
-      (so-false (ltb most-depth (depth-at B n)) (bad-scope B n) (ok .around n h) (λ q. simp (q, or-true)))
+      (so-false (ltb most-depth (depth-at B n)) (bad-scope B n) (ok .scopes n h) (λ q. simp (q, or-true)))

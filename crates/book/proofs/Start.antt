@@ -15,7 +15,7 @@ use Rattle.text.proofs.Words.{so-true, so-false, length-table-from, getD-table,
 use Rattle.book.specs.declared.Function.{Function}
 use Rattle.book.specs.declared.Entry.{Entry}
 use Rattle.book.specs.Book.{Program, Book, L, no-entry, true-element, boolean, relation, dynamic, defaults, enter, start, location, entry-location, function-at, entry-at, place, relation-at, dynamic-at, default-at}
-use Rattle.book.specs.Contents.{in-bounds, in-form, least-location, rolled, untraced, bad-entry}
+use Rattle.book.specs.Contents.{in-bounds, entry-fits, least-location, rolled, untraced, bad-entry}
 use Rattle.book.specs.Sound.{Lawful, at, Argument, OnRoll, Sound}
 use Rattle.book.proofs.Places.{Located, located, held-argument, roll-place, roll-location, past-roll, roll-argument, boolean-low, default-low}
 
@@ -42,22 +42,22 @@ in-bounds-is B e h = (
   ltb-true (e .value) (B .E) (so-true (ltb (e .value) (B .E)) (in-bounds B e) h (λ q. simp (q, and-false))),
 )
 
-module _ (P : ℕ) (e : Entry) (f : Function) (h : in-form P e f ≡ true) where
+module _ (P : ℕ) (e : Entry) (f : Function) (h : entry-fits P e f ≡ true) where
   true-in-relation : relation f ≡ true → e .value ≡ true-element
-  unfolding in-form
-  true-in-relation r = eqb-true (e .value) true-element (so-true (eqb (e .value) true-element) (in-form P e f) h (λ q. simp (r, q, and-false)))
+  unfolding entry-fits
+  true-in-relation r = eqb-true (e .value) true-element (so-true (eqb (e .value) true-element) (entry-fits P e f) h (λ q. simp (r, q, and-false)))
 
   permanent-in-static : dynamic f ≡ false → (e .arg1 < P) × (e .arg2 < P) × (e .value < P)
-  unfolding in-form
+  unfolding entry-fits
   permanent-in-static d = (
-    ltb-true (e .arg1) P (so-true (ltb (e .arg1) P) (in-form P e f) h (λ q. simp (d, q, and-false))),
-    ltb-true (e .arg2) P (so-true (ltb (e .arg2) P) (in-form P e f) h (λ q. simp (d, q, and-false))),
-    ltb-true (e .value) P (so-true (ltb (e .value) P) (in-form P e f) h (λ q. simp (d, q, and-false))),
+    ltb-true (e .arg1) P (so-true (ltb (e .arg1) P) (entry-fits P e f) h (λ q. simp (d, q, and-false))),
+    ltb-true (e .arg2) P (so-true (ltb (e .arg2) P) (entry-fits P e f) h (λ q. simp (d, q, and-false))),
+    ltb-true (e .value) P (so-true (ltb (e .value) P) (entry-fits P e f) h (λ q. simp (d, q, and-false))),
   )
 
   label-in-reserve : e .function ≡ 0 → P ≤ e .arg1
-  unfolding in-form
-  label-in-reserve z = leb-true P (e .arg1) (so-true (leb P (e .arg1)) (in-form P e f) h (λ q. simp (eq-eqb (e .function) 0 z, q, and-false)))
+  unfolding entry-fits
+  label-in-reserve z = leb-true P (e .arg1) (so-true (leb P (e .arg1)) (entry-fits P e f) h (λ q. simp (eq-eqb (e .function) 0 z, q, and-false)))
 
 untraced-is : (es : List Entry) (i : ℕ) → untraced es i ≡ true → entry-at es i .function ≢ 0
     → (rolled es (entry-at es i .arg1) i ≡ false) × (rolled es (entry-at es i .arg2) i ≡ false) × (rolled es (entry-at es i .value) i ≡ false)
@@ -76,7 +76,7 @@ passed B es i h =
     let e = entry-at es i in
     let f = function-at B (e .function) in
     let bounds = in-bounds-is B e (so-true (in-bounds B e) (bad-entry B es i) h (λ q. simp q)) in
-    let form = so-true (in-form (B .P) e f) (bad-entry B es i) h (λ q. simp (q, and-false)) in
+    let form = so-true (entry-fits (B .P) e f) (bad-entry B es i) h (λ q. simp (q, and-false)) in
     record {
       known = bounds .0;
       first = bounds .1;

@@ -18,8 +18,8 @@ in-bounds B e = ltb (e .function) (length (B .functions)) && ltb (e .arg1) (B .E
 
 -- The entry fits its function f: arguments that f has not are 0; the value is true in a relation and not undef elsewhere, so never the default; a static
 -- function has no label; Reserve holds for labels only
-unfoldable pub in-form : ℕ → Entry → Function → Bool
-in-form P e f =
+unfoldable pub entry-fits : ℕ → Entry → Function → Bool
+entry-fits P e f =
     (leb 1 (f .arity) || eqb (e .arg1) 0) && (eqb (f .arity) 2 || eqb (e .arg2) 0)
     && (relation f && eqb (e .value) true-element || not (relation f) && not (eqb (e .value) (default f)))
     && (dynamic f || ltb (e .arg1) P && ltb (e .arg2) P && ltb (e .value) P)
@@ -45,7 +45,7 @@ untraced es i =
 unfoldable pub bad-entry : Program → List Entry → ℕ → Bool
 bad-entry B es i =
     let e = entry-at es i in
-    not (in-bounds B e && (in-form (B .P) e (function-at B (e .function)) && leb (least-location B es i) (entry-location B e) && untraced es i))
+    not (in-bounds B e && (entry-fits (B .P) e (function-at B (e .function)) && leb (least-location B es i) (entry-location B e) && untraced es i))
 
 -- ---- a location of lent contents c
 

@@ -8,9 +8,9 @@ use Rattle.book.specs.Kinds.{sort}
 use Rattle.book.specs.Lines.{bad-field, lay-out, program-of, entries-of, bad-function, fits, bad-node, bad-agent}
 use Rattle.book.specs.Use.{uses, bad-use}
 use Rattle.book.specs.Scopes.{bit-of, operands-given, all-given, bound-more, misplaced}
-use Rattle.book.specs.Contents.{in-bounds, in-form, least-location, rolled, untraced, bad-entry, some-on-roll, all-permanent, bad-value}
+use Rattle.book.specs.Contents.{in-bounds, entry-fits, least-location, rolled, untraced, bad-entry, some-on-roll, all-permanent, bad-value}
 use Rattle.book.specs.Check.{check-header, check-present, check-surplus, check-program, check-lines, check-book}
 
 unfoldable pub open-book : ℕ
-unfolding table-from some-below least-from _>>_ none-at must _>>=_ digits field-ok value-of well-formed numbers-of same total place-in enter defaults start sort bad-field lay-out program-of entries-of bad-function fits bad-node bad-agent uses bad-use bit-of operands-given all-given bound-more misplaced in-bounds in-form least-location rolled untraced bad-entry some-on-roll all-permanent bad-value check-header check-present check-surplus check-program check-lines check-book
+unfolding table-from some-below least-from _>>_ none-at must _>>=_ digits field-ok value-of well-formed numbers-of same total place-in enter defaults start sort bad-field lay-out program-of entries-of bad-function fits bad-node bad-agent uses bad-use bit-of operands-given all-given bound-more misplaced in-bounds entry-fits least-location rolled untraced bad-entry some-on-roll all-permanent bad-value check-header check-present check-surplus check-program check-lines check-book
 open-book = 0

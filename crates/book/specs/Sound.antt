@@ -32,7 +32,7 @@ pub record Lawful (B : Program) : Type 0 where
   pub reserve : function-at B 0 ≡ record { first = 0; arity = 1; kind = 3 }
   pub nodes : (n : ℕ) → n < length (B .nodes) → bad-node B n ≡ false
   pub uses : (n : ℕ) → n < length (B .nodes) → bad-use B n ≡ false
-  pub around : (n : ℕ) → n < length (B .nodes) → bad-scope B n ≡ false
+  pub scopes : (n : ℕ) → n < length (B .nodes) → bad-scope B n ≡ false
   pub roots : (k : ℕ) → k < length (B .agents) → (agent-at B k .root < length (B .nodes)) × (is-rule (node-at B (agent-at B k .root) .kind) ≡ true)
   pub agents : (k : ℕ) → agent-at B k .element < B .P
 

@@ -29,7 +29,7 @@ use Rattle.book.proofs.Image.{uncapped, within-bounds, functions-long}
 use Rattle.book.proofs.Kept.{kept-nodes, entry-kept, bad-node-kept, kept-whole}
 use Rattle.book_load.specs.Loaded.{header-loaded, lines-loaded, lines-before, functions-laid, HoldsLines}
 use Rattle.book_load.proofs.Loaded.{length-headed, length-taken, taken-rows, laid-holds, laid-agent}
-use Rattle.book_entries.specs.declared.Faults.{Faults}
+use Rattle.text.specs.declared.LineFaults.{LineFaults}
 use Rattle.book_entries.specs.Roll.{entries-from}
 use Rattle.book_entries.specs.Pass.{faults, bad-at, faults-from}
 use Rattle.book_check.specs.ImageOf.{ImageOf, check-text}
@@ -78,14 +78,14 @@ module _ (o : List ℕ) where
   abbrev pub of-use : Checked (Unit {0})
   of-use = none-at node-use 0 0 (least (bad-use (program-in o)) (length (program-in o .nodes)))
 
-  abbrev pub of-around : Checked (Unit {0})
-  of-around = none-at node-use 0 0 (least (bad-scope (program-in o)) (length (program-in o .nodes)))
+  abbrev pub of-scopes : Checked (Unit {0})
+  of-scopes = none-at node-use 0 0 (least (bad-scope (program-in o)) (length (program-in o .nodes)))
 
   abbrev pub of-agents : Checked (Unit {0})
   of-agents = none-at agent-line 0 0 (least (λ i. bad-agent (program-in o) (image-row o (34 + i)) i) (length (program-in o .agents)))
 
   abbrev pub from-locations : Checked (Unit {0})
-  from-locations = of-locations >> (of-nodes >> (of-use >> (of-around >> of-agents)))
+  from-locations = of-locations >> (of-nodes >> (of-use >> (of-scopes >> of-agents)))
 
 -- after a refusal the checks that follow make no difference
 stopped : {A : Type 0} (n p : ℕ) (c d : Checked A) → (none-at n 0 0 (Here p) >> c) ≡ (none-at n 0 0 (Here p) >> d)
@@ -152,17 +152,17 @@ module _ (m : List ℕ) (h : Header) (text : List ℕ) (room : FitsImage h) (lon
     none-at node-use 0 0 (least (bad-scope B) (h .nodes))
     none-at agent-line 0 0 (least (λ i. bad-agent B (line text (first-agent h + i)) i) (h .agents))
 
-  nodes-on : (of-nodes o >> (of-use o >> (of-around o >> of-agents o))) ≡ (none-at node-line 0 0 (least (bad-node B) (h .nodes)) >> after-nodes)
+  nodes-on : (of-nodes o >> (of-use o >> (of-scopes o >> of-agents o))) ≡ (none-at node-line 0 0 (least (bad-node B) (h .nodes)) >> after-nodes)
   nodes-on =
-      ap (λ (f : Found). none-at node-line 0 0 f >> (of-use o >> (of-around o >> of-agents o))) nodes-held ∙ go (least (bad-node B) (h .nodes)) refl
+      ap (λ (f : Found). none-at node-line 0 0 f >> (of-use o >> (of-scopes o >> of-agents o))) nodes-held ∙ go (least (bad-node B) (h .nodes)) refl
     where
       go :
           (f : Found) → least (bad-node B) (h .nodes) ≡ f →
-          (none-at node-line 0 0 f >> (of-use o >> (of-around o >> of-agents o))) ≡ (none-at node-line 0 0 f >> after-nodes)
+          (none-at node-line 0 0 f >> (of-use o >> (of-scopes o >> of-agents o))) ≡ (none-at node-line 0 0 f >> after-nodes)
       go Nowhere e =
           let is = whole (least-none (bad-node B) (h .nodes) e) in
           rw (held is bad-use, held is bad-scope, agents-held is)
-      go (Here p) e = stopped node-line p (of-use o >> (of-around o >> of-agents o)) after-nodes
+      go (Here p) e = stopped node-line p (of-use o >> (of-scopes o >> of-agents o)) after-nodes
 
   pub program-held : (of-functions m >> from-locations o) ≡ check-program h text
   unfolding check-program
@@ -276,20 +276,20 @@ module _ (o : List ℕ) (h : Header) (text : List ℕ) (room : FitsImage h) (hol
   unfolding faults-from
   found = rw (first-is, count-is, holds .program, rule-kept)
 
-  module _ (r : Faults) (is : r ≡ faults-from (program-in o) text (first-entry-in o) (entry-count-in o)) where
-    pub form-found : r .form ≡ contents-form h text
-    form-found = ap (λ (x : Faults). x .form) (is ∙ found)
+  module _ (r : LineFaults) (is : r ≡ faults-from (program-in o) text (first-entry-in o) (entry-count-in o)) where
+    pub form-found : r .ill ≡ contents-form h text
+    form-found = ap (λ (x : LineFaults). x .ill) (is ∙ found)
 
     pub rule-found :
-        answer-of (none-at ill-formed 0 book-text (r .form)) .number ≡ 0 →
-        none-at contents-rule 0 0 (r .rule) ≡ none-at contents-rule (first-entry h) 0 (least (bad-entry (program-of h text) (entries-of h text)) (h .contents))
+        answer-of (none-at ill-formed 0 book-text (r .ill)) .number ≡ 0 →
+        none-at contents-rule 0 0 (r .fault) ≡ none-at contents-rule (first-entry h) 0 (least (bad-entry (program-of h text) (entries-of h text)) (h .contents))
     unfolding none-at entries-of
     rule-found z =
         let n : first-entry h + 0 ≡ first-entry h = omega arith in
-        ap (none-at contents-rule 0 0) (ap (λ (x : Faults). x .rule) (is ∙ found) ∙ go (contents-form h text) (rw form-found at z))
+        ap (none-at contents-rule 0 0) (ap (λ (x : LineFaults). x .fault) (is ∙ found) ∙ go (contents-form h text) (rw form-found at z))
         ∙ (rw n at (shifted contents-rule 0 (first-entry h) (bad-entry (program-of h text) (entries-of h text)) (h .contents) 0))
       where
-        go : (f : Found) → answer-of (none-at ill-formed 0 book-text f) .number ≡ 0 → faults f rule .rule ≡ rule
+        go : (f : Found) → answer-of (none-at ill-formed 0 book-text f) .number ≡ 0 → faults f rule .fault ≡ rule
         go Nowhere z = refl
         go (Here p) z = absurd (omega arith)
 

@@ -81,8 +81,8 @@ fn check_text(text: &[u8], h: Header, image: &mut Image) -> Answer
     }
     let program = check_program(image);
     let contents = book_entries::check_entries(text, image);
-    let ill_formed = contents.form;
-    let at_fault = contents.rule;
+    let ill_formed = contents.ill;
+    let at_fault = contents.fault;
     let form = text::none_at(text::ILL_FORMED, 0, ill_formed);
     if form.number != 0 {
         return form;

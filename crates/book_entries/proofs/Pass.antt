@@ -9,19 +9,19 @@ use Rattle.text.specs.Words.{least-from}
 use Rattle.text.specs.Text.{bad-line, line}
 use Rattle.book.specs.Book.{Program, entry-at}
 use Rattle.book.specs.Lines.{entry-of}
-use Rattle.book_entries.specs.declared.Faults.{Faults}
+use Rattle.text.specs.declared.LineFaults.{LineFaults}
 use Rattle.book_entries.specs.Roll.{entries-from}
 use Rattle.book_entries.specs.Pass.{faults, bad-at, faults-from}
 use Rattle.book_entries.proofs.Roll.{entry-there}
 
 module _ (form fault : Found) where
-  pub ill : (i : ℕ) → form ≡ Here i → _≡_ {A = Faults} (record { form = Here i; rule = Nowhere }) (faults form fault)
+  pub ill : (i : ℕ) → form ≡ Here i → _≡_ {A = LineFaults} (record { ill = Here i; fault = Nowhere }) (faults form fault)
   ill i e = rw e
 
-  pub at-fault : (i : ℕ) → form ≡ Nowhere → fault ≡ Here i → _≡_ {A = Faults} (record { form = Nowhere; rule = Here i }) (faults form fault)
+  pub at-fault : (i : ℕ) → form ≡ Nowhere → fault ≡ Here i → _≡_ {A = LineFaults} (record { ill = Nowhere; fault = Here i }) (faults form fault)
   at-fault i e f = rw (e, f)
 
-  pub sound : form ≡ Nowhere → fault ≡ Nowhere → _≡_ {A = Faults} (record { form = Nowhere; rule = Nowhere }) (faults form fault)
+  pub sound : form ≡ Nowhere → fault ≡ Nowhere → _≡_ {A = LineFaults} (record { ill = Nowhere; fault = Nowhere }) (faults form fault)
   sound e f = rw (e, f)
 
 -- the entry of line i is the one that the line says
@@ -38,16 +38,16 @@ module _ (B : Program) (text : List ℕ) (first end : ℕ) where
   abbrev fault : ℕ → Found
   fault i = least-from (bad-at B text first (end - first)) (end - i) i
 
-  pub ill-formed : (i : ℕ) → Here i ≡ form first → _≡_ {A = Faults} (record { form = Here i; rule = Nowhere }) (faults-from B text first (end - first))
+  pub ill-formed : (i : ℕ) → Here i ≡ form first → _≡_ {A = LineFaults} (record { ill = Here i; fault = Nowhere }) (faults-from B text first (end - first))
   unfolding faults-from
   ill-formed i e = ill (form first) (fault first) i (sym e)
 
   pub at-fault-from :
-      (r : Faults) (i : ℕ) → r ≡ faults (form i) (Here i) → form i ≡ form first → Here i ≡ fault first → r ≡ faults-from B text first (end - first)
+      (r : LineFaults) (i : ℕ) → r ≡ faults (form i) (Here i) → form i ≡ form first → Here i ≡ fault first → r ≡ faults-from B text first (end - first)
   unfolding faults-from
   at-fault-from r i e f g = e ∙ rw (f, g)
 
-  pub all-sound : Nowhere ≡ form first → Nowhere ≡ fault first → _≡_ {A = Faults} (record { form = Nowhere; rule = Nowhere }) (faults-from B text first (end - first))
+  pub all-sound : Nowhere ≡ form first → Nowhere ≡ fault first → _≡_ {A = LineFaults} (record { ill = Nowhere; fault = Nowhere }) (faults-from B text first (end - first))
   unfolding faults-from
   all-sound e f = sound (form first) (fault first) (sym e) (sym f)
 

@@ -15,7 +15,7 @@ use Rattle.text.proofs.Words.{and-cases, getD-table}
 use Rattle.book.specs.declared.Entry.{Entry}
 use Rattle.book.specs.Book.{Program, no-entry, function-at, entry-at, entry-location}
 use Rattle.book.specs.Lines.{entry-of}
-use Rattle.book.specs.Contents.{in-bounds, in-form, least-location, rolled, untraced, bad-entry}
+use Rattle.book.specs.Contents.{in-bounds, entry-fits, least-location, rolled, untraced, bad-entry}
 use Rattle.book_entries.specs.Roll.{entries-from, roll-with, roll-of, untraced-by, RollEmpty}
 
 -- ---- the table has exactly the labels that the entries put on the roll
@@ -101,7 +101,7 @@ rest-of :
     (B : Program) (es : List Entry) (i : ℕ) (e : Entry) (s : List ℕ) → entry-at es i ≡ e → in-bounds B e ≡ true → RollEmpty (B .E) s →
     bad-entry B es i
     ≡ not
-    (in-form (B .P) e (function-at B (e .function)) && leb (least-location B es i) (entry-location B e)
+    (entry-fits (B .P) e (function-at B (e .function)) && leb (least-location B es i) (entry-location B e)
     && untraced-by (roll-of es i s) e)
 unfolding bad-entry untraced
 rest-of B es i e s at p k =
@@ -121,12 +121,12 @@ module _ (B : Program) (es : List Entry) (i : ℕ) (e : Entry) (at : entry-at es
       bad-entry B es i
       ≡ not
       ((ltb (e .function) (length (B .functions)) && ltb (e .arg1) (B .E) && ltb (e .arg2) (B .E) && ltb (e .value) (B .E))
-      && (in-form (B .P) e (function-at B (e .function)) && leb (least-location B es i) (entry-location B e) && untraced-by (roll-of es i s) e))
+      && (entry-fits (B .P) e (function-at B (e .function)) && leb (least-location B es i) (entry-location B e) && untraced-by (roll-of es i s) e))
   unfolding in-bounds bad-entry
   bad-tests s k = go (in-bounds B e) refl
     where
       rest : Bool
-      rest = in-form (B .P) e (function-at B (e .function)) && leb (least-location B es i) (entry-location B e) && untraced-by (roll-of es i s) e
+      rest = entry-fits (B .P) e (function-at B (e .function)) && leb (least-location B es i) (entry-location B e) && untraced-by (roll-of es i s) e
 
       go : (t : Bool) → in-bounds B e ≡ t → bad-entry B es i ≡ not (t && rest)
       go true p = rest-of B es i e s at p k

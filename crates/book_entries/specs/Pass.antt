@@ -8,7 +8,7 @@ use Rattle.text.specs.Words.{least-from}
 use Rattle.text.specs.Text.{bad-line}
 use Rattle.book.specs.Book.{Program}
 use Rattle.book.specs.Contents.{bad-entry}
-use Rattle.book_entries.specs.declared.Faults.{Faults}
+use Rattle.text.specs.declared.LineFaults.{LineFaults}
 use Rattle.book_entries.specs.Roll.{entries-from}
 
 -- the second finding, if the first is none
@@ -17,13 +17,13 @@ unless (Here i) rule = Nowhere
 unless Nowhere rule = rule
 
 -- both findings: the least line that is ill-formed, and if there is none the least line at fault by refusal 8
-abbrev pub faults : Found → Found → Faults
-faults form rule = record { form = form; rule = unless form rule }
+abbrev pub faults : Found → Found → LineFaults
+faults form rule = record { ill = form; fault = unless form rule }
 
 -- the entry of line i is at fault; the n contents lines start at line `first`
 abbrev pub bad-at : Program → List ℕ → ℕ → ℕ → ℕ → Bool
 bad-at B text first n i = bad-entry B (entries-from text first n) (i - first)
 
 -- what a pass over n contents lines from line `first` on finds
-unfoldable pub faults-from : Program → List ℕ → ℕ → ℕ → Faults
+unfoldable pub faults-from : Program → List ℕ → ℕ → ℕ → LineFaults
 faults-from B text first n = faults (least-from (bad-line text) n first) (least-from (bad-at B text first n) n first)

@@ -4,6 +4,7 @@ use book::Function;
 use book::Image;
 use text::Found;
 use text::Line;
+use text::LineFaults;
 ghost use mathlib.Core.Path.{_≡_};
 ghost use mathlib.Core.Bool.{_&&_, _||_, not};
 ghost use Prim.Native.Nat.{_+_, _-_, _<_, _≤_};
@@ -13,16 +14,10 @@ ghost use Rattle.text.specs.Words.{least-from};
 ghost use Rattle.text.specs.Text.{bad-line};
 ghost use Rattle.book.specs.Book.{true-element, relation, dynamic, default, offset};
 ghost use Rattle.book.specs.Lines.{entry-of};
-ghost use Rattle.book.specs.Contents.{in-form};
+ghost use Rattle.book.specs.Contents.{entry-fits};
 ghost use Rattle.book.specs.Image.{program-in, first-entry-in, entry-count-in};
 ghost use Rattle.book_entries.specs.Roll.{roll-with, untraced-by, RollEmpty};
 ghost use Rattle.book_entries.specs.Pass.{faults, faults-from};
-
-// What the pass finds: the least line that is ill-formed, and if there is none the least at fault by refusal 8.
-pub struct Faults {
-    pub form: Found,
-    pub rule: Found,
-}
 
 // The entry that a contents line says.
 fn entry(l: Line) -> Entry
@@ -84,8 +79,8 @@ fn reserve_fits(p: u32, x: Entry) -> bool
 }
 
 // The entry fits its function f, p elements being permanent.
-fn in_form(p: u32, x: Entry, f: Function) -> bool
-    ensures { λ r. ⌜ r ≡ in-form p x f ⌝ }
+fn entry_fits(p: u32, x: Entry, f: Function) -> bool
+    ensures { λ r. ⌜ r ≡ entry-fits p x f ⌝ }
 {
     arguments_fit(x, f) & value_fits(x, f) & static_fits(p, x, f) & reserve_fits(p, x)
 }
@@ -125,18 +120,18 @@ fn no_trace(roll: &[u8], x: Entry) -> bool
 }
 
 // What the pass finds when line i is at fault: the lines from i up to `end` are still checked for their form.
-fn fault_at(text: &[u8], i: u32, end: u32) -> Faults
+fn fault_at(text: &[u8], i: u32, end: u32) -> LineFaults
     ensures { λ r. ⌜ r ≡ faults (least-from (bad-line (now (text .entry))) (end - i) i) (Here i) ⌝ }
 {
     let found = text::bad_line_from(text, i, end);
     match found {
-        Found::Nowhere => Faults {
-            form: Found::Nowhere,
-            rule: Found::Here(i),
+        Found::Nowhere => LineFaults {
+            ill: Found::Nowhere,
+            fault: Found::Here(i),
         },
-        Found::Here(j) => Faults {
-            form: Found::Here(j),
-            rule: Found::Nowhere,
+        Found::Here(j) => LineFaults {
+            ill: Found::Here(j),
+            fault: Found::Nowhere,
         },
     }
 }
@@ -148,7 +143,7 @@ fn check_entry_lines<'a>(
     first: u32,
     end: u32,
     roll: &mut [u8],
-) -> Faults
+) -> LineFaults
     requires { ⌜ RollEmpty (program-in (now image) .E) (now roll) ⌝ }
     ensures { λ r. ⌜ r ≡ faults-from (program-in (now (image .entry))) (now (text .entry)) first (end - first) ⌝ }
 {
@@ -160,29 +155,29 @@ fn check_entry_lines<'a>(
     while i < end {
         let l = text::parse(text, i);
         if !l.ok {
-            return Faults {
-                form: Found::Here(i),
-                rule: Found::Nowhere,
+            return LineFaults {
+                ill: Found::Here(i),
+                fault: Found::Nowhere,
             };
         }
         let x = entry(l.line);
         let f = book_image::function_at(image, x.function);
         let place = entry_location(e, f, x);
-        if !(in_bounds(n, e, x) & (in_form(p, x, f) & (low <= place) & no_trace(roll, x))) {
+        if !(in_bounds(n, e, x) & (entry_fits(p, x, f) & (low <= place) & no_trace(roll, x))) {
             return fault_at(text, i, end);
         }
         add_to_roll(roll, x);
         low = place + 1;
         i += 1;
     }
-    Faults {
-        form: Found::Nowhere,
-        rule: Found::Nowhere,
+    LineFaults {
+        ill: Found::Nowhere,
+        fault: Found::Nowhere,
     }
 }
 
 // Refusals 1 and 8: the least contents line that is ill-formed, or else the least at fault. Most books have few elements, and a small table is soon cleared.
-pub fn check_entries<'a>(text: &'a [u8], image: &'a Image) -> Faults
+pub fn check_entries<'a>(text: &'a [u8], image: &'a Image) -> LineFaults
     ensures { λ r. ⌜ r ≡ faults-from (program-in (now (image .entry))) (now (text .entry)) (first-entry-in (now (image .entry))) (entry-count-in (now (image .entry))) ⌝ }
 {
     let first = book_image::first_entry(image);

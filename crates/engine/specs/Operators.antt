@@ -12,27 +12,27 @@ use Rattle.engine.specs.Open.{open-engine}
 use Rattle.engine.specs.Examples.{Question, leaves, asked, no-example}
 
 -- the numbers of a quoted text, one after the other
-abbrev pub numbers-of : String → List ℕ
-numbers-of s = numbers 0 false (bytes s)
+abbrev pub quoted-numbers : String → List ℕ
+quoted-numbers s = numbers 0 false (bytes s)
 
 -- ---- kinds 1 and 3 to 6: an agent sets r, which is the label, to a term
 
 -- a line as bytes
-abbrev pub line : ℕ → ℕ → ℕ → ℕ → List ℕ
-line a b c d = written (record { a = a; b = b; c = c; d = d })
+abbrev pub written-line : ℕ → ℕ → ℕ → ℕ → List ℕ
+written-line a b c d = written (record { a = a; b = b; c = c; d = d })
 
 -- a book in which the agent, whose element is 3, sets r to the term of node n; the nodes 1 to n are given
 abbrev pub set-to : ℕ → String → List ℕ
 set-to n nodes =
-    line 7 6 5 (n + 2)
-    ++ (padded "1 0 0 0 / 1 3 0 0 / 0 2 0 0 / 0 2 0 0 / 1 2 0 0 / 2 2 0 0 / 4 1 0 0" ++ (padded nodes ++ (line 21 0 n 0 ++ line (suc n) 3 0 0)))
+    written-line 7 6 5 (n + 2)
+    ++ (padded "1 0 0 0 / 1 3 0 0 / 0 2 0 0 / 0 2 0 0 / 1 2 0 0 / 2 2 0 0 / 4 1 0 0" ++ (padded nodes ++ (written-line 21 0 n 0 ++ written-line (suc n) 3 0 0)))
 
 -- contents in which r is x: Reserve; r; then functions 2 to 4, of 0, 1 and 2 arguments
 abbrev pub with-r : ℕ → List ℕ
 with-r x =
-    numbers-of "1 1 1 1 1 1 1"
-    ++ (x ∷ 4 ∷ numbers-of "0 2 1 4 5 3 6"
-    ++ numbers-of "0 0 0 0 0 0 0 / 0 0 5 0 0 0 0 / 0 3 0 0 0 0 0 / 0 0 0 0 0 0 0 / 0 0 0 0 0 0 0 / 0 0 0 0 0 0 0 / 0 0 0 0 0 0 0")
+    quoted-numbers "1 1 1 1 1 1 1"
+    ++ (x ∷ 4 ∷ quoted-numbers "0 2 1 4 5 3 6"
+    ++ quoted-numbers "0 0 0 0 0 0 0 / 0 0 5 0 0 0 0 / 0 3 0 0 0 0 0 / 0 0 0 0 0 0 0 / 0 0 0 0 0 0 0 / 0 0 0 0 0 0 0 / 0 0 0 0 0 0 0")
 
 -- the book of set-to, in whose contents r is first the label, and then v
 abbrev pub term-gives : ℕ → String → ℕ → Case Question
@@ -42,7 +42,7 @@ term-gives n nodes v = case (leaves (set-to n nodes) (with-r 6)) (0 ∷ 0 ∷ 0 
 
 -- contents of Reserve and U: the roll is empty, and U has all elements
 abbrev pub all-in : List ℕ
-all-in = numbers-of "1 1 1 1 1 1 1 / 2 2 2 2 2 2 2"
+all-in = quoted-numbers "1 1 1 1 1 1 1 / 2 2 2 2 2 2 2"
 
 -- a book in which, for all x and y in U, g(x, y) is set to node 5, a term of nodes 3 and 4, which are x and y
 abbrev pub for-pairs : String → List ℕ
@@ -52,7 +52,7 @@ for-pairs node =
 
 -- the book of for-pairs leaves these values of g, a row for each x
 abbrev pub pairs-give : String → String → Case Question
-pairs-give node rows = case (leaves (for-pairs node) (all-in ++ replicate 49 6)) (0 ∷ 0 ∷ 0 ∷ all-in ++ numbers-of rows)
+pairs-give node rows = case (leaves (for-pairs node) (all-in ++ replicate 49 6)) (0 ∷ 0 ∷ 0 ∷ all-in ++ quoted-numbers rows)
 
 -- a book in which, for all x in U, g(x) is set to not x
 abbrev pub for-each : List ℕ
@@ -76,7 +76,7 @@ operators =
     -- Kind 7, equal
     ∷ pairs-give "7 3 4 0" "2 1 1 1 1 1 1 / 1 2 1 1 1 1 1 / 1 1 2 1 1 1 1 / 1 1 1 2 1 1 1 / 1 1 1 1 2 1 1 / 1 1 1 1 1 2 1 / 1 1 1 1 1 1 2"
     -- Kind 8, not
-    ∷ case (leaves for-each (all-in ++ replicate 7 6)) (0 ∷ 0 ∷ 0 ∷ all-in ++ numbers-of "0 2 1 0 0 0 0")
+    ∷ case (leaves for-each (all-in ++ replicate 7 6)) (0 ∷ 0 ∷ 0 ∷ all-in ++ quoted-numbers "0 2 1 0 0 0 0")
     -- Kind 9, and
     ∷ pairs-give "9 3 4 0" "0 0 0 0 0 0 0 / 0 1 1 0 0 0 0 / 0 1 2 0 0 0 0 / 0 0 0 0 0 0 0 / 0 0 0 0 0 0 0 / 0 0 0 0 0 0 0 / 0 0 0 0 0 0 0"
     -- Kind 10, or

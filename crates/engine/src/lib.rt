@@ -10,6 +10,9 @@ pub enum Instruction {
     Release { label: Value },
 }
 
+// A move's instructions as numbers, one each: what its walk gives, and what is fired.
+pub type Work = [u64; MOST_INSTRUCTIONS];
+
 // A pick, made by a clerk: the number of an element, in 64 bits so that none is cut. One that is no element is refused.
 pub type Pick = u64;
 

@@ -189,7 +189,7 @@ fn slot(code: u64) -> usize
 
 // The last of the first p updates with the location of this one, counted from 1; 0 if none has it. Only those with its slot are tried: p is one, and
 // `prior` has the one before each.
-fn last_at_slot(list: &[u64], prior: &[u16; 256], p: u16, code: u64) -> usize
+fn last_at_slot(list: &[u64], prior: &[u16; engine::MOST_INSTRUCTIONS], p: u16, code: u64) -> usize
     requires { ⌜ Chain (now list) (now prior) code p ⌝ }
     ensures { λ r. ⌜ Last location-of (now (list .entry)) code p r ⌝ }
 {
@@ -263,7 +263,7 @@ pub fn least_clash(image: &Image, contents: &[Value], list: &[u64], len: usize, 
         return least_of_all(image, contents, list, len, most);
     }
     let mut last = [0u16; 512];
-    let mut prior = [0u16; 256];
+    let mut prior = [0u16; engine::MOST_INSTRUCTIONS];
     let mut least = most as u64;
     let mut j: usize = 0;
     while j < n {

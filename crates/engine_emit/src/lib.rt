@@ -2,6 +2,7 @@
 use book::Image;
 use engine::Instruction;
 use engine::Pick;
+use engine::Work;
 use text::Value;
 ghost use mathlib.Core.Path.{_≡_};
 ghost use mathlib.Core.List.{List, []};
@@ -81,7 +82,7 @@ pub fn target_function(image: &Image, depth: usize, n: u16) -> u16
 // Sets location `at` of function f to x; refusal 11 if f is a relation and x is no Boolean.
 pub fn emit_update(
     image: &Image,
-    list: &mut [u64; 256],
+    list: &mut Work,
     s: Progress,
     n: u16,
     f: u16,
@@ -118,14 +119,7 @@ pub fn emit_update(
 }
 
 // The two updates by which an import at node n takes label x into universe u.
-fn emit_import(
-    image: &Image,
-    list: &mut [u64; 256],
-    s: Progress,
-    n: u16,
-    u: u16,
-    x: Value,
-) -> Progress
+fn emit_import(image: &Image, list: &mut Work, s: Progress, n: u16, u: u16, x: Value) -> Progress
     requires { ⌜ x < 65535 ⌝ }
     ensures { λ r. ⌜ ((ys : List ℕ) → reached ys r (now (list .exit)) ≡ (reached ys s (now (list .entry)) then importing (low-program (now (image .entry))) u x n)) ⌝ }
 {
@@ -159,7 +153,7 @@ fn emit_import(
 // An import at node n takes label x into universe u; refusal 13 if x is no element, since no label is left.
 pub fn import_label(
     image: &Image,
-    list: &mut [u64; 256],
+    list: &mut Work,
     s: Progress,
     n: u16,
     u: u16,
@@ -177,7 +171,7 @@ pub fn import_label(
 // Releases x, Reserve there being v; refusal 12 if x is no label or is on the roll.
 pub fn emit_release(
     image: &Image,
-    list: &mut [u64; 256],
+    list: &mut Work,
     s: Progress,
     n: u16,
     x: Value,

@@ -3,6 +3,7 @@
 use book::Image;
 use book_parts::Part;
 use engine::Pick;
+use engine::Work;
 use engine_emit::Progress;
 use text::Answer;
 use text::Value;
@@ -219,7 +220,7 @@ pub fn begin_move(
     contents: &[Value],
     readers: &mut [u64],
     bit: u64,
-    list: &mut [u64; 256],
+    list: &mut Work,
     agent: u32,
     picks: &[Pick],
 ) -> Begun
@@ -268,7 +269,7 @@ fn settle_listed(
     readers: &mut [u64],
     writers: &mut [u64],
     bit: u64,
-    list: &[u64; 256],
+    list: &Work,
     len: usize,
     at: u32,
 ) -> Answer
@@ -285,7 +286,7 @@ pub fn finish_move(
     readers: &mut [u64],
     writers: &mut [u64],
     bit: u64,
-    list: &[u64; 256],
+    list: &Work,
     s: Progress,
     at: u32,
 ) -> Answer

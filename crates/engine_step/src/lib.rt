@@ -3,6 +3,7 @@
 use book::Image;
 use engine::Pick;
 use engine::Record;
+use engine::Work;
 use engine_emit::Progress;
 use engine_fire::Begun;
 use text::Answer;
@@ -141,7 +142,7 @@ fn walk_call(
     contents: &[Value],
     agent: u32,
     picks: &[Pick],
-    work: &mut [u64; 256],
+    work: &mut Work,
 ) -> Begun
     ensures { λ r. ⌜ MoveWalked (low-program (now (image .entry))) (take (word (now (image .entry)) 6) (now (contents .entry))) (input agent (now (picks .entry))) (now (work .exit)) r ⌝ }
 {
@@ -167,7 +168,7 @@ pub fn begin_call(
     picks: &[Pick],
     lent: usize,
     image: &mut Image,
-    work: &mut [u64; 256],
+    work: &mut Work,
 ) -> BegunCall
     ensures { λ r. ⌜ CallBegun (now (book .entry)) (now (contents .entry)) (input agent (now (picks .entry))) lent (now (image .exit)) (now (work .exit)) r ⌝ }
 {
@@ -187,7 +188,7 @@ pub fn begin_call(
 }
 
 // Finishes the move, by the instructions that came back from the lent list.
-pub fn finish_call(contents: &mut [Value], image: &Image, work: &[u64; 256], p: BegunCall) -> Answer
+pub fn finish_call(contents: &mut [Value], image: &Image, work: &Work, p: BegunCall) -> Answer
     ensures { λ r. ⌜ CallFinished (now (image .entry)) (now (contents .entry)) (now (work .entry)) p r (now (contents .exit)) ⌝ }
 {
     let answer = p.answer;
@@ -227,7 +228,7 @@ pub fn step(
 {
     let lent = instructions.len();
     let mut image = [0u32; 2248];
-    let mut work = [0u64; 256];
+    let mut work = [0u64; engine::MOST_INSTRUCTIONS];
     let p = begin_call(book, contents, agent, picks, lent, &mut image, &mut work);
     let count = p.begun.count;
     engine_list::pass(instructions, &mut work, count);
@@ -245,7 +246,7 @@ pub fn step_own_list(
     ensures { λ r. ⌜ StepMadeOwn (now (book .entry)) (now (contents .entry)) (input agent (now (picks .entry))) lent r (now (contents .exit)) ⌝ }
 {
     let none = engine_list::blank();
-    let mut list = [none; 256];
-    let n = text::smaller(lent, 256);
+    let mut list = [none; engine::MOST_INSTRUCTIONS];
+    let n = text::smaller(lent, engine::MOST_INSTRUCTIONS);
     step(book, contents, agent, picks, &mut list[..n])
 }

@@ -1,4 +1,4 @@
--- Laws of the program that an image holds: a lawful one has its locations placed, and what that says of them; and of the scope.
+-- Laws of the program that an image holds: a lawful one has its locations placed, and what that says of them; and of the bindings.
 use mathlib.Core.Path.{_≡_, refl, sym}
 use mathlib.Core.Logic.{dite}
 use mathlib.Core.Bool.{Bool, true, false, _&&_}
@@ -14,7 +14,7 @@ use Rattle.text.specs.Words.{if_then_else_}
 use Rattle.book.specs.Book.{undef, Program, dynamic, no-function, function-at, location, dynamic-at}
 use Rattle.book.specs.Sound.{Lawful}
 use Rattle.book.proofs.Places.{located, roll-place}
-use Rattle.engine_term.specs.Scope.{variables-of}
+use Rattle.engine_term.specs.Bindings.{variables-of}
 use Rattle.engine_term.specs.Marks.{dynamic-of, Placed}
 
 -- ---- a lawful book has its locations placed
@@ -56,7 +56,7 @@ one-kind B ok u y h = dite (decLt u (length (B .functions))) inside past
     past : ¬ (u < length (B .functions)) → dynamic-at B (location B u y 0) ≡ dynamic-at B (location B u 0 0)
     past k = let e : function-at B u ≡ no-function = List·getD-eq-default (B .functions) no-function {n = u} (omega arith) in rw e
 
--- ---- the scope
+-- ---- the bindings
 
 pub variable-in : (s : List ℕ) (a : ℕ) → a < 8 → getD s a 0 ≡ getD (variables-of s) a undef
 variable-in s a h = let e = getD-take 8 s a 0 h in cc

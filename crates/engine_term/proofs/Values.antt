@@ -11,7 +11,7 @@ use borrow.Author.Tests.{eqb-true, ltb-true, leb-true}
 use Rattle.text.proofs.Words.{or-cases, and-cases}
 use Rattle.book.specs.Book.{undef, boolean, truth}
 use Rattle.engine.specs.Term.{Op, equal, conjunction, disjunction, plus, minus, less, number, shapes, no-term, a-join}
-use Rattle.engine_term.specs.Scope.{operator-value}
+use Rattle.engine_term.specs.Bindings.{operator-value}
 
 -- the product of two numbers up to m is at most m × m
 pub product : (m : ℕ) {a b : ℕ} → a ≤ m → b ≤ m → a * b ≤ m * m

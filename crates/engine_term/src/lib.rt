@@ -9,7 +9,7 @@ ghost use Rattle.book.specs.Book.{undef, truth, offset, location, dynamic-at};
 ghost use Rattle.text.specs.Words.{if_then_else_};
 ghost use Rattle.engine.specs.Reader.{read};
 ghost use Rattle.engine.specs.Term.{conjunction, disjunction, plus, minus, less, number, negate, apply, shapes, no-term};
-ghost use Rattle.engine_term.specs.Scope.{variables-of, value-at, target-at, operator-value};
+ghost use Rattle.engine_term.specs.Bindings.{variables-of, value-at, target-at, operator-value};
 ghost use Rattle.book.specs.Image.{low, low-program};
 ghost use Rattle.engine_term.specs.Marks.{mark-one, dynamic-of, Runs};
 
@@ -218,11 +218,11 @@ fn operate(p: Value, k: u16, x: Value, y: Value) -> Value
     }
 }
 
-// The value of variable a; a scope has the eight variables and then the agent's element.
-fn variable(scope: &[Value; 9], a: u16) -> Value
-    ensures { λ r. ⌜ r ≡ getD (variables-of (now (scope .entry))) a undef ⌝ }
+// The value of variable a; the bindings are the values of the eight variables and then the agent's element.
+fn variable(bindings: &[Value; 9], a: u16) -> Value
+    ensures { λ r. ⌜ r ≡ getD (variables-of (now (bindings .entry))) a undef ⌝ }
 {
-    if a < 8 { scope[a as usize] } else { 0 }
+    if a < 8 { bindings[a as usize] } else { 0 }
 }
 
 // The value of the term at node n, at most `depth` nodes deep; what it reads is marked.
@@ -231,11 +231,11 @@ pub fn eval(
     contents: &[Value],
     readers: &mut [u64],
     bit: u64,
-    scope: &[Value; 9],
+    bindings: &[Value; 9],
     depth: usize,
     n: u16,
 ) -> Value
-    ensures { λ r. ⌜ Runs (low-program (now (image .entry))) (now (contents .entry)) bit (value-at (now (image .entry)) (now (scope .entry)) depth n) r (now (readers .entry)) (now (readers .exit)) ⌝ }
+    ensures { λ r. ⌜ Runs (low-program (now (image .entry))) (now (contents .entry)) bit (value-at (now (image .entry)) (now (bindings .entry)) depth n) r (now (readers .entry)) (now (readers .exit)) ⌝ }
 {
     if depth == 0 {
         return 0;
@@ -246,22 +246,22 @@ pub fn eval(
     match k {
         1..=13 => match k {
             1 => node.a,
-            2 => variable(scope, node.a),
-            3 => scope[8],
+            2 => variable(bindings, node.a),
+            3 => bindings[8],
             4 => read(image, contents, readers, bit, node.a, 0, 0),
             5 => {
-                let x = eval(image, contents, readers, bit, scope, less, node.b);
+                let x = eval(image, contents, readers, bit, bindings, less, node.b);
                 read(image, contents, readers, bit, node.a, x, 0)
             }
             6 => {
-                let x = eval(image, contents, readers, bit, scope, less, node.b);
-                let y = eval(image, contents, readers, bit, scope, less, node.c);
+                let x = eval(image, contents, readers, bit, bindings, less, node.b);
+                let y = eval(image, contents, readers, bit, bindings, less, node.c);
                 read(image, contents, readers, bit, node.a, x, y)
             }
-            8 => not(eval(image, contents, readers, bit, scope, less, node.a)),
+            8 => not(eval(image, contents, readers, bit, bindings, less, node.a)),
             _ => {
-                let x = eval(image, contents, readers, bit, scope, less, node.a);
-                let y = eval(image, contents, readers, bit, scope, less, node.b);
+                let x = eval(image, contents, readers, bit, bindings, less, node.a);
+                let y = eval(image, contents, readers, bit, bindings, less, node.b);
                 operate(book_parts::permanent(image), k, x, y)
             }
         },
@@ -275,11 +275,11 @@ pub fn target_location(
     contents: &[Value],
     readers: &mut [u64],
     bit: u64,
-    scope: &[Value; 9],
+    bindings: &[Value; 9],
     depth: usize,
     n: u16,
 ) -> u32
-    ensures { λ r. ⌜ Runs (low-program (now (image .entry))) (now (contents .entry)) bit (target-at (now (image .entry)) (now (scope .entry)) depth n) r (now (readers .entry)) (now (readers .exit)) ⌝ }
+    ensures { λ r. ⌜ Runs (low-program (now (image .entry))) (now (contents .entry)) bit (target-at (now (image .entry)) (now (bindings .entry)) depth n) r (now (readers .entry)) (now (readers .exit)) ⌝ }
 {
     if depth == 0 {
         return 0;
@@ -290,12 +290,12 @@ pub fn target_location(
     match k {
         4 => location(image, node.a, 0, 0),
         5 => {
-            let x = eval(image, contents, readers, bit, scope, less, node.b);
+            let x = eval(image, contents, readers, bit, bindings, less, node.b);
             location(image, node.a, x, 0)
         }
         6 => {
-            let x = eval(image, contents, readers, bit, scope, less, node.b);
-            let y = eval(image, contents, readers, bit, scope, less, node.c);
+            let x = eval(image, contents, readers, bit, bindings, less, node.b);
+            let y = eval(image, contents, readers, bit, bindings, less, node.c);
             location(image, node.a, x, y)
         }
         _ => 0,

@@ -1,4 +1,4 @@
--- Laws of a walk's steps: scopes, and the rules one by one.
+-- Laws of a walk's steps: bindingss, and the rules one by one.
 use mathlib.Core.Path.{_≡_, refl, sym, ap, _∙_}
 use mathlib.Core.Logic.{dite, inl, inr}
 use mathlib.Core.Bool.{Bool, true, false}
@@ -19,7 +19,7 @@ use Rattle.engine.specs.Reader.{Reader, done, value-in, _>>=_}
 use Rattle.engine.specs.Term.{term-at, eval}
 use Rattle.engine.specs.Rule.{Rule, skip, block, test, Walk, Walked, walking, refused-at, after, take-pick, refuse-if, universe-at, not-member, import-of, choose-of, walk, rule-from}
 use Rattle.engine.proofs.Steps.{rule-block, rule-test, rule-skip, no-rule-at}
-use Rattle.engine_term.specs.Scope.{variables-of, agent-of}
+use Rattle.engine_term.specs.Bindings.{variables-of, agent-of}
 use Rattle.engine_term.specs.Marks.{Runs}
 use Rattle.engine.proofs.Picks.{universe-high}
 use Rattle.engine_term.proofs.Marking.{runs-done, runs-bind, runs-as}
@@ -28,7 +28,7 @@ use Rattle.engine_emit.specs.Emit.{walk-from, reached, importing, importing-fou
 use Rattle.engine_emit.proofs.Steps.{reached-walking}
 use Rattle.engine_reads.specs.Marking.{found-below}
 
--- ---- scopes
+-- ---- bindingss
 
 module _ (s : List ℕ) (a x : ℕ) where
   pub bind-in : a < 8 → variables-of (set s a x) ≡ set (variables-of s) a x
@@ -41,10 +41,10 @@ module _ (s : List ℕ) (a x : ℕ) where
   bind-agent h = getD-set-other s a 8 x 0 (omega arith)
 
 module _ (B : Program) (c : List ℕ) (bit : ℕ) where
-  -- a walk in a scope that has these variables and this agent
-  pub runs-scope : (t vs : List ℕ) (me : ℕ) (r : Rule) (o z : Walked) (m n : List ℕ) → variables-of t ≡ vs → agent-of t ≡ me
+  -- a walk in bindings that have these variables and this agent
+  pub runs-bindings : (t vs : List ℕ) (me : ℕ) (r : Rule) (o z : Walked) (m n : List ℕ) → variables-of t ≡ vs → agent-of t ≡ me
       → Runs B c bit (after o (walk B (agent-of t) r (variables-of t))) z m n → Runs B c bit (after o (walk B me r vs)) z m n
-  runs-scope t vs me r o z m n e f h = rw (← e, ← f) h
+  runs-bindings t vs me r o z m n e f h = rw (← e, ← f) h
 
   -- ---- what follows a step of the walk
 

@@ -10,7 +10,7 @@ use Rattle.engine.specs.Reader.{Reader}
 use Rattle.engine.specs.Term.{term-at}
 use Rattle.engine.specs.Rule.{Rule, assign, bind, for-all, import, release, choose, Walk, Walked, walking, refused-at, walk, after, rule-from}
 use Rattle.engine_instruction.specs.Code.{items}
-use Rattle.engine_term.specs.Scope.{variables-of, agent-of}
+use Rattle.engine_term.specs.Bindings.{variables-of, agent-of}
 use Rattle.book.specs.Image.{low-program}
 use Rattle.book_parts.specs.declared.StoredNode.{StoredNode}
 use Rattle.engine_term.specs.Marks.{Runs}
@@ -21,7 +21,7 @@ use Rattle.engine_emit.specs.Emit.{picks-left, walk-from, reached}
 abbrev pub outcome : Progress → List ℕ → Walked
 outcome s l = reached [] s l
 
--- ---- the walk of the rule at node n, built at most d nodes deep, in the book of the image m with the scope s
+-- ---- the walk of the rule at node n, built at most d nodes deep, in the book of the image m with the bindings s
 
 -- the walk of the rule at node n from the state w
 abbrev pub walk-at : List ℕ → List ℕ → ℕ → ℕ → Walk → Reader Walked
@@ -53,15 +53,15 @@ choose-rule m d n x = choose n (x .a) (x .b) (rule-from (node-at (low-program m)
 
 -- ---- the frame of the walk's functions
 
--- what a rule is walked in: the image, the contents, the move's bit, and the scope, which has the variables and the agent's element
+-- what a rule is walked in: the image, the contents, the move's bit, and the bindings, which have the variables and the agent's element
 pub record Frame : Type 0 where
   pub image : List ℕ
   pub contents : List ℕ
   pub bit : ℕ
-  pub scope : List ℕ
+  pub bindings : List ℕ
 
 abbrev pub frame : Lent ℕ → Lent ℕ → ℕ → Lent ℕ → Frame
-frame image contents bit scope = record { image = at-entry image; contents = at-entry contents; bit = bit; scope = at-entry scope }
+frame image contents bit bindings = record { image = at-entry image; contents = at-entry contents; bit = bit; bindings = at-entry bindings }
 
 -- how far a walk is: the picks left, its progress, the list with its instructions, and the reader marks
 pub record WalkState : Type 0 where
@@ -92,12 +92,12 @@ Leads f w x y = Runs (low-program (f .image)) (f .contents) (f .bit) w (reached 
 -- the rule is walked from x, where the walk is not refused, to y
 abbrev pub RuleWalked : Frame → Rule → WalkState → WalkState → Type 0
 RuleWalked f r x y =
-    Leads f (walk (low-program (f .image)) (agent-of (f .scope)) r (variables-of (f .scope)) (walk-from (x .picks) (x .progress) (x .list))) x y
+    Leads f (walk (low-program (f .image)) (agent-of (f .bindings)) r (variables-of (f .bindings)) (walk-from (x .picks) (x .progress) (x .list))) x y
 
 -- the rule at node n is walked, at most d nodes down, unless the walk is refused at x
 abbrev pub NodeWalked : Frame → ℕ → ℕ → WalkState → WalkState → Type 0
-NodeWalked f d n x y = Leads f (after (reached (x .picks) (x .progress) (x .list)) (walk-at (f .image) (f .scope) d n)) x y
+NodeWalked f d n x y = Leads f (after (reached (x .picks) (x .progress) (x .list)) (walk-at (f .image) (f .bindings) d n)) x y
 
 -- the body of the binder b is walked, at most d nodes down, with its variable at v, unless the walk is refused at x
 abbrev pub BodyWalked : Frame → ℕ → StoredNode → ℕ → WalkState → WalkState → Type 0
-BodyWalked f d b v x y = Leads f (after (reached (x .picks) (x .progress) (x .list)) (body-at (f .image) (f .scope) d (b .c) (b .a) v)) x y
+BodyWalked f d b v x y = Leads f (after (reached (x .picks) (x .progress) (x .list)) (body-at (f .image) (f .bindings) d (b .c) (b .a) v)) x y

@@ -2,6 +2,7 @@
 use book::Image;
 use book_parts::StoredNode;
 use engine::Pick;
+use engine::Work;
 use engine_emit::Progress;
 use text::Value;
 ghost use mathlib.Core.Path.{_≡_};
@@ -12,18 +13,18 @@ ghost use lib.ListN.{length, set};
 ghost use Rattle.text.specs.Words.{if_then_else_};
 ghost use Rattle.engine.specs.Move.{input};
 ghost use Rattle.engine.specs.Rule.{import, after, most-instructions, walk};
-ghost use Rattle.engine_term.specs.Scope.{variables-of, agent-of};
+ghost use Rattle.engine_term.specs.Bindings.{variables-of, agent-of};
 ghost use Rattle.book.specs.Image.{low-program};
 ghost use Rattle.engine_emit.specs.Emit.{reached};
 ghost use Rattle.engine_walk.specs.WalkMarks.{bits-cleared, WalkMarked};
 ghost use Rattle.engine_walk.specs.Walk.{outcome, assign-rule, let-rule, forall-rule, import-rule, release-rule, choose-rule, frame, state-before, state-after, state-before-with, state-after-with, RuleWalked, NodeWalked, BodyWalked};
 
-// Puts variable a of the scope at x.
-fn bind_variable(scope: &mut [Value; 9], a: u16, x: Value)
-    ensures { λ _. ⌜ (variables-of (now (scope .exit)) ≡ set (variables-of (now (scope .entry))) a x) × (agent-of (now (scope .exit)) ≡ agent-of (now (scope .entry))) ⌝ }
+// Puts variable a of the bindings at x.
+fn bind_variable(bindings: &mut [Value; 9], a: u16, x: Value)
+    ensures { λ _. ⌜ (variables-of (now (bindings .exit)) ≡ set (variables-of (now (bindings .entry))) a x) × (agent-of (now (bindings .exit)) ≡ agent-of (now (bindings .entry))) ⌝ }
 {
     if a < 8 {
-        scope[a as usize] = x;
+        bindings[a as usize] = x;
     }
 }
 
@@ -40,18 +41,18 @@ fn walk_assign(
     contents: &[Value],
     readers: &mut [u64],
     bit: u64,
-    list: &mut [u64; 256],
-    scope: &[Value; 9],
+    list: &mut Work,
+    bindings: &[Value; 9],
     depth: usize,
     s: Progress,
     n: u16,
     node: StoredNode,
 ) -> Progress
     requires { ⌜ s .refused ≡ 0 ⌝ }
-    ensures { λ r. ⌜ ((ys : List ℕ) → RuleWalked (frame image contents bit scope) (assign-rule (now (image .entry)) depth n node) (state-before-with ys s list readers) (state-after-with ys r list readers)) ⌝ }
+    ensures { λ r. ⌜ ((ys : List ℕ) → RuleWalked (frame image contents bit bindings) (assign-rule (now (image .entry)) depth n node) (state-before-with ys s list readers) (state-after-with ys r list readers)) ⌝ }
 {
-    let at = engine_term::target_location(image, contents, readers, bit, scope, depth, node.a);
-    let x = engine_term::eval(image, contents, readers, bit, scope, depth, node.b);
+    let at = engine_term::target_location(image, contents, readers, bit, bindings, depth, node.a);
+    let x = engine_term::eval(image, contents, readers, bit, bindings, depth, node.b);
     let f = engine_emit::target_function(image, depth, node.a);
     engine_emit::emit_update(image, list, s, n, f, at, x)
 }
@@ -62,17 +63,17 @@ fn walk_release(
     contents: &[Value],
     readers: &mut [u64],
     bit: u64,
-    list: &mut [u64; 256],
-    scope: &[Value; 9],
+    list: &mut Work,
+    bindings: &[Value; 9],
     depth: usize,
     s: Progress,
     n: u16,
     node: StoredNode,
 ) -> Progress
     requires { ⌜ s .refused ≡ 0 ⌝ }
-    ensures { λ r. ⌜ ((ys : List ℕ) → RuleWalked (frame image contents bit scope) (release-rule (now (image .entry)) depth n node) (state-before-with ys s list readers) (state-after-with ys r list readers)) ⌝ }
+    ensures { λ r. ⌜ ((ys : List ℕ) → RuleWalked (frame image contents bit bindings) (release-rule (now (image .entry)) depth n node) (state-before-with ys s list readers) (state-after-with ys r list readers)) ⌝ }
 {
-    let x = engine_term::eval(image, contents, readers, bit, scope, depth, node.a);
+    let x = engine_term::eval(image, contents, readers, bit, bindings, depth, node.a);
     let v = engine_reads::read_reserve(image, contents, readers, bit, x);
     engine_emit::emit_release(image, list, s, n, x, v)
 }
@@ -84,15 +85,15 @@ fn walk(
     contents: &[Value],
     readers: &mut [u64],
     bit: u64,
-    list: &mut [u64; 256],
+    list: &mut Work,
     picks: &[Pick],
     used: &mut [usize; 1],
-    scope: &[Value; 9],
+    bindings: &[Value; 9],
     depth: usize,
     s: Progress,
     n: u16,
 ) -> Progress
-    ensures { λ r. ⌜ NodeWalked (frame image contents bit scope) depth n (state-before picks used s list readers) (state-after picks used r list readers) ⌝ }
+    ensures { λ r. ⌜ NodeWalked (frame image contents bit bindings) depth n (state-before picks used s list readers) (state-after picks used r list readers) ⌝ }
 {
     let mut left = depth;
     let mut at = n;
@@ -112,7 +113,7 @@ fn walk(
                     readers,
                     bit,
                     list,
-                    scope,
+                    bindings,
                     less,
                     r,
                     at,
@@ -127,7 +128,7 @@ fn walk(
                         list,
                         picks,
                         used,
-                        scope,
+                        bindings,
                         less,
                         r,
                         node.a,
@@ -135,7 +136,15 @@ fn walk(
                     at = node.b;
                 }
                 23 => {
-                    let x = engine_term::eval(image, contents, readers, bit, scope, less, node.a);
+                    let x = engine_term::eval(
+                        image,
+                        contents,
+                        readers,
+                        bit,
+                        bindings,
+                        less,
+                        node.a,
+                    );
                     at = branch(x, node.b, node.c);
                 }
                 24 => return walk_let(
@@ -146,7 +155,7 @@ fn walk(
                     list,
                     picks,
                     used,
-                    scope,
+                    bindings,
                     less,
                     r,
                     node,
@@ -159,7 +168,7 @@ fn walk(
                     list,
                     picks,
                     used,
-                    scope,
+                    bindings,
                     less,
                     r,
                     node,
@@ -172,7 +181,7 @@ fn walk(
                     list,
                     picks,
                     used,
-                    scope,
+                    bindings,
                     less,
                     r,
                     at,
@@ -184,7 +193,7 @@ fn walk(
                     readers,
                     bit,
                     list,
-                    scope,
+                    bindings,
                     less,
                     r,
                     at,
@@ -198,7 +207,7 @@ fn walk(
                     list,
                     picks,
                     used,
-                    scope,
+                    bindings,
                     less,
                     r,
                     at,
@@ -219,18 +228,18 @@ fn walk_body(
     contents: &[Value],
     readers: &mut [u64],
     bit: u64,
-    list: &mut [u64; 256],
+    list: &mut Work,
     picks: &[Pick],
     used: &mut [usize; 1],
-    scope: &[Value; 9],
+    bindings: &[Value; 9],
     depth: usize,
     s: Progress,
     node: StoredNode,
     x: Value,
 ) -> Progress
-    ensures { λ r. ⌜ BodyWalked (frame image contents bit scope) depth node x (state-before picks used s list readers) (state-after picks used r list readers) ⌝ }
+    ensures { λ r. ⌜ BodyWalked (frame image contents bit bindings) depth node x (state-before picks used s list readers) (state-after picks used r list readers) ⌝ }
 {
-    let mut inner = *scope;
+    let mut inner = *bindings;
     bind_variable(&mut inner, node.a, x);
     walk(
         image,
@@ -253,18 +262,18 @@ fn walk_let(
     contents: &[Value],
     readers: &mut [u64],
     bit: u64,
-    list: &mut [u64; 256],
+    list: &mut Work,
     picks: &[Pick],
     used: &mut [usize; 1],
-    scope: &[Value; 9],
+    bindings: &[Value; 9],
     depth: usize,
     s: Progress,
     node: StoredNode,
 ) -> Progress
     requires { ⌜ s .refused ≡ 0 ⌝ }
-    ensures { λ r. ⌜ RuleWalked (frame image contents bit scope) (let-rule (now (image .entry)) depth node) (state-before picks used s list readers) (state-after picks used r list readers) ⌝ }
+    ensures { λ r. ⌜ RuleWalked (frame image contents bit bindings) (let-rule (now (image .entry)) depth node) (state-before picks used s list readers) (state-after picks used r list readers) ⌝ }
 {
-    let x = engine_term::eval(image, contents, readers, bit, scope, depth, node.b);
+    let x = engine_term::eval(image, contents, readers, bit, bindings, depth, node.b);
     walk_body(
         image,
         contents,
@@ -273,7 +282,7 @@ fn walk_let(
         list,
         picks,
         used,
-        scope,
+        bindings,
         depth,
         s,
         node,
@@ -287,16 +296,16 @@ fn walk_forall(
     contents: &[Value],
     readers: &mut [u64],
     bit: u64,
-    list: &mut [u64; 256],
+    list: &mut Work,
     picks: &[Pick],
     used: &mut [usize; 1],
-    scope: &[Value; 9],
+    bindings: &[Value; 9],
     depth: usize,
     s: Progress,
     node: StoredNode,
 ) -> Progress
     requires { ⌜ s .refused ≡ 0 ⌝ }
-    ensures { λ r. ⌜ RuleWalked (frame image contents bit scope) (forall-rule (now (image .entry)) depth node) (state-before picks used s list readers) (state-after picks used r list readers) ⌝ }
+    ensures { λ r. ⌜ RuleWalked (frame image contents bit bindings) (forall-rule (now (image .entry)) depth node) (state-before picks used s list readers) (state-after picks used r list readers) ⌝ }
 {
     engine_reads::mark_universe(image, readers, bit, node.b);
     let e = book_image::elements(image);
@@ -312,7 +321,7 @@ fn walk_forall(
             list,
             picks,
             used,
-            scope,
+            bindings,
             depth,
             r,
             node,
@@ -332,17 +341,17 @@ fn walk_import(
     contents: &[Value],
     readers: &mut [u64],
     bit: u64,
-    list: &mut [u64; 256],
+    list: &mut Work,
     picks: &[Pick],
     used: &mut [usize; 1],
-    scope: &[Value; 9],
+    bindings: &[Value; 9],
     depth: usize,
     s: Progress,
     n: u16,
     node: StoredNode,
 ) -> Progress
     requires { ⌜ s .refused ≡ 0 ⌝ }
-    ensures { λ r. ⌜ RuleWalked (frame image contents bit scope) (import-rule (now (image .entry)) depth n node) (state-before picks used s list readers) (state-after picks used r list readers) ⌝ }
+    ensures { λ r. ⌜ RuleWalked (frame image contents bit bindings) (import-rule (now (image .entry)) depth n node) (state-before picks used s list readers) (state-after picks used r list readers) ⌝ }
 {
     let x = engine_reads::lowest_label(image, contents, readers, bit, s.label);
     let t = engine_emit::import_label(image, list, s, n, node.b, x);
@@ -354,7 +363,7 @@ fn walk_import(
         list,
         picks,
         used,
-        scope,
+        bindings,
         depth,
         t,
         node,
@@ -368,17 +377,17 @@ fn walk_choose(
     contents: &[Value],
     readers: &mut [u64],
     bit: u64,
-    list: &mut [u64; 256],
+    list: &mut Work,
     picks: &[Pick],
     used: &mut [usize; 1],
-    scope: &[Value; 9],
+    bindings: &[Value; 9],
     depth: usize,
     s: Progress,
     n: u16,
     node: StoredNode,
 ) -> Progress
     requires { ⌜ s .refused ≡ 0 ⌝ }
-    ensures { λ r. ⌜ RuleWalked (frame image contents bit scope) (choose-rule (now (image .entry)) depth n node) (state-before picks used s list readers) (state-after picks used r list readers) ⌝ }
+    ensures { λ r. ⌜ RuleWalked (frame image contents bit bindings) (choose-rule (now (image .entry)) depth n node) (state-before picks used s list readers) (state-after picks used r list readers) ⌝ }
 {
     let x = engine_emit::next_pick(image, picks, used);
     let v = engine_reads::read_universe(image, contents, readers, bit, node.b, x);
@@ -391,7 +400,7 @@ fn walk_choose(
         list,
         picks,
         used,
-        scope,
+        bindings,
         depth,
         t,
         node,
@@ -414,7 +423,7 @@ pub fn walk_move(
     contents: &[Value],
     readers: &mut [u64],
     bit: u64,
-    list: &mut [u64; 256],
+    list: &mut Work,
     agent: u32,
     picks: &[Pick],
 ) -> Progress
@@ -428,7 +437,7 @@ pub fn walk_move(
         refused: 0,
         node: 0,
     };
-    let scope = [0, 0, 0, 0, 0, 0, 0, 0, text::low(who.element)];
+    let bindings = [0, 0, 0, 0, 0, 0, 0, 0, text::low(who.element)];
     let mut used = [0usize; 1];
     let w = walk(
         image,
@@ -438,7 +447,7 @@ pub fn walk_move(
         list,
         picks,
         &mut used,
-        &scope,
+        &bindings,
         32,
         s,
         root,

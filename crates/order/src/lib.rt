@@ -11,7 +11,10 @@ pub const MOST_PICKS: u32 = 256;
 // agent, its first pick, and the end of its picks; then 256 picks.
 pub type OrderTable = [u64; 512];
 
-// Where in this table the agents begin, the first picks, the ends of the picks, and the picks themselves.
+// For each of 64 moves a set of moves.
+pub type MoveSets = [u64; 64];
+
+// Where in the order's table the agents begin, the first picks, the ends of the picks, and the picks themselves.
 pub const AGENTS: usize = 64;
 
 pub const FIRST_PICKS: usize = 128;

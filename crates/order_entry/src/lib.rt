@@ -23,7 +23,7 @@ fn make_moves(
 ) -> Answer
     ensures { λ r. ⌜ MadeOn (now (image .entry)) (now (order .entry)) first (tables-before contents readers writers) (now (instructions .entry)) r (tables-after contents readers writers) (now (instructions .exit)) ⌝ }
 {
-    let mut work = [0u64; 256];
+    let mut work = [0u64; engine::MOST_INSTRUCTIONS];
     let mut t = first;
     while t.more {
         let s = order_run::begin_next(contents, readers, image, order, &mut work, t);
@@ -99,8 +99,8 @@ pub fn run_own_list(
     ensures { λ r. ⌜ LogRunOwn (now (book .entry)) (now (log .entry)) (tables-before contents readers writers) lent r (tables-after contents readers writers) ⌝ }
 {
     let none = engine_list::blank();
-    let mut list = [none; 256];
-    let n = text::smaller(lent, 256);
+    let mut list = [none; engine::MOST_INSTRUCTIONS];
+    let n = text::smaller(lent, engine::MOST_INSTRUCTIONS);
     run(book, log, contents, readers, writers, &mut list[..n])
 }
 
@@ -117,8 +117,8 @@ pub fn run_from_own_list(
     ensures { λ r. ⌜ RunToEndOwn (now (image .entry)) (now (order .entry)) first (tables-before contents readers writers) lent r (tables-after contents readers writers) ⌝ }
 {
     let none = engine_list::blank();
-    let mut list = [none; 256];
-    let n = text::smaller(lent, 256);
+    let mut list = [none; engine::MOST_INSTRUCTIONS];
+    let n = text::smaller(lent, engine::MOST_INSTRUCTIONS);
     run_from(
         contents,
         readers,

@@ -11,7 +11,7 @@ use Rattle.text.specs.Words.{if_then_else_, table, least-from, least}
 use Rattle.text.specs.Text.{bad-line}
 use Rattle.order.specs.Log.{Choice, choice-at, bad-choice-at}
 use Rattle.order.specs.Table.{end-in}
-use Rattle.order_lines.specs.declared.LineFaults.{LineFaults}
+use Rattle.text.specs.declared.LineFaults.{LineFaults}
 
 -- ---- places
 

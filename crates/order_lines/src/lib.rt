@@ -2,18 +2,13 @@
 use order::OrderTable;
 use text::Found;
 use text::Line;
+use text::LineFaults;
 ghost use mathlib.Core.Path.{_≡_};
 ghost use mathlib.Core.Bool.{false};
 ghost use Prim.Native.Nat.{_<_, _≤_, min};
 ghost use Rattle.text.specs.Words.{if_then_else_};
 ghost use Rattle.order.specs.Log.{bad-choice};
 ghost use Rattle.order_lines.specs.Lines.{first-found, pick-put, ChoiceLinesRead};
-
-// What is found in the lines of one kind: the least that is ill-formed, and the least at fault.
-pub struct LineFaults {
-    pub ill: Found,
-    pub fault: Found,
-}
 
 // The first place, if there is one, or else the second.
 pub fn first_found(a: Found, b: Found) -> Found

@@ -20,7 +20,7 @@ use Rattle.text.proofs.Fields.{parsed-ok, parsed-line}
 use Rattle.text.proofs.Checks.{Numbered, bind-stops, then-stops, then-goes-on}
 use Rattle.order.specs.Log.{Log, log-header-ok, log-lines, log-of, check-log-header, check-log-text, check-log-lines, read-log}
 use Rattle.order.specs.Table.{OrderTable}
-use Rattle.order_lines.specs.declared.LineFaults.{LineFaults}
+use Rattle.text.specs.declared.LineFaults.{LineFaults}
 use Rattle.order_lines.proofs.Places.{least-split}
 use Rattle.order_log.specs.Read.{header-checked, lines-checked, LinesRead, LogIsRead}
 use Rattle.order_log.proofs.Lines.{how-many}

@@ -20,7 +20,7 @@ use Rattle.order.specs.Log.{no-input, move-at, log-header-ok, choice-at, choice
 use Rattle.order.specs.Pairs.{predecessors}
 use Rattle.order.specs.Table.{agent-in, first-in, end-in, picks-in, OrderTable}
 use Rattle.order.proofs.Log.{input-at}
-use Rattle.order_lines.specs.declared.LineFaults.{LineFaults}
+use Rattle.text.specs.declared.LineFaults.{LineFaults}
 use Rattle.order_lines.specs.Lines.{first-found, shifted, picks-put, ChoiceLinesRead}
 use Rattle.order_lines.proofs.Places.{least-split}
 use Rattle.order_lines.proofs.PicksPut.{choices-picks, choices-keep}

@@ -16,7 +16,7 @@ use Rattle.order.specs.Sets.{with-move}
 use Rattle.order.specs.Pairs.{Pair}
 use Rattle.order.specs.Log.{Log, log-header-ok, pair-of, log-of, bad-move-at, bad-pair-at, check-log-lines, read-log}
 use Rattle.order.specs.Table.{predecessors-in, agent-in, first-in, end-in, OrderTable}
-use Rattle.order_lines.specs.declared.LineFaults.{LineFaults}
+use Rattle.text.specs.declared.LineFaults.{LineFaults}
 use Rattle.order_lines.specs.Lines.{first-found, shifted, KindRead}
 use Rattle.order_log.specs.declared.LogRead.{LogRead}
 

@@ -1,9 +1,9 @@
 // The log: its text read once into the table of its order and picks, with refusals 1 and 9; and refusal 10 by sets of moves.
 use order::OrderTable;
-use order_lines::LineFaults;
 use text::Answer;
 use text::Found;
 use text::Line;
+use text::LineFaults;
 use text::Parsed;
 ghost use mathlib.Core.Path.{_≡_};
 ghost use mathlib.Core.Bool.{true, false};

@@ -1,5 +1,6 @@
 // A log's run in stages: the checks, the start, each move begun and finished, and refusal 17 after the last.
 use book::Image;
+use engine::Work;
 use engine_fire::Begun;
 use order::Lengths;
 use order::OrderTable;
@@ -227,7 +228,7 @@ fn begin_with(
     contents: &[Value],
     readers: &mut [u64],
     bit: u64,
-    list: &mut [u64; 256],
+    list: &mut Work,
     agent: u32,
     table: &[u64],
     first: usize,
@@ -254,7 +255,7 @@ pub fn begin_next(
     readers: &mut [u64],
     image: &Image,
     order: &OrderTable,
-    list: &mut [u64; 256],
+    list: &mut Work,
     t: RunState,
 ) -> Begun
     ensures { λ r. ⌜ NextBegun (now (image .entry)) (now (order .entry)) t (now (contents .entry)) (now (readers .entry)) (now (readers .exit)) (now (list .exit)) r ⌝ }
@@ -283,7 +284,7 @@ pub fn finish_next(
     writers: &mut [u64],
     image: &Image,
     order: &OrderTable,
-    list: &[u64; 256],
+    list: &Work,
     t: RunState,
     s: Begun,
 ) -> RunState

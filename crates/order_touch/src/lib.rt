@@ -1,4 +1,5 @@
 // The order check, refusal 17: the least pair of unordered moves that touch, from the marks alone.
+use order::MoveSets;
 use order::OrderTable;
 ghost use mathlib.Core.Path.{_≡_};
 ghost use mathlib.Core.Bool.{_&&_, not};
@@ -20,7 +21,7 @@ pub struct MovePair {
 
 // Adds to the moves that touch each of 64 those that do so at a location with these marks: all its
 // users if the move writes it, its writers if it only reads it.
-fn add_touching(readers: u64, writers: u64, touching: &mut [u64; 64])
+fn add_touching(readers: u64, writers: u64, touching: &mut MoveSets)
     requires { ⌜ length (now touching) ≡ 64 ⌝ }
     ensures { λ _. ⌜ TouchAdded readers writers (now (touching .entry)) (now (touching .exit)) ⌝ }
 {
@@ -40,7 +41,7 @@ fn add_touching(readers: u64, writers: u64, touching: &mut [u64; 64])
 }
 
 // Adds to the moves that touch each of 64 those that do so at a location with these marks; where no move writes, nothing touches.
-fn add_if_written(readers: u64, writers: u64, touching: &mut [u64; 64])
+fn add_if_written(readers: u64, writers: u64, touching: &mut MoveSets)
     requires { ⌜ length (now touching) ≡ 64 ⌝ }
     ensures { λ _. ⌜ TouchAdded readers writers (now (touching .entry)) (now (touching .exit)) ⌝ }
 {
@@ -63,7 +64,7 @@ fn all_marks(part: &[u64]) -> u64
 }
 
 // Adds what touches at the locations from a up to b to what touches at the first a.
-fn add_part(readers: &[u64], writers: &[u64], a: usize, b: usize, touching: &mut [u64; 64])
+fn add_part(readers: &[u64], writers: &[u64], a: usize, b: usize, touching: &mut MoveSets)
     requires { ⌜ (a ≤ b) × (b ≤ length (now readers)) × (b ≤ length (now writers)) × TouchSets (now readers) (now writers) a (now touching) ⌝ }
     ensures { λ _. ⌜ TouchSets (now (readers .entry)) (now (writers .entry)) b (now (touching .exit)) ⌝ }
 {
@@ -75,11 +76,11 @@ fn add_part(readers: &[u64], writers: &[u64], a: usize, b: usize, touching: &mut
 }
 
 // For each move the set of those that touch it at one of the first n locations. Blocks that no move writes are passed over.
-fn touching_sets(readers: &[u64], writers: &[u64], n: usize) -> [u64; 64]
+fn touching_sets(readers: &[u64], writers: &[u64], n: usize) -> MoveSets
     requires { ⌜ (n ≤ length (now readers)) × (n ≤ length (now writers)) ⌝ }
     ensures { λ r. ⌜ TouchSets (now (readers .entry)) (now (writers .entry)) n r ⌝ }
 {
-    let mut touching: [u64; 64] = [0; 64];
+    let mut touching: MoveSets = [0; 64];
     let mut a: usize = 0;
     while a < n {
         let b = a + text::smaller(n - a, BLOCK);
@@ -101,7 +102,7 @@ fn least_touching(touching: u64, predecessors: u64, j: usize) -> u32
 }
 
 // The least pair of the first m moves that touch and are unordered, by its first move and then its second; `touching` has what touches each move.
-fn least_pair(touching: &[u64; 64], order: &OrderTable, m: usize) -> MovePair
+fn least_pair(touching: &MoveSets, order: &OrderTable, m: usize) -> MovePair
     requires { ⌜ m ≤ 64 ⌝ }
     ensures { λ r. ⌜ r ≡ pair-as (least-pair (λ i j. not (ordered-by (now (order .entry)) i j) && bit (getD (now (touching .entry)) j 0) i) m) ⌝ }
 {

@@ -238,9 +238,9 @@ fn report_large(
     requires { ⌜ most-output ≤ length (now output) ⌝ }
     ensures { λ r. ⌜ CallPrinted (now (book .entry)) checked (now (image .entry)) (now (order .entry)) (blank-tables 2048) (now (output .entry)) r (now (output .exit)) ⌝ }
 {
-    let mut contents = [0u16; 2048];
-    let mut readers = [0u64; 2048];
-    let mut writers = [0u64; 2048];
+    let mut contents = [0u16; report::RECORDS];
+    let mut readers = [0u64; report::RECORDS];
+    let mut writers = [0u64; report::RECORDS];
     report_on(
         book,
         &mut contents,

@@ -91,6 +91,12 @@ pub enum Found {
     Here(u32),
 }
 
+// What is found in lines of one kind: the least that is ill-formed, and the least at fault.
+pub struct LineFaults {
+    pub ill: Found,
+    pub fault: Found,
+}
+
 // An answer: a refusal's number and its place (p, q); 0 0 0 when accepted.
 pub struct Answer {
     pub number: u32,

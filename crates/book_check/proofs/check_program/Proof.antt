@@ -3,7 +3,7 @@ use Prim.Native.Nat.{_≤_}
 use lib.ListN.{length}
 use Rattle.book.specs.Image.{image-length}
 use native.Mathlib.Omega.{arith}
-use Rattle.book_check.proofs.Chain.{answered, stops, after, of-functions, of-locations, of-nodes, of-use, of-around, of-agents, program-held}
+use Rattle.book_check.proofs.Chain.{answered, stops, after, of-functions, of-locations, of-nodes, of-use, of-scopes, of-agents, program-held}
 use Rattle.book_load.specs.Loaded.{functions-laid}
 use Rattle.text.proofs.Checks.{none-numbered, must-numbered}
 use Rattle.text.specs.Words.{answer-of}
@@ -32,8 +32,8 @@ of3 c = answered 5 _ _ _ (c .none-at2 .ensures) (c .before .bad-nodes .ensures) 
 of4 : (c : tie.After-none-at3) → c .none-at3 .result ≡ answer-of (of-use (functions-laid (c .before .before .before .before .before .before .before .before .before .before .before .before .before .before .before .before .before .before .before .before .args .image .now)))
 of4 c = answered 6 _ _ _ (c .none-at3 .ensures) (c .before .bad-use .ensures) ∙ ap (λ (o : List ℕ). answer-of (of-use o)) (c .before .before .before .before .before .before .before .before .before .before .before .before .before .before .before .before .lay-out .ensures .0)
 
-of5 : (c : tie.After-none-at4) → c .none-at4 .result ≡ answer-of (of-around (functions-laid (c .before .before .before .before .before .before .before .before .before .before .before .before .before .before .before .before .before .before .before .before .before .before .before .before .before .args .image .now)))
-of5 c = answered 6 _ _ _ (c .none-at4 .ensures) (c .before .bad-scope .ensures) ∙ ap (λ (o : List ℕ). answer-of (of-around o)) (c .before .before .before .before .before .before .before .before .before .before .before .before .before .before .before .before .before .before .before .before .before .lay-out .ensures .0)
+of5 : (c : tie.After-none-at4) → c .none-at4 .result ≡ answer-of (of-scopes (functions-laid (c .before .before .before .before .before .before .before .before .before .before .before .before .before .before .before .before .before .before .before .before .before .before .before .before .before .args .image .now)))
+of5 c = answered 6 _ _ _ (c .none-at4 .ensures) (c .before .bad-scope .ensures) ∙ ap (λ (o : List ℕ). answer-of (of-scopes o)) (c .before .before .before .before .before .before .before .before .before .before .before .before .before .before .before .before .before .before .before .before .before .lay-out .ensures .0)
 
 of6 : (c : tie.After-none-at5) → c .none-at5 .result ≡ answer-of (of-agents (functions-laid (c .before .before .before .before .before .before .before .before .before .before .before .before .before .before .before .before .before .before .before .before .before .before .before .before .before .before .before .before .before .before .args .image .now)))
 of6 c = answered 7 _ _ _ (c .none-at5 .ensures) (c .before .bad-agents .ensures) ∙ ap (λ (o : List ℕ). answer-of (of-agents o)) (c .before .before .before .before .before .before .before .before .before .before .before .before .before .before .before .before .before .before .before .before .before .before .before .before .before .before .lay-out .ensures .0)

@@ -51,14 +51,14 @@ there c =
 rest :
     (c : tie.After-no-trace Inv-loop μ-loop) →
     bad-entry (program-in (c .before .before .before .before .before .before .before .before .before .before .before .before .before .before .before .before .before .args .image .now)) (entries-from (c .before .before .before .before .before .before .before .before .before .before .before .before .before .before .before .before .before .args .text .now) (c .before .before .before .before .before .before .before .before .before .before .before .before .before .before .before .before .before .args .first) (c .before .before .before .before .before .before .before .before .before .before .before .before .before .before .before .before .before .args .end - c .before .before .before .before .before .before .before .before .before .before .before .before .before .before .before .before .before .args .first)) (c .before .before .before .before .before .before .before .before .before .before .before .loop .i - c .before .before .before .before .before .before .before .before .before .before .before .before .before .before .before .before .before .args .first)
-    ≡ not (c .before .before .before .in-bounds .result && (c .before .before .in-form .result && leb (c .before .before .before .before .before .before .before .before .before .before .before .loop .low) (c .before .before .before .before .entry-location .result) && c .no-trace .result))
+    ≡ not (c .before .before .before .in-bounds .result && (c .before .before .entry-fits .result && leb (c .before .before .before .before .before .before .before .before .before .before .before .loop .low) (c .before .before .before .before .entry-location .result) && c .no-trace .result))
 rest c =
     let a = c .before .before .before .before .before .before .before .before .before .before .before .before .before .before .before .before .before .args in
     let l = c .before .before .before .before .before .before .before .before .before .before .before .loop in
     let es : List Entry = entries-from (a .text .now) (a .first) (a .end - a .first) in
     rw (
       c .no-trace .ensures,
-      c .before .before .in-form .ensures,
+      c .before .before .entry-fits .ensures,
       c .before .before .before .in-bounds .ensures,
       c .before .before .before .before .entry-location .ensures .0,
       c .before .before .before .before .before .function-at .ensures,
@@ -109,8 +109,8 @@ entry-location-requires c κs = omega (arith, c .before .before .before .before 
 in-bounds-requires : tie.Need-in-bounds-requires Inv-loop μ-loop
 in-bounds-requires c κs = search needs
 
-in-form-requires : tie.Need-in-form-requires Inv-loop μ-loop
-in-form-requires c κs = search needs
+entry-fits-requires : tie.Need-entry-fits-requires Inv-loop μ-loop
+entry-fits-requires c κs = search needs
 
 no-trace-requires : tie.Need-no-trace-requires Inv-loop μ-loop
 no-trace-requires c κs = search needs
@@ -164,7 +164,7 @@ check-entry-lines-spec =
     function-at-requires
     entry-location-requires
     in-bounds-requires
-    in-form-requires
+    entry-fits-requires
     no-trace-requires
     fault-at-requires
     same-length-2

@@ -7,7 +7,7 @@ use Rattle.book.specs.Book.{node-at, location}
 use Rattle.engine.specs.Reader.{read, done, _>>=_}
 use Rattle.engine.specs.Term.{eval as value, negate, apply}
 use Rattle.engine.proofs.Steps.{term-zero, term-element, term-variable, term-agent, term-none, term-one, term-two, term-not, term-join, no-term-at}
-use Rattle.engine_term.specs.Scope.{agent-of, value-at}
+use Rattle.engine_term.specs.Bindings.{agent-of, value-at}
 use Rattle.book_parts.specs.StoredNodes.{stored-node}
 use Rattle.book.specs.Image.{low-program}
 use Rattle.engine_term.proofs.Values.{join-kind}
@@ -115,7 +115,7 @@ eval-returns-4 t c =
     let a = c .before .before .before .before .before .before .before .before .args in
     let x = stored-node (c .before .before .before .before .node .result) in
     rw (term-agent (node-at (low-program (a .image .now))) (a .depth) (a .n) x (c .before .before .before .before .before .if1 .left) (c .before .before .before .before .node .ensures) (c .before .match .keys3))
-    (runs-done (low-program (a .image .now)) (a .contents .now) (a .bit) (agent-of (a .scope .now)) (a .readers .now))
+    (runs-done (low-program (a .image .now)) (a .contents .now) (a .bit) (agent-of (a .bindings .now)) (a .readers .now))
 
 eval-same-length : (t : ℕ) → eval-lts.Need-same-length (claims-eval t) (eval-at t) eval.Post
 eval-same-length t c = search needs
@@ -137,7 +137,7 @@ eval-returns-6 t c =
     let m = a .image .now in
     let x = stored-node (c .before .before .before .before .before .before .before .before .before .before .before .node .result) in
     rw (term-one (node-at (low-program m)) (a .depth) (a .n) x (c .before .before .before .before .before .before .before .before .before .before .before .before .if1 .left) (c .before .before .before .before .before .before .before .before .before .before .before .node .ensures) (c .before .before .before .before .before .before .before .before .match .keys5))
-    (runs-bind (low-program m) (a .contents .now) (a .bit) (value-at m (a .scope .now) (a .depth - 1) (x .b)) (λ y. read (location (low-program m) (x .a) y 0)) _ _ _ _ _ (c .before .before .before .before .before .before .eval .ensures) (c .before .before .read2 .ensures))
+    (runs-bind (low-program m) (a .contents .now) (a .bit) (value-at m (a .bindings .now) (a .depth - 1) (x .b)) (λ y. read (location (low-program m) (x .a) y 0)) _ _ _ _ _ (c .before .before .before .before .before .before .eval .ensures) (c .before .before .read2 .ensures))
 
 eval-same-length-3 : (t : ℕ) → eval-lts.Need-same-length-3 (claims-eval t) (eval-at t) eval.Post
 eval-same-length-3 t c = search needs
@@ -148,7 +148,7 @@ eval-returns-7 t c =
     let a = c .before .before .before .before .before .before .before .before .before .before .before .before .before .before .before .before .before .before .before .args in
     let m = a .image .now in
     let x = stored-node (c .before .before .before .before .before .before .before .before .before .before .before .before .before .before .before .node .result) in
-    let s = a .scope .now in
+    let s = a .bindings .now in
     let d = a .depth - 1 in
     rw (term-two (node-at (low-program m)) (a .depth) (a .n) x (c .before .before .before .before .before .before .before .before .before .before .before .before .before .before .before .before .if1 .left) (c .before .before .before .before .before .before .before .before .before .before .before .before .before .before .before .node .ensures) (c .before .before .before .before .before .before .before .before .before .before .before .before .match .keys6))
     (runs-bind (low-program m) (a .contents .now) (a .bit) (value-at m s d (x .b)) (λ y. value-at m s d (x .c) >>= λ z. read (location (low-program m) (x .a) y z)) _ _ _ _ _ (c .before .before .before .before .before .before .before .before .before .before .eval2 .ensures)
@@ -164,7 +164,7 @@ eval-returns-8 t c =
     let m = a .image .now in
     let x = stored-node (c .before .before .before .before .before .before .before .before .node .result) in
     rw (term-not (node-at (low-program m)) (a .depth) (a .n) x (c .before .before .before .before .before .before .before .before .before .if1 .left) (c .before .before .before .before .before .before .before .before .node .ensures) (c .before .before .before .before .before .match .keys7))
-    (runs-bind (low-program m) (a .contents .now) (a .bit) (value-at m (a .scope .now) (a .depth - 1) (x .a)) (λ y. done (negate y)) _ _ _ _ _ (c .before .before .before .eval4 .ensures)
+    (runs-bind (low-program m) (a .contents .now) (a .bit) (value-at m (a .bindings .now) (a .depth - 1) (x .a)) (λ y. done (negate y)) _ _ _ _ _ (c .before .before .before .eval4 .ensures)
     (runs-value (low-program m) (a .contents .now) (a .bit) _ _ _ (c .not .ensures)))
 
 eval-same-length-5 : (t : ℕ) → eval-lts.Need-same-length-5 (claims-eval t) (eval-at t) eval.Post
@@ -176,7 +176,7 @@ eval-returns-9 t c =
     let a = c .before .before .before .before .before .before .before .before .before .before .before .before .before .before .before .before .before .args in
     let m = a .image .now in
     let x = stored-node (c .before .before .before .before .before .before .before .before .before .before .before .before .before .node .result) in
-    let s = a .scope .now in
+    let s = a .bindings .now in
     let d = a .depth - 1 in
     let r = c .before .before .before .before .before .before .before .before .before .before .match .rest in
     let j = join-kind (x .kind) (omega (arith, c .before .before .before .before .before .before .before .before .before .before .before .before .if2 .left, r .0 .0 .0 .0 .0 .0 .1, r .0 .0 .0 .0 .0 .1, r .0 .0 .0 .0 .1, r .0 .0 .0 .1, r .0 .0 .1, r .0 .1)) (c .before .before .before .before .before .before .before .before .before .before .before .if3 .taken) (r .1) in

@@ -4,7 +4,7 @@ use Rattle.book.specs.Book.{node-at, location}
 use Rattle.engine.specs.Reader.{done, _>>=_}
 use Rattle.engine.specs.Term.{target}
 use Rattle.engine.proofs.Steps.{term-zero, term-none, term-one, term-two, no-target}
-use Rattle.engine_term.specs.Scope.{variables-of, agent-of, value-at}
+use Rattle.engine_term.specs.Bindings.{variables-of, agent-of, value-at}
 use Rattle.book_parts.specs.StoredNodes.{stored-node}
 use Rattle.book.specs.Image.{low-program}
 use Rattle.engine_term.proofs.Marking.{runs-done, runs-value, runs-bind}
@@ -60,7 +60,7 @@ returns-3 c =
     let m = a .image .now in
     let x = stored-node (c .before .before .before .before .before .before .node .result) in
     rw (term-one (node-at (low-program m)) (a .depth) (a .n) x (c .before .before .before .before .before .before .before .if1 .left) (c .before .before .before .before .before .before .node .ensures) (c .before .before .before .before .before .match .keys2))
-    (runs-bind (low-program m) (a .contents .now) (a .bit) (value-at m (a .scope .now) (a .depth - 1) (x .b)) (λ y. done (location (low-program m) (x .a) y 0)) _ _ _ _ _ (c .before .before .before .eval .ensures)
+    (runs-bind (low-program m) (a .contents .now) (a .bit) (value-at m (a .bindings .now) (a .depth - 1) (x .b)) (λ y. done (location (low-program m) (x .a) y 0)) _ _ _ _ _ (c .before .before .before .eval .ensures)
     (runs-value (low-program m) (a .contents .now) (a .bit) _ _ _ (c .location2 .ensures)))
 
 same-length-2 : tie.Need-same-length-2
@@ -72,7 +72,7 @@ returns-4 c =
     let a = c .before .before .before .before .before .before .before .before .before .before .before .before .before .before .args in
     let m = a .image .now in
     let x = stored-node (c .before .before .before .before .before .before .before .before .before .before .node .result) in
-    let s = a .scope .now in
+    let s = a .bindings .now in
     let d = a .depth - 1 in
     rw (term-two (node-at (low-program m)) (a .depth) (a .n) x (c .before .before .before .before .before .before .before .before .before .before .before .if1 .left) (c .before .before .before .before .before .before .before .before .before .before .node .ensures) (c .before .before .before .before .before .before .before .before .before .match .keys3))
     (runs-bind (low-program m) (a .contents .now) (a .bit) (value-at m s d (x .b)) (λ y. value-at m s d (x .c) >>= λ z. done (location (low-program m) (x .a) y z)) _ _ _ _ _ (c .before .before .before .before .before .before .before .eval2 .ensures)
@@ -83,7 +83,7 @@ returns-5 : tie.Need-returns-5
 returns-5 c =
     let a = c .before .before .before .before .before .args in
     let r = c .match .rest in
-    rw (no-target (low-program (a .image .now)) (agent-of (a .scope .now)) (variables-of (a .scope .now)) (node-at (low-program (a .image .now))) (a .depth) (a .n) (stored-node (c .before .node .result)) (c .before .node .ensures) (r .0 .0 .1) (r .0 .1) (r .1))
+    rw (no-target (low-program (a .image .now)) (agent-of (a .bindings .now)) (variables-of (a .bindings .now)) (node-at (low-program (a .image .now))) (a .depth) (a .n) (stored-node (c .before .node .result)) (c .before .node .ensures) (r .0 .0 .1) (r .0 .1) (r .1))
     (runs-done (low-program (a .image .now)) (a .contents .now) (a .bit) 0 (a .readers .now))
 
 pub target-location-spec : {M : Type 1} → statement M

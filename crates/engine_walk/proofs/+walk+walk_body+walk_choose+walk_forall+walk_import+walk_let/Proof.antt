@@ -9,7 +9,7 @@ use Rattle.book.specs.Book.{node-at}
 use Rattle.engine.specs.Reader.{Reader}
 use Rattle.engine.specs.Rule.{Walk, Walked, after, lowest, import-of, each as for-each, walk as walked, rule-from}
 use Rattle.engine.proofs.Steps.{rule-last, rule-assign, rule-bind, rule-for-all, rule-import, rule-release, rule-choose, no-rule-at}
-use Rattle.engine_term.specs.Scope.{variables-of, agent-of, value-at}
+use Rattle.engine_term.specs.Bindings.{variables-of, agent-of, value-at}
 use Rattle.book_parts.specs.StoredNodes.{stored-node}
 use Rattle.book.specs.Image.{low-function, low-program}
 use Rattle.engine_term.specs.Marks.{Runs}
@@ -19,7 +19,7 @@ use Rattle.engine_emit.proofs.Steps.{reached-walking, reached-refused}
 use Rattle.engine_reads.specs.Marking.{found-below, members-from, first-and-rest}
 use Rattle.engine_reads.proofs.Members.{universe-placed, members-next}
 use Rattle.engine_walk.specs.Walk.{body-at, walk-at as node-walk}
-use Rattle.engine_walk.proofs.Steps.{runs-scope, runs-from, runs-refused, runs-rule, runs-skip, runs-block, runs-test, import-as, runs-choose, rule-none}
+use Rattle.engine_walk.proofs.Steps.{runs-bindings, runs-from, runs-refused, runs-rule, runs-skip, runs-block, runs-test, import-as, runs-choose, rule-none}
 use Rattle.engine_walk.proofs.Forall.{sweep-as, sweep-more, sweep-end, runs-for-all}
 use Rattle.book.proofs.Held.{elements-held, function-held}
 use borrow.Author.Needs.{needs}
@@ -157,7 +157,7 @@ walk-choose-returns t c =
     let x = a .node in
     let ys = picks-left (a .picks .now) (a .used .now) in
     let w = walk-from ys (a .s) (a .list .now) in
-    let body : ℕ → Walk → Reader Walked = body-at m (a .scope .now) (a .depth) (x .c) (x .a) in
+    let body : ℕ → Walk → Reader Walked = body-at m (a .bindings .now) (a .depth) (x .c) (x .a) in
     let p = c .before .before .before .before .before .before .take-pick in
     let y = c .before .before .before .before .before .before .before .before .before .before .before .before .next-pick in
     let v = c .before .before .before .before .before .before .before .before .before .before .read-universe in
@@ -166,13 +166,13 @@ walk-choose-returns t c =
     runs-choose B (a .contents .now) (a .bit) (a .n) (x .b) w body (v .result) _ _ _ _ ys (rw is at (v .ensures)) (rw (took, is) at (c .before .before .walk-body .ensures))
 
 abbrev each-Inv-loop : walk-forall-lts.InvT-loop
-each-Inv-loop image contents readers₀ bit list₀ picks used₀ scope depth row e f r₀ y₀ readers list used r y =
+each-Inv-loop image contents readers₀ bit list₀ picks used₀ bindings depth row e f r₀ y₀ readers list used r y =
     (length readers ≡ length readers₀) × ((z : Walked) (n : List ℕ)
-    → Runs (low-program image) contents bit (after (reached (picks-left picks used) r list) (for-each (body-at image scope depth (row .c) (row .a)) (first-and-rest (low-program image) contents (row .b) y))) z readers n
-    → Runs (low-program image) contents bit (after (reached (picks-left picks used₀) r₀ list₀) (for-each (body-at image scope depth (row .c) (row .a)) (members-from (low-program image) contents (row .b) 0))) z readers₀ n)
+    → Runs (low-program image) contents bit (after (reached (picks-left picks used) r list) (for-each (body-at image bindings depth (row .c) (row .a)) (first-and-rest (low-program image) contents (row .b) y))) z readers n
+    → Runs (low-program image) contents bit (after (reached (picks-left picks used₀) r₀ list₀) (for-each (body-at image bindings depth (row .c) (row .a)) (members-from (low-program image) contents (row .b) 0))) z readers₀ n)
 
 abbrev each-μ-loop : walk-forall-lts.MeasureT-loop
-each-μ-loop image contents readers₀ bit list₀ picks used₀ scope depth row e f r₀ y₀ readers list used r y = e - y
+each-μ-loop image contents readers₀ bit list₀ picks used₀ bindings depth row e f r₀ y₀ readers list used r y = e - y
 
 walk-forall-universe-requires : (t : ℕ) → walk-forall-lts.Need-mark-universe-requires (claims-walk-forall t) (walk-forall-at t) walk-forall.Post each-Inv-loop each-μ-loop
 walk-forall-universe-requires t c κs = search needs
@@ -193,7 +193,7 @@ walk-forall-loop-holds : (t : ℕ) → walk-forall-lts.Need-loop-holds (claims-w
 walk-forall-loop-holds t c =
     let a = c .before .before .before .before .before .before .before .before .before .before .before .args in
     let B = low-program (a .image .now) in
-    let f : ℕ → Walk → Reader Walked = body-at (a .image .now) (a .scope .now) (a .depth) (a .node .c) (a .node .a) in (
+    let f : ℕ → Walk → Reader Walked = body-at (a .image .now) (a .bindings .now) (a .depth) (a .node .c) (a .node .a) in (
       refl,
       λ z n h. sweep-as B (a .contents .now) (a .bit) (a .node .b) f _ _ (reached (picks-left (a .picks .now) (a .used .now)) (a .s) (a .list .now)) z _ n (members-next B (a .contents .now) (a .node .b) (low-function (c .before .function-at .result)) (c .before .before .before .elements .result) 0 (c .next-member .result) (function-held _ _ _ (c .before .function-at .ensures)) (elements-held _ _ (c .before .before .before .elements .ensures) .0) (c .next-member .ensures .1)) h,
     )
@@ -208,11 +208,11 @@ walk-forall-returns : (t : ℕ) → walk-forall-lts.Need-returns (claims-walk-fo
 walk-forall-returns t c =
     let a = c .before .before .before .before .before .before .before .before .before .before .before .before .before .before .before .before .before .before .before .before .before .args in
     let B = low-program (a .image .now) in
-    let f : ℕ → Walk → Reader Walked = body-at (a .image .now) (a .scope .now) (a .depth) (a .node .c) (a .node .a) in
+    let f : ℕ → Walk → Reader Walked = body-at (a .image .now) (a .bindings .now) (a .depth) (a .node .c) (a .node .a) in
     let l = c .before .before .before .before .before .before .before .before .before .loop in
     let k = c .before .before .before .before .walk-body in
     let h : l .y < B .E = rw (← elements-held _ _ (c .before .before .before .before .before .before .before .before .before .before .before .before .before .elements .ensures) .0) (c .before .before .before .before .before .before .before .before .loop-test .taken) in
-    runs-for-all B (a .contents .now) (a .bit) (agent-of (a .scope .now)) (variables-of (a .scope .now)) (a .node .a) (a .node .b) (rule-from (node-at B) (a .depth) (a .node .c)) (picks-left (a .picks .now) (a .used .now)) (a .s) (a .list .now) _ _ _ _ (c .before .before .before .before .before .before .before .before .before .before .before .before .before .before .before .before .before .before .before .before .before .pre .1) (λ p. c .before .before .before .before .before .before .before .before .before .before .before .before .before .before .before .before .mark-universe .ensures ∙ universe-placed B p (a .contents .now) (a .node .b) (a .bit) (a .readers .now))
+    runs-for-all B (a .contents .now) (a .bit) (agent-of (a .bindings .now)) (variables-of (a .bindings .now)) (a .node .a) (a .node .b) (rule-from (node-at B) (a .depth) (a .node .c)) (picks-left (a .picks .now) (a .used .now)) (a .s) (a .list .now) _ _ _ _ (c .before .before .before .before .before .before .before .before .before .before .before .before .before .before .before .before .before .before .before .before .before .pre .1) (λ p. c .before .before .before .before .before .before .before .before .before .before .before .before .before .before .before .before .mark-universe .ensures ∙ universe-placed B p (a .contents .now) (a .node .b) (a .bit) (a .readers .now))
     (l .inv .1 _ _
     (sweep-more B (a .contents .now) (a .bit) (a .node .b) f (l .y) (reached (picks-left (a .picks .now) (l .used)) (l .r) (l .list)) _ _ _ _ _ h (k .ensures)
     (runs-refused B (a .contents .now) (a .bit) _ _ _ _ _ (reached-refused _ (k .result) _ (c .if1 .taken)))))
@@ -230,7 +230,7 @@ walk-forall-loop-again : (t : ℕ) → walk-forall-lts.Need-loop-again (claims-w
 walk-forall-loop-again t c =
     let a = c .before .before .before .before .before .before .before .before .before .before .before .before .before .before .before .before .before .before .before .before .before .before .args in
     let B = low-program (a .image .now) in
-    let f : ℕ → Walk → Reader Walked = body-at (a .image .now) (a .scope .now) (a .depth) (a .node .c) (a .node .a) in
+    let f : ℕ → Walk → Reader Walked = body-at (a .image .now) (a .bindings .now) (a .depth) (a .node .c) (a .node .a) in
     let l = c .before .before .before .before .before .before .before .before .before .before .loop in
     let k = c .before .before .before .before .before .walk-body in
     let h : l .y < B .E = rw (← elements-held _ _ (c .before .before .before .before .before .before .before .before .before .before .before .before .before .before .elements .ensures) .0) (c .before .before .before .before .before .before .before .before .before .loop-test .taken) in (
@@ -247,10 +247,10 @@ walk-forall-returns-2 : (t : ℕ) → walk-forall-lts.Need-returns-2 (claims-wal
 walk-forall-returns-2 t c =
     let a = c .before .before .before .before .before .before .before .before .before .before .before .before .before .args in
     let B = low-program (a .image .now) in
-    let f : ℕ → Walk → Reader Walked = body-at (a .image .now) (a .scope .now) (a .depth) (a .node .c) (a .node .a) in
+    let f : ℕ → Walk → Reader Walked = body-at (a .image .now) (a .bindings .now) (a .depth) (a .node .c) (a .node .a) in
     let l = c .before .loop in
     let h : B .E ≤ l .y = rw (← elements-held _ _ (c .before .before .before .before .before .elements .ensures) .0) (c .loop-test .left) in
-    runs-for-all B (a .contents .now) (a .bit) (agent-of (a .scope .now)) (variables-of (a .scope .now)) (a .node .a) (a .node .b) (rule-from (node-at B) (a .depth) (a .node .c)) (picks-left (a .picks .now) (a .used .now)) (a .s) (a .list .now) _ _ _ _ (c .before .before .before .before .before .before .before .before .before .before .before .before .before .pre .1) (λ p. c .before .before .before .before .before .before .before .before .mark-universe .ensures ∙ universe-placed B p (a .contents .now) (a .node .b) (a .bit) (a .readers .now))
+    runs-for-all B (a .contents .now) (a .bit) (agent-of (a .bindings .now)) (variables-of (a .bindings .now)) (a .node .a) (a .node .b) (rule-from (node-at B) (a .depth) (a .node .c)) (picks-left (a .picks .now) (a .used .now)) (a .s) (a .list .now) _ _ _ _ (c .before .before .before .before .before .before .before .before .before .before .before .before .before .pre .1) (λ p. c .before .before .before .before .before .before .before .before .mark-universe .ensures ∙ universe-placed B p (a .contents .now) (a .node .b) (a .bit) (a .readers .now))
     (l .inv .1 _ _ (sweep-end B (a .contents .now) (a .bit) (a .node .b) f (l .y) (reached (picks-left (a .picks .now) (l .used)) (l .r) (l .list)) (l .readers) h))
 
 walk-import-lowest-requires : (t : ℕ) → walk-import-lts.Need-lowest-label-requires (claims-walk-import t) (walk-import-at t) walk-import.Post
@@ -273,7 +273,7 @@ walk-import-returns t c =
     let B = low-program m in
     let x = a .node in
     let w = walk-from (picks-left (a .picks .now) (a .used .now)) (a .s) (a .list .now) in
-    let body : ℕ → Walk → Reader Walked = body-at m (a .scope .now) (a .depth) (x .c) (x .a) in
+    let body : ℕ → Walk → Reader Walked = body-at m (a .bindings .now) (a .depth) (x .c) (x .a) in
     let y = c .before .before .before .before .before .before .before .before .before .before .lowest-label .result in
     let enrolled : reached (picks-left (a .picks .now) (a .used .now)) (c .before .before .before .before .before .before .import-label .result) (c .before .before .before .before .before .before .import-label .last .1 .0) ≡ importing-found B (x .b) y (a .n) w = c .before .before .before .before .before .before .import-label .ensures (picks-left (a .picks .now) (a .used .now)) ∙ rw (reached-walking (picks-left (a .picks .now) (a .used .now)) (a .s) (a .list .now) (c .before .before .before .before .before .before .before .before .before .before .before .before .before .before .before .pre .1)) in
     runs-bind B (a .contents .now) (a .bit) (lowest (a .s .label) (B .E - a .s .label)) (λ o. import-of B (a .n) (x .b) w body o) (found-below (B .E) y) _ _ _ _ (c .before .before .before .before .before .before .before .before .before .before .lowest-label .ensures)
@@ -295,19 +295,19 @@ walk-let-returns t c =
     let a = c .before .before .before .before .before .before .before .before .before .before .before .before .before .args in
     let m = a .image .now in
     let B = low-program m in
-    let s = a .scope .now in
+    let s = a .bindings .now in
     let x = a .node in
     runs-bind B (a .contents .now) (a .bit) (value-at m s (a .depth) (x .b)) (λ y. body-at m s (a .depth) (x .c) (x .a) y (walk-from (picks-left (a .picks .now) (a .used .now)) (a .s) (a .list .now))) _ _ _ _ _ (c .before .before .before .before .before .before .before .before .eval .ensures)
     (runs-from B (a .contents .now) (a .bit) (body-at m s (a .depth) (x .c) (x .a) (c .before .before .before .before .before .before .before .before .eval .result)) (picks-left (a .picks .now) (a .used .now)) (a .s) (a .list .now) (c .before .before .before .before .before .before .before .before .before .before .before .before .before .pre .1) _ _ _ (c .before .before .walk-body .ensures))
 
 abbrev walk-Inv-loop : walk-lts.InvT-loop
-walk-Inv-loop image contents readers₀ bit list₀ picks used₀ scope depth n left₀ at₀ r₀ readers list used left at r =
+walk-Inv-loop image contents readers₀ bit list₀ picks used₀ bindings depth n left₀ at₀ r₀ readers list used left at r =
     (left ≤ depth) × (length readers ≡ length readers₀) × ((z : Walked) (m : List ℕ)
-    → Runs (low-program image) contents bit (after (reached (picks-left picks used) r list) (node-walk image scope left at)) z readers m
-    → Runs (low-program image) contents bit (after (reached (picks-left picks used₀) r₀ list₀) (node-walk image scope depth n)) z readers₀ m)
+    → Runs (low-program image) contents bit (after (reached (picks-left picks used) r list) (node-walk image bindings left at)) z readers m
+    → Runs (low-program image) contents bit (after (reached (picks-left picks used₀) r₀ list₀) (node-walk image bindings depth n)) z readers₀ m)
 
 abbrev walk-μ-loop : walk-lts.MeasureT-loop
-walk-μ-loop image contents readers₀ bit list₀ picks used₀ scope depth n left₀ at₀ r₀ readers list used left at r = left
+walk-μ-loop image contents readers₀ bit list₀ picks used₀ bindings depth n left₀ at₀ r₀ readers list used left at r = left
 
 walk-loop-holds : (t : ℕ) → walk-lts.Need-loop-holds (claims-walk t) (walk-at t) walk.Post walk-Inv-loop walk-μ-loop
 walk-loop-holds t c = (omega arith, refl, λ z m h. h)
@@ -339,7 +339,7 @@ walk-returns-2 t c =
     let B = low-program (a .image .now) in
     let l = c .before .before .before .before .before .before .before .before .before .before .before .before .loop in
     l .inv .2 _ _
-    (runs-rule B (a .contents .now) (a .bit) (agent-of (a .scope .now)) (variables-of (a .scope .now)) (rule-from (node-at B) (l .left) (l .at)) _ (picks-left (a .picks .now) (l .used)) (l .r) (l .list) _ _ _ (c .before .before .before .before .before .before .before .before .before .if1 .left)
+    (runs-rule B (a .contents .now) (a .bit) (agent-of (a .bindings .now)) (variables-of (a .bindings .now)) (rule-from (node-at B) (l .left) (l .at)) _ (picks-left (a .picks .now) (l .used)) (l .r) (l .list) _ _ _ (c .before .before .before .before .before .before .before .before .before .if1 .left)
     (rule-assign (node-at B) (l .left) (l .at) (stored-node (c .before .before .before .before .before .before .before .before .node .result)) (c .before .before .before .before .before .before .before .before .before .before .before .loop-test .taken) (c .before .before .before .before .before .before .before .before .node .ensures) (c .before .before .before .before .before .match .keys1))
     (c .before .before .walk-assign .ensures (picks-left (a .picks .now) (l .used))))
 
@@ -364,7 +364,7 @@ walk-returns-3 t c =
     let B = low-program (a .image .now) in
     let l = c .before .before .before .before .before .before .before .before .before .before .before .before .before .loop in
     l .inv .2 _ _
-    (runs-rule B (a .contents .now) (a .bit) (agent-of (a .scope .now)) (variables-of (a .scope .now)) (rule-from (node-at B) (l .left) (l .at)) _ (picks-left (a .picks .now) (l .used)) (l .r) (l .list) _ _ _ (c .before .before .before .before .before .before .before .before .before .before .if1 .left)
+    (runs-rule B (a .contents .now) (a .bit) (agent-of (a .bindings .now)) (variables-of (a .bindings .now)) (rule-from (node-at B) (l .left) (l .at)) _ (picks-left (a .picks .now) (l .used)) (l .r) (l .list) _ _ _ (c .before .before .before .before .before .before .before .before .before .before .if1 .left)
     (rule-bind (node-at B) (l .left) (l .at) (stored-node (c .before .before .before .before .before .before .before .before .before .node .result)) (c .before .before .before .before .before .before .before .before .before .before .before .before .loop-test .taken) (c .before .before .before .before .before .before .before .before .before .node .ensures) (c .before .before .before .before .before .before .match .keys4))
     (c .before .before .walk-let .ensures))
 
@@ -380,7 +380,7 @@ walk-returns-4 t c =
     let B = low-program (a .image .now) in
     let l = c .before .before .before .before .before .before .before .before .before .before .before .before .before .loop in
     l .inv .2 _ _
-    (runs-rule B (a .contents .now) (a .bit) (agent-of (a .scope .now)) (variables-of (a .scope .now)) (rule-from (node-at B) (l .left) (l .at)) _ (picks-left (a .picks .now) (l .used)) (l .r) (l .list) _ _ _ (c .before .before .before .before .before .before .before .before .before .before .if1 .left)
+    (runs-rule B (a .contents .now) (a .bit) (agent-of (a .bindings .now)) (variables-of (a .bindings .now)) (rule-from (node-at B) (l .left) (l .at)) _ (picks-left (a .picks .now) (l .used)) (l .r) (l .list) _ _ _ (c .before .before .before .before .before .before .before .before .before .before .if1 .left)
     (rule-for-all (node-at B) (l .left) (l .at) (stored-node (c .before .before .before .before .before .before .before .before .before .node .result)) (c .before .before .before .before .before .before .before .before .before .before .before .before .loop-test .taken) (c .before .before .before .before .before .before .before .before .before .node .ensures) (c .before .before .before .before .before .before .match .keys5))
     (c .before .before .walk-forall .ensures))
 
@@ -396,7 +396,7 @@ walk-returns-5 t c =
     let B = low-program (a .image .now) in
     let l = c .before .before .before .before .before .before .before .before .before .before .before .before .before .loop in
     l .inv .2 _ _
-    (runs-rule B (a .contents .now) (a .bit) (agent-of (a .scope .now)) (variables-of (a .scope .now)) (rule-from (node-at B) (l .left) (l .at)) _ (picks-left (a .picks .now) (l .used)) (l .r) (l .list) _ _ _ (c .before .before .before .before .before .before .before .before .before .before .if1 .left)
+    (runs-rule B (a .contents .now) (a .bit) (agent-of (a .bindings .now)) (variables-of (a .bindings .now)) (rule-from (node-at B) (l .left) (l .at)) _ (picks-left (a .picks .now) (l .used)) (l .r) (l .list) _ _ _ (c .before .before .before .before .before .before .before .before .before .before .if1 .left)
     (rule-import (node-at B) (l .left) (l .at) (stored-node (c .before .before .before .before .before .before .before .before .before .node .result)) (c .before .before .before .before .before .before .before .before .before .before .before .before .loop-test .taken) (c .before .before .before .before .before .before .before .before .before .node .ensures) (c .before .before .before .before .before .before .match .keys6))
     (c .before .before .walk-import .ensures))
 
@@ -412,7 +412,7 @@ walk-returns-6 t c =
     let B = low-program (a .image .now) in
     let l = c .before .before .before .before .before .before .before .before .before .before .before .before .loop in
     l .inv .2 _ _
-    (runs-rule B (a .contents .now) (a .bit) (agent-of (a .scope .now)) (variables-of (a .scope .now)) (rule-from (node-at B) (l .left) (l .at)) _ (picks-left (a .picks .now) (l .used)) (l .r) (l .list) _ _ _ (c .before .before .before .before .before .before .before .before .before .if1 .left)
+    (runs-rule B (a .contents .now) (a .bit) (agent-of (a .bindings .now)) (variables-of (a .bindings .now)) (rule-from (node-at B) (l .left) (l .at)) _ (picks-left (a .picks .now) (l .used)) (l .r) (l .list) _ _ _ (c .before .before .before .before .before .before .before .before .before .if1 .left)
     (rule-release (node-at B) (l .left) (l .at) (stored-node (c .before .before .before .before .before .before .before .before .node .result)) (c .before .before .before .before .before .before .before .before .before .before .before .loop-test .taken) (c .before .before .before .before .before .before .before .before .node .ensures) (c .before .before .before .before .before .match .keys7))
     (c .before .before .walk-release .ensures (picks-left (a .picks .now) (l .used))))
 
@@ -428,7 +428,7 @@ walk-returns-7 t c =
     let B = low-program (a .image .now) in
     let l = c .before .before .before .before .before .before .before .before .before .before .before .before .before .loop in
     l .inv .2 _ _
-    (runs-rule B (a .contents .now) (a .bit) (agent-of (a .scope .now)) (variables-of (a .scope .now)) (rule-from (node-at B) (l .left) (l .at)) _ (picks-left (a .picks .now) (l .used)) (l .r) (l .list) _ _ _ (c .before .before .before .before .before .before .before .before .before .before .if1 .left)
+    (runs-rule B (a .contents .now) (a .bit) (agent-of (a .bindings .now)) (variables-of (a .bindings .now)) (rule-from (node-at B) (l .left) (l .at)) _ (picks-left (a .picks .now) (l .used)) (l .r) (l .list) _ _ _ (c .before .before .before .before .before .before .before .before .before .before .if1 .left)
     (rule-choose (node-at B) (l .left) (l .at) (stored-node (c .before .before .before .before .before .before .before .before .before .node .result)) (c .before .before .before .before .before .before .before .before .before .before .before .before .loop-test .taken) (c .before .before .before .before .before .before .before .before .before .node .ensures) (c .before .before .before .before .before .before .match .keys8))
     (c .before .before .walk-choose .ensures))
 
@@ -441,7 +441,7 @@ walk-returns-8 t c =
     let B = low-program (a .image .now) in
     let l = c .before .before .before .before .before .before .before .loop in
     l .inv .2 _ _
-    (runs-skip B (a .contents .now) (a .bit) (agent-of (a .scope .now)) (variables-of (a .scope .now)) (rule-from (node-at B) (l .left) (l .at)) (reached (picks-left (a .picks .now) (l .used)) (l .r) (l .list)) (l .readers)
+    (runs-skip B (a .contents .now) (a .bit) (agent-of (a .bindings .now)) (variables-of (a .bindings .now)) (rule-from (node-at B) (l .left) (l .at)) (reached (picks-left (a .picks .now) (l .used)) (l .r) (l .list)) (l .readers)
     (rule-none (node-at B) (l .left) (l .at) (stored-node (c .before .before .before .node .result)) (c .before .before .before .before .before .before .loop-test .taken) (c .before .before .before .node .ensures) (c .match .rest .0 .0 .0 .0 .0 .0 .0 .1) (c .match .rest .0 .0 .0 .0 .0 .0 .1) (c .match .rest .0 .0 .0 .0 .0 .1) (c .match .rest .0 .0 .0 .0 .1) (c .match .rest .0 .0 .0 .1) (c .match .rest .0 .0 .1) (c .match .rest .0 .1) (c .match .rest .1)))
 
 walk-same-length-9 : (t : ℕ) → walk-lts.Need-same-length-9 (claims-walk t) (walk-at t) walk.Post walk-Inv-loop walk-μ-loop
@@ -453,7 +453,7 @@ walk-returns-9 t c =
     let B = low-program (a .image .now) in
     let l = c .before .before .before .before .before .loop in
     l .inv .2 _ _
-    (runs-skip B (a .contents .now) (a .bit) (agent-of (a .scope .now)) (variables-of (a .scope .now)) (rule-from (node-at B) (l .left) (l .at)) (reached (picks-left (a .picks .now) (l .used)) (l .r) (l .list)) (l .readers)
+    (runs-skip B (a .contents .now) (a .bit) (agent-of (a .bindings .now)) (variables-of (a .bindings .now)) (rule-from (node-at B) (l .left) (l .at)) (reached (picks-left (a .picks .now) (l .used)) (l .r) (l .list)) (l .readers)
     (no-rule-at (node-at B) (l .left) (l .at) (stored-node (c .before .node .result)) (c .before .before .before .before .loop-test .taken) (c .before .node .ensures) (inl (c .if2 .taken))))
 
 walk-same-length-10 : (t : ℕ) → walk-lts.Need-same-length-10 (claims-walk t) (walk-at t) walk.Post walk-Inv-loop walk-μ-loop
@@ -465,7 +465,7 @@ walk-returns-10 t c =
     let B = low-program (a .image .now) in
     let l = c .before .before .before .before .before .before .loop in
     l .inv .2 _ _
-    (runs-skip B (a .contents .now) (a .bit) (agent-of (a .scope .now)) (variables-of (a .scope .now)) (rule-from (node-at B) (l .left) (l .at)) (reached (picks-left (a .picks .now) (l .used)) (l .r) (l .list)) (l .readers)
+    (runs-skip B (a .contents .now) (a .bit) (agent-of (a .bindings .now)) (variables-of (a .bindings .now)) (rule-from (node-at B) (l .left) (l .at)) (reached (picks-left (a .picks .now) (l .used)) (l .r) (l .list)) (l .readers)
     (no-rule-at (node-at B) (l .left) (l .at) (stored-node (c .before .before .node .result)) (c .before .before .before .before .before .loop-test .taken) (c .before .before .node .ensures) (inr (omega (arith, c .if3 .left)))))
 
 walk-loop-less : (t : ℕ) → walk-lts.Need-loop-less (claims-walk t) (walk-at t) walk.Post walk-Inv-loop walk-μ-loop
@@ -480,7 +480,7 @@ walk-loop-again t c =
       omega arith,
       k .kept .1 .1 .0 ∙ l .inv .1,
       λ z m h. l .inv .2 z m
-          (runs-block B (a .contents .now) (a .bit) (agent-of (a .scope .now)) (variables-of (a .scope .now)) (node-at B) (l .left) (l .at) (stored-node (c .before .before .before .before .before .before .before .before .before .node .result)) (c .before .before .before .before .before .before .before .before .before .before .before .before .loop-test .taken) (c .before .before .before .before .before .before .before .before .before .node .ensures) (picks-left (a .picks .now) (l .used)) (l .r) (l .list) (c .before .before .before .before .before .before .before .before .before .before .if1 .left) _ z _ _ m (c .before .before .before .before .before .before .match .keys2) (k .ensures) h),
+          (runs-block B (a .contents .now) (a .bit) (agent-of (a .bindings .now)) (variables-of (a .bindings .now)) (node-at B) (l .left) (l .at) (stored-node (c .before .before .before .before .before .before .before .before .before .node .result)) (c .before .before .before .before .before .before .before .before .before .before .before .before .loop-test .taken) (c .before .before .before .before .before .before .before .before .before .node .ensures) (picks-left (a .picks .now) (l .used)) (l .r) (l .list) (c .before .before .before .before .before .before .before .before .before .before .if1 .left) _ z _ _ m (c .before .before .before .before .before .before .match .keys2) (k .ensures) h),
     )
 
 walk-loop-less-2 : (t : ℕ) → walk-lts.Need-loop-less-2 (claims-walk t) (walk-at t) walk.Post walk-Inv-loop walk-μ-loop
@@ -494,7 +494,7 @@ walk-loop-again-2 t c =
       omega arith,
       c .before .before .before .eval .kept .1 .1 .0 ∙ l .inv .1,
       λ z m h. l .inv .2 z m
-          (runs-test B (a .contents .now) (a .bit) (agent-of (a .scope .now)) (variables-of (a .scope .now)) (node-at B) (l .left) (l .at) (stored-node (c .before .before .before .before .before .before .before .before .node .result)) (c .before .before .before .before .before .before .before .before .before .before .before .loop-test .taken) (c .before .before .before .before .before .before .before .before .node .ensures) (picks-left (a .picks .now) (l .used)) (l .r) (l .list) (c .before .before .before .before .before .before .before .before .before .if1 .left) (c .before .before .before .eval .result) (c .branch .result) z _ _ m (c .before .before .before .before .before .match .keys3) (c .branch .ensures) (c .before .before .before .eval .ensures) h),
+          (runs-test B (a .contents .now) (a .bit) (agent-of (a .bindings .now)) (variables-of (a .bindings .now)) (node-at B) (l .left) (l .at) (stored-node (c .before .before .before .before .before .before .before .before .node .result)) (c .before .before .before .before .before .before .before .before .before .before .before .loop-test .taken) (c .before .before .before .before .before .before .before .before .node .ensures) (picks-left (a .picks .now) (l .used)) (l .r) (l .list) (c .before .before .before .before .before .before .before .before .before .if1 .left) (c .before .before .before .eval .result) (c .branch .result) z _ _ m (c .before .before .before .before .before .match .keys3) (c .branch .ensures) (c .before .before .before .eval .ensures) h),
     )
 
 walk-same-length-11 : (t : ℕ) → walk-lts.Need-same-length-11 (claims-walk t) (walk-at t) walk.Post walk-Inv-loop walk-μ-loop
@@ -506,7 +506,7 @@ walk-returns-11 t c =
     let B = low-program (a .image .now) in
     let l = c .before .loop in
     l .inv .2 _ _
-    (runs-skip B (a .contents .now) (a .bit) (agent-of (a .scope .now)) (variables-of (a .scope .now)) (rule-from (node-at B) (l .left) (l .at)) (reached (picks-left (a .picks .now) (l .used)) (l .r) (l .list)) (l .readers)
+    (runs-skip B (a .contents .now) (a .bit) (agent-of (a .bindings .now)) (variables-of (a .bindings .now)) (rule-from (node-at B) (l .left) (l .at)) (reached (picks-left (a .picks .now) (l .used)) (l .r) (l .list)) (l .readers)
     (rule-last (node-at B) (l .left) (l .at) (c .loop-test .left)))
 
 walk-body-bind-requires : (t : ℕ) → walk-body-lts.Need-bind-variable-requires (claims-walk-body t) (walk-body-at t) walk-body.Post
@@ -522,7 +522,7 @@ walk-body-returns : (t : ℕ) → walk-body-lts.Need-returns (claims-walk-body t
 walk-body-returns t c =
     let a = c .before .before .before .before .before .before .before .before .before .before .before .before .before .args in
     let B = low-program (a .image .now) in
-    runs-scope B (a .contents .now) (a .bit) (c .before .before .before .before .before .before .before .bind-variable .last .0) (set (variables-of (a .scope .now)) (a .node .a) (a .x)) (agent-of (a .scope .now)) (rule-from (node-at B) (a .depth) (a .node .c)) (reached (picks-left (a .picks .now) (a .used .now)) (a .s) (a .list .now)) _ _ _ (c .before .before .before .before .before .before .before .bind-variable .ensures .0) (c .before .before .before .before .before .before .before .bind-variable .ensures .1) (c .before .before .walk .ensures)
+    runs-bindings B (a .contents .now) (a .bit) (c .before .before .before .before .before .before .before .bind-variable .last .0) (set (variables-of (a .bindings .now)) (a .node .a) (a .x)) (agent-of (a .bindings .now)) (rule-from (node-at B) (a .depth) (a .node .c)) (reached (picks-left (a .picks .now) (a .used .now)) (a .s) (a .list .now)) _ _ _ (c .before .before .before .before .before .before .before .bind-variable .ensures .0) (c .before .before .before .before .before .before .before .bind-variable .ensures .1) (c .before .before .walk .ensures)
 
 pub +walk+walk-body+walk-choose+walk-forall+walk-import+walk-let-spec : {M : Type 1} → statement M
 +walk+walk-body+walk-choose+walk-forall+walk-import+walk-let-spec =

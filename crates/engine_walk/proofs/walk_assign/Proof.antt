@@ -6,7 +6,7 @@ use Rattle.engine.specs.declared.Instruction.the-variants.{Update}
 use Rattle.engine.specs.Reader.{done, _>>=_}
 use Rattle.engine.specs.Term.{term-at}
 use Rattle.engine.specs.Rule.{walk, refuse-if, not-boolean, emit, _then_}
-use Rattle.engine_term.specs.Scope.{value-at, target-at}
+use Rattle.engine_term.specs.Bindings.{value-at, target-at}
 use Rattle.book.specs.Image.{low-program}
 use Rattle.engine_term.proofs.Marking.{runs-bind, runs-value}
 use Rattle.engine_emit.specs.Emit.{walk-from}
@@ -36,7 +36,7 @@ returns c =
     let a = c .before .before .before .before .before .before .before .before .before .before .before .before .before .args in
     let m = a .image .now in
     let B = low-program m in
-    let s = a .scope .now in
+    let s = a .bindings .now in
     let t = term-at (node-at B) (a .depth) (a .node .a) in
     λ ys.
     let w = walk-from ys (a .s) (a .list .now) in

@@ -5,7 +5,7 @@ use Rattle.book.specs.Book.{reserve}
 use Rattle.engine.specs.declared.Instruction.the-variants.{Release}
 use Rattle.engine.specs.Reader.{done, read, _>>=_}
 use Rattle.engine.specs.Rule.{walk, refuse-if, unreleasable, emit, _then_}
-use Rattle.engine_term.specs.Scope.{value-at}
+use Rattle.engine_term.specs.Bindings.{value-at}
 use Rattle.book.specs.Image.{low-program}
 use Rattle.engine_term.proofs.Marking.{runs-bind, runs-value}
 use Rattle.engine_emit.specs.Emit.{walk-from}
@@ -35,7 +35,7 @@ returns c =
     λ ys.
     let w = walk-from ys (a .s) (a .list .now) in
     let y = c .before .before .before .before .before .before .before .before .eval .result in
-    runs-bind B (a .contents .now) (a .bit) (value-at m (a .scope .now) (a .depth) (a .node .a)) (λ y. read (reserve y) >>= λ v. done (refuse-if (unreleasable B y v) not-releasable (a .n) w then emit (a .n) (Release y))) _ _ _ _ _ (c .before .before .before .before .before .before .before .before .eval .ensures)
+    runs-bind B (a .contents .now) (a .bit) (value-at m (a .bindings .now) (a .depth) (a .node .a)) (λ y. read (reserve y) >>= λ v. done (refuse-if (unreleasable B y v) not-releasable (a .n) w then emit (a .n) (Release y))) _ _ _ _ _ (c .before .before .before .before .before .before .before .before .eval .ensures)
     (runs-bind B (a .contents .now) (a .bit) (read (reserve y)) (λ v. done (refuse-if (unreleasable B y v) not-releasable (a .n) w then emit (a .n) (Release y))) _ _ _ _ _ (c .before .before .before .before .read-reserve .ensures)
     (runs-value B (a .contents .now) (a .bit) _ _ _ (c .emit-release .ensures ys ∙ rw (reached-walking ys (a .s) (a .list .now) (c .before .before .before .before .before .before .before .before .before .before .before .before .pre)))))
 

@@ -1,4 +1,4 @@
--- What the code evaluates a term in: the program of an image, and a scope.
+-- What the code evaluates a term in: the program of an image, and the bindings: the values of the eight variables, and then the agent's element.
 use mathlib.Core.List.{List, []}
 use Prim.Native.Nat.{ℕ}
 use lib.ListN.{getD, take}
@@ -7,11 +7,11 @@ use Rattle.book.specs.Image.{low-program}
 use Rattle.engine.specs.Reader.{Reader}
 use Rattle.engine.specs.Term.{Shape, an-element, a-variable, the-agent, of-none, of-one, of-two, a-not, no-term, a-join, apply, term-at, eval, target}
 
--- the values of the variables in a scope, which has the values of the eight variables and then the agent's element
+-- the values of the variables in the bindings s
 abbrev pub variables-of : List ℕ → List ℕ
 variables-of s = take 8 s
 
--- the agent's element in a scope
+-- the agent's element in the bindings s
 abbrev pub agent-of : List ℕ → ℕ
 agent-of s = getD s 8 0
 

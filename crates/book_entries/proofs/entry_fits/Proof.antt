@@ -1,8 +1,8 @@
--- `in_form` meets its contract.
-use Rattle.book.specs.Contents.{in-form}
+-- `entry_fits` meets its contract.
+use Rattle.book.specs.Contents.{entry-fits}
 use borrow.Author.Needs.{needs}
-use Rattle.book_entries.proofs.in_form.Statement.{statement}
-use Rattle.book_entries.proofs.in_form.Tie as tie
+use Rattle.book_entries.proofs.entry_fits.Statement.{statement}
+use Rattle.book_entries.proofs.entry_fits.Tie as tie
 
 arguments-fit-requires : tie.Need-arguments-fit-requires
 arguments-fit-requires c κs = search needs
@@ -17,11 +17,11 @@ reserve-fits-requires : tie.Need-reserve-fits-requires
 reserve-fits-requires c κs = search needs
 
 returns : tie.Need-returns
-unfolding in-form
+unfolding entry-fits
 returns c = cc
 
-pub in-form-spec : {M : Type 1} → statement M
-in-form-spec =
+pub entry-fits-spec : {M : Type 1} → statement M
+entry-fits-spec =
     tie.close
     (tie.spec
     arguments-fit-requires
