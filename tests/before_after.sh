@@ -5,7 +5,9 @@
 # after it, and where a loop starts in a cache line alone can be a tenth of a row: with --aligned each function of both libraries starts at a
 # multiple of 64 bytes, to tell that from what the code does. A library of before F-2 has rental_step, which takes no picks, in place of
 # rental_move: then the rows without picks are measured through it, and the others are named below the table. One of before F-3 refuses logs with a
-# release unordered beside other moves: these rows are named there too. All files go to a temporary folder.
+# release unordered beside other moves: these rows are named there too. One of before F-4 has rental_run and rental_report, which give no tally, in
+# place of rental_run_log and rental_report_input: all rows are measured through them, with tallies of 0 and 0, which no row looks at. All files go to
+# a temporary folder.
 # Usage: tests/before_after.sh [--instructions] [--aligned] OLD.a NEW.a [WORD]; with a word, only the rows whose name has it.
 set -eu
 
@@ -44,10 +46,16 @@ align() {
     rm -r "$parts"
 }
 
-# without_picks LIBRARY: adds a rental_move over rental_step to a library that has none; what it is given with picks it answers with no number at all
+# add LIBRARY FUNCTION: adds what the C code on standard input defines to a library that lacks the function
+add() {
+    if nm "$1" | grep -q " T $2\$"; then return; fi
+    gcc -O2 -c -o "$work/$2.o" -x c -
+    ar rs "$1" "$work/$2.o" 2>"$work/ar"
+}
+
+# without_picks LIBRARY: rental_move over rental_step; what it is given with picks it answers with no number at all
 without_picks() {
-    if nm "$1" | grep -q ' T rental_move$'; then return; fi
-    cat >"$work/move.c" <<'END'
+    add "$1" rental_move <<'END'
 #include <stddef.h>
 #include <stdint.h>
 uint64_t rental_step(const uint8_t *, size_t, uint16_t *, size_t, size_t, size_t);
@@ -57,8 +65,25 @@ uint64_t rental_move(const uint8_t *book, size_t length, uint16_t *contents, siz
     return picks_length == 0 ? rental_step(book, length, contents, locations, agent, lent) : UINT64_MAX;
 }
 END
-    gcc -O2 -c -o "$work/move.o" "$work/move.c"
-    ar rs "$1" "$work/move.o" 2>"$work/ar"
+}
+
+# without_tally LIBRARY: rental_run_log over rental_run, and rental_report_input over rental_report; their tallies are 0 and 0
+without_tally() {
+    add "$1" rental_run_log <<'END'
+#include <stddef.h>
+#include <stdint.h>
+uint64_t rental_run(const uint8_t *, size_t, const uint8_t *, size_t, uint16_t *, size_t, uint64_t *, size_t, uint64_t *, size_t, size_t);
+size_t rental_report(const uint8_t *, size_t, uint8_t *, size_t);
+uint64_t rental_run_log(const uint8_t *book, size_t book_length, const uint8_t *log, size_t log_length, uint16_t *contents, size_t contents_length,
+                        uint64_t *readers, size_t readers_length, uint64_t *writers, size_t writers_length, size_t lent, uint64_t tally[2]) {
+    tally[0] = tally[1] = 0;
+    return rental_run(book, book_length, log, log_length, contents, contents_length, readers, readers_length, writers, writers_length, lent);
+}
+size_t rental_report_input(const uint8_t *input, size_t length, uint8_t *output, size_t output_length, uint64_t tally[2]) {
+    tally[0] = tally[1] = 0;
+    return rental_report(input, length, output, output_length);
+}
+END
 }
 
 # build NAME LIBRARY: the program `bench` over a library, as $work/NAME/bench
@@ -66,6 +91,7 @@ build() {
     mkdir "$work/$1"
     $place "$2" "$work/$1/libc_api.a"
     without_picks "$work/$1/libc_api.a"
+    without_tally "$work/$1/libc_api.a"
     RENTAL_LIBRARY="$work/$1" cargo build --offline --release --quiet --manifest-path "$tests/Cargo.toml" \
         --target-dir "$work/target" -p compare --bin bench
     cp "$work/target/release/bench" "$work/$1/bench"

@@ -18,7 +18,8 @@ static uint64_t readers[LOCATIONS], writers[LOCATIONS];
 /* The start of a book is what a log without moves leaves. */
 static uint64_t start(size_t length) {
     static const uint8_t no_moves[] = "     0     0     0     0\n";
-    return rental_run(book, length, no_moves, sizeof no_moves - 1, contents, LOCATIONS, readers, LOCATIONS, writers, LOCATIONS, INSTRUCTIONS);
+    uint64_t tally[2];
+    return rental_run_log(book, length, no_moves, sizeof no_moves - 1, contents, LOCATIONS, readers, LOCATIONS, writers, LOCATIONS, INSTRUCTIONS, tally);
 }
 
 /* A move of an agent, the first word, with the picks that the other words give. */

@@ -1,8 +1,9 @@
 -- The claims of specs/Claims hold.
 use mathlib.Core.Path.{sym, _∙_}
-use Rattle.engine.specs.Claims.{MovesReadEqual, MovesFireEqual, MovesLeave, IdleMovesLeave, MovesRefuse, StepsAnswer, ImportsRead, ChoicesRead, ChoicesLack, PicksTaken, PicksAreElements, TreesWhole}
+use Rattle.engine.specs.Claims.{MovesReadEqual, MovesFireEqual, MovesLeave, IdleMovesLeave, MovesTally, MovesRefuse, StepsAnswer, ImportsRead, ChoicesRead, ChoicesLack, PicksTaken, PicksAreElements, TreesWhole}
 use Rattle.engine.proofs.EqualReads.{same-instructions, same-refusal}
 use Rattle.engine.proofs.Moves.{fire-length, fired-frame, fired-static, fired-keep, one-value, idle-leaves, leaves-idle}
+use Rattle.engine.proofs.Labels.{fired-tally}
 use Rattle.engine.proofs.Same.{updates-same, same-fired}
 use Rattle.engine.proofs.Numbers.{move-number}
 use Rattle.engine.proofs.Refusals.{step-small}
@@ -31,6 +32,9 @@ moves-leave B ok c s i f e = record {
 
 pub idle-moves-leave : IdleMovesLeave
 idle-moves-leave B ok c s i f e = (idle-leaves c (f .updates), leaves-idle B ok c s i f e)
+
+pub moves-tally : MovesTally
+moves-tally B ok c s i f e = fired-tally B ok c s i f e
 
 pub moves-refuse : MovesRefuse
 moves-refuse B c i n q e = move-number B c i n q e .0

@@ -1,3 +1,4 @@
+pub mod Counts
 pub mod Reader
 pub mod LocationsRead
 pub mod Import
@@ -15,4 +16,5 @@ pub mod Numbers
 pub mod Refusals
 pub mod Fuel
 pub mod Steps
+pub mod Labels
 pub mod Claims

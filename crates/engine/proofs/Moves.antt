@@ -2,19 +2,19 @@
 -- included; what it releases is cleared, and it reads Reserve at each label that it takes out of a location. An idle one leaves the contents as they are.
 use mathlib.Core.Path.{_≡_, refl, sym, ap, subst, _∙_}
 use mathlib.Core.Logic.{_⊎_, inl, inr, dite, _≢_}
-use mathlib.Core.Bool.{Bool, true, false, not, or-true, true≢false, false≢true}
+use mathlib.Core.Bool.{Bool, true, false, not, _||_, _&&_, or-true, true≢false, false≢true}
 use mathlib.Core.List.{List, [], _∷_, _++_}
 use Prim.Native.Nat.{ℕ, zero, suc, _≤_, _<_}
 use native.Mathlib.Omega.{arith}
 use native.Mathlib.Decide.{ℕ-discrete, decLt}
-use lib.Dec.{eqb}
+use lib.Dec.{eqb, ltb}
 use lib.ListN.{length, getD, replicate, List·getD-eq-default}
 use lib.Seq.{ext-getD}
-use borrow.Author.Tests.{eq-eqb, eqb-true, not-false}
-use Rattle.text.specs.Words.{if_then_else_, has, some-below, least}
+use borrow.Author.Tests.{eq-eqb, ne-eqb, le-ltb, eqb-true, ltb-false, not-false, not-true}
+use Rattle.text.specs.Words.{has, some-below, least}
 use Rattle.text.specs.declared.Found.{Found}
 use Rattle.text.specs.declared.Found.the-variants.{Nowhere, Here}
-use Rattle.text.proofs.Words.{or-no, least-none, some-below-true, some-below-from, refuted, has-append}
+use Rattle.text.proofs.Words.{and-cases, or-cases, or-no, both-ways, least-none, some-below-true, some-below-from, refuted, has-append}
 use Rattle.book.specs.Book.{Program, L, true-element, false-element, boolean, node-at, agent-at, place, relation-at, dynamic-at, default-at, arguments-at}
 use Rattle.book.specs.Sound.{Lawful, at, Argument, OnRoll, Sound}
 use Rattle.book.proofs.Places.{roll-place, roll-inside, roll-argument, default-low}
@@ -23,11 +23,14 @@ use Rattle.engine.specs.declared.Instruction.the-variants.{Update, Relea
 use Rattle.engine.specs.Reader.{done, value-in}
 use Rattle.engine.specs.Rule.{Walk, Walked, walking, refused-at, _then_, all-taken, walk, agent-walk, rule-at, no-variables}
 use Rattle.engine.specs.Move.{values, updates, values-at, released, other, two-values, clashes, idle, new-value, fire, is-some, writes, append-from, release-reads, changed-reads, extra-reads, Input, Fired, fires, unless-clash, walked, walk-reads, fired-of, fire-or-clash, settle, move, reads}
+use Rattle.engine.specs.Labels.{issued, count-below, in-reserve}
+use Rattle.engine.proofs.Counts.{count-none}
 use Rattle.engine.proofs.Reader.{value-bind}
 use Rattle.engine.proofs.Append.{append-has}
 use Rattle.engine.proofs.Extra.{taken-has}
 use Rattle.engine.proofs.Decode.{proper-rule}
 use Rattle.engine.proofs.Values.{Sets, Releases, releases-has, has-releases, set-to-none, Cleared, Origin, origin, sets-values, releases-values, length-updates, updates-at, updates-past, new-cases, only-value, fire-inside, fire-at}
+use Rattle.engine.proofs.Clash.{releases-agree}
 use Rattle.engine.proofs.Walks.{Fine, sets-fine, releases-fine, Made, Comes, walk-comes, taken-comes, low-clean}
 
 pub fire-length : (us : List (List ℕ)) (c : List ℕ) → length (fire us c) ≡ length c
@@ -110,18 +113,23 @@ held-inside B B-ok c c-ok l p = dite (decLt l (L B)) (λ h. h)
     absurd (omega (arith, B-ok .low)))
 
 module _ (B : Program) (B-ok : Lawful B) (c : List ℕ) (c-ok : Sound B c) (i : Input) where
-  walked-made : (w : Walk) → walked B c i ≡ walking w → Made B c w
-  unfolding agent-walk value-in
+  pub walked-made : (w : Walk) → walked B c i ≡ walking w → Made B c w
+  unfolding agent-walk value-in issued
   walked-made w e =
       let g = agent-at B (i .agent) in
       let o = walk B (g .element) (rule-at (node-at B) (g .root)) no-variables (record { made = []; next = B .P; left = i .picks }) in
       let r = walk-comes B c B-ok c-ok (g .element) (B-ok .agents (i .agent)) (rule-at (node-at B) (g .root)) no-variables (record { made = []; next = B .P; left = i .picks })
       (proper-rule B B-ok (g .root)) (λ v. rw (no-value v) (low-clean B c B-ok c-ok (B .P) 0 (omega (arith, B-ok .low))))
-      (record { from = omega arith; upto = B-ok .high; all = tt; taken = λ x o h. absurd (omega (arith, c-ok .labels x o)) }) in
+      (record { from = omega arith; upto = B-ok .high; all = tt; taken = λ x o h. absurd (omega (arith, c-ok .labels x o)); many = sym none }) in
       let t : Comes B c (B .P) (walked B c i) = rw (value-bind c o (λ x. done (x then λ v. all-taken (g .root) (v .left) v)))
       (end (value-in c o) (g .root) r) in
       subst (Comes B c (B .P)) e t .1
     where
+      -- no label of the roll is below P
+      none : count-below (in-reserve c) (B .P) ≡ 0
+      none = count-none (in-reserve c) (B .P)
+          (λ x h. ne-eqb (at c x) true-element (λ e. omega (arith, c-ok .labels x (omega (arith, B-ok .high), e))))
+
       end : (o : Walked) (q : ℕ) → Comes B c (B .P) o → Comes B c (B .P) (o then λ v. all-taken q (v .left) v)
       end (refused-at n p) q h = tt
       end (walking v) q h = taken-comes B c (B .P) q (v .left) v h
@@ -342,6 +350,42 @@ module _ (B : Program) (B-ok : Lawful B) (c : List ℕ) (c-ok : Sound B c) (i : 
           has-some (values-at us x) true-element (to x true-element b (releases-values B c is x x true-element r (inl (refl, refl)))),
           swept x x true-element r b (inl (refl, refl)),
         )
+
+    -- a location that an update sets has its value afterwards
+    pub fired-sets : (l v : ℕ) → Sets l v (f .instructions) → at (fire (f .updates) c) l ≡ v
+    unfolding us
+    fired-sets l v t =
+        let t : Sets l v is = rw (← gave-is) at t in
+        fired-frame l ∙ one-value B c i f moves l v (to l v (fine l v t .0) (sets-values B c is l v t))
+
+    -- after the move the roll has the labels that it releases, and those that were on it and that its walk did not pass
+    pub fired-roll : (x : ℕ) → x < B .E → in-reserve (fire (f .updates) c) x
+        ≡ (has (released (f .instructions)) x || (in-reserve c x && not (ltb x (firing B c i f moves .walk .next))))
+    unfolding s is us d
+    fired-roll x h =
+        both-ways (in-reserve d x) (has (released (f .instructions)) x || left) (λ e. there (cause x (h, eqb-true (at d x) true-element e)))
+        (λ e. eq-eqb (at d x) true-element (back (or-cases (has (released (f .instructions)) x) left e)))
+      where
+        left : Bool
+        left = in-reserve c x && not (ltb x (s .walk .next))
+
+        there : Releases x is ⊎ (OnRoll B c x × (s .walk .next ≤ x)) → (has (released (f .instructions)) x || left) ≡ true
+        there (inl r) = rw (rw gave-is at (releases-has is x r))
+        there (inr ((b, e), n)) = rw (eq-eqb (at c x) true-element e, le-ltb x (s .walk .next) n) (or-true (has (released (f .instructions)) x))
+
+        -- an update of Reserve would be at a label that the walk passed, and releases agree
+        given : OnRoll B c x → s .walk .next ≤ x → (v : ℕ) → Origin B c is x v → v ≡ true-element
+        given o n v (inl t) = absurd (omega (arith, fine x v t .5 x (rw (roll-place B B-ok x h, B-ok .reserve, eq-eqb x x refl)) .1 o))
+        given o n v (inr (y, r, z)) =
+            sym (releases-agree B B-ok c c-ok x y x true-element v (c-ok .labels x o, h) (label y r .0, label y r .1) (inl (refl, refl)) z)
+
+        back : (has (released (f .instructions)) x ≡ true) ⊎ (left ≡ true) → at d x ≡ true-element
+        back (inl r) = fired-returns x r .1
+        back (inr q) =
+            let p = and-cases (in-reserve c x) (not (ltb x (s .walk .next))) q in
+            let e = eqb-true (at c x) true-element (p .0) in
+            let n = ltb-false x (s .walk .next) (not-true (ltb x (s .walk .next)) (p .1)) in
+            cases (λ v. v ≡ true-element) x (λ z. e) (λ v m. given (h, e) n v (from x v m .1))
 
     -- a release writes each location that holds its label
     pub fired-clears : (x l : ℕ) → has (released (f .instructions)) x ≡ true → at c l ≡ x → writes (f .updates) l ≡ true

@@ -1,6 +1,6 @@
 -- The walk of a lawful book on sound contents: what each of its instructions is. An update names a dynamic location after Reserve, or takes a label;
 -- no label of the roll is in it but those taken; a release is of a label.
-use mathlib.Core.Path.{_≡_, refl, sym, subst, _∙_}
+use mathlib.Core.Path.{_≡_, refl, sym, ap, subst, _∙_}
 use mathlib.Core.Logic.{_↔_, _⊎_, inl, inr, dite, _≢_}
 use mathlib.Core.Bool.{Bool, true, false, not, _||_, _&&_, false≢true}
 use mathlib.Core.List.{List, [], _∷_, _++_}
@@ -9,8 +9,8 @@ use native.Mathlib.Omega.{arith}
 use native.Mathlib.Decide.{ℕ-discrete, decLt}
 use lib.Dec.{eqb, ltb, leb}
 use lib.ListN.{length, getD, set, List·getD-eq-default}
-use borrow.Author.Tests.{eqb-true, eqb-false, eq-eqb, ltb-true, ltb-false, leb-true, not-false}
-use Rattle.text.specs.Words.{if_then_else_}
+use borrow.Author.Tests.{eqb-true, eqb-false, eq-eqb, ne-eqb, lt-ltb, le-ltb, ltb-true, ltb-false, leb-true, not-false}
+use Rattle.text.specs.Words.{if_then_else_, one-if}
 use Rattle.text.specs.Refusals.{non-boolean, not-releasable, list-full, not-in-universe}
 use Rattle.text.specs.declared.Found.{Found}
 use Rattle.text.specs.declared.Found.the-variants.{Nowhere, Here}
@@ -23,6 +23,8 @@ use Rattle.engine.specs.declared.Instruction.the-variants.{Update, Relea
 use Rattle.engine.specs.Reader.{Reader, done, read, value-in, _>>=_}
 use Rattle.engine.specs.Term.{Op, equal, conjunction, disjunction, plus, minus, less, Term, element, variable, self, at0, at1, at2, negated, joined, number, apply, negate, eval, target, function-of}
 use Rattle.engine.specs.Rule.{Rule, skip, assign, block, test, bind, for-all, import, release, choose, Walk, Walked, walking, refused-at, _then_, after, most-instructions, emit, take-label, take-pick, refuse-if, members, each, lowest, import-of, universe-at, choose-of, all-taken, not-boolean, unreleasable, not-member, walk}
+use Rattle.engine.specs.Labels.{issues, issued, count-below, in-reserve}
+use Rattle.engine.proofs.Counts.{count-upto}
 use Rattle.engine.proofs.Reader.{value-bind}
 use Rattle.engine.proofs.Picks.{universe-member}
 use Rattle.engine.proofs.LocationsRead.{names-one, names-two}
@@ -58,8 +60,9 @@ module _ (B : Program) (c : List ℕ) where
     pub from : B .P ≤ w .next
     pub upto : w .next ≤ B .E
     pub all : All (w .next) (w .made)
-    -- each label of the roll before `next` is taken
+    -- each label of the roll before `next` is taken, and no other is issued
     pub taken : (x : ℕ) → OnRoll B c x → x < w .next → Sets x false-element (w .made)
+    pub many : issued B (w .made) ≡ count-below (in-reserve c) (w .next)
 
   pub sets-fine : (n : ℕ) (is : List Instruction) (l v : ℕ) → All n is → Sets l v is → Fine n (Update l v)
   sets-fine n (Update k w ∷ is) l v a (inl e) = rw (e .0, e .1) at (a .0)
@@ -119,8 +122,13 @@ module _ (B : Program) (c : List ℕ) where
 
   -- ---- one instruction more
 
-  give-made : (n : ℕ) (i : Instruction) (w : Walk) → Made w → Fine (w .next) i → Comes (w .next) (emit n i w)
-  give-made n i w m f = go (ltb (length (w .made)) most-instructions)
+  issued-snoc : (is : List Instruction) (i : Instruction) → issued B (is ++ (i ∷ [])) ≡ issued B is + one-if (issues B i)
+  unfolding issued
+  issued-snoc [] i = omega arith
+  issued-snoc (j ∷ is) i = omega (arith, issued-snoc is i)
+
+  give-made : (n : ℕ) (i : Instruction) (w : Walk) → Made w → Fine (w .next) i → issues B i ≡ false → Comes (w .next) (emit n i w)
+  give-made n i w m f e = go (ltb (length (w .made)) most-instructions)
     where
       go : (b : Bool) → Comes (w .next) (if b then walking (record { made = w .made ++ (i ∷ []); next = w .next; left = w .left }) else refused-at list-full n)
       go false = tt
@@ -131,6 +139,7 @@ module _ (B : Program) (c : List ℕ) where
           upto = m .upto;
           all = all-snoc (w .next) (w .made) i (m .all) f;
           taken = λ x r h. sets-snoc x false-element (w .made) i (m .taken x r h);
+          many = omega (arith, issued-snoc (w .made) i, ap one-if e, m .many);
         },
       )
 
@@ -385,12 +394,19 @@ module _ (B : Program) (c : List ℕ) where
           this x (inr e) = rw e (zero-clean n)
 
       take-made : (n y : ℕ) (w : Walk) → Made w → Lowest (w .next) (Here y) → Comes (suc y) (emit n (Update (reserve y) false-element) (take-label y w))
+      unfolding count-below
       take-made n y w m (a, r, low) = go (ltb (length (w .made)) most-instructions)
         where
           taken : (x : ℕ) → OnRoll B c x → x < suc y → Sets x false-element (w .made ++ (Update y false-element ∷ []))
           taken x o h = dite (decLt x (w .next)) (λ b. sets-snoc x false-element (w .made) (Update y false-element) (m .taken x o b))
               (λ (b : ¬ (x < w .next)). dite (ℕ-discrete x y) (λ e. rw e (sets-last y false-element (w .made)))
               (λ d. absurd (low x (omega arith) (omega arith) (o .1))))
+
+          many : issued B (w .made ++ (Update y false-element ∷ [])) ≡ count-below (in-reserve c) (suc y)
+          many =
+              let e : in-reserve c y ≡ true = eq-eqb (at c y) true-element (r .1) in
+              let k = count-upto (in-reserve c) (w .next) y a (λ z p q. ne-eqb (at c z) true-element (low z p q)) in
+              omega (arith, issued-snoc (w .made) (Update y false-element), ap one-if (lt-ltb y (B .E) (r .0)), m .many, k, ap one-if e)
 
           go : (b : Bool) → Comes (suc y) (if b then walking (record { made = w .made ++ (Update (reserve y) false-element ∷ []); next = take-label y w .next; left = w .left }) else refused-at list-full n)
           go false = tt
@@ -402,6 +418,7 @@ module _ (B : Program) (c : List ℕ) where
               all = all-snoc (suc y) (w .made) (Update y false-element) (all-more (w .next) (suc y) (w .made) (omega arith) (m .all))
                   (roll-fine y (suc y) (r .0) (omega arith));
               taken = taken;
+              many = many;
             },
           )
 
@@ -415,7 +432,8 @@ module _ (B : Program) (c : List ℕ) where
           comes-more (w .next) (suc y) (value-in c (import-of B n u w body (Here y))) (omega arith)
           (after-comes (suc y) (emit n (Update (reserve y) false-element) (take-label y w) then emit n (Update (location B u y 0) true-element)) (body y)
           (then-comes (suc y) (emit n (Update (reserve y) false-element) (take-label y w)) (emit n (Update (location B u y 0) true-element))
-          (take-made n y w m l) (λ v b q. give-made n (Update (location B u y 0) true-element) v q (universe-fine u y (v .next) p k (l .1 .0) (omega arith))))
+          (take-made n y w m l) (λ v b q. give-made n (Update (location B u y 0) true-element) v q (universe-fine u y (v .next) p k (l .1 .0) (omega arith))
+          (le-ltb (location B u y 0) (B .E) (past-roll B B-ok u y 0 (p .0) (p .1)))))
           (λ v b q. f y (l .1 .0) v (omega arith) (omega arith) q))
 
       -- ---- picks
@@ -434,7 +452,7 @@ module _ (B : Program) (c : List ℕ) where
           go false e = tt
           go true e =
               k y (universe-member B c u y (eqb-true (value-in c (universe-at B u y)) true-element e)) (take-pick ys w) (omega arith)
-              (record { from = m .from; upto = m .upto; all = m .all; taken = m .taken })
+              (record { from = m .from; upto = m .upto; all = m .all; taken = m .taken; many = m .many })
 
       -- ---- the walk
 
@@ -455,7 +473,7 @@ module _ (B : Program) (c : List ℕ) where
             (λ r. not-false (boolean v) (no-and (relation (function-at B (function-of t))) (not (boolean v)) e (sym (a .3) ∙ r))),
             (λ r. absurd (omega (arith, a .1))),
             a .4,
-          )
+          ) (le-ltb l (B .E) (a .1))
 
       release-comes : (n x : ℕ) (w : Walk) → Made w → x < B .E → Comes (w .next) (refuse-if (unreleasable B x (at c x)) not-releasable n w then emit n (Release x))
       release-comes n x w m h = go (unreleasable B x (at c x)) refl
@@ -464,7 +482,7 @@ module _ (B : Program) (c : List ℕ) where
           go true e = tt
           go false e =
               let p = or-no (ltb x (B .P)) (eqb (at c x) true-element) e in
-              give-made n (Release x) w m (ltb-false x (B .P) (p .0), h, eqb-false (at c x) true-element (p .1))
+              give-made n (Release x) w m (ltb-false x (B .P) (p .0), h, eqb-false (at c x) true-element (p .1)) refl
 
       if-comes : (b : Bool) (n : ℕ) (p q : Reader Walked) → Comes n (value-in c p) → Comes n (value-in c q) → Comes n (value-in c (if b then p else q))
       if-comes true n p q f g = f

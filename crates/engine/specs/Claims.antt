@@ -1,5 +1,5 @@
--- What is claimed of single moves, and proved in proofs/Claims: equal reads, the frame, the roll rule, idle moves, refusals, what imports and choices
--- read, and that trees are whole (SPECIFICATION 2.8, 4, 5).
+-- What is claimed of single moves, and proved in proofs/Claims: equal reads, the frame, the roll rule, idle moves, the label tally, refusals, what
+-- imports and choices read, and that trees are whole (SPECIFICATION 2.8, 4, 5).
 use mathlib.Core.Path.{_≡_}
 use mathlib.Core.Logic.{_↔_, _≢_}
 use mathlib.Core.Bool.{true, false}
@@ -16,6 +16,7 @@ use Rattle.engine.specs.Reader.{value-in, locations-read}
 use Rattle.engine.specs.Rule.{Rule, choose, Walk, walking, refused-at, after, take-pick, refuse-if, lowest, not-member, walk, rule-shape, rule-tree, rule-at}
 use Rattle.engine.specs.Move.{Input, Fired, fires, move-refused, idle, move, walked, reads, released, values-at, new-value, fire, writes}
 use Rattle.engine.specs.Move as move
+use Rattle.engine.specs.Labels.{move-tally, roll-count, labels-leaving}
 use Rattle.engine.specs.Single.{check-step, step-call}
 
 -- ---- equal reads
@@ -53,6 +54,14 @@ pub record Leaves (B : Program) (c : List ℕ) (f : Fired) : Type 0 where
   -- the contents after the move are sound: values below E, Boolean relations, the static rule and the roll rule
   pub sound : Sound B (fire (f .updates) c)
 
+-- the tally of a move that fires from the contents c says what becomes of the roll (SPECIFICATION 4.11)
+pub record RollAfter (B : Program) (c : List ℕ) (f : Fired) : Type 0 where
+  -- as many labels are issued as leave the roll, and as many are returned as come to it
+  pub issued : move-tally B f .issued ≡ labels-leaving B c (fire (f .updates) c)
+  pub returned : move-tally B f .returned ≡ labels-leaving B (fire (f .updates) c) c
+  -- so the roll holds what it held before, less the labels issued and with those returned
+  pub balance : roll-count B (fire (f .updates) c) + move-tally B f .issued ≡ roll-count B c + move-tally B f .returned
+
 -- ---- the claims
 
 -- each move has equal reads on contents with equal static functions
@@ -72,6 +81,10 @@ MovesLeave = (B : Program) → Lawful B → (c : List ℕ) → Sound B c → (i 
 abbrev pub IdleMovesLeave : Type 0
 IdleMovesLeave = (B : Program) → Lawful B → (c : List ℕ) → Sound B c → (i : Input) (f : Fired) → move B c i ≡ fires f
     → (idle c (f .updates) ≡ true) ↔ (fire (f .updates) c ≡ c)
+
+-- each move that fires from sound contents has the tally that it should
+abbrev pub MovesTally : Type 0
+MovesTally = (B : Program) → Lawful B → (c : List ℕ) → Sound B c → (i : Input) (f : Fired) → move B c i ≡ fires f → RollAfter B c f
 
 -- n is a refusal inside a move: one of refusals 11 to 15, 18 and 19
 abbrev pub Inside : ℕ → Type 0

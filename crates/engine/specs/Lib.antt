@@ -2,6 +2,7 @@ pub mod Reader
 pub mod Term
 pub mod Rule
 pub mod Move
+pub mod Labels
 pub mod Single
 pub mod Open
 pub mod Examples

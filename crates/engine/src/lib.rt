@@ -1,4 +1,6 @@
-// One move of an agent: the instructions that its rule gives, the picks that it is made with, and the records that a caller lends.
+// One move of an agent: the instructions that its rule gives, the picks that it is made with, the labels that it issues and returns, and the records that a
+// caller lends.
+use text::Answer;
 use text::Value;
 
 // How many instructions a move may give, and how many records of them have to be lent.
@@ -19,4 +21,17 @@ pub type Pick = u64;
 // A record of the instruction list that a caller lends.
 pub struct Record {
     pub what: Instruction,
+}
+
+// The label tally of some moves: how many labels they issued, one for each import, and how many they returned, each label once in a
+// move.
+pub struct Tally {
+    pub issued: u64,
+    pub returned: u64,
+}
+
+// An answer, and the tally of the moves that have fired.
+pub struct TalliedAnswer {
+    pub answer: Answer,
+    pub tally: Tally,
 }

@@ -7,7 +7,7 @@ use native.Mathlib.Omega.{arith}
 use borrow.Author.Tests.{ltb-false}
 use lib.Dec.{ltb}
 use lib.ListN.{length, getD}
-use Rattle.text.specs.declared.Answer.{Answer}
+use Rattle.engine.specs.declared.TalliedAnswer.{TalliedAnswer}
 use Rattle.text.specs.declared.Found.{Found}
 use Rattle.text.specs.declared.Found.the-variants.{Nowhere, Here}
 use Rattle.text.specs.Words.{has, least}
@@ -19,8 +19,9 @@ use Rattle.engine.specs.Move.{Moved, fires, move-refused, updates, clashes, is-
 use Rattle.engine.proofs.Values.{updates-past}
 use Rattle.engine.proofs.Moves.{fired-label}
 use Rattle.engine_fire.specs.Steps.{fire-reads}
-use Rattle.engine_fire.specs.Outcome.{contents-after, write-marked, read-marked, writers-after}
+use Rattle.engine_fire.specs.Outcome.{tally-by, contents-after, write-marked, read-marked, writers-after}
 use Rattle.engine_fire.proofs.Taken.{fire-reads-are}
+use Rattle.engine_fire.proofs.Tallies.{fire-tally-is}
 use Rattle.engine_term.specs.Marks.{marked, mark, marked-where}
 use Rattle.engine_term.proofs.Leaves.{placed}
 use Rattle.engine_term.proofs.Marking.{marked-append}
@@ -29,7 +30,7 @@ use Rattle.engine_emit.specs.declared.Progress.{Progress}
 use Rattle.engine_walk.specs.Walk as walk
 use Rattle.engine_walk.specs.WalkMarks.{bits-cleared, WalkMarked}
 use Rattle.engine_walk.proofs.Kept.{taken-back}
-use Rattle.engine_fire.specs.Effect.{tables-left, move-answer, MoveFits, MoveEffect, AfterWalk}
+use Rattle.engine_fire.specs.Effect.{tables-left, tally-left, move-answer, MoveFits, MoveEffect, AfterWalk}
 use Rattle.engine_fire.specs.Finish.{readers-at-end-of, MoveFinished}
 use Rattle.engine_fire.proofs.Marks.{marked-is-where}
 use Rattle.engine.specs.Tables.{Tables, tables}
@@ -56,7 +57,7 @@ module _ (B : Program) (i : Input) (bit at : ℕ) (c rs ws : List ℕ) (fit : Mo
       go l true e = refl
       go l false e = sym (ap is-some (updates-past B c is l (omega (arith, ltb-false l (length c) e, fit .sound .long))))
 
-  module _ (o : Walked) (rs′ : List ℕ) (walks : WalkMarked B c bit i o rs rs′) (r : Answer) (c″ rs″ ws″ : List ℕ)
+  module _ (o : Walked) (rs′ : List ℕ) (walks : WalkMarked B c bit i o rs rs′) (r : TalliedAnswer) (c″ rs″ ws″ : List ℕ)
       (done : MoveFinished B bit at o (tables c rs′ ws) r (tables c″ rs″ ws″)) where
     same : move B c i ≡ settle B c ls o
     unfolding move
@@ -66,21 +67,22 @@ module _ (B : Program) (i : Input) (bit at : ℕ) (c rs ws : List ℕ) (fit : Mo
     whole m e = rw (done .contents ls, done .readers ls, done .writers ls, e)
 
     -- what the move leaves, where it comes to m
-    ends : (m : Moved) → settle B c ls o ≡ m
+    ends : (m : Moved) → settle B c ls o ≡ m → tally-by B c m ≡ tally-left B m
         → tables (contents-after c m) (readers-at-end-of B bit c o m rs′) (writers-after bit (length c) ws m) ≡ tables-left bit (tables c rs ws) m
         → MoveEffect B i bit at (tables c rs ws) r (tables c″ rs″ ws″)
-    ends m e t =
+    ends m e k t =
         record {
           answer = done .answer ls ∙ ap (move-answer at) (sym same);
+          tally = done .tally ls ∙ ap (tally-by B c) e ∙ k ∙ ap (tally-left B) (sym (same ∙ e));
           tables = whole m e ∙ t ∙ ap (tables-left bit (tables c rs ws)) (sym (same ∙ e));
         }
 
-  pub completed-effect : (o : Walked) (rs′ : List ℕ) → WalkMarked B c bit i o rs rs′ → (r : Answer) (c″ rs″ ws″ : List ℕ)
+  pub completed-effect : (o : Walked) (rs′ : List ℕ) → WalkMarked B c bit i o rs rs′ → (r : TalliedAnswer) (c″ rs″ ws″ : List ℕ)
       → MoveFinished B bit at o (tables c rs′ ws) r (tables c″ rs″ ws″) → MoveEffect B i bit at (tables c rs ws) r (tables c″ rs″ ws″)
   unfolding settle fire-or-clash
   completed-effect (refused-at n q) rs′ walks r c″ rs″ ws″ done =
       let p = fit .power in
-      ends (refused-at n q) rs′ walks r c″ rs″ ws″ done (move-refused n q) refl
+      ends (refused-at n q) rs′ walks r c″ rs″ ws″ done (move-refused n q) refl refl
       (ap (λ (x : List ℕ). tables c x ws) (walks .refused (placed B (fit .lawful)) n q refl (p .0) (p .1) (fit .unmarked)))
   completed-effect (walking w) rs′ walks r c″ rs″ ws″ done = go (least (clashes (f .instructions) (f .updates)) (length (f .updates))) refl
     where
@@ -109,11 +111,11 @@ module _ (B : Program) (i : Input) (bit at : ℕ) (c rs ws : List ℕ) (fit : Mo
       go : (x : Found) → least (clashes (f .instructions) (f .updates)) (length (f .updates)) ≡ x → MoveEffect B i bit at (tables c rs ws) r (tables c″ rs″ ws″)
       go Nowhere e =
           let fired : move B c i ≡ fires f = same (walking w) rs′ walks r c″ rs″ ws″ done ∙ rw e in
-          ends (walking w) rs′ walks r c″ rs″ ws″ done (fires f) (rw e) (rw (rest fired e, write-marked-is (w .made)))
-      go (Here l) e = ends (walking w) rs′ walks r c″ rs″ ws″ done (move-refused clash l) (rw e) (rw back)
+          ends (walking w) rs′ walks r c″ rs″ ws″ done (fires f) (rw e) (fire-tally-is B (fit .lawful) c (fit .sound) i f fired) (rw (rest fired e, write-marked-is (w .made)))
+      go (Here l) e = ends (walking w) rs′ walks r c″ rs″ ws″ done (move-refused clash l) (rw e) refl (rw back)
 
 -- the effect of a move as the code has it: the walk, begun on t, left the tables c, rs and ws with its end s and the list l
-pub finished-effect : (B : Program) (i : Input) (bit at : ℕ) (t : Tables) (s : Progress) (l c rs ws : List ℕ) → AfterWalk B i bit t s l (tables c rs ws) → (r : Answer) (u : Tables)
+pub finished-effect : (B : Program) (i : Input) (bit at : ℕ) (t : Tables) (s : Progress) (l c rs ws : List ℕ) → AfterWalk B i bit t s l (tables c rs ws) → (r : TalliedAnswer) (u : Tables)
     → MoveFinished B bit at (walk.outcome s l) (tables c rs ws) r u → MoveEffect B i bit at t r u
 finished-effect B i bit at t s l c rs ws after r u done =
     subst (λ (x : Tables). MoveEffect B i bit at x r u) begun

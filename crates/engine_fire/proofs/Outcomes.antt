@@ -7,6 +7,7 @@ use lib.ListN.{length}
 use Rattle.book.specs.Book.{Program, L}
 use Rattle.book.specs.Image.{low-program}
 use Rattle.engine.specs.declared.Instruction.{Instruction}
+use Rattle.engine.specs.declared.Tally.{Tally}
 use Rattle.engine_instruction.specs.Code.{items}
 use Rattle.engine_clash.specs.LeastClash.{least-clash}
 use Rattle.engine_clash.proofs.Best.{best-least, best-none}
@@ -16,7 +17,8 @@ use Rattle.engine.specs.Move.{fires, move-refused, fire, fire-or-clash}
 use Rattle.engine.specs.Move as move
 use Rattle.engine_fire.specs.declared.Outcome.the-variants.{Fired, Clash}
 use Rattle.engine_clash.specs.Clash.{updates-by, clash-by}
-use Rattle.engine_fire.specs.Outcome.{move-by, write-marked, read-marked, contents-after, readers-after, writers-after, Settled}
+use Rattle.engine_fire.specs.Steps.{fire-tally}
+use Rattle.engine_fire.specs.Outcome.{move-by, tally-by, write-marked, read-marked, contents-after, readers-after, writers-after, Settled}
 use Rattle.engine.specs.Tables.{Tables}
 
 module _ (image list : List ℕ) (n bit : ℕ) (t : Tables) where
@@ -28,6 +30,7 @@ module _ (image list : List ℕ) (n bit : ℕ) (t : Tables) where
   clash-settled l e =
       record {
         outcome = q;
+        tally = λ ls. sym (ap (tally-by (low-program image) (t .contents)) (q ls));
         contents = λ ls. sym (ap (contents-after (t .contents)) (q ls));
         readers = λ ls. sym (ap (readers-after bit (low-program image) (t .contents) (t .readers)) (q ls));
         writers = λ ls. sym (ap (writers-after bit (length (t .contents)) (t .writers)) (q ls));
@@ -37,17 +40,18 @@ module _ (image list : List ℕ) (n bit : ℕ) (t : Tables) where
       q ls = rw e
 
   pub fire-settled :
-      clash-by image (t .contents) list n ≡ Nowhere → (u : Tables) →
+      clash-by image (t .contents) list n ≡ Nowhere → (k : Tally) → k ≡ fire-tally (low-program image) (items list n) (t .contents) → (u : Tables) →
       u .contents ≡ fire (updates-by image (t .contents) list n) (t .contents) →
       u .readers ≡ read-marked bit (low-program image) (items list n) (t .contents) (t .readers) →
-      u .writers ≡ write-marked bit (length (t .contents)) (updates-by image (t .contents) list n) (t .writers) → Settled image list n bit t Fired u
+      u .writers ≡ write-marked bit (length (t .contents)) (updates-by image (t .contents) list n) (t .writers) → Settled image list n bit t (Fired k) u
   unfolding fire-or-clash
-  fire-settled e u h r k =
+  fire-settled e k c u h r w =
       record {
         outcome = q;
+        tally = λ ls. c ∙ sym (ap (tally-by (low-program image) (t .contents)) (q ls));
         contents = λ ls. h ∙ sym (ap (contents-after (t .contents)) (q ls));
         readers = λ ls. r ∙ sym (ap (readers-after bit (low-program image) (t .contents) (t .readers)) (q ls));
-        writers = λ ls. k ∙ sym (ap (writers-after bit (length (t .contents)) (t .writers)) (q ls));
+        writers = λ ls. w ∙ sym (ap (writers-after bit (length (t .contents)) (t .writers)) (q ls));
       }
     where
       q : (ls : List ℕ) → fire-or-clash (f ls) ≡ fires (f ls)

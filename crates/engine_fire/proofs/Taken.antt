@@ -107,7 +107,7 @@ module _ (B : Program) where
           rw (r (rw q z) (rw q w)) (or-true (has (label-reads B x c) k))
 
   -- what clearing by these instructions leaves of v at l
-  clear-is : (l : ℕ) (is : List Instruction) (v : ℕ) → clear-by B l is v ≡ (if any (instruction-clears B l v) is then rest B l else v)
+  pub clear-is : (l : ℕ) (is : List Instruction) (v : ℕ) → clear-by B l is v ≡ (if any (instruction-clears B l v) is then rest B l else v)
   unfolding clear-by any
   clear-is l [] v = refl
   clear-is l (Update j w ∷ is) v = clear-is l is v

@@ -1,4 +1,5 @@
--- What one move leaves of the contents and the marks: one that fires its updates and its bit, a refused one nothing (SPECIFICATION 4.9, 5.6, 8.3).
+-- What one move leaves of the contents and the marks: one that fires its updates and its bit, a refused one nothing; and its label tally (SPECIFICATION 4.9,
+-- 4.11, 5.6, 8.3).
 use mathlib.Core.Path.{_≡_}
 use mathlib.Core.Bool.{Bool}
 use mathlib.Core.List.{List}
@@ -8,6 +9,9 @@ use Rattle.text.specs.declared.Answer.{Answer}
 use Rattle.text.specs.Words.{has}
 use Rattle.book.specs.Book.{Program}
 use Rattle.book.specs.Sound.{Lawful, Sound}
+use Rattle.engine.specs.declared.Tally.{Tally}
+use Rattle.engine.specs.declared.TalliedAnswer.{TalliedAnswer}
+use Rattle.engine.specs.Labels.{no-labels, move-tally}
 use Rattle.engine.specs.Move.{Input, Moved, fires, move-refused, move, fire, writes}
 use Rattle.engine_fire.specs.declared.Begun.{Begun}
 use Rattle.engine_fire.specs.Count.{instructions-given}
@@ -32,6 +36,11 @@ abbrev pub move-answer : ℕ → Moved → Answer
 move-answer i (fires f) = record { number = 0; p = 0; q = 0 }
 move-answer i (move-refused n q) = record { number = n; p = i; q = q }
 
+-- the tally of a move: a refused one has issued and returned nothing
+abbrev pub tally-left : Program → Moved → Tally
+tally-left B (fires f) = move-tally B f
+tally-left B (move-refused n q) = no-labels
+
 -- What a move is made on: an accepted book, sound contents, one of its agents, and a bit above all marks so far: the moves before have lower ones
 pub record MoveFits (B : Program) (x : Input) (bit : ℕ) (t : Tables) : Type 0 where
   pub lawful : Lawful B
@@ -40,9 +49,10 @@ pub record MoveFits (B : Program) (x : Input) (bit : ℕ) (t : Tables) : Type 0 
   pub power : (i : ℕ) × (bit ≡ 2 ^ i) × (i < 64)
   pub unmarked : (l : ℕ) → getD (t .readers) l 0 < bit
 
--- what the move with input x, number i and marked as `bit`, gives and leaves of the tables t: its answer r, and the tables u
-pub record MoveEffect (B : Program) (x : Input) (bit i : ℕ) (t : Tables) (r : Answer) (u : Tables) : Type 0 where
-  pub answer : r ≡ move-answer i (move B (t .contents) x)
+-- what the move with input x, number i and marked as `bit`, gives and leaves of the tables t: its answer and its tally, r, and the tables u
+pub record MoveEffect (B : Program) (x : Input) (bit i : ℕ) (t : Tables) (r : TalliedAnswer) (u : Tables) : Type 0 where
+  pub answer : r .answer ≡ move-answer i (move B (t .contents) x)
+  pub tally : r .tally ≡ tally-left B (move B (t .contents) x)
   pub tables : u ≡ tables-left bit t (move B (t .contents) x)
 
 -- the walk of the move with input x, made on the tables t, ended as s says, with its instructions in the list l, and left the tables u

@@ -1,4 +1,5 @@
--- What becomes of a move whose walk met no refusal: refusal 15, or the contents and the marks after (SPECIFICATION 4.8, 4.9, 5.2).
+-- What becomes of a move whose walk met no refusal: refusal 15, or the contents and the marks after, and the label tally (SPECIFICATION 4.8, 4.9, 4.11,
+-- 5.2).
 use mathlib.Core.Path.{_≡_}
 use mathlib.Core.Bool.{_&&_}
 use mathlib.Core.List.{List}
@@ -9,11 +10,13 @@ use Rattle.text.specs.Refusals.{clash}
 use Rattle.book.specs.Book.{Program}
 use Rattle.book.specs.Image.{low-program}
 use Rattle.engine.specs.declared.Instruction.{Instruction}
+use Rattle.engine.specs.declared.Tally.{Tally}
 use Rattle.engine.specs.Move.{Moved, fires, move-refused, fire, writes, fired-of, fire-or-clash}
 use Rattle.engine.specs.Move as move
+use Rattle.engine.specs.Labels.{no-labels}
 use Rattle.engine_instruction.specs.Code.{items}
 use Rattle.engine_term.specs.Marks.{marked, marked-where}
-use Rattle.engine_fire.specs.Steps.{fire-reads}
+use Rattle.engine_fire.specs.Steps.{fire-reads, fire-tally}
 use Rattle.engine_fire.specs.declared.Outcome.{Outcome}
 use Rattle.engine_fire.specs.declared.Outcome.the-variants.{Fired, Clash}
 use Rattle.engine.specs.Tables.{Tables}
@@ -28,8 +31,18 @@ move-by image c list n ls = fired-of (low-program image) c ls (items list n)
 
 -- the outcome of the move f, as the code gives it, as what becomes of a move
 abbrev pub moved-by : move.Fired → Outcome → Moved
-moved-by f Fired = fires f
+moved-by f (Fired t) = fires f
 moved-by f (Clash l) = move-refused clash l
+
+-- the tally that the code gives with an outcome
+abbrev pub tally-told : Outcome → Tally
+tally-told (Fired t) = t
+tally-told (Clash l) = no-labels
+
+-- the tally of a move in the contents c, as firing counts it; a refused one has issued and returned nothing
+abbrev pub tally-by : Program → List ℕ → Moved → Tally
+tally-by B c (fires f) = fire-tally B (f .instructions) c
+tally-by B c (move-refused n q) = no-labels
 
 -- ---- the contents and the marks after: a refused move leaves them as they were
 
@@ -57,9 +70,10 @@ abbrev pub readers-after : ℕ → Program → List ℕ → List ℕ → Moved �
 readers-after bit B c rs (fires f) = read-marked bit B (f .instructions) c rs
 readers-after bit B c rs (move-refused k q) = rs
 
--- the move of the first n of a list, whatever its walk read, is settled: how, and what it leaves of the tables t
+-- the move of the first n of a list, whatever its walk read, is settled: how, with which tally, and what it leaves of the tables t
 pub record Settled (image list : List ℕ) (n bit : ℕ) (t : Tables) (r : Outcome) (u : Tables) : Type 0 where
   pub outcome : (ls : List ℕ) → fire-or-clash (move-by image (t .contents) list n ls) ≡ moved-by (move-by image (t .contents) list n ls) r
+  pub tally : (ls : List ℕ) → tally-told r ≡ tally-by (low-program image) (t .contents) (fire-or-clash (move-by image (t .contents) list n ls))
   pub contents : (ls : List ℕ) → u .contents ≡ contents-after (t .contents) (fire-or-clash (move-by image (t .contents) list n ls))
   pub readers : (ls : List ℕ) → u .readers ≡ readers-after bit (low-program image) (t .contents) (t .readers) (fire-or-clash (move-by image (t .contents) list n ls))
   pub writers : (ls : List ℕ) → u .writers ≡ writers-after bit (length (t .contents)) (t .writers) (fire-or-clash (move-by image (t .contents) list n ls))

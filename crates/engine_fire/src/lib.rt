@@ -1,40 +1,42 @@
-// One move: begun, which is its walk, and finished: fired and marked, or refused. Firing finds whether it clashes, and the contents and the marks
-// after it.
+// One move: begun, which is its walk, and finished: fired and marked, or refused. Firing finds whether it clashes, the contents and the marks after it, and
+// its label tally.
 use book::Image;
 use book_parts::Part;
 use engine::Pick;
+use engine::TalliedAnswer;
+use engine::Tally;
 use engine::Work;
 use engine_emit::Progress;
-use text::Answer;
 use text::Value;
 ghost use mathlib.Core.Path.{_≡_};
 ghost use mathlib.Core.List.{[]};
-ghost use Prim.Native.Nat.{_≤_, _<_, min, ℕ};
+ghost use Prim.Native.Nat.{_+_, _≤_, _<_, min, ℕ};
 ghost use lib.Bits.{bitOr};
 ghost use lib.Dec.{ltb};
 ghost use lib.ListN.{length, getD, set};
-ghost use Rattle.text.specs.Words.{if_then_else_};
+ghost use Rattle.text.specs.Words.{if_then_else_, one-if};
 ghost use Rattle.text.specs.declared.Found.the-variants.{Nowhere};
 ghost use Rattle.book.specs.Book.{L};
 ghost use Rattle.book.specs.Image.{low-program};
 ghost use Rattle.book_parts.specs.Part.{put-in};
+ghost use Rattle.engine.specs.Labels.{no-labels};
 ghost use Rattle.engine.specs.Move.{taken-reads, fire, Fired, input};
 ghost use Rattle.engine_instruction.specs.Code.{items};
 ghost use Rattle.engine_clash.specs.Clash.{updates-by, clash-by};
 ghost use Rattle.engine_term.specs.Marks.{marked, mark};
-ghost use Rattle.engine_fire.specs.Outcome.{write-marked, read-marked, Settled, moved-by};
-ghost use Rattle.engine_fire.specs.Steps.{part-after, puts, put-marked, put-reads};
+ghost use Rattle.engine_fire.specs.Outcome.{write-marked, read-marked, Settled, moved-by, tally-told};
+ghost use Rattle.engine_fire.specs.Steps.{part-after, puts, put-marked, put-reads, issues-at, returns-at, put-tally, fire-tally};
 ghost use Rattle.engine.specs.Rule.{walking, most-instructions};
 ghost use Rattle.engine_walk.specs.WalkMarks.{bits-cleared};
 ghost use Rattle.engine_walk.specs.Walk.{outcome};
 ghost use Rattle.engine_fire.specs.Effect.{move-answer, Begins};
-ghost use Rattle.engine_fire.specs.Finish.{answer-at, readers-kept, MoveFinished};
+ghost use Rattle.engine_fire.specs.Finish.{refused-answer, readers-kept, MoveFinished};
 ghost use Rattle.engine_fire.specs.Count.{instructions-given};
 ghost use Rattle.engine.specs.Tables.{tables-before, tables-after};
 
-// What becomes of a move whose walk met no refusal: it fires, or clashes at a location.
+// What becomes of a move whose walk met no refusal: it fires, with its label tally, or clashes at a location.
 pub enum Outcome {
-    Fired,
+    Fired { tally: Tally },
     Clash { location: u32 },
 }
 
@@ -126,7 +128,42 @@ fn part_at(image: &Image, last: Part, at: usize) -> Part
     }
 }
 
-// Puts each instruction's own value at its own location, in its function's part; what that reads and writes is marked.
+// The tally of no move.
+pub fn no_labels() -> Tally
+    ensures { λ r. ⌜ r ≡ no-labels ⌝ }
+{
+    Tally {
+        issued: 0,
+        returned: 0,
+    }
+}
+
+// The tally t, counted on where location `at` gets v; e is the number of elements. At one of Reserve's locations a value other than true issues a label, and
+// true returns one, unless a release before it in the same move has.
+fn count_label(contents: &[Value], e: Value, at: usize, v: Value, t: Tally) -> Tally
+    requires { ⌜ (t .issued < 18446744073709551615) × (t .returned < 18446744073709551615) ⌝ }
+    ensures { λ r. ⌜ (r .issued ≡ t .issued + one-if (issues-at e at v)) × (r .returned ≡ t .returned + one-if (returns-at e at v (getD (now (contents .entry)) at 0))) ⌝ }
+{
+    if e as usize <= at {
+        return t;
+    }
+    if v != 2 {
+        return Tally {
+            issued: t.issued + 1,
+            returned: t.returned,
+        };
+    }
+    if text::fetch(contents, at) == 2 {
+        return t;
+    }
+    Tally {
+        issued: t.issued,
+        returned: t.returned + 1,
+    }
+}
+
+// Puts each instruction's own value at its own location, in its function's part; what that reads and writes is marked. Gives how many labels that issues and
+// returns.
 fn put_values(
     image: &Image,
     contents: &mut [Value],
@@ -135,27 +172,33 @@ fn put_values(
     list: &[u64],
     len: usize,
     bit: u64,
-)
+) -> Tally
+    ensures { λ r. ⌜ r ≡ put-tally (low-program (now (image .entry))) (items (now (list .entry)) len) (now (contents .entry)) ⌝ }
     ensures { λ _. ⌜ now (contents .exit) ≡ puts (L (low-program (now (image .entry)))) (items (now (list .entry)) len) (now (contents .entry)) ⌝ }
     ensures { λ _. ⌜ now (readers .exit) ≡ marked bit (put-reads (low-program (now (image .entry)) .P) (L (low-program (now (image .entry)))) (items (now (list .entry)) len) (now (contents .entry))) (now (readers .entry)) ⌝ }
     ensures { λ _. ⌜ now (writers .exit) ≡ put-marked bit (min (L (low-program (now (image .entry)))) (length (now (contents .entry)))) (items (now (list .entry)) len) (now (writers .entry)) ⌝ }
 {
     let n = text::smaller(len, list.len());
     let p = book_parts::permanent(image);
+    let e = book_image::elements(image);
     let mut part = Part { first: 0, end: 0 };
+    let mut tally = no_labels();
     let mut j: usize = 0;
     while j < n {
         let what = engine_instruction::decode(list[j]);
         let at = engine_instruction::own_location(what) as usize;
         let v = engine_instruction::own_value(what);
+        tally = count_label(contents, e, at, v, tally);
         part = part_at(image, part, at);
         mark_put(contents, readers, part.end, at, v, p, bit);
         put_in_part(contents, writers, part.first, part.end, at, v, bit);
         j = j + 1;
     }
+    tally
 }
 
-// The contents and the marks after a move that does not clash: first the released labels are cleared, then each own value is put.
+// The contents and the marks after a move that does not clash: first the released labels are cleared, then each own value is put. Gives how many labels that
+// issues and returns.
 fn fire(
     image: &Image,
     contents: &mut [Value],
@@ -164,13 +207,14 @@ fn fire(
     list: &[u64],
     len: usize,
     bit: u64,
-)
+) -> Tally
+    ensures { λ r. ⌜ r ≡ fire-tally (low-program (now (image .entry))) (items (now (list .entry)) len) (now (contents .entry)) ⌝ }
     ensures { λ _. ⌜ (clash-by (now (image .entry)) (now (contents .entry)) (now (list .entry)) len ≡ Nowhere → now (contents .exit) ≡ fire (updates-by (now (image .entry)) (now (contents .entry)) (now (list .entry)) len) (now (contents .entry))) ⌝ }
     ensures { λ _. ⌜ now (readers .exit) ≡ read-marked bit (low-program (now (image .entry))) (items (now (list .entry)) len) (now (contents .entry)) (now (readers .entry)) ⌝ }
     ensures { λ _. ⌜ now (writers .exit) ≡ write-marked bit (length (now (contents .entry))) (updates-by (now (image .entry)) (now (contents .entry)) (now (list .entry)) len) (now (writers .entry)) ⌝ }
 {
     engine_release::clear_released(image, contents, readers, writers, list, len, bit);
-    put_values(image, contents, readers, writers, list, len, bit);
+    put_values(image, contents, readers, writers, list, len, bit)
 }
 
 // ---- the move
@@ -191,8 +235,8 @@ pub fn settle(
     if is_location(image, at) {
         return Outcome::Clash { location: at };
     }
-    fire(image, contents, readers, writers, list, len, bit);
-    Outcome::Fired
+    let tally = fire(image, contents, readers, writers, list, len, bit);
+    Outcome::Fired { tally }
 }
 
 // ---- a move begun and finished
@@ -234,30 +278,40 @@ pub fn begin_move(
     }
 }
 
-// The answer to move `at`, which is refused; its reader marks are taken out.
-fn refuse_move(readers: &mut [u64], bit: u64, number: u32, at: u32, q: u32) -> Answer
-    ensures { λ r. ⌜ r ≡ answer-at number at q ⌝ }
-    ensures { λ _. ⌜ now (readers .exit) ≡ bits-cleared bit (now (readers .entry)) ⌝ }
+// The answer to a move that is refused: it has issued and returned no label.
+fn refused_answer(number: u32, at: u32, q: u32) -> TalliedAnswer
+    ensures { λ r. ⌜ r ≡ refused-answer number at q ⌝ }
 {
-    engine_walk::clear_marks(readers, bit);
-    Answer {
-        number: number,
-        p: at,
-        q: q,
+    let answer = text::answer_at(number, at, q);
+    let none = no_labels();
+    TalliedAnswer {
+        answer: answer,
+        tally: none,
     }
 }
 
+// The answer to move `at`, which is refused; its reader marks are taken out.
+fn refuse_move(readers: &mut [u64], bit: u64, number: u32, at: u32, q: u32) -> TalliedAnswer
+    ensures { λ r. ⌜ r ≡ refused-answer number at q ⌝ }
+    ensures { λ _. ⌜ now (readers .exit) ≡ bits-cleared bit (now (readers .entry)) ⌝ }
+{
+    engine_walk::clear_marks(readers, bit);
+    refused_answer(number, at, q)
+}
+
 // The answer to move `at`, which is settled; if it is refused, its reader marks are taken out.
-fn answer_move(readers: &mut [u64], bit: u64, at: u32, what: Outcome) -> Answer
-    ensures { λ r. ⌜ ((f : Fired) → r ≡ move-answer at (moved-by f what)) ⌝ }
+fn answer_move(readers: &mut [u64], bit: u64, at: u32, what: Outcome) -> TalliedAnswer
+    ensures { λ r. ⌜ ((f : Fired) → r ≡ record { answer = move-answer at (moved-by f what); tally = tally-told what }) ⌝ }
     ensures { λ _. ⌜ ((f : Fired) → now (readers .exit) ≡ readers-kept bit (moved-by f what) (now (readers .entry))) ⌝ }
 {
     match what {
-        Outcome::Fired => Answer {
-            number: 0,
-            p: 0,
-            q: 0,
-        },
+        Outcome::Fired { tally } => {
+            let accepted = text::answer_at(0, 0, 0);
+            TalliedAnswer {
+                answer: accepted,
+                tally: tally,
+            }
+        }
         Outcome::Clash { location } => refuse_move(readers, bit, text::CLASH, at, location),
     }
 }
@@ -272,7 +326,7 @@ fn settle_listed(
     list: &Work,
     len: usize,
     at: u32,
-) -> Answer
+) -> TalliedAnswer
     ensures { λ r. ⌜ ((next : ℕ) → MoveFinished (low-program (now (image .entry))) bit at (walking (record { made = items (now (list .entry)) len; next = next; left = [] })) (tables-before contents readers writers) r (tables-after contents readers writers)) ⌝ }
 {
     let what = settle(image, contents, readers, writers, list, len, bit);
@@ -289,15 +343,11 @@ pub fn finish_move(
     list: &Work,
     s: Progress,
     at: u32,
-) -> Answer
+) -> TalliedAnswer
     ensures { λ r. ⌜ MoveFinished (low-program (now (image .entry))) bit at (outcome s (now (list .entry))) (tables-before contents readers writers) r (tables-after contents readers writers) ⌝ }
 {
     if s.refused != 0 {
-        return Answer {
-            number: s.refused as u32,
-            p: at,
-            q: s.node as u32,
-        };
+        return refused_answer(s.refused as u32, at, s.node as u32);
     }
     let len = s.len as usize;
     settle_listed(image, contents, readers, writers, bit, list, len, at)

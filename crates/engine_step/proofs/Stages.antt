@@ -19,6 +19,7 @@ use Rattle.engine_fire.specs.declared.Begun.{Begun}
 use Rattle.engine_fire.specs.Count.{instructions-given}
 use Rattle.engine_fire.specs.Outcome.{contents-after}
 use Rattle.engine_fire.specs.Effect.{move-answer}
+use Rattle.engine.specs.declared.TalliedAnswer.{TalliedAnswer}
 use Rattle.engine_fire.specs.Finish.{MoveFinished}
 use Rattle.engine_fire.proofs.Count.{given-few, made-of, same-outcome}
 use Rattle.engine_step.specs.declared.BegunCall.{BegunCall}
@@ -132,8 +133,8 @@ module _ (text c : List ℕ) (k : Input) (n : ℕ) (m l : List ℕ) (p : BegunCa
       (λ (z : p .answer .number ≢ 0). let t = h .stops z .1 in let q = s .stops z in call-tells r d (q .0 ∙ t .answer, q .1 ∙ t .contents))
 
 -- what `finish_move` says of the first j records of the table, said of the whole
-pub concluded-first : (m c l : List ℕ) (p : BegunCall) (j : ℕ) → j ≡ min (word m 6) (length c) → p .answer .number ≡ 0 → (r : Answer) (d rs ws : List ℕ)
-    → MoveFinished (low-program m) 1 0 (outcome (p .begun .walk) l) (tables (take j c) [] []) r (tables d rs ws) → CallFinished m c l p r (d ++ drop j c)
+pub concluded-first : (m c l : List ℕ) (p : BegunCall) (j : ℕ) → j ≡ min (word m 6) (length c) → p .answer .number ≡ 0 → (r : TalliedAnswer) (d rs ws : List ℕ)
+    → MoveFinished (low-program m) 1 0 (outcome (p .begun .walk) l) (tables (take j c) [] []) r (tables d rs ws) → CallFinished m c l p (r .answer) (d ++ drop j c)
 concluded-first m c l p j e z r d rs ws does = record {
   stops = λ h. absurd (h z);
   moves = λ y ls.

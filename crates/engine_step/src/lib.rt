@@ -201,7 +201,7 @@ pub fn finish_call(contents: &mut [Value], image: &Image, work: &Work, p: BegunC
     let n = text::smaller(all, contents.len());
     let mut readers = [0u64; 1];
     let mut writers = [0u64; 1];
-    engine_fire::finish_move(
+    let done = engine_fire::finish_move(
         image,
         &mut contents[..n],
         &mut readers[..0],
@@ -210,7 +210,8 @@ pub fn finish_call(contents: &mut [Value], image: &Image, work: &Work, p: BegunC
         work,
         walk,
         0,
-    )
+    );
+    done.answer
 }
 
 // ---- the entry

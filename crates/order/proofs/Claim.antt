@@ -182,7 +182,7 @@ module _ (B : Program) (g : Log) (c : List ℕ) where
 
 -- ---- the call
 
-all-passed : (book log : List ℕ) (n : Lengths) (b : Book) (g : Log) → check-all book log n ≡ good (b, g) → Lawful (b .program) × Sound (b .program) (start b) × Passed (length (b .program .agents)) (b .program .E) g
+pub all-passed : (book log : List ℕ) (n : Lengths) (b : Book) (g : Log) → check-all book log n ≡ good (b, g) → Lawful (b .program) × Sound (b .program) (start b) × Passed (length (b .program .agents)) (b .program .E) g
 unfolding check-all
 all-passed book log n b g e =
     let r = bind-good (check-book book) _ (b, g) e in
@@ -211,7 +211,7 @@ module _ (book log : List ℕ) (t : Tables) (n : ℕ) where
       go (refused a p r) q (off f) e = absurd (far a (f .0, f .1) h e)
 
   -- the answer of a call that has passed the checks is that of its run
-  as-run : (b : Book) (g : Log) → checks ≡ good (b, g) → log-call book log t n ≡ left-past t (run-log b g)
+  pub as-run : (b : Book) (g : Log) → checks ≡ good (b, g) → log-call book log t n ≡ left-past t (run-log b g)
   unfolding log-call
   as-run b g e = rw e
 

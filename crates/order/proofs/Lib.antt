@@ -10,6 +10,7 @@ pub mod Numbers
 pub mod Swap
 pub mod Touching
 pub mod Claim
+pub mod Tallied
 pub mod Claims
 pub mod Masks
 pub mod Search

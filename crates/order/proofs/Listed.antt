@@ -74,7 +74,7 @@ act-listed S c (suc n) k i a b = go (eqb k i) refl (act-listed S c n (suc k) i)
     go true e r = ap (λ (x : ℕ). S .does x (listed S c x)) (eqb-true k i e)
     go false e r = r (omega (arith, eqb-false k i e)) (omega arith)
 
-run-upto : (S : Moves) (start : S .Con) (m : ℕ) → run-in-order S start (from 0 m) ≡ listed S start m
+pub run-upto : (S : Moves) (start : S .Con) (m : ℕ) → run-in-order S start (from 0 m) ≡ listed S start m
 run-upto S start m = let e : 0 + m ≡ m = omega arith in run-listed S start m 0 ∙ ap (λ (x : ℕ). listed S start x) e
 
 upto-act : (S : Moves) (start : S .Con) (m i : ℕ) → i < m → act S start (from 0 m) i ≡ S .does i (listed S start i)

@@ -1,9 +1,10 @@
--- Lists of moves: splitting, and what an order that keeps the pairs has.
+-- Lists of moves: splitting, what an order that keeps the pairs has, and sums over moves, which do not depend on the order.
 use mathlib.Core.Path.{_≡_, refl, sym, ap, _∙_}
 use mathlib.Core.Logic.{_⊎_, inl, inr, _≢_}
 use mathlib.Core.List.{List, [], _∷_, _++_, append-assoc}
 use mathlib.Core.Bool.{Bool, true, false, _||_, or-true, false≢true}
-use Prim.Native.Nat.{ℕ}
+use Prim.Native.Nat.{ℕ, _+_}
+use native.Mathlib.Omega.{arith}
 use lib.Dec.{eqb}
 use borrow.Author.Tests.{eqb-true, eq-eqb}
 use Rattle.text.specs.Words.{has}
@@ -133,3 +134,29 @@ module _ (pair : ℕ → ℕ → Type 0) (p : List ℕ) (i : ℕ) (q ys : List �
       go : (b : Bool) → eqb i k ≡ b → has ys k ≡ has (p ++ q) k
       go true h = rw (← eqb-true i k h, refuted (has (p ++ q) i) gone) (refuted (has ys i) (λ g. uy .0 i g .0 refl))
       go false h = rw h at (e k) ∙ has-append p (i ∷ q) k ∙ rw h (sym (has-append p q k))
+
+-- ---- sums over moves
+
+-- the sum of w over these moves
+abbrev pub sum : (ℕ → ℕ) → List ℕ → ℕ
+sum w [] = 0
+sum w (i ∷ is) = w i + sum w is
+
+sum-split : (w : ℕ → ℕ) (p : List ℕ) (i : ℕ) (q : List ℕ) → sum w (p ++ i ∷ q) ≡ w i + sum w (p ++ q)
+sum-split w [] i q = refl
+sum-split w (j ∷ p) i q = omega (arith, sum-split w p i q)
+
+-- a sum over the same moves, each once, does not depend on their order
+pub same-sum : (pair : ℕ → ℕ → Type 0) (w : ℕ → ℕ) (is log : List ℕ) → Upward (Up pair) is → Upward (Up pair) log → ((k : ℕ) → has is k ≡ has log k)
+    → sum w is ≡ sum w log
+same-sum pair w [] [] ui ul e = refl
+same-sum pair w [] (j ∷ log) ui ul e = absurd (false≢true (e j ∙ has-here j log))
+same-sum pair w (i ∷ is) log ui ul e = go (has-split log i (sym (e i) ∙ has-here i is)) (λ t. same-sum pair w is t (ui .1))
+  where
+    go : ((p : List ℕ) × (q : List ℕ) × (log ≡ p ++ i ∷ q)) → ((t : List ℕ) → Upward (Up pair) t → ((k : ℕ) → has is k ≡ has t k) → sum w is ≡ sum w t)
+        → w i + sum w is ≡ sum w log
+    go (p, q, s) next =
+        let u : Upward (Up pair) (p ++ i ∷ q) = rw s at ul in
+        let h : (k : ℕ) → has (i ∷ is) k ≡ has (p ++ i ∷ q) k = rw s at e in
+        let n = next (p ++ q) (upward-drop (Up pair) p i q u) (left-same pair p i q is u ui h) in
+        omega (arith, sum-split w p i q, ap (sum w) s)

@@ -8,6 +8,7 @@ use Rattle.text.specs.Refusals.{lent-short, contents-table, readers-table, writ
 use Rattle.book.specs.Book.{Program, Book, L}
 use Rattle.book.specs.Check.{check-book}
 use Rattle.engine.specs.Rule.{most-instructions}
+use Rattle.engine.specs.Labels.{no-labels}
 use Rattle.engine.specs.Single.{over-first}
 use Rattle.engine.specs.Tables.{Tables}
 use Rattle.order.specs.declared.Lengths.{Lengths}
@@ -43,15 +44,16 @@ abbrev pub left-past : Tables → LogAnswer → LogAnswer
 left-past t a =
     record {
       answer = a .answer;
+      tally = a .tally;
       contents = over-first (a .contents) (t .contents);
       readers = over-first (a .readers) (t .readers);
       writers = over-first (a .writers) (t .writers);
     }
 
--- what a log call leaves, by its checks: refusals 1 to 10 write nothing
+-- what a log call leaves, by its checks: refusals 1 to 10 write nothing, and no move has fired
 abbrev pub log-answer : Tables → Checked (Book × Log) → LogAnswer
 log-answer t (refused n p q) =
-    record { answer = record { number = n; p = p; q = q }; contents = t .contents; readers = t .readers; writers = t .writers }
+    record { answer = record { number = n; p = p; q = q }; tally = no-labels; contents = t .contents; readers = t .readers; writers = t .writers }
 log-answer t (good x) = left-past t (run-log (x .0) (x .1))
 
 -- the log entry: a book's text, a log's text, the lent tables, and how many instruction records are lent

@@ -5,6 +5,7 @@ pub mod Run
 pub mod Call
 pub mod Orders
 pub mod Demand
+pub mod Tallied
 pub mod Open
 pub mod Claims
 pub mod Lists

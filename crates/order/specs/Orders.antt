@@ -78,6 +78,16 @@ module _ (S : Moves) where
   run-in-order c [] = c
   run-in-order c (i ∷ is) = run-in-order (step c i) is
 
+  -- an act in front of others; a move that is refused has none
+  abbrev pub with-act : Option (S .Act) → List (S .Act) → List (S .Act)
+  with-act none rest = rest
+  with-act (some a) rest = a ∷ rest
+
+  -- what these moves do, made in this order from the contents c: a move that is refused does nothing
+  abbrev pub acts-in-order : S .Con → List ℕ → List (S .Act)
+  acts-in-order c [] = []
+  acts-in-order c (i ∷ is) = with-act (S .does i c) (acts-in-order (step c i) is)
+
   -- the contents that move i gets in the listed order, from the contents c
   abbrev pub listed : S .Con → ℕ → S .Con
   listed c zero = c

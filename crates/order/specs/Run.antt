@@ -1,4 +1,4 @@
--- A log's run: its moves in turn, the marks that they leave, and refusal 17 (SPECIFICATION 5.5, 5.6, 7.1 to 7.3, 8.3).
+-- A log's run: its moves in turn, the marks that they leave, refusal 17, and the label tally (SPECIFICATION 5.5, 5.6, 7.1 to 7.3, 7.5, 8.3).
 use mathlib.Core.Bool.{Bool, _&&_, _||_, not}
 use mathlib.Core.List.{List, [], _∷_, _++_}
 use Prim.Native.Nat.{ℕ, zero, suc}
@@ -7,7 +7,9 @@ use Rattle.text.specs.Words.{if_then_else_, has, table, some-below}
 use Rattle.text.specs.Refusals.{unordered-touch}
 use Rattle.text.specs.declared.Answer.{Answer}
 use Rattle.book.specs.Book.{Program, Book, L, start}
+use Rattle.engine.specs.declared.Tally.{Tally}
 use Rattle.engine.specs.Move.{Input, Fired, Moved, fires, move-refused, move, fire, writes}
+use Rattle.engine.specs.Labels.{tally}
 use Rattle.order.specs.Sets.{with-move}
 use Rattle.order.specs.Pairs.{predecessors, ordered-by, PairFound, no-pair, a-pair, least-pair}
 use Rattle.order.specs.Log.{Log, move-at}
@@ -92,9 +94,10 @@ touching B g fs =
 
 -- ---- what a log's run leaves
 
--- what a log's run leaves: its answer, which is 0 0 0 when accepted, the contents, and the marks
+-- what a log's run leaves: its answer, which is 0 0 0 when accepted, the label tally of the moves that fired, the contents, and the marks
 pub record LogAnswer : Type 0 where
   pub answer : Answer
+  pub tally : Tally
   pub contents : List ℕ
   pub readers : List ℕ
   pub writers : List ℕ
@@ -104,6 +107,7 @@ abbrev pub left-by : Program → Run → ℕ → ℕ → ℕ → LogAnswer
 left-by B s n p q =
     record {
       answer = record { number = n; p = p; q = q };
+      tally = tally B (s .fired);
       contents = s .contents;
       readers = readers (L B) (s .fired);
       writers = writers (L B) (s .fired);

@@ -2,9 +2,9 @@
 // for callers that have no records.
 use book::Image;
 use engine::Record;
+use engine::TalliedAnswer;
 use order::OrderTable;
 use order_run::RunState;
-use text::Answer;
 use text::Value;
 ghost use Rattle.order_entry.specs.LogRun.{LogRun, LogRunOwn};
 ghost use Rattle.engine.specs.Tables.{tables, tables-before, tables-after};
@@ -20,7 +20,7 @@ fn make_moves(
     image: &Image,
     order: &OrderTable,
     first: RunState,
-) -> Answer
+) -> TalliedAnswer
     ensures { λ r. ⌜ MadeOn (now (image .entry)) (now (order .entry)) first (tables-before contents readers writers) (now (instructions .entry)) r (tables-after contents readers writers) (now (instructions .exit)) ⌝ }
 {
     let mut work = [0u64; engine::MOST_INSTRUCTIONS];
@@ -31,7 +31,7 @@ fn make_moves(
         engine_list::pass(instructions, &mut work, count);
         t = order_run::finish_next(contents, readers, writers, image, order, &work, t, s);
     }
-    t.answer
+    t.result
 }
 
 // Makes the moves of a log from the one that is next: the tables are cut to the records needed, once, and the moves made on these.
@@ -43,7 +43,7 @@ pub fn run_from(
     image: &Image,
     order: &OrderTable,
     first: RunState,
-) -> Answer
+) -> TalliedAnswer
     ensures { λ r. ⌜ RunToEnd (now (image .entry)) (now (order .entry)) first (tables-before contents readers writers) (now (instructions .entry)) r (tables-after contents readers writers) (now (instructions .exit)) ⌝ }
 {
     let n = order_run::records_used(image, contents.len(), readers.len(), writers.len());
@@ -66,7 +66,7 @@ pub fn run(
     readers: &mut [u64],
     writers: &mut [u64],
     instructions: &mut [Record],
-) -> Answer
+) -> TalliedAnswer
     ensures { λ r. ⌜ LogRun (now (book .entry)) (now (log .entry)) (tables-before contents readers writers) (now (instructions .entry)) r (tables-after contents readers writers) (now (instructions .exit)) ⌝ }
 {
     let lent = instructions.len();
@@ -95,7 +95,7 @@ pub fn run_own_list(
     readers: &mut [u64],
     writers: &mut [u64],
     lent: usize,
-) -> Answer
+) -> TalliedAnswer
     ensures { λ r. ⌜ LogRunOwn (now (book .entry)) (now (log .entry)) (tables-before contents readers writers) lent r (tables-after contents readers writers) ⌝ }
 {
     let none = engine_list::blank();
@@ -113,7 +113,7 @@ pub fn run_from_own_list(
     image: &Image,
     order: &OrderTable,
     first: RunState,
-) -> Answer
+) -> TalliedAnswer
     ensures { λ r. ⌜ RunToEndOwn (now (image .entry)) (now (order .entry)) first (tables-before contents readers writers) lent r (tables-after contents readers writers) ⌝ }
 {
     let none = engine_list::blank();

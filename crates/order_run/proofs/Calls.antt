@@ -6,10 +6,10 @@ use Prim.Native.Nat.{ℕ, _≤_, min}
 use native.Mathlib.Omega.{arith}
 use lib.ListN.{length, take, drop}
 use lib.Seq.{length-take-le, length-front, take-append-seam, drop-append-seam}
-use Rattle.text.specs.declared.Answer.{Answer}
 use Rattle.book.specs.Book.{L}
 use Rattle.book.specs.Image.{word, low-program}
 use Rattle.engine.specs.declared.Instruction.{Instruction}
+use Rattle.engine.specs.declared.TalliedAnswer.{TalliedAnswer}
 use Rattle.engine.specs.Rule.{most-instructions}
 use Rattle.engine.specs.Single.{over-first}
 use Rattle.order.specs.Log.{Log}
@@ -91,8 +91,9 @@ module _
           let ec : d ++ drop k C ≡ over-first (f .contents) (lent .contents) = put-back d (f .contents) (lent .contents) (drop k C) k (ap (λ (v : LogAnswer). v .contents) (q .1)) (cut-long k C (lent .contents) d hc pc ld) pc in
           let er : rs ++ drop k R ≡ over-first (f .readers) (lent .readers) = put-back rs (f .readers) (lent .readers) (drop k R) k (ap (λ (v : LogAnswer). v .readers) (q .1)) (cut-long k R (lent .readers) rs hr pr lr) pr in
           let ew : ws ++ drop k W ≡ over-first (f .writers) (lent .writers) = put-back ws (f .writers) (lent .writers) (drop k W) k (ap (λ (v : LogAnswer). v .writers) (q .1)) (cut-long k W (lent .writers) ws hw pw lw) pw in
-          let ea : t .answer ≡ f .answer = ap (λ (v : LogAnswer). v .answer) (q .1) in
-          let all : answer-with (t .answer) (d ++ drop k C) (rs ++ drop k R) (ws ++ drop k W) ≡ left-past lent f = rw (ec, er, ew, ea) in
+          let ea : t .result .answer ≡ f .answer = ap (λ (v : LogAnswer). v .answer) (q .1) in
+          let et : t .result .tally ≡ f .tally = ap (λ (v : LogAnswer). v .tally) (q .1) in
+          let all : answer-with (t .result) (d ++ drop k C) (rs ++ drop k R) (ws ++ drop k W) ≡ left-past lent f = rw (ec, er, ew, ea, et) in
           (q .0, all ∙ kept .call);
       on = λ y. record {
         g = g;
@@ -112,7 +113,7 @@ module _
 -- the moves are made on the first k records: what they leave there, with the other records, is what the call leaves
 pub ends-call : (lent : Tables) (n : ℕ) (whole : LogAnswer) (m o : List ℕ) (rest : List (List Instruction)) (t : RunState) (C R W : List ℕ) → CallAt lent n whole m o rest t C R W → t .more ≡ true
     → (k : ℕ) → k ≡ min (word m 6) (min (length C) (min (length R) (length W)))
-    → (a : Answer) (d rs ws : List ℕ) → length d ≡ length (take k C) → length rs ≡ length (take k R) → length ws ≡ length (take k W)
+    → (a : TalliedAnswer) (d rs ws : List ℕ) → length d ≡ length (take k C) → length rs ≡ length (take k R) → length ws ≡ length (take k W)
     → (P : Type 0) → ((g : Log) (c : List ℕ) → most-instructions ≤ n → RunAt m o g c rest t (take k C) (take k R) (take k W) → (answer-with a d rs ws ≡ run-from (low-program m) g c) × P)
     → (answer-with a (d ++ drop k C) (rs ++ drop k R) (ws ++ drop k W) ≡ whole) × P
 ends-call lent n whole m o rest t C R W h y k ek a d rs ws ld lr lw P does =

@@ -14,6 +14,7 @@ use Rattle.book.specs.Check.{check-book}
 use Rattle.book.specs.Image.{word, low-program}
 use Rattle.book.proofs.Claims.{accepted-book}
 use Rattle.book.proofs.Held.{held-agents-most}
+use Rattle.engine.specs.Labels.{no-labels}
 use Rattle.order.specs.declared.Lengths.{Lengths}
 use Rattle.order.specs.Log.{Log, check-agents, read-log, check-log}
 use Rattle.order.specs.Call.{lengths, check-lengths, check-lent, check-all, left-past, log-answer, log-call}
@@ -236,11 +237,11 @@ module _ (book log : List ℕ) (n : Lengths) where
 module _ (book log : List ℕ) (t : Tables) (n : ℕ) where
   -- a call that is refused before its first move
   pub call-off : (a : Answer) → a ≡ answer-of (check-all book log (lengths t n)) → a .number ≢ 0
-      → (call-lists book log t n ≡ []) × (answer-with a (t .contents) (t .readers) (t .writers) ≡ log-call book log t n)
+      → (call-lists book log t n ≡ []) × (answer-with (record { answer = a; tally = no-labels }) (t .contents) (t .readers) (t .writers) ≡ log-call book log t n)
   unfolding log-call call-lists
   call-off a e z = go (check-all book log (lengths t n)) e
     where
-      go : (o : Checked (Book × Log)) → a ≡ answer-of o → (lists-of o ≡ []) × (answer-with a (t .contents) (t .readers) (t .writers) ≡ log-answer t o)
+      go : (o : Checked (Book × Log)) → a ≡ answer-of o → (lists-of o ≡ []) × (answer-with (record { answer = a; tally = no-labels }) (t .contents) (t .readers) (t .writers) ≡ log-answer t o)
       go (good x) e = absurd (z (ap (λ (y : Answer). y .number) e))
       go (refused m p q) e = (refl, rw e)
 

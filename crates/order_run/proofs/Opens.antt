@@ -12,6 +12,7 @@ use Rattle.text.specs.Words.{good}
 use Rattle.book.specs.Book.{Program, Book, L, start}
 use Rattle.book.specs.Image.{word, low-program}
 use Rattle.engine.specs.declared.Instruction.{Instruction}
+use Rattle.engine.specs.Labels.{no-labels}
 use Rattle.order.specs.Log.{Log}
 use Rattle.order.specs.Run.{run-from, run-log, LogAnswer}
 use Rattle.order.specs.Call.{lengths, check-all, left-past, log-call}
@@ -72,12 +73,12 @@ module _ (book : List ℕ) (b : Book) (g : Log) (r : CheckedCall) (m o : List �
 
 module _ (book log : List ℕ) (t : Tables) (n : ℕ) (m o : List ℕ) (r : CheckedCall) (opened : CallChecked book log (lengths t n) r m o) where
   -- a call that a check refuses
-  pub off : (u : RunState) → u ≡ over-with (r .answer) → r .answer .number ≢ 0
+  pub off : (u : RunState) → u ≡ over-with (record { answer = r .answer; tally = no-labels }) → r .answer .number ≢ 0
       → CallAt t n (log-call book log t n) m o (call-lists book log t n) u (t .contents) (t .readers) (t .writers)
   off u e z =
       let s = call-off book log t n (r .answer) (opened .answer) z in
       record {
-        over = λ _. (s .0, ap (λ (x : RunState). answer-with (x .answer) (t .contents) (t .readers) (t .writers)) e ∙ s .1);
+        over = λ _. (s .0, ap (λ (x : RunState). answer-with (x .result) (t .contents) (t .readers) (t .writers)) e ∙ s .1);
         on = λ y. absurd (false≢true (sym (ap (λ (x : RunState). x .more) e) ∙ y));
       }
 

@@ -3,7 +3,7 @@ use mathlib.Core.Path.{_≡_, refl, sym, ap, subst, _∙_}
 use mathlib.Core.Logic.{_≢_}
 use mathlib.Core.Bool.{true, false, true≢false, false≢true}
 use mathlib.Core.List.{List, [], _∷_}
-use Prim.Native.Nat.{ℕ, zero, suc, _+_, _-_, _^_, _≤_, _<_}
+use Prim.Native.Nat.{ℕ, zero, suc, _+_, _-_, _^_, _%_, _≤_, _<_}
 use native.Mathlib.Numerals.{add-one}
 use native.Mathlib.Omega.{arith}
 use lib.ListN.{length, replicate}
@@ -11,6 +11,9 @@ use Rattle.text.specs.declared.Answer.{Answer}
 use Rattle.book.specs.Book.{Program, Book, start}
 use Rattle.book.specs.Image.{low-program}
 use Rattle.engine.specs.declared.Instruction.{Instruction}
+use Rattle.engine.specs.declared.Tally.{Tally}
+use Rattle.engine.specs.declared.TalliedAnswer.{TalliedAnswer}
+use Rattle.engine.specs.Labels.{no-labels, tally}
 use Rattle.engine.specs.Move.{Input, input, walked, made-by}
 use Rattle.engine.specs.Rule.{Walked as Outcome}
 use Rattle.engine_instruction.specs.Code.{items}
@@ -57,30 +60,32 @@ module _ (B : Program) (g : Log) (c : List ℕ) where
 
   module _ (s : Run) (d rs ws : List ℕ) (h : RunTables B s d rs ws) where
     -- the end of a run in which a move was refused
-    ends-halted : (a : Answer) → run B g c (length (g .moves)) ≡ halted (a .number) (a .p) (a .q) s → answer-with a d rs ws ≡ run-from B g c
+    ends-halted : (a : TalliedAnswer) → a .tally ≡ tally B (s .fired) → run B g c (length (g .moves)) ≡ halted (a .answer .number) (a .answer .p) (a .answer .q) s
+        → answer-with a d rs ws ≡ run-from B g c
     unfolding run-from run-answer
-    ends-halted a e = rw (e, h .contents, h .readers, h .writers)
+    ends-halted a k e = rw (e, k, h .contents, h .readers, h .writers)
 
     -- the end of a run in which all moves fired
-    ends-ran : run B g c (length (g .moves)) ≡ ran s → (a : Answer) → a ≡ order-checked B s (touching B g (s .fired)) .answer → answer-with a d rs ws ≡ run-from B g c
+    ends-ran : run B g c (length (g .moves)) ≡ ran s → (a : TalliedAnswer) → a .tally ≡ tally B (s .fired)
+        → a .answer ≡ order-checked B s (touching B g (s .fired)) .answer → answer-with a d rs ws ≡ run-from B g c
     unfolding run-from run-answer
-    ends-ran e a f = rw e (go (touching B g (s .fired)) f)
+    ends-ran e a k f = rw e (go (touching B g (s .fired)) f)
       where
-        go : (o : PairFound) → a ≡ order-checked B s o .answer → answer-with a d rs ws ≡ order-checked B s o
-        go no-pair y = rw (y, h .contents, h .readers, h .writers)
-        go (a-pair i j) y = rw (y, h .contents, h .readers, h .writers)
+        go : (o : PairFound) → a .answer ≡ order-checked B s o .answer → answer-with a d rs ws ≡ order-checked B s o
+        go no-pair y = rw (y, k, h .contents, h .readers, h .writers)
+        go (a-pair i j) y = rw (y, k, h .contents, h .readers, h .writers)
 
 -- ---- from move to move
 
-abbrev pub over-with : Answer → RunState
-over-with a = record { more = false; at = 0; moves = 0; answer = a }
+abbrev pub over-with : TalliedAnswer → RunState
+over-with a = record { more = false; at = 0; moves = 0; result = a }
 
 module _ (m o : List ℕ) (g : Log) (c : List ℕ) where
   abbrev A : Program
   A = low-program m
 
-  module _ (n i : ℕ) (en : n ≡ length (g .moves)) (d rs ws : List ℕ) (to : FiredSoFar m o g c i d rs ws) where
-    pub turn-on : i < n → (a : Answer) → RunAt m o g c (lists-from A g c (n - i) i) (record { more = true; at = i; moves = n; answer = a }) d rs ws
+  module _ (n i : ℕ) (en : n ≡ length (g .moves)) (k : Tally) (d rs ws : List ℕ) (to : FiredSoFar m o g c i k d rs ws) where
+    pub turn-on : i < n → (a : Answer) → RunAt m o g c (lists-from A g c (n - i) i) (record { more = true; at = i; moves = n; result = record { answer = a; tally = k } }) d rs ws
     turn-on below a = record {
       over = λ y. absurd (true≢false y);
       next = λ _. record { before = to; at = omega (arith, below, en); moves = en };
@@ -88,7 +93,7 @@ module _ (m o : List ℕ) (g : Log) (c : List ℕ) where
     }
 
     pub turn-over : n ≤ i → (a : Answer) → a ≡ touch-answer (least-pair (unordered-marked o rs ws (clipped rs ws (length rs))) n)
-        → RunAt m o g c (lists-from A g c (n - i) i) (over-with a) d rs ws
+        → RunAt m o g c (lists-from A g c (n - i) i) (over-with (record { answer = a; tally = k })) d rs ws
     turn-over past a e =
         let s = to .going .state in
         let q : i ≡ length (g .moves) = omega (arith, past, to .most, en) in
@@ -96,7 +101,7 @@ module _ (m o : List ℕ) (g : Log) (c : List ℕ) where
         record {
           over = λ _. (
             lists-end A g c (n - i) i (omega (arith, past)),
-            ends-ran A g c s d rs ws (to .going .tables) all a (e ∙ order-answer A g s d rs ws o n en (to .runs .order) (to .going .tables)),
+            ends-ran A g c s d rs ws (to .going .tables) all (record { answer = a; tally = k }) (to .going .tally) (e ∙ order-answer A g s d rs ws o n en (to .runs .order) (to .going .tables)),
           );
           next = λ y. absurd (false≢true y);
           lists = λ y. absurd (false≢true y);
@@ -121,7 +126,7 @@ module _ (m o : List ℕ) (g : Log) (c : List ℕ) where
     agent-low = rw (to .before .runs .order .agents i (to .at)) (to .before .runs .agents i (to .at))
 
     fit : MoveFits A k (2 ^ i) (tables d rs ws)
-    fit = moves-fit A g c (to .before .runs .lawful) i k d rs ws (to .before .going) low agent-low
+    fit = moves-fit A g c (to .before .runs .lawful) i k (t .result .tally) d rs ws (to .before .going) low agent-low
 
     -- the next move is begun
     pub begins : (bit agent : ℕ) (ys : List ℕ) → bit ≡ 2 ^ i → agent ≡ k .agent → ys ≡ k .picks → (s : Begun) (x rs′ : List ℕ)
@@ -177,7 +182,7 @@ module _ (m o : List ℕ) (g : Log) (c : List ℕ) where
           count = w .count;
         }
 
-    module _ (a : Answer) (d′ rs′ ws′ : List ℕ) (bit : ℕ) (eb : bit ≡ 2 ^ t .at)
+    module _ (a : TalliedAnswer) (d′ rs′ ws′ : List ℕ) (bit : ℕ) (eb : bit ≡ 2 ^ t .at)
         (does : MoveFinished A bit (t .at) (outcome (s .walk) x) (tables d rs ws) a (tables d′ rs′ ws′))
       where
         effect : MoveEffect A (input-in o (t .at)) (2 ^ t .at) (t .at) (w .old) a (tables d′ rs′ ws′)
@@ -188,33 +193,37 @@ module _ (m o : List ℕ) (g : Log) (c : List ℕ) where
         here : input-in o (t .at) ≡ move-at g (t .at)
         here = is t (w .old .contents) (w .old .readers) (w .old .writers) now
 
-        -- the move fired
-        fires : a .number ≡ 0 → FiredSoFar m o g c (t .at + 1) d′ rs′ ws′
-        fires z = record {
+        -- the move fired, and k is the tally with it
+        fires : a .answer .number ≡ 0 → (k : Tally) → k .issued ≡ (t .result .tally .issued + a .tally .issued) % 2 ^ 64
+            → k .returned ≡ (t .result .tally .returned + a .tally .returned) % 2 ^ 64 → FiredSoFar m o g c (t .at + 1) k d′ rs′ ws′
+        fires z k ki kr = record {
           runs = now .before .runs;
           most = omega (arith, now .at);
-          going = moves-on A g c (now .before .runs .lawful) (t .at) (input-in o (t .at)) (w .old .contents) (w .old .readers) (w .old .writers) (now .before .going) here a d′ rs′ ws′ effect z;
+          going = moves-on A g c (now .before .runs .lawful) (t .at) (input-in o (t .at)) (t .result .tally) (w .old .contents) (w .old .readers) (w .old .writers) (now .before .going) here a d′ rs′ ws′ effect z (low t (w .old .contents) (w .old .readers) (w .old .writers) now) k ki kr;
         }
 
-        pub finish-on : a .number ≡ 0 → (r : RunState) (j : ℕ) → j ≡ t .at + 1
-            → (t .moves ≡ length (g .moves) → FiredSoFar m o g c j d′ rs′ ws′ → RunAt m o g c (lists-from A g c (t .moves - j) j) r d′ rs′ ws′)
+        pub finish-on : a .answer .number ≡ 0 → (r : RunState) (j : ℕ) → j ≡ t .at + 1
+            → (k : Tally) → k .issued ≡ (t .result .tally .issued + a .tally .issued) % 2 ^ 64 → k .returned ≡ (t .result .tally .returned + a .tally .returned) % 2 ^ 64
+            → (t .moves ≡ length (g .moves) → FiredSoFar m o g c j k d′ rs′ ws′ → RunAt m o g c (lists-from A g c (t .moves - j) j) r d′ rs′ ws′)
             → RunAt m o g c (lists-from A g c (t .moves - (t .at + 1)) (t .at + 1)) r d′ rs′ ws′
-        finish-on z r j e next =
-            subst (λ (q : ℕ). FiredSoFar m o g c q d′ rs′ ws′ → RunAt m o g c (lists-from A g c (t .moves - q) q) r d′ rs′ ws′) e (next (now .moves)) (fires z)
+        finish-on z r j e k ki kr next =
+            subst (λ (q : ℕ). FiredSoFar m o g c q k d′ rs′ ws′ → RunAt m o g c (lists-from A g c (t .moves - q) q) r d′ rs′ ws′) e (next (now .moves)) (fires z k ki kr)
 
-        -- the move was refused
-        pub finish-off : a .number ≢ 0 → RunAt m o g c (lists-from A g c (t .moves - (t .at + 1)) (t .at + 1)) (over-with a) d′ rs′ ws′
+        -- the move was refused: the tally of those before it stands
+        pub finish-off : a .answer .number ≢ 0
+            → RunAt m o g c (lists-from A g c (t .moves - (t .at + 1)) (t .at + 1)) (over-with (record { answer = a .answer; tally = t .result .tally })) d′ rs′ ws′
         finish-off z =
             let u = now .before .going .state in
-            let off = moves-off A g c (now .before .runs .lawful) (t .at) (input-in o (t .at)) (w .old .contents) (w .old .readers) (w .old .writers) (now .before .going) here a d′ rs′ ws′ effect z in
+            let v = a .answer in
+            let off = moves-off A g c (now .before .runs .lawful) (t .at) (input-in o (t .at)) (t .result .tally) (w .old .contents) (w .old .readers) (w .old .writers) (now .before .going) here a d′ rs′ ws′ effect z in
             let j = length (g .moves) - suc (t .at) in
             let to-n : j + suc (t .at) ≡ length (g .moves) = omega (arith, now .at) in
-            let all = subst (λ (q : ℕ). run A g c q ≡ halted (a .number) (a .p) (a .q) u) to-n (halts A g c (suc (t .at)) j (a .number) (a .p) (a .q) u (off .0)) in
-            let last = subst (λ (q : ℕ). run A g c q ≡ halted (a .number) (a .p) (a .q) u) (sym (add-one (t .at))) (off .0) in
+            let all = subst (λ (q : ℕ). run A g c q ≡ halted (v .number) (v .p) (v .q) u) to-n (halts A g c (suc (t .at)) j (v .number) (v .p) (v .q) u (off .0)) in
+            let last = subst (λ (q : ℕ). run A g c q ≡ halted (v .number) (v .p) (v .q) u) (sym (add-one (t .at))) (off .0) in
             record {
               over = λ _. (
-                lists-off A g c (t .moves - (t .at + 1)) (t .at + 1) (a .number) (a .p) (a .q) u last,
-                ends-halted A g c u d′ rs′ ws′ (off .1) a all,
+                lists-off A g c (t .moves - (t .at + 1)) (t .at + 1) (v .number) (v .p) (v .q) u last,
+                ends-halted A g c u d′ rs′ ws′ (off .1) (record { answer = v; tally = t .result .tally }) (now .before .going .tally) all,
               );
               next = λ q. absurd (false≢true q);
               lists = λ q. absurd (false≢true q);
@@ -223,7 +232,7 @@ module _ (m o : List ℕ) (g : Log) (c : List ℕ) where
 -- ---- the start
 
 pub starts-run : (book m o : List ℕ) (b : Book) (g : Log) (n : ℕ) (d rs ws : List ℕ) → Startable book m o b g n d rs ws → (d′ rs′ ws′ : List ℕ) → d′ ≡ start b
-    → rs′ ≡ replicate (length rs) 0 → ws′ ≡ replicate (length ws) 0 → FiredSoFar m o g (start b) 0 d′ rs′ ws′
+    → rs′ ≡ replicate (length rs) 0 → ws′ ≡ replicate (length ws) 0 → FiredSoFar m o g (start b) 0 no-labels d′ rs′ ws′
 starts-run book m o b g n d rs ws s d′ rs′ ws′ ed er ew = record {
   runs = s .runs;
   most = omega arith;

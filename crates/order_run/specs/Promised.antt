@@ -5,6 +5,7 @@ use Prim.Native.Nat.{ℕ, _+_, _-_, _≤_}
 use lib.ListN.{length}
 use Rattle.book.specs.Book.{Book, start}
 use Rattle.book.specs.Image.{low-program}
+use Rattle.engine.specs.declared.Tally.{Tally}
 use Rattle.engine.specs.Tables.{Tables}
 use Rattle.engine_fire.specs.declared.Begun.{Begun}
 use Rattle.order.specs.Log.{Log}
@@ -19,9 +20,9 @@ use Rattle.order_run.specs.Checked.{CallPassed, run-lists}
 
 -- ---- on tables of just the records needed; m is the image, o the order's table
 
--- i of the moves have fired and left these marks: r says that move i is next, or has the answer of the order check
-abbrev pub NextMove : List ℕ → ℕ → ℕ → List ℕ → List ℕ → RunState → Type 0
-NextMove o moves i rs ws r = (m c d : List ℕ) (g : Log) → moves ≡ length (g .moves) → FiredSoFar m o g c i d rs ws
+-- i of the moves have fired, with the tally k, and left these marks: r says that move i is next, or has the answer of the order check
+abbrev pub NextMove : List ℕ → ℕ → ℕ → Tally → List ℕ → List ℕ → RunState → Type 0
+NextMove o moves i k rs ws r = (m c d : List ℕ) (g : Log) → moves ≡ length (g .moves) → FiredSoFar m o g c i k d rs ws
     → RunAt m o g c (lists-from (low-program m) g c (moves - i) i) r d rs ws
 
 -- the start is written into the tables t, which become u

@@ -1,22 +1,25 @@
 -- What a log's run holds on the way: what its moves are made on, and the tables after some of them (SPECIFICATION 7.2, 8.3).
 use mathlib.Core.Path.{_≡_}
 use mathlib.Core.List.{List}
-use Prim.Native.Nat.{ℕ, _≤_, _<_}
+use Prim.Native.Nat.{ℕ, _*_, _≤_, _<_}
 use lib.ListN.{length}
-use Rattle.text.specs.declared.Answer.{Answer}
 use Rattle.text.specs.Words.{good}
 use Rattle.book.specs.Book.{Program, Book, L, start}
 use Rattle.book.specs.Check.{check-book}
 use Rattle.book.specs.Image.{word, program-in, low-program}
 use Rattle.book.specs.Sound.{Lawful, Sound}
+use Rattle.engine.specs.declared.Tally.{Tally}
+use Rattle.engine.specs.declared.TalliedAnswer.{TalliedAnswer}
+use Rattle.engine.specs.Rule.{most-instructions}
+use Rattle.engine.specs.Labels.{tally}
 use Rattle.order.specs.Log.{Log, most-moves, move-at}
 use Rattle.order.specs.Run.{Run, ran, run, LogAnswer}
 use Rattle.order.specs.Table.{OrderTable}
 use Rattle.order_run.specs.RunTables.{RunTables}
 
--- what a run leaves, from its answer and its tables
-abbrev pub answer-with : Answer → List ℕ → List ℕ → List ℕ → LogAnswer
-answer-with r c rs ws = record { answer = r; contents = c; readers = rs; writers = ws }
+-- what a run leaves, from its answer with its tally, and its tables
+abbrev pub answer-with : TalliedAnswer → List ℕ → List ℕ → List ℕ → LogAnswer
+answer-with r c rs ws = record { answer = r .answer; tally = r .tally; contents = c; readers = rs; writers = ws }
 
 -- what the moves are made on: the image m holds a lawful program, the table o is the order of the log g, whose moves are its agents', and the
 -- contents c that the run starts from are sound
@@ -27,10 +30,13 @@ pub record Runnable (m o : List ℕ) (g : Log) (c : List ℕ) : Type 0 where
   pub few : length (g .moves) ≤ most-moves
   pub agents : (i : ℕ) → i < length (g .moves) → move-at g i .agent < length (low-program m .agents)
 
--- from the contents c the first i moves have fired, and left the contents d and these marks
-pub record AfterMoves (B : Program) (g : Log) (c : List ℕ) (i : ℕ) (d rs ws : List ℕ) : Type 0 where
+-- from the contents c the first i moves have fired, with the tally k, and left the contents d and these marks
+pub record AfterMoves (B : Program) (g : Log) (c : List ℕ) (i : ℕ) (k : Tally) (d rs ws : List ℕ) : Type 0 where
   pub state : Run
   pub goes : run B g c i ≡ ran state
+  pub tally : k ≡ tally B (state .fired)
+  -- a move has at most 256 instructions, so that the tally never leaves its 64 bits
+  pub few : (k .issued ≤ most-instructions * i) × (k .returned ≤ most-instructions * i)
   pub sound : Sound B d
   pub tables : RunTables B state d rs ws
 

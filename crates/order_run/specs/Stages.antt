@@ -8,6 +8,7 @@ use Rattle.text.specs.Words.{if_then_else_}
 use Rattle.book.specs.Book.{L}
 use Rattle.book.specs.Image.{word, low-program}
 use Rattle.engine.specs.declared.Instruction.{Instruction}
+use Rattle.engine.specs.declared.Tally.{Tally}
 use Rattle.engine.specs.Rule.{most-instructions}
 use Rattle.engine_fire.specs.Effect.{AfterWalk}
 use Rattle.engine_fire.specs.declared.Begun.{Begun}
@@ -27,21 +28,21 @@ moves-left t = if t .more then suc (64 - t .at) else 0
 
 -- ---- on tables of just the records needed
 
--- the first i moves have fired and left these tables
-pub record FiredSoFar (m o : List ℕ) (g : Log) (c : List ℕ) (i : ℕ) (d rs ws : List ℕ) : Type 0 where
+-- the first i moves have fired, with the tally k, and left these tables
+pub record FiredSoFar (m o : List ℕ) (g : Log) (c : List ℕ) (i : ℕ) (k : Tally) (d rs ws : List ℕ) : Type 0 where
   pub runs : Runnable m o g c
   pub most : i ≤ length (g .moves)
-  pub going : AfterMoves (low-program m) g c i d rs ws
+  pub going : AfterMoves (low-program m) g c i k d rs ws
 
 -- move t.at is next
 pub record MoveNext (m o : List ℕ) (g : Log) (c : List ℕ) (t : RunState) (d rs ws : List ℕ) : Type 0 where
-  pub before : FiredSoFar m o g c (t .at) d rs ws
+  pub before : FiredSoFar m o g c (t .at) (t .result .tally) d rs ws
   pub at : t .at < length (g .moves)
   pub moves : t .moves ≡ length (g .moves)
 
 -- how far a run is: a move is next, or the run is over; rest is the instructions that the moves from here on give
 pub record RunAt (m o : List ℕ) (g : Log) (c : List ℕ) (rest : List (List Instruction)) (t : RunState) (d rs ws : List ℕ) : Type 0 where
-  pub over : t .more ≡ false → (rest ≡ []) × (answer-with (t .answer) d rs ws ≡ run-from (low-program m) g c)
+  pub over : t .more ≡ false → (rest ≡ []) × (answer-with (t .result) d rs ws ≡ run-from (low-program m) g c)
   pub next : t .more ≡ true → MoveNext m o g c t d rs ws
   pub lists : t .more ≡ true → rest ≡ lists-from (low-program m) g c (t .moves - t .at) (t .at)
 
@@ -75,5 +76,5 @@ pub record CallGoesOn (lent : Tables) (n : ℕ) (whole : LogAnswer) (m o : List 
 -- How far a call is: a move is next, or the run is over. n instruction records are lent, and `whole` is what the call is to answer; rest is the instructions
 -- that the moves from here on give
 pub record CallAt (lent : Tables) (n : ℕ) (whole : LogAnswer) (m o : List ℕ) (rest : List (List Instruction)) (t : RunState) (d rs ws : List ℕ) : Type 0 where
-  pub over : t .more ≡ false → (rest ≡ []) × (answer-with (t .answer) d rs ws ≡ whole)
+  pub over : t .more ≡ false → (rest ≡ []) × (answer-with (t .result) d rs ws ≡ whole)
   pub on : t .more ≡ true → CallGoesOn lent n whole m o rest t d rs ws

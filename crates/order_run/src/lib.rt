@@ -1,5 +1,7 @@
 // A log's run in stages: the checks, the start, each move begun and finished, and refusal 17 after the last.
 use book::Image;
+use engine::TalliedAnswer;
+use engine::Tally;
 use engine::Work;
 use engine_fire::Begun;
 use order::Lengths;
@@ -15,7 +17,7 @@ ghost use Rattle.contents_start.specs.Written.{started};
 ghost use Rattle.order_touch.specs.Marked.{unordered-marked, clipped};
 ghost use Rattle.order_run.specs.RunTables.{touch-answer};
 ghost use mathlib.Core.Bool.{false};
-ghost use Prim.Native.Nat.{_+_, _-_, _^_, _<_, _≤_, min};
+ghost use Prim.Native.Nat.{_+_, _-_, _^_, _%_, _<_, _≤_, min};
 ghost use Rattle.book.specs.Book.{start};
 ghost use Rattle.book.specs.Image.{word, low-program};
 ghost use Rattle.engine.specs.Move.{input};
@@ -90,12 +92,12 @@ pub fn check_order(readers: &[u64], writers: &[u64], order: &OrderTable, moves: 
 
 // ---- how far a run is
 
-// How far a run is: move `at` of so many is next, or the run is over, with its answer.
+// How far a run is: move `at` of so many is next, or the run is over, with its answer; and the tally of the moves that have fired.
 pub struct RunState {
     pub more: bool,
     pub at: u32,
     pub moves: u32,
-    pub answer: Answer,
+    pub result: TalliedAnswer,
 }
 
 // The answer of the checks before the first move; when they pass, how many moves and locations there are.
@@ -157,15 +159,29 @@ pub fn check_all(
 
 // ---- from move to move
 
-// A run that is over, with its answer.
-fn run_over(answer: Answer) -> RunState
-    ensures { λ r. ⌜ r ≡ record { more = false; at = 0; moves = 0; answer = answer } ⌝ }
+// Two tallies added up. A run's are small: what does not fit into 64 bits is dropped, so that any two can be added.
+fn add_tallies(s: Tally, t: Tally) -> Tally
+    ensures { λ r. ⌜ (r .issued ≡ (s .issued + t .issued) % 2 ^ 64) × (r .returned ≡ (s .returned + t .returned) % 2 ^ 64) ⌝ }
 {
+    Tally {
+        issued: std::num::wrapping_add_u64(s.issued, t.issued),
+        returned: std::num::wrapping_add_u64(s.returned, t.returned),
+    }
+}
+
+// A run that is over, with its answer and its tally.
+fn run_over(answer: Answer, tally: Tally) -> RunState
+    ensures { λ r. ⌜ r ≡ record { more = false; at = 0; moves = 0; result = record { answer = answer; tally = tally } } ⌝ }
+{
+    let result = TalliedAnswer {
+        answer: answer,
+        tally: tally,
+    };
     RunState {
         more: false,
         at: 0,
         moves: 0,
-        answer: answer,
+        result: result,
     }
 }
 
@@ -189,21 +205,32 @@ fn number_after(i: u32) -> u32
     order::MOST_MOVES + 1
 }
 
-// Move i is next, if there is one; otherwise the order is checked, and the run is over.
-fn next_move(readers: &[u64], writers: &[u64], order: &OrderTable, moves: u32, i: u32) -> RunState
-    ensures { λ r. ⌜ NextMove (now (order .entry)) moves i (now (readers .entry)) (now (writers .entry)) r ⌝ }
+// Move i is next, if there is one; otherwise the order is checked, and the run is over. The moves before it have this tally.
+fn next_move(
+    readers: &[u64],
+    writers: &[u64],
+    order: &OrderTable,
+    moves: u32,
+    i: u32,
+    tally: Tally,
+) -> RunState
+    ensures { λ r. ⌜ NextMove (now (order .entry)) moves i tally (now (readers .entry)) (now (writers .entry)) r ⌝ }
     ensures { λ r. ⌜ moves-left r ≤ 65 - i ⌝ }
 {
     if (i as usize) < text::smaller(moves as usize, order::MOST_MOVES as usize) {
         let none = text::answer_at(0, 0, 0);
+        let result = TalliedAnswer {
+            answer: none,
+            tally: tally,
+        };
         return RunState {
             more: true,
             at: i,
             moves: moves,
-            answer: none,
+            result: result,
         };
     }
-    run_over(check_order(readers, writers, order, moves))
+    run_over(check_order(readers, writers, order, moves), tally)
 }
 
 // Writes the start, and move 0 is next; on tables of just the records needed.
@@ -219,7 +246,7 @@ fn start_on_part(
     ensures { λ r. ⌜ StartedOn (now (book .entry)) (now (image .entry)) (now (order .entry)) moves (tables-before contents readers writers) (tables-after contents readers writers) r ⌝ }
 {
     start_tables(book, image, contents, readers, writers);
-    next_move(readers, writers, order, moves, 0)
+    next_move(readers, writers, order, moves, 0, engine_fire::no_labels())
 }
 
 // Begins an agent's move with the picks that stand in the table from `first` up to `end`.
@@ -293,12 +320,15 @@ pub fn finish_next(
     let i = t.at;
     let bit = move_bit(i);
     let walk = s.walk;
-    let answer = engine_fire::finish_move(image, contents, readers, writers, bit, list, walk, i);
+    let done = engine_fire::finish_move(image, contents, readers, writers, bit, list, walk, i);
+    let so_far = t.result;
+    let answer = done.answer;
     if answer.number != 0 {
-        return run_over(answer);
+        return run_over(answer, so_far.tally);
     }
     let next = number_after(i);
-    next_move(readers, writers, order, t.moves, next)
+    let tally = add_tallies(so_far.tally, done.tally);
+    next_move(readers, writers, order, t.moves, next, tally)
 }
 
 // ---- a call, on tables of any length
@@ -358,7 +388,7 @@ pub fn prepare(
     let checked = check_all(book, log, lengths, image, order);
     let answer = checked.answer;
     if answer.number != 0 {
-        return run_over(answer);
+        return run_over(answer, engine_fire::no_labels());
     }
     start_run(book, contents, readers, writers, image, order, checked)
 }

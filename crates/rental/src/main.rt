@@ -74,6 +74,6 @@ fn main() {
     }
     let n = came.len;
     let mut output = [0u8; 51225];
-    let written = report_print::report(&input[..n], &mut output);
-    write_output(&output, written);
+    let printed = report_print::report(&input[..n], &mut output);
+    write_output(&output, printed.bytes);
 }

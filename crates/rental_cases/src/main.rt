@@ -59,8 +59,8 @@ fn write_output(output: &[u8; 51225], n: usize) {
 fn show(name: &[u8], input: &[u8]) {
     io::write_all(STDOUT_FILENO, name);
     let mut output = [0u8; 51225];
-    let written = report_print::report(input, &mut output);
-    write_output(&output, written);
+    let printed = report_print::report(input, &mut output);
+    write_output(&output, printed.bytes);
 }
 
 // Prints a case's letter, and what `rental` prints for the first n bytes of an input.

@@ -2,3 +2,4 @@ pub mod Report
 pub mod Open
 pub mod Cases
 pub mod Examples
+pub mod Tallies

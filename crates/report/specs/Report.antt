@@ -1,4 +1,4 @@
--- What the program `rental` prints for the bytes that it reads (SPECIFICATION 10.1, 10.2).
+-- What the program `rental` prints for the bytes that it reads, and the label tally of their run (SPECIFICATION 10.1, 10.2).
 use mathlib.Core.List.{List, [], _∷_, _++_}
 use Prim.Native.Nat.{ℕ, zero, suc, _+_, _*_}
 use lib.Dec.{eqb, leb}
@@ -11,6 +11,8 @@ use Rattle.text.specs.Text.{line-length, written}
 use Rattle.book.specs.Book.{Program, Book, size, default, arguments, function-at}
 use Rattle.book.specs.Lines.{line-count}
 use Rattle.book.specs.Check.{check-header, check-present, check-lines}
+use Rattle.engine.specs.declared.Tally.{Tally}
+use Rattle.engine.specs.Labels.{no-labels}
 use Rattle.order.specs.Log.{Log, check-log}
 use Rattle.order.specs.Run.{LogAnswer, run-log}
 use Rattle.order.specs.declared.Lengths.{Lengths}
@@ -82,6 +84,15 @@ abbrev pub print-checked : Checked (Book × Log) → List ℕ
 print-checked (refused n p q) = written (first-line (record { number = n; p = p; q = q }) 0)
 print-checked (good x) = print-answer (x .0 .program) (run-log (x .0) (x .1))
 
+-- the label tally of the run, by the checks of the input: none if it is refused before its first move. It is not printed.
+abbrev pub tally-checked : Checked (Book × Log) → Tally
+tally-checked (refused n p q) = no-labels
+tally-checked (good x) = run-log (x .0) (x .1) .tally
+
 -- what `rental` prints for its input
 unfoldable pub rental : List ℕ → List ℕ
 rental text = print-checked (check-input text)
+
+-- the label tally of the run of an input
+unfoldable pub input-tally : List ℕ → Tally
+input-tally text = tally-checked (check-input text)

@@ -16,6 +16,9 @@ use Rattle.book.specs.Book.{Program, Book, L, start}
 use Rattle.book.specs.Check.{check-header, check-book}
 use Rattle.book.specs.Image.{word, program-in}
 use Rattle.book.proofs.Claims.{accepted-book}
+use Rattle.engine.specs.declared.Tally.{Tally}
+use Rattle.engine.specs.declared.TalliedAnswer.{TalliedAnswer}
+use Rattle.engine.specs.Labels.{no-labels}
 use Rattle.engine.specs.Move.{Moved, fires, move-refused, move}
 use Rattle.engine.specs.Single.{over-first}
 use Rattle.engine.proofs.Moves.{fire-length}
@@ -23,7 +26,7 @@ use Rattle.order.specs.Log.{Log, move-at}
 use Rattle.order.specs.Pairs.{PairFound, no-pair, a-pair}
 use Rattle.order.specs.Run.{Run, RunOutcome, ran, halted, moved, next-move, run, touching, LogAnswer, order-checked, run-answer, run-from, run-log}
 use Rattle.order.specs.Call.{check-all, left-past}
-use Rattle.report.specs.Report.{most-input, own-tables, lines-written, first-line, print-answer, print-checked, rental}
+use Rattle.report.specs.Report.{most-input, own-tables, check-input, lines-written, first-line, print-answer, print-checked, tally-checked, rental, input-tally}
 use Rattle.report.proofs.Split.{input-long}
 use Rattle.text_write.specs.Bytes.{put-bytes}
 use Rattle.text_write.proofs.Bytes.{put-front}
@@ -35,6 +38,7 @@ use Rattle.order_run.specs.declared.CheckedCall.{CheckedCall}
 use Rattle.order_run.specs.Runs.{answer-with}
 use Rattle.order_run.specs.Checked.{CallChecked}
 use Rattle.order_run.proofs.Checks.{all-parts, all-good, enough}
+use Rattle.report_print.specs.declared.PrintedRun.{PrintedRun}
 use Rattle.report_print.specs.Shown.{Shown}
 use Rattle.report_print.specs.Reported.{Reported, blank-tables}
 use Rattle.engine.specs.Tables.{Tables}
@@ -78,9 +82,10 @@ contents-left book b g e c =
 
 -- ---- a refusal's line
 
-module _ (a : Answer) (m after : List ℕ) where
-  pub refusal-shown : after ≡ put-bytes 0 (written (first-line a 0)) m → most-output ≤ length m → Shown (written (first-line a 0)) m 25 after
-  refusal-shown e h = record { count = refl; bytes = e ∙ put-front (written (first-line a 0)) m (omega arith) }
+module _ (a : Answer) (k : Tally) (m after : List ℕ) where
+  pub refusal-shown : after ≡ put-bytes 0 (written (first-line a 0)) m → most-output ≤ length m
+      → Shown (written (first-line a 0)) k m (record { bytes = 25; tally = k }) after
+  refusal-shown e h = record { count = refl; tally = refl; bytes = e ∙ put-front (written (first-line a 0)) m (omega arith) }
 
 refused-text : (B : Program) (a : Answer) (c : List ℕ) → a .number ≢ 0 → answer-printed B a c ≡ written (first-line a 0)
 unfolding print-answer lines-written
@@ -88,36 +93,42 @@ refused-text B a c e = rw (ne-eqb (a .number) 0 e) (append-nil (written (first-l
 
 -- ---- a call that passed its checks
 
-module _ (book : List ℕ) (b : Book) (g : Log) (r : CheckedCall) (m o : List ℕ) (t : Tables) (p : Reported book b g r m o t) (a : Answer) (c rs ws : List ℕ)
-    (e : answer-with a c rs ws ≡ left-past t (run-log b g)) (out : List ℕ) (room : most-output ≤ length out) (k : ℕ) (after : List ℕ)
+module _ (book : List ℕ) (b : Book) (g : Log) (r : CheckedCall) (m o : List ℕ) (t : Tables) (p : Reported book b g r m o t) (a : TalliedAnswer) (c rs ws : List ℕ)
+    (e : answer-with a c rs ws ≡ left-past t (run-log b g)) (out : List ℕ) (room : most-output ≤ length out) (after : List ℕ)
   where
     abbrev B : Program
     B = b .program
 
-    same : a ≡ run-log b g .answer
+    same : a .answer ≡ run-log b g .answer
     same = ap (λ (y : LogAnswer). y .answer) e
+
+    same-tally : a .tally ≡ run-log b g .tally
+    same-tally = ap (λ (y : LogAnswer). y .tally) e
 
     accepted : check-book book ≡ good b
     accepted = all-parts book (p .passed .log) (p .passed .lent) b g (p .passed .checks) .0
 
     -- what is printed of a run that is accepted
-    pub run-shown : Prints (program-in m) a (take (min (word m 6) (length c)) c) out k after → Shown (print-answer B (run-log b g)) out k after
-    run-shown s =
+    pub run-shown : (k : ℕ) → Prints (program-in m) (a .answer) (take (min (word m 6) (length c)) c) out k after
+        → Shown (print-answer B (run-log b g)) (run-log b g .tally) out (record { bytes = k; tally = a .tally }) after
+    run-shown k s =
         let left : c ≡ over-first (run-log b g .contents) (t .contents) = ap (λ (y : LogAnswer). y .contents) e in
         let d = run-log b g .contents in
         let l : length d ≡ L B = log-length B g (start b) ∙ accepted-book book b accepted .1 .long in
         let long : L B ≤ length c = rw left (rw (length-append d (drop (length d) (t .contents))) (omega (arith, l))) in
         let n : min (word m 6) (length c) ≡ L B = omega (arith, p .passed .holds .locations .1, long) in
-        let x : answer-printed (program-in m) a (take (min (word m 6) (length c)) c) ≡ print-answer B (run-log b g) =
+        let x : answer-printed (program-in m) (a .answer) (take (min (word m 6) (length c)) c) ≡ print-answer B (run-log b g) =
         rw (p .program, n, left, contents-left book b g accepted (t .contents), same) (sym (print-same B (run-log b g))) in
         let y : L (program-in m) ≤ 2048 = rw (p .program) (p .few) in
-        record { count = s .long ∙ ap length x; bytes = subst (λ (z : List ℕ). after ≡ z ++ drop (length z) out) x (s .whole y room) }
+        record { count = s .long ∙ ap length x; tally = same-tally; bytes = subst (λ (z : List ℕ). after ≡ z ++ drop (length z) out) x (s .whole y room) }
 
     -- what is printed of a run that is refused
-    pub halt-shown : a .number ≢ 0 → Shown (written (first-line a 0)) out k after → Shown (print-answer B (run-log b g)) out k after
-    halt-shown z s =
-        let x : written (first-line a 0) ≡ print-answer B (run-log b g) = sym (print-same B (run-log b g) ∙ rw (← same) (refused-text B a (run-log b g .contents) z)) in
-        subst (λ (y : List ℕ). Shown y out k after) x s
+    pub halt-shown : (k : PrintedRun) → a .answer .number ≢ 0 → Shown (written (first-line (a .answer) 0)) (a .tally) out k after
+        → Shown (print-answer B (run-log b g)) (run-log b g .tally) out k after
+    halt-shown k z s =
+        let x : written (first-line (a .answer) 0) ≡ print-answer B (run-log b g) =
+        sym (print-same B (run-log b g) ∙ rw (← same) (refused-text B (a .answer) (run-log b g .contents) z)) in
+        rw (← x, ← same-tally) s
 
 -- ---- a book and a log
 
@@ -129,21 +140,23 @@ module _ (book log : List ℕ) (m o : List ℕ) (r : CheckedCall) (opened : Call
       let h = opened .held (both .0 .0) (both .0 .1) (both .1) in
       omega (arith, h .locations .0, h .locations .1, enough book log own-tables (both .0 .0) (both .0 .1) (both .1) .contents)
 
-module _ (book log : List ℕ) (m o : List ℕ) (r : CheckedCall) (opened : CallChecked book log own-tables r m o) (out : List ℕ) (k : ℕ) (after : List ℕ) where
+module _ (book log : List ℕ) (m o : List ℕ) (r : CheckedCall) (opened : CallChecked book log own-tables r m o) (out : List ℕ) (k : PrintedRun) (after : List ℕ) where
   abbrev checks : Checked (Book × Log)
   checks = check-all book log own-tables
 
   -- what is printed of an input that is refused by its checks
-  pub parts-refused : r .answer .number ≢ 0 → Shown (written (first-line (r .answer) 0)) out k after → Shown (print-checked checks) out k after
-  parts-refused z s = subst (λ (y : List ℕ). Shown y out k after) (go checks (opened .answer)) s
+  pub parts-refused : r .answer .number ≢ 0 → Shown (written (first-line (r .answer) 0)) no-labels out k after
+      → Shown (print-checked checks) (tally-checked checks) out k after
+  parts-refused z s = go checks (opened .answer)
     where
-      go : (c : Checked (Book × Log)) → r .answer ≡ answer-of c → written (first-line (r .answer) 0) ≡ print-checked c
-      go (refused n p q) e = ap (λ (a : Answer). written (first-line a 0)) e
+      go : (c : Checked (Book × Log)) → r .answer ≡ answer-of c → Shown (print-checked c) (tally-checked c) out k after
+      go (refused n p q) e = subst (λ (a : Answer). Shown (written (first-line a 0)) no-labels out k after) e s
       go (good x) e = absurd (z (ap (λ (a : Answer). a .number) e))
 
   -- what is printed of an input that passes its checks, on tables of n records
   pub parts-passed : r .answer .number ≡ 0 → (n : ℕ) → (r .locations ≤ n)
-      → ((b : Book) (g : Log) → Reported book b g r m o (blank-tables n) → Shown (print-answer (b .program) (run-log b g)) out k after) → Shown (print-checked checks) out k after
+      → ((b : Book) (g : Log) → Reported book b g r m o (blank-tables n) → Shown (print-answer (b .program) (run-log b g)) (run-log b g .tally) out k after)
+      → Shown (print-checked checks) (tally-checked checks) out k after
   parts-passed z n few does =
       let both = all-good book log own-tables (ap (λ (a : Answer). a .number) (sym (opened .answer)) ∙ z) in
       let b = both .0 .0 in
@@ -167,7 +180,7 @@ module _ (book log : List ℕ) (m o : List ℕ) (r : CheckedCall) (opened : Call
         program = opened .image b (parts .0) .0;
         few = enough book log own-tables b g is .contents;
       } in
-      subst (λ (y : Checked (Book × Log)). Shown (print-checked y) out k after) (sym is) (does b g q)
+      subst (λ (y : Checked (Book × Log)). Shown (print-checked y) (tally-checked y) out k after) (sym is) (does b g q)
 
 -- ---- an input
 
@@ -180,19 +193,19 @@ module _ (text : List ℕ) where
       go (good h) = min-le-right _ (length text)
       go (refused n p q) = omega arith
 
-  pub rental-long : most-input < length text → rental text ≡ written (first-line (record { number = 2; p = 60000; q = 4 }) 0)
-  unfolding rental
-  rental-long h = rw (input-long text h)
-
-  rental-split : length text ≤ most-input → print-checked (check-all (take (book-length text) text) (drop (book-length text) text) own-tables) ≡ rental text
-  unfolding rental
-  rental-split h = rw (split-checked text h)
+  -- what is printed of an input that is too long
+  pub long-shown : most-input < length text → (m : List ℕ) (r : PrintedRun) (after : List ℕ)
+      → Shown (written (first-line (record { number = 2; p = 60000; q = 4 }) 0)) no-labels m r after → Shown (rental text) (input-tally text) m r after
+  unfolding rental input-tally
+  long-shown h m r after s = rw (input-long text h) s
 
   -- the log is all that stands after the book
   pub split-shown :
-      (n : ℕ) → n ≡ book-length text → length text ≤ most-input → (m : List ℕ) (r : ℕ) (after : List ℕ) →
-      Shown (print-checked (check-all (take n text) (take (length text - n) (drop n text)) own-tables)) m r after → Shown (rental text) m r after
+      (n : ℕ) → n ≡ book-length text → length text ≤ most-input → (m : List ℕ) (r : PrintedRun) (after : List ℕ) →
+      Shown (print-checked (check-all (take n text) (take (length text - n) (drop n text)) own-tables)) (tally-checked (check-all (take n text) (take (length text - n) (drop n text)) own-tables)) m r after
+      → Shown (rental text) (input-tally text) m r after
+  unfolding rental input-tally
   split-shown n e h m r after p =
       let all : take (length text - n) (drop n text) ≡ drop n text = take-all (length text - n) (drop n text) (rw (length-drop n text) (omega arith)) in
-      let same : print-checked (check-all (take n text) (take (length text - n) (drop n text)) own-tables) ≡ rental text = rw (all, e) (rental-split h) in
-      subst (λ (x : List ℕ). Shown x m r after) same p
+      let same : check-all (take n text) (take (length text - n) (drop n text)) own-tables ≡ check-input text = rw (all, e) (sym (split-checked text h)) in
+      subst (λ (x : Checked (Book × Log)). Shown (print-checked x) (tally-checked x) m r after) same p

@@ -10,6 +10,7 @@ use Rattle.text.specs.Words.{if_then_else_}
 use Rattle.text.specs.Text.{line-length}
 use Rattle.book.specs.declared.Function.{Function}
 use Rattle.book.specs.Book.{Program, L, size, default, arguments, function-at}
+use Rattle.engine.specs.Labels.{no-labels}
 use Rattle.report.specs.Report.{part-lines, lines-written, print-answer}
 use Rattle.text_write.specs.Bytes.{put-bytes}
 
@@ -29,9 +30,9 @@ function-lines B c k = part-lines B c k 0 (size (B .E) (function-at B k .arity))
 unfoldable pub lines-printed : ℕ → List Line → List ℕ → List ℕ
 lines-printed n ls m = put-bytes (line-length + line-length * n) (lines-written ls) m
 
--- the text of an answer a that leaves the contents c; marks are not printed
+-- the text of an answer a that leaves the contents c; tally and marks are not printed
 abbrev pub answer-printed : Program → Answer → List ℕ → List ℕ
-answer-printed B a c = print-answer B (record { answer = a; contents = c; readers = []; writers = [] })
+answer-printed B a c = print-answer B (record { answer = a; tally = no-labels; contents = c; readers = []; writers = [] })
 
 -- the output's length: the first line, and one for each of 2,048 locations
 abbrev pub most-output : ℕ

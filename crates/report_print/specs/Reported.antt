@@ -8,6 +8,7 @@ use Rattle.book.specs.Image.{program-in}
 use Rattle.order.specs.Log.{Log}
 use Rattle.order.specs.Run.{run-log}
 use Rattle.report.specs.Report.{print-answer}
+use Rattle.report_print.specs.declared.PrintedRun.{PrintedRun}
 use Rattle.report_print.specs.Shown.{Shown}
 use Rattle.order_run.specs.declared.CheckedCall.{CheckedCall}
 use Rattle.order_run.specs.Checked.{CallPassed}
@@ -23,7 +24,7 @@ pub record Reported (book : List ℕ) (b : Book) (g : Log) (r : CheckedCall) (m 
 abbrev pub blank-tables : ℕ → Tables
 blank-tables n = record { contents = replicate n 0; readers = replicate n 0; writers = replicate n 0 }
 
--- a call that passed its checks is run on the tables t, and its printed answer stands in front of the output, which becomes `after`; it has r bytes
-abbrev pub CallPrinted : List ℕ → CheckedCall → List ℕ → List ℕ → Tables → List ℕ → ℕ → List ℕ → Type 0
+-- a call that passed its checks is run on the tables t, and its printed answer stands in front of the output, which becomes `after`; r is given
+abbrev pub CallPrinted : List ℕ → CheckedCall → List ℕ → List ℕ → Tables → List ℕ → PrintedRun → List ℕ → Type 0
 CallPrinted book checked m o t output r after = (b : Book) (g : Log) → Reported book b g checked m o t
-    → Shown (print-answer (b .program) (run-log b g)) output r after
+    → Shown (print-answer (b .program) (run-log b g)) (run-log b g .tally) output r after

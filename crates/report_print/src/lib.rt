@@ -1,6 +1,7 @@
 // What the program `rental` prints for any input: where the book of an input ends, the printed answer of a log, and the whole.
 use book::Function;
 use book::Image;
+use engine::Tally;
 use order::Lengths;
 use order::OrderTable;
 use order_run::CheckedCall;
@@ -12,12 +13,12 @@ ghost use Prim.Native.Nat.{_+_, _<_, _≤_, min};
 ghost use lib.ListN.{length, take};
 ghost use Rattle.book.specs.Book.{size};
 ghost use Rattle.book.specs.Image.{program-in, word};
-ghost use Rattle.report.specs.Report.{contents-lines, own-tables, first-line, print-checked, rental};
+ghost use Rattle.report.specs.Report.{contents-lines, own-tables, first-line, print-checked, rental, tally-checked, input-tally};
 ghost use Rattle.report_print.specs.Print.{line-for, location-lines, lines-printed, Prints, most-output, FunctionPrinted};
 ghost use Rattle.report_print.specs.Split.{book-length};
 ghost use Rattle.text.specs.Text.{written};
 ghost use Rattle.order.specs.Call.{check-all};
-ghost use Rattle.report_print.specs.Shown.{Shown, fitting};
+ghost use Rattle.report_print.specs.Shown.{Shown, fitting, fitting-tally};
 ghost use Rattle.report_print.specs.Reported.{CallPrinted, blank-tables};
 ghost use Rattle.engine.specs.Tables.{tables, tables-before};
 
@@ -148,10 +149,16 @@ pub fn book_bytes(input: &[u8]) -> usize
 
 // ---- the whole answer to an input
 
-// Prints the line of a refusal.
-fn print_refusal(answer: Answer, output: &mut [u8]) -> usize
+// How many bytes are printed, and the label tally of the run, which is not printed.
+pub struct PrintedRun {
+    pub bytes: usize,
+    pub tally: Tally,
+}
+
+// Prints the line of a refusal; the moves before it have this tally.
+fn print_refusal(answer: Answer, tally: Tally, output: &mut [u8]) -> PrintedRun
     requires { ⌜ most-output ≤ length (now output) ⌝ }
-    ensures { λ r. ⌜ Shown (written (first-line answer 0)) (now (output .entry)) r (now (output .exit)) ⌝ }
+    ensures { λ r. ⌜ Shown (written (first-line answer 0)) tally (now (output .entry)) r (now (output .exit)) ⌝ }
 {
     let l = Line {
         a: answer.number,
@@ -160,7 +167,10 @@ fn print_refusal(answer: Answer, output: &mut [u8]) -> usize
         d: 0,
     };
     text_write::write_line(output, 0, l);
-    text::LINE
+    PrintedRun {
+        bytes: text::LINE,
+        tally: tally,
+    }
 }
 
 // Prints an answer with the contents of the image's program, which stand in front of the table.
@@ -181,7 +191,7 @@ fn report_on(
     order: &OrderTable,
     checked: CheckedCall,
     output: &mut [u8],
-) -> usize
+) -> PrintedRun
     requires { ⌜ most-output ≤ length (now output) ⌝ }
     ensures { λ r. ⌜ CallPrinted (now (book .entry)) checked (now (image .entry)) (now (order .entry)) (tables-before contents readers writers) (now (output .entry)) r (now (output .exit)) ⌝ }
 {
@@ -195,10 +205,16 @@ fn report_on(
         order,
         t,
     );
-    if ended.number == 0 {
-        return print_image(image, contents, ended, output);
+    let answer = ended.answer;
+    let tally = ended.tally;
+    if answer.number == 0 {
+        let bytes = print_image(image, contents, answer, output);
+        return PrintedRun {
+            bytes: bytes,
+            tally: tally,
+        };
     }
-    print_refusal(ended, output)
+    print_refusal(answer, tally, output)
 }
 
 // Makes the moves and prints the answer on tables of 256 records. Most books have few locations, and small tables are soon cleared.
@@ -208,7 +224,7 @@ fn report_small(
     order: &OrderTable,
     checked: CheckedCall,
     output: &mut [u8],
-) -> usize
+) -> PrintedRun
     requires { ⌜ most-output ≤ length (now output) ⌝ }
     ensures { λ r. ⌜ CallPrinted (now (book .entry)) checked (now (image .entry)) (now (order .entry)) (blank-tables 256) (now (output .entry)) r (now (output .exit)) ⌝ }
 {
@@ -234,7 +250,7 @@ fn report_large(
     order: &OrderTable,
     checked: CheckedCall,
     output: &mut [u8],
-) -> usize
+) -> PrintedRun
     requires { ⌜ most-output ≤ length (now output) ⌝ }
     ensures { λ r. ⌜ CallPrinted (now (book .entry)) checked (now (image .entry)) (now (order .entry)) (blank-tables 2048) (now (output .entry)) r (now (output .exit)) ⌝ }
 {
@@ -254,9 +270,9 @@ fn report_large(
 }
 
 // Prints the answer to a book and a log, as if on tables of 2,048 records.
-fn report_parts(book: &[u8], log: &[u8], output: &mut [u8]) -> usize
+fn report_parts(book: &[u8], log: &[u8], output: &mut [u8]) -> PrintedRun
     requires { ⌜ most-output ≤ length (now output) ⌝ }
-    ensures { λ r. ⌜ Shown (print-checked (check-all (now (book .entry)) (now (log .entry)) own-tables)) (now (output .entry)) r (now (output .exit)) ⌝ }
+    ensures { λ r. ⌜ Shown (print-checked (check-all (now (book .entry)) (now (log .entry)) own-tables)) (tally-checked (check-all (now (book .entry)) (now (log .entry)) own-tables)) (now (output .entry)) r (now (output .exit)) ⌝ }
 {
     let mut image = [0u32; 2248];
     let mut order = [0u64; 512];
@@ -269,7 +285,7 @@ fn report_parts(book: &[u8], log: &[u8], output: &mut [u8]) -> usize
     let checked = order_run::check_all(book, log, lent, &mut image, &mut order);
     let answer = checked.answer;
     if answer.number != 0 {
-        return print_refusal(answer, output);
+        return print_refusal(answer, engine_fire::no_labels(), output);
     }
     if checked.locations <= 256 {
         return report_small(book, &image, &order, checked, output);
@@ -278,9 +294,9 @@ fn report_parts(book: &[u8], log: &[u8], output: &mut [u8]) -> usize
 }
 
 // Prints the answer to an input, split into its book and its log.
-fn report_input(input: &[u8], output: &mut [u8]) -> usize
+fn report_input(input: &[u8], output: &mut [u8]) -> PrintedRun
     requires { ⌜ most-output ≤ length (now output) ⌝ }
-    ensures { λ r. ⌜ Shown (rental (now (input .entry))) (now (output .entry)) r (now (output .exit)) ⌝ }
+    ensures { λ r. ⌜ Shown (rental (now (input .entry))) (input-tally (now (input .entry))) (now (output .entry)) r (now (output .exit)) ⌝ }
 {
     if input.len() > report::MOST_INPUT {
         let long = Answer {
@@ -288,19 +304,23 @@ fn report_input(input: &[u8], output: &mut [u8]) -> usize
             p: 60000,
             q: text::INPUT_TABLE,
         };
-        return print_refusal(long, output);
+        return print_refusal(long, engine_fire::no_labels(), output);
     }
     let n = book_bytes(input);
     report_parts(&input[..n], &input[n..], output)
 }
 
-// What `rental` prints for any input. Gives how many bytes it writes; those past them stay. An output of fewer bytes than an answer may need is left as it is,
-// and 0 given.
-pub fn report(input: &[u8], output: &mut [u8]) -> usize
-    ensures { λ r. ⌜ Shown (fitting (rental (now (input .entry))) (now (output .entry))) (now (output .entry)) r (now (output .exit)) ⌝ }
+// What `rental` prints for any input. Gives how many bytes it writes, and the tally of the run; bytes past those written stay. An output of fewer bytes than
+// an answer may need is left as it is, nothing is run, and all numbers given are 0.
+pub fn report(input: &[u8], output: &mut [u8]) -> PrintedRun
+    ensures { λ r. ⌜ Shown (fitting (rental (now (input .entry))) (now (output .entry))) (fitting-tally (input-tally (now (input .entry))) (now (output .entry))) (now (output .entry)) r (now (output .exit)) ⌝ }
 {
     if output.len() < 51225 {
-        return 0;
+        let none = engine_fire::no_labels();
+        return PrintedRun {
+            bytes: 0,
+            tally: none,
+        };
     }
     report_input(input, output)
 }

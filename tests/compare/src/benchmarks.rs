@@ -34,7 +34,9 @@ pub fn wanted(word: &str) -> Vec<&'static Benchmark> {
 }
 
 const BOOK_CHECKS: &[Benchmark] = &[
-    Benchmark::new("book check: the specification's book", |what, meter| book_row(what, meter, &specification::book())),
+    Benchmark::new("book check: the specification's book", |what, meter| {
+        book_row(what, meter, &specification::book())
+    }),
     Benchmark::new("book check: 1,024 nodes", |what, meter| book_row(what, meter, &loads::thousand_nodes())),
     Benchmark::new("book check: 65,281 contents lines", |what, meter| {
         book_row(what, meter, &loads::full_contents())
@@ -106,6 +108,9 @@ const LOGS: &[Benchmark] = &[
     }),
     Benchmark::new("log: 32 imports and 32 releases, L 65,536", |what, meter| {
         run_row(what, meter, &loads::releases_logged())
+    }),
+    Benchmark::new("log: 3,200 imports and 6,400 releases, each label twice", |what, meter| {
+        run_row(what, meter, &loads::labels_logged())
     }),
     Benchmark::new("log: 32 releases and 32 counts, unordered, L 60,000", |what, meter| {
         run_row(what, meter, &loads::releases_and_counts_logged(10_000))

@@ -1,6 +1,6 @@
 // The loop of every comparison: questions by number are put to both implementations, the replies counted by class, and differences kept.
 use crate::question::{Implementation, Question, Reply};
-use inputs::{Counts, Cut, Idle, Picked, Released};
+use inputs::{Counted, Counts, Cut, Idle, Picked, Released, Tallied};
 use std::fmt;
 use std::fs;
 use std::io;
@@ -29,6 +29,8 @@ pub enum Class {
     Idle(Idle),
     Picked(Picked),
     Released(Released),
+    Tallied(Tallied),
+    Counted(Counted),
 }
 
 // A row of the table in `comparisons`.

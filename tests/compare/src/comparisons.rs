@@ -3,7 +3,7 @@ use crate::comparison::{Class, Comparison};
 use crate::loads;
 use crate::question::{Question, Reply};
 use inputs::*;
-use paper::{Answer, Pick, MOST_PLACE};
+use paper::{Answer, Outcome, Pick, MOST_PLACE};
 
 // Random inputs, sound and damaged, by seed and number.
 pub static RANDOM: [Comparison; 4] = [
@@ -31,7 +31,7 @@ pub static RANDOM: [Comparison; 4] = [
     },
     Comparison {
         name: "logs",
-        entry: "rental_run",
+        entry: "rental_run_log",
         inputs: || 200_000,
         question: |seed, number| Question::Log(run_input(&mut Rng::for_input(seed, number))),
         classes: classes_of_log,
@@ -40,18 +40,20 @@ pub static RANDOM: [Comparison; 4] = [
                 all(Idle::ALL, Class::Idle, 300),
                 all(Picked::ALL, Class::Picked, 400),
                 all(Released::ALL, Class::Released, 200),
+                all(Tallied::ALL, Class::Tallied, 3_000),
+                all(Counted::ALL, Class::Counted, 400),
             ];
-            let often = [(Class::Picked(Picked::Accepted), 25_000)];
+            let often = [(Class::Picked(Picked::Accepted), 25_000), (Class::Counted(Counted::Once), 2_500)];
             [answers(Answer::NUMBERS, 500), ways.concat(), often.into()].concat()
         },
     },
     Comparison {
         name: "whole inputs",
-        entry: "rental_report",
+        entry: "rental_report_input",
         inputs: || 300_000,
         question: |seed, number| Question::Input(report_input(&mut Rng::for_input(seed, number))),
-        classes: no_more,
-        floors: || answers(Answer::NUMBERS, 500),
+        classes: classes_of_tally,
+        floors: || [answers(Answer::NUMBERS, 500), all(Tallied::ALL, Class::Tallied, 4_000)].concat(),
     },
 ];
 
@@ -75,19 +77,25 @@ pub static SMALL: [Comparison; 5] = [
     },
     Comparison {
         name: "small logs",
-        entry: "rental_run",
+        entry: "rental_run_log",
         inputs: small_inputs,
         question: |_, number| Question::Log(small_input(number).run()),
-        classes: no_more,
-        floors: || answers([0, 1].into_iter().chain(3..=13).chain([15, 17, 18, 19]), 20),
+        classes: classes_of_tally,
+        floors: || {
+            let numbers = [0, 1].into_iter().chain(3..=13).chain([15, 17, 18, 19]);
+            [answers(numbers, 20), all(Tallied::ALL, Class::Tallied, 1_000)].concat()
+        },
     },
     Comparison {
         name: "small whole inputs",
-        entry: "rental_report",
+        entry: "rental_report_input",
         inputs: small_inputs,
         question: |_, number| Question::Input(small_input(number).input()),
-        classes: no_more,
-        floors: || answers((0..=13).chain([15, 17, 18, 19]), 3),
+        classes: classes_of_tally,
+        floors: || {
+            let numbers = (0..=13).chain([15, 17, 18, 19]);
+            [answers(numbers, 3), all(Tallied::ALL, Class::Tallied, 1_000)].concat()
+        },
     },
     Comparison {
         name: "small picks",
@@ -117,11 +125,20 @@ pub static MADE: [Comparison; 2] = [
     },
     Comparison {
         name: "logs of the benchmarks",
-        entry: "rental_run",
+        entry: "rental_run_log",
         inputs: || loads::LOGS.len() as u64,
         question: |_, number| Question::Log(loads::LOGS[number as usize]().run()),
-        classes: no_more,
-        floors: || vec![(Class::Answer(0), 13), (Class::Answer(12), 1)],
+        classes: classes_of_tally,
+        floors: || {
+            let tallies = [
+                (Tallied::Issued, 6),
+                (Tallied::Returned, 7),
+                (Tallied::Both, 5),
+                (Tallied::BeforeRefused, 1),
+            ];
+            let tallies = tallies.map(|(way, least)| (Class::Tallied(way), least));
+            [&[(Class::Answer(0), 14), (Class::Answer(12), 1)], &tallies[..]].concat()
+        },
     },
 ];
 
@@ -159,12 +176,19 @@ fn classes_of_move(question: &Question, reply: &Reply) -> Vec<Class> {
     holding.map(|(_, class)| class).chain(cuts(input, reply.answer).into_iter().map(Class::Cut)).collect()
 }
 
+// What the tally of a log or a whole input shows.
+fn classes_of_tally(_: &Question, reply: &Reply) -> Vec<Class> {
+    let outcome = reply.tally.map(|tally| Outcome { answer: reply.answer, tally });
+    outcome.into_iter().flat_map(tallied_ways).map(Class::Tallied).collect()
+}
+
 fn classes_of_log(question: &Question, reply: &Reply) -> Vec<Class> {
     let Question::Log(RunInput { book, log, .. }) = question else { return Vec::new() };
     let idle = idle_ways(book, log, reply.answer).into_iter().map(Class::Idle);
     let picked = picked_ways(book, log, reply.answer).into_iter().map(Class::Picked);
     let released = released_ways(book, log, reply.answer).into_iter().map(Class::Released);
-    idle.chain(picked).chain(released).collect()
+    let counted = counted_ways(book, log, reply.answer).into_iter().map(Class::Counted);
+    idle.chain(picked).chain(released).chain(counted).chain(classes_of_tally(question, reply)).collect()
 }
 
 // Where a pick is no element: the place of the answer is its index + 1, as far as an answer has room for it.

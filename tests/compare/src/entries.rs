@@ -20,12 +20,12 @@ pub const CALLS: [Calls; 4] = [
         comparison: "single moves",
     },
     Calls {
-        entries: &["c_api::rental_run", "order_entry::run_own_list", "order_entry::run"],
+        entries: &["c_api::rental_run_log", "order_entry::run_own_list", "order_entry::run"],
         rows: &["log:", "order:"],
         comparison: "logs",
     },
     Calls {
-        entries: &["c_api::rental_report", "report_print::report"],
+        entries: &["c_api::rental_report_input", "report_print::report"],
         rows: &["rental:"],
         comparison: "whole inputs",
     },

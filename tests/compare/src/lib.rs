@@ -1,5 +1,5 @@
 // The proved code's exported functions, and what the comparisons share.
-use paper::{Answer, Pick};
+use paper::{Answer, Outcome, Pick, Tally};
 
 pub mod before_after;
 pub mod benchmarks;
@@ -30,7 +30,7 @@ extern "C" {
         lent: usize,
     ) -> u64;
 
-    fn rental_run(
+    fn rental_run_log(
         book: *const u8,
         book_length: usize,
         log: *const u8,
@@ -42,9 +42,16 @@ extern "C" {
         writers: *mut u64,
         writers_length: usize,
         lent: usize,
+        tally: *mut u64,
     ) -> u64;
 
-    fn rental_report(input: *const u8, length: usize, output: *mut u8, output_length: usize) -> usize;
+    fn rental_report_input(
+        input: *const u8,
+        length: usize,
+        output: *mut u8,
+        output_length: usize,
+        tally: *mut u64,
+    ) -> usize;
 }
 
 // The proved book check, as number and p; q is 0 for every refusal of a book.
@@ -80,6 +87,18 @@ pub fn step(book: &[u8], contents: &mut [u16], agent: usize, picks: &[Pick], len
     })
 }
 
+// What each number of a tally is before a call; no run counts that far.
+const UNWRITTEN: u64 = 0xa5a5_a5a5_a5a5_a5a5;
+
+// A call that has to write a tally of two numbers, and only these.
+fn tallied<T>(call: impl FnOnce(*mut u64) -> T) -> (T, Tally) {
+    let mut numbers = [UNWRITTEN; 3];
+    let result = call(numbers.as_mut_ptr());
+    let [issued, returned, past] = numbers;
+    assert_eq!(past, UNWRITTEN, "what stands past the tally was touched");
+    (result, Tally { issued, returned })
+}
+
 // The proved run of a log.
 pub fn run(
     book: &[u8],
@@ -88,10 +107,10 @@ pub fn run(
     readers: &mut [u64],
     writers: &mut [u64],
     lent: usize,
-) -> Answer {
-    // As above.
-    unpacked(unsafe {
-        rental_run(
+) -> Outcome {
+    // As above, and it writes the two numbers of the tally.
+    let (answer, tally) = tallied(|tally| unsafe {
+        rental_run_log(
             book.as_ptr(),
             book.len(),
             log.as_ptr(),
@@ -103,28 +122,32 @@ pub fn run(
             writers.as_mut_ptr(),
             writers.len(),
             lent,
+            tally,
         )
-    })
+    });
+    Outcome { answer: unpacked(answer), tally }
 }
 
 // The most bytes that `rental` prints.
 pub const MOST_OUTPUT: usize = 51_225;
 
-// What the proved code prints for an input, into an output that is lent; gives its length.
-pub fn report_into(input: &[u8], output: &mut [u8]) -> usize {
+// What the proved code prints for an input, into an output that is lent; gives its length, and the tally of the run.
+pub fn report_into(input: &[u8], output: &mut [u8]) -> (usize, Tally) {
     // As above.
-    unsafe { rental_report(input.as_ptr(), input.len(), output.as_mut_ptr(), output.len()) }
+    tallied(|tally| unsafe {
+        rental_report_input(input.as_ptr(), input.len(), output.as_mut_ptr(), output.len(), tally)
+    })
 }
 
 // What an output holds before a call.
 static UNTOUCHED: [u8; MOST_OUTPUT] = [0xa5; MOST_OUTPUT];
 
-// What the proved code prints for an input; if bytes past it were touched, the whole output, so that the difference is seen.
-pub fn report(input: &[u8]) -> Vec<u8> {
+// What the proved code prints for an input, and the tally; if bytes past it were touched, the whole output, so that the difference is seen.
+pub fn report(input: &[u8]) -> (Vec<u8>, Tally) {
     let mut output = UNTOUCHED.to_vec();
-    let written = report_into(input, &mut output);
+    let (written, tally) = report_into(input, &mut output);
     if output[written..] == UNTOUCHED[written..] {
         output.truncate(written);
     }
-    output
+    (output, tally)
 }

@@ -28,7 +28,7 @@ impl Single {
 }
 
 // The logs of the benchmarks: all are accepted but the last one.
-pub const LOGS: [fn() -> BookAndLog; 14] = [
+pub const LOGS: [fn() -> BookAndLog; 15] = [
     || BookAndLog { book: specification::book(), log: specification::log() },
     shop_logged,
     || guards(1).logged(),
@@ -37,6 +37,7 @@ pub const LOGS: [fn() -> BookAndLog; 14] = [
     picks_logged,
     counts_logged,
     releases_logged,
+    labels_logged,
     || flags_logged(false),
     || flags_logged(true),
     releases_and_imports_logged,
@@ -352,6 +353,40 @@ pub fn counts_logged() -> BookAndLog {
     (0..16).for_each(|agent| book.contents.push([GRID, 3 + agent, 3 + agent, 3]));
     let book = book.text();
     let log = log_of(&book, (0..64).map(|number| number % 16).collect());
+    BookAndLog { book, log }
+}
+
+// ---- many labels in one move
+
+// If the shop is open, all pairs are released, each twice, and it closes; otherwise a pair is imported for each of 100 places, and it opens. There
+// are 100 labels, all on the roll.
+fn labels() -> BookDraft {
+    const PAIR: u32 = 2;
+    const OPEN: u32 = 3;
+    const PERMANENT: u32 = MEMBERS + 10;
+    let mut book = BookDraft::new(PERMANENT + MEMBERS, PERMANENT, &[[1, 1], [1, 3], [0, 3]]);
+    let open = book.nullary(OPEN);
+    let (once, again) = (book.release_of(Leaf::Variable(0)), book.release_of(Leaf::Variable(0)));
+    let twice = book.both(once, again);
+    let release = book.for_all(0, PAIR, twice);
+    let close = book.toggle(OPEN);
+    let end = book.both(release, close);
+    let skip = book.skip();
+    let one = book.import(1, PAIR, skip);
+    let import = book.for_all(0, UNIVERSE, one);
+    let opening = book.toggle(OPEN);
+    let begin = book.both(import, opening);
+    let root = book.conditional(open, end, begin);
+    book.agent(root, 3);
+    (0..MEMBERS).for_each(|label| book.holds(0, PERMANENT + label, 2));
+    (0..MEMBERS).for_each(|place| book.holds(UNIVERSE, place, 2));
+    book
+}
+
+// 64 moves: 100 imports and 200 releases in turn.
+pub fn labels_logged() -> BookAndLog {
+    let book = labels().text();
+    let log = log_of(&book, vec![0; 64]);
     BookAndLog { book, log }
 }
 

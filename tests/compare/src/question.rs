@@ -1,7 +1,7 @@
 // A question to both implementations, and the reply of each.
 use crate::{check_book, report, run, step};
 use inputs::{first_line_in, RunInput, StepInput};
-use paper::{Answer, Pick};
+use paper::{Answer, Outcome, Pick, Tally};
 use std::fmt::Display;
 
 // What an entry is given.
@@ -13,10 +13,11 @@ pub enum Question {
     Input(Vec<u8>),
 }
 
-// The answer, what was printed, and the tables that were left; nothing where an entry has no such thing.
+// The answer, the tally of the run, what was printed, and the tables that were left; nothing where an entry has no such thing.
 #[derive(Debug, PartialEq, Eq)]
 pub struct Reply {
     pub answer: Answer,
+    pub tally: Option<Tally>,
     pub printed: Vec<u8>,
     pub contents: Vec<u16>,
     pub readers: Vec<u64>,
@@ -28,12 +29,12 @@ pub type Implementation = fn(&Question) -> Reply;
 
 // The entries for a move and a log, as both have them.
 pub type Step = fn(&[u8], &mut [u16], usize, &[Pick], usize) -> Answer;
-pub type Run = fn(&[u8], &[u8], &mut [u16], &mut [u64], &mut [u64], usize) -> Answer;
+pub type Run = fn(&[u8], &[u8], &mut [u16], &mut [u64], &mut [u64], usize) -> Outcome;
 
 impl Reply {
     pub fn of(answer: Answer) -> Reply {
         let (contents, readers, writers) = (Vec::new(), Vec::new(), Vec::new());
-        Reply { answer, printed: Vec::new(), contents, readers, writers }
+        Reply { answer, tally: None, printed: Vec::new(), contents, readers, writers }
     }
 
     fn of_step(input: &StepInput, step: Step) -> Reply {
@@ -46,25 +47,27 @@ impl Reply {
         let RunInput { book, log, lent, .. } = input;
         let (mut contents, mut readers, mut writers) =
             (input.contents.clone(), input.readers.clone(), input.writers.clone());
-        let answer = run(book, log, &mut contents, &mut readers, &mut writers, *lent);
-        Reply { contents, readers, writers, ..Reply::of(answer) }
+        let Outcome { answer, tally } = run(book, log, &mut contents, &mut readers, &mut writers, *lent);
+        Reply { tally: Some(tally), contents, readers, writers, ..Reply::of(answer) }
     }
 
     // Where the first line is not sound, the number is one that no answer has.
-    fn of_report(printed: Vec<u8>) -> Reply {
+    fn of_report((printed, tally): (Vec<u8>, Tally)) -> Reply {
         let [number, p, q, _] = first_line_in(&printed).unwrap_or([u32::MAX, 0, 0, 0]);
-        Reply { printed, ..Reply::of(Answer { number, p, q }) }
+        Reply { tally: Some(tally), printed, ..Reply::of(Answer { number, p, q }) }
     }
 
     // All of it as lines.
     pub fn text(&self) -> String {
         let Answer { number, p, q } = self.answer;
+        let tally = self.tally.map(|tally| format!("{} issued, {} returned\n", tally.issued, tally.returned));
         let tables = [
             table("contents", &self.contents),
             table("readers", &self.readers),
             table("writers", &self.writers),
         ];
-        format!("{number} {p} {q}\n{}{}", String::from_utf8_lossy(&self.printed), tables.concat())
+        let printed = String::from_utf8_lossy(&self.printed);
+        format!("{number} {p} {q}\n{}{printed}{}", tally.unwrap_or_default(), tables.concat())
     }
 }
 
@@ -94,7 +97,7 @@ pub fn independent(question: &Question) -> Reply {
         Question::Book(book) => Reply::of(paper::book_answer(book)),
         Question::Move(input) => Reply::of_step(input, paper::step),
         Question::Log(input) => Reply::of_run(input, paper::run),
-        Question::Input(input) => Reply::of_report(paper::report(input)),
+        Question::Input(input) => Reply::of_report(paper::report_tallied(input)),
     }
 }
 
@@ -104,8 +107,8 @@ impl Question {
         match self {
             Question::Book(_) => "rental_check_book",
             Question::Move(_) => "rental_move",
-            Question::Log(_) => "rental_run",
-            Question::Input(_) => "rental_report",
+            Question::Log(_) => "rental_run_log",
+            Question::Input(_) => "rental_report_input",
         }
     }
 

@@ -4,7 +4,7 @@ use crate::meter::Meter;
 use crate::question::{Run, Step};
 use crate::{check_book, report_into, run, step, MOST_OUTPUT};
 use inputs::BookAndLog;
-use paper::{Answer, INSTRUCTIONS};
+use paper::{Answer, Outcome, INSTRUCTIONS};
 use std::hint::black_box;
 use std::io;
 
@@ -159,16 +159,17 @@ fn running(logged: &BookAndLog, run: Run) -> impl FnMut() + use<'_> {
     }
 }
 
-fn run_on(logged: &BookAndLog, run: Run, tables: &mut Tables) -> Answer {
+fn run_on(logged: &BookAndLog, run: Run, tables: &mut Tables) -> Outcome {
     let Tables { contents, readers, writers } = tables;
     run(black_box(&logged.book), black_box(&logged.log), contents, readers, writers, INSTRUCTIONS)
 }
 
-// Reader marks are left to tests/comparisons.rs: a library of before F-3 has more of them where a move releases, and is to be measured too.
+// Reader marks and tallies are left to tests/comparisons.rs: a library of before F-3 has more marks where a move releases, one of before F-4 has no
+// tally, and both are to be measured too.
 fn assert_runs_alike(what: &str, logged: &BookAndLog, number: u32) {
     let (mut ours, mut theirs) = (Tables::of(&logged.book), Tables::of(&logged.book));
-    let answer = run_on(logged, run, &mut ours);
-    assert_eq!(answer, run_on(logged, paper::run, &mut theirs), "{what}");
+    let answer = run_on(logged, run, &mut ours).answer;
+    assert_eq!(answer, run_on(logged, paper::run, &mut theirs).answer, "{what}");
     assert_eq!(answer.number, number, "{what}: {answer:?}");
     assert!(ours.contents == theirs.contents, "{what}: contents");
     assert!(ours.writers == theirs.writers, "{what}: writer marks");
@@ -205,14 +206,14 @@ pub fn beyond_row(what: &str, meter: &mut Meter, whole: &BookAndLog, less: &Book
 
 pub fn report_row(what: &str, meter: &mut Meter, input: &[u8]) -> Row {
     let mut output = vec![0; MOST_OUTPUT];
-    let length = report_into(input, &mut output);
+    let (length, _) = report_into(input, &mut output);
     assert_eq!(output[..length], paper::report(input), "{what}");
     assert!(output.starts_with(b"     0"), "{what}");
     let proved = &mut || {
         black_box(report_into(black_box(input), &mut output));
     };
     let independent = &mut || {
-        black_box(paper::report(black_box(input)));
+        black_box(paper::report_tallied(black_box(input)));
     };
     Row::calls(what, meter.measure([proved, independent]))
 }

@@ -3,7 +3,7 @@ use compare::comparison::{Class, Compared, Comparison};
 use compare::comparisons::{named, RANDOM};
 use compare::question::{independent, proved, Implementation, Question, Reply};
 use inputs::{small_input, small_inputs, StepInput};
-use paper::{Answer, Pick};
+use paper::{Answer, Pick, Tally};
 use std::fs;
 use std::path::{Path, PathBuf};
 
@@ -38,8 +38,13 @@ fn changed(question: &Question, change: impl FnOnce(&mut Reply)) -> Reply {
     reply
 }
 
+// The same for the tally.
+fn changed_tally(question: &Question, change: impl FnOnce(&mut Tally)) -> Reply {
+    changed(question, |reply| change(reply.tally.as_mut().expect("a tally")))
+}
+
 // A comparison for each part of a reply, and an implementation that changes it.
-const CHANGED: [(&str, Implementation); 8] = [
+const CHANGED: [(&str, Implementation); 12] = [
     ("books", |question| changed(question, |reply| reply.answer.number += 1)),
     ("books", |question| changed(question, |reply| reply.answer.p += 1)),
     ("logs", |question| changed(question, |reply| reply.answer.q += 1)),
@@ -54,6 +59,10 @@ const CHANGED: [(&str, Implementation); 8] = [
         changed(question, |reply| reply.writers.iter_mut().take(1).for_each(|mark| *mark ^= 1))
     }),
     ("whole inputs", |question| changed(question, |reply| reply.printed.push(0xa5))),
+    ("logs", |question| changed_tally(question, |tally| tally.issued += 1)),
+    ("logs", |question| changed_tally(question, |tally| tally.returned += 1)),
+    ("whole inputs", |question| changed_tally(question, |tally| tally.issued += 1)),
+    ("whole inputs", |question| changed_tally(question, |tally| tally.returned += 1)),
 ];
 
 fn file(folder: &Path, name: &str) -> Vec<u8> {

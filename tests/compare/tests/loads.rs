@@ -1,7 +1,7 @@
 // The benchmarks' books and logs are what their names say, and the independent implementation accepts them. Every move of them changes something, so that a library that still refuses others can be measured too.
 use compare::loads::{self, Single};
-use inputs::{idle_ways, released_ways, BookAndLog, Released};
-use paper::{check_book, Answer, INSTRUCTIONS};
+use inputs::{counted_ways, idle_ways, released_ways, BookAndLog, Counted, Released};
+use paper::{check_book, Answer, Tally, INSTRUCTIONS};
 
 // How many instructions the move gives, in the second of two turns.
 fn instructions(single: &Single) -> usize {
@@ -69,6 +69,17 @@ fn logs() {
     }
     let refused = refused().run().answer();
     assert_eq!((refused.number, refused.p), (12, 63));
+}
+
+#[test]
+fn labels() {
+    let BookAndLog { book, log } = loads::labels_logged();
+    assert_eq!(
+        counted_ways(&book, &log, Answer::ACCEPTED),
+        [Counted::Several, Counted::Once, Counted::Again]
+    );
+    let tally = BookAndLog { book, log }.run().outcome().tally;
+    assert_eq!(tally, Tally { issued: 3_200, returned: 3_200 });
 }
 
 #[test]

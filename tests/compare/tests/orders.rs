@@ -1,13 +1,14 @@
-// The moves of an accepted log, run one by one by the proved code with their picks in another order that keeps the log's pairs, end alike.
-use compare::question::{proved, Question};
+// The moves of an accepted log in another order that keeps the log's pairs end alike, run by the proved code one by one with their picks; and so does
+// the log with its moves listed in that order, with the same tally.
+use compare::question::{proved, Question, Reply};
 use compare::step;
-use inputs::{random_order, run_input, AcceptedLog, Counts, Rng, RunInput, Shown};
+use inputs::{random_order, relisted, run_input, AcceptedLog, Counts, Rng, RunInput, Shown};
 use paper::{Answer, Book, Log, INSTRUCTIONS};
 
 const SEED: u64 = 2;
 const ORDERS: u64 = 50_000;
 
-const FLOORS: [(Shown, u64); 9] = [
+const FLOORS: [(Shown, u64); 12] = [
     (Shown::Other, 10_000),
     (Shown::Idle, 4_000),
     (Shown::IdleBesideRelease, 300),
@@ -17,6 +18,9 @@ const FLOORS: [(Shown, u64); 9] = [
     (Shown::Release, 1_000),
     (Shown::ReleaseBesideChange, 1_000),
     (Shown::ReleaseExchanged, 1_000),
+    (Shown::Issued, 1_000),
+    (Shown::Returned, 3_000),
+    (Shown::ImportExchanged, 800),
 ];
 
 // Runs the moves of an accepted log, each with its picks, by the single-move entry in this order.
@@ -28,6 +32,13 @@ fn assert_ends_alike(input: &RunInput, book: &Book, log: &Log, order: &[usize], 
         assert_eq!(answer, Answer::ACCEPTED, "move {number} of {order:?}");
     }
     assert_eq!(contents, end[..contents.len()], "{order:?}");
+}
+
+// Runs an accepted log with its moves listed in this order.
+fn assert_listed_alike(input: RunInput, log: &Log, order: &[usize], listed: &Reply) {
+    let reply = proved(&Question::Log(RunInput { log: relisted(log, order).text(), ..input }));
+    assert_eq!((reply.answer, reply.tally), (Answer::ACCEPTED, listed.tally), "{order:?}");
+    assert_eq!(reply.contents, listed.contents, "{order:?}");
 }
 
 #[test]
@@ -49,6 +60,7 @@ fn every_order_that_keeps_the_pairs_ends_alike() {
         assert_ends_alike(&input, &book, &log, &order, &reply.contents);
         if !order.is_sorted() {
             counts.extend(AcceptedLog::new(&input.book, &input.log).shown_by(&order));
+            assert_listed_alike(input, &log, &order, &reply);
         }
     }
     println!("orders, seed {SEED}: {orders}, of them {counts:?}");

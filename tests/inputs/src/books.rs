@@ -53,7 +53,7 @@ enum Theme {
 
 const THEMES: [Theme; 6] =
     [Theme::Any, Theme::OwnElement, Theme::Labels, Theme::Choices, Theme::SharedUniverse, Theme::Releases];
-const WEIGHTS: [u32; 6] = [26, 4, 11, 25, 10, 24];
+const WEIGHTS: [u32; 6] = [26, 4, 11, 23, 10, 26];
 
 /// A sound book, mostly small.
 pub fn sound(rng: &mut Rng) -> BookDraft {

@@ -12,7 +12,7 @@ use crate::picks::{fitting_picks, has_choices, spoil_picks};
 use crate::rng::Rng;
 use crate::tables;
 use paper::{
-    check_book, check_log, fault_in_table, run, start_table, step, Answer, Book, Pick, INSTRUCTIONS,
+    check_book, check_log, fault_in_table, run, start_table, step, Answer, Book, Outcome, Pick, INSTRUCTIONS,
     LINE_BYTES,
 };
 
@@ -59,11 +59,15 @@ impl StepInput {
 }
 
 impl RunInput {
-    /// The answer of the independent implementation.
-    pub fn answer(&self) -> Answer {
+    /// The result of the independent implementation.
+    pub fn outcome(&self) -> Outcome {
         let (mut contents, mut readers, mut writers) =
             (self.contents.clone(), self.readers.clone(), self.writers.clone());
         run(&self.book, &self.log, &mut contents, &mut readers, &mut writers, self.lent)
+    }
+
+    pub fn answer(&self) -> Answer {
+        self.outcome().answer
     }
 }
 

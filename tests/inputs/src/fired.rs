@@ -1,6 +1,7 @@
 // Moves fired one after the other, with what each did.
 
-use paper::{fire_move, start_table, Book, Instruction, Log, Marks, Pick};
+use paper::{fire_move, start_table, Book, Instruction, Log, Marks, Pick, Tally};
+use std::collections::BTreeSet;
 
 /// A move that fired.
 pub struct Fired {
@@ -24,6 +25,19 @@ impl Fired {
 
     pub fn releases(&self) -> bool {
         self.list.iter().any(is_release)
+    }
+
+    /// The labels that it releases.
+    pub fn released(&self) -> BTreeSet<u16> {
+        let label = |instruction: &Instruction| match *instruction {
+            Instruction::Release { label } => Some(label),
+            Instruction::Update { .. } => None,
+        };
+        self.list.iter().filter_map(label).collect()
+    }
+
+    pub fn tally(&self, book: &Book) -> Tally {
+        Tally::of_move(book, &self.list)
     }
 }
 

@@ -122,7 +122,7 @@ pub fn guided(rng: &mut Rng, book: &Book) -> LogDraft {
     let needed = needed_pairs(&log.agents, &readers, &writers);
     let fewer = has_releases(book).then(|| pairs_by_other_reads(book, &log.agents, &log.picks));
     log.pairs = match fewer {
-        Some(fewer) if fewer.len() < needed.len() && rng.percent(50) => reduced(&fewer),
+        Some(fewer) if fewer.len() < needed.len() && rng.percent(60) => reduced(&fewer),
         _ => choose_pairs(rng, needed, &log.agents),
     };
     log

@@ -1,7 +1,8 @@
 // Orders of a log's moves that keep its pairs: at random, or all of them; and what an order of an accepted log shows.
 
-use crate::fired::{fired_moves, listed_moves};
+use crate::fired::{fired_moves, listed_moves, Fired};
 use crate::idle::{idle_ways, Idle};
+use crate::log_draft::LogDraft;
 use crate::picks::{picked_ways, Picked};
 use crate::releases::{released_ways, Released};
 use crate::rng::Rng;
@@ -50,6 +51,16 @@ fn place(order: &[usize], number: usize) -> Option<usize> {
     order.iter().position(|&other| other == number)
 }
 
+/// A log with its moves listed in another order, which has each of them.
+pub fn relisted(log: &Log, order: &[usize]) -> LogDraft {
+    let place = |number: usize| place(order, number).expect("each move is in the order") as u32;
+    LogDraft {
+        agents: order.iter().map(|&number| log.agents[number] as u32).collect(),
+        pairs: log.pairs.iter().map(|&(earlier, later)| (place(earlier), place(later))).collect(),
+        picks: order.iter().map(|&number| log.picks[number].clone()).collect(),
+    }
+}
+
 /// What an order other than the listing shows.
 #[derive(Debug, Clone, Copy, PartialEq, Eq, PartialOrd, Ord)]
 pub enum Shown {
@@ -67,6 +78,10 @@ pub enum Shown {
     Release,
     ReleaseBesideChange,
     ReleaseExchanged,
+    /// The log issues labels, returns labels, and has an import and another move that do not come as they are listed.
+    Issued,
+    Returned,
+    ImportExchanged,
 }
 
 /// A log whose run is accepted, with what its orders show.
@@ -76,7 +91,8 @@ pub struct AcceptedLog {
     idle: Vec<Idle>,
     picked: Vec<Picked>,
     released: Vec<Released>,
-    /// The moves that release.
+    /// The moves that import, and those that release.
+    importing: Vec<usize>,
     releasing: Vec<usize>,
 }
 
@@ -88,8 +104,13 @@ impl AcceptedLog {
         let idle = idle_ways(book_text, log_text, Answer::ACCEPTED);
         let picked = picked_ways(book_text, log_text, Answer::ACCEPTED);
         let released = released_ways(book_text, log_text, Answer::ACCEPTED);
-        let releasing = releasing(&book, &log);
-        AcceptedLog { book, log, idle, picked, released, releasing }
+        let fired = fired_moves(&book, listed_moves(&log));
+        let which = |holds: &dyn Fn(&Fired) -> bool| {
+            (0..fired.len()).filter(|&number| holds(&fired[number])).collect::<Vec<usize>>()
+        };
+        let importing = which(&|fired| fired.tally(&book).issued > 0);
+        let releasing = which(&Fired::releases);
+        AcceptedLog { book, log, idle, picked, released, importing, releasing }
     }
 
     /// What an order shows; nothing if it is the listing.
@@ -107,23 +128,20 @@ impl AcceptedLog {
             (!picking.is_sorted(), Shown::PicksExchanged),
             (self.released.contains(&Released::Unordered), Shown::Release),
             (self.released.contains(&Released::BesideChange), Shown::ReleaseBesideChange),
-            (self.exchanges_release(order), Shown::ReleaseExchanged),
+            (exchanges(order, &self.releasing), Shown::ReleaseExchanged),
+            (!self.importing.is_empty(), Shown::Issued),
+            (!self.releasing.is_empty(), Shown::Returned),
+            (exchanges(order, &self.importing), Shown::ImportExchanged),
         ];
         shown.into_iter().filter(|(holds, _)| *holds).map(|(_, shown)| shown).collect()
     }
-
-    /// Whether a move that releases and another one do not come as they are listed.
-    fn exchanges_release(&self, order: &[usize]) -> bool {
-        let exchanged = |release: usize| {
-            let before = |other: usize| place(order, other) < place(order, release);
-            (0..order.len()).any(|other| before(other) != (other < release))
-        };
-        self.releasing.iter().any(|&release| exchanged(release))
-    }
 }
 
-/// The moves of a log that release, as listed.
-fn releasing(book: &Book, log: &Log) -> Vec<usize> {
-    let fired = fired_moves(book, listed_moves(log));
-    (0..fired.len()).filter(|&number| fired[number].releases()).collect()
+/// Whether one of these moves and another one do not come as they are listed.
+fn exchanges(order: &[usize], moves: &[usize]) -> bool {
+    let exchanged = |number: usize| {
+        let before = |other: usize| place(order, other) < place(order, number);
+        (0..order.len()).any(|other| before(other) != (other < number))
+    };
+    moves.iter().any(|&number| exchanged(number))
 }

@@ -37,28 +37,46 @@ pub fn releasing_or_not(rng: &mut Rng, draft: &mut BookDraft, careful: bool, num
     }
 }
 
-/// Releases the label in the agent's slot, perhaps only if it is a pair, or a label that it picks.
+/// Releases the label in the agent's slot, perhaps only if it is a pair, twice or beside an import; or a label that it picks.
 fn releasing(writer: &mut Writer) -> u32 {
-    match writer.rng.weighted(&[50, 40, 10]) {
-        0 => {
-            let label = own_slot(writer);
-            writer.draft.release(label)
-        }
+    match writer.rng.weighted(&[40, 34, 8, 12, 6]) {
+        0 => release_own(writer),
         1 => writer.choose_in(0, PAIR, |writer| writer.draft.release_of(Leaf::Variable(0))),
-        _ => {
+        2 => {
             let label = own_slot(writer);
             let guard = writer.draft.unary(PAIR, label);
-            let label = own_slot(writer);
-            let release = writer.draft.release(label);
+            let release = release_own(writer);
             let otherwise = not_releasing(writer);
             writer.draft.conditional(guard, release, otherwise)
+        }
+        3 => release_twice(writer),
+        _ => {
+            let (release, import) = (release_own(writer), importing(writer));
+            writer.both_in_any_order(release, import)
         }
     }
 }
 
+/// Releases the label in the agent's slot.
+fn release_own(writer: &mut Writer) -> u32 {
+    let label = own_slot(writer);
+    writer.draft.release(label)
+}
+
+/// Releases the label in the agent's slot for each day, or beside it the label in some slot, mostly its own.
+fn release_twice(writer: &mut Writer) -> u32 {
+    if writer.rng.percent(30) {
+        return writer.for_all_in(0, DAY, release_own);
+    }
+    let release = release_own(writer);
+    let label = if writer.rng.percent(60) { own_slot(writer) } else { some_slot(writer) };
+    let again = writer.draft.release(label);
+    writer.draft.both(release, again)
+}
+
 /// A rule that releases nothing.
 fn not_releasing(writer: &mut Writer) -> u32 {
-    match writer.rng.weighted(&[15, 18, 13, 22, 10, 11, 11]) {
+    match writer.rng.weighted(&[13, 17, 12, 27, 10, 11, 10]) {
         0 => {
             let label = own_slot(writer);
             set_at_label(writer, label)
@@ -124,8 +142,17 @@ fn set_at_label(writer: &mut Writer, label: u32) -> u32 {
     writer.draft.set(location, value)
 }
 
-/// Imports a label and sets the slot to it, or sets a function at it.
+/// Imports a label, or one for each day.
 fn importing(writer: &mut Writer) -> u32 {
+    if writer.rng.percent(30) {
+        writer.for_all_in(1, DAY, import_one)
+    } else {
+        import_one(writer)
+    }
+}
+
+/// Imports a label and sets the slot to it, or sets a function at it.
+fn import_one(writer: &mut Writer) -> u32 {
     let slot = writer.rng.percent(50);
     let body = writer.inside(0, Sort::Label, |writer| {
         let label = writer.draft.variable(0);

@@ -146,10 +146,6 @@ impl Ran {
     fn ways_beside(&self, number: usize) -> Vec<Released> {
         let done = &self.done[number];
         let updated = |location: &usize| done.cleared.binary_search(location).is_err();
-        let import = |instruction: &Instruction| match *instruction {
-            Instruction::Update { location, value } => location < self.book.elements && value == FALSE,
-            Instruction::Release { .. } => false,
-        };
         let ways = [
             (true, Released::Unordered),
             (done.changed().next().is_some(), Released::BesideChange),
@@ -158,7 +154,7 @@ impl Ran {
                 Released::BesideLabel,
             ),
             (done.taken_out(&self.book).any(|location| updated(&location)), Released::BesideTakenOut),
-            (done.fired.list.iter().any(import), Released::BesideImport),
+            (done.fired.tally(&self.book).issued > 0, Released::BesideImport),
             (self.has_turns(number), Released::BesideForAll),
             (done.fired.releases(), Released::BesideRelease),
             (!self.log.picks[number].is_empty(), Released::BesidePick),

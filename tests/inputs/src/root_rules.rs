@@ -107,14 +107,18 @@ pub fn importing_or_releasing(rng: &mut Rng, draft: &mut BookDraft, careful: boo
         (2, _) => release_members(&mut writer, universe),
         (3, Some(holder)) => import_to(&mut writer, universe, Some(holder)),
         (4, Some(holder)) => release_beside_set(&mut writer, holder),
-        _ => import_to(&mut writer, universe, None),
+        _ => import_some(&mut writer, universe),
     }
 }
 
-/// Release the holder's label.
+/// Release the holder's label, sometimes twice.
 fn release_held(writer: &mut Writer, holder: u32) -> u32 {
-    let term = writer.draft.nullary(holder);
-    writer.draft.release(term)
+    let release = writer.draft.release_of(Leaf::Nullary(holder));
+    if writer.rng.percent(80) {
+        return release;
+    }
+    let again = writer.draft.release_of(Leaf::Nullary(holder));
+    writer.draft.both(release, again)
 }
 
 /// Release the holder's label beside a set that has it as argument, or as value, or neither.
@@ -142,6 +146,16 @@ fn release_beside_set(writer: &mut Writer, holder: u32) -> u32 {
         _ => writer.rule(2, 10),
     };
     writer.both_in_any_order(set, release)
+}
+
+/// One import into the universe, or two.
+fn import_some(writer: &mut Writer, universe: u32) -> u32 {
+    let import = import_to(writer, universe, None);
+    if writer.rng.percent(60) {
+        return import;
+    }
+    let another = import_to(writer, universe, None);
+    writer.draft.both(import, another)
 }
 
 /// Import x into the universe; holder := x, or a rule on x.

@@ -99,8 +99,15 @@ fn term(mut number: u64) -> BookAndLog {
 
 // ---- logs: up to four moves of three agents of each book, with every set of pairs
 
-const BOOKS: [fn() -> Vec<u8>; 6] =
-    [copying, specification::book, releasing, setting_beside, || taking_out(4, 3), || taking_out(3, 5)];
+const BOOKS: [fn() -> Vec<u8>; 7] = [
+    copying,
+    specification::book,
+    releasing,
+    setting_beside,
+    || taking_out(4, 3),
+    || taking_out(3, 5),
+    counting_labels,
+];
 const AGENTS: u64 = 3;
 const MOST_MOVES: u64 = 4;
 
@@ -179,6 +186,41 @@ fn taking_out(at_5: u32, w: u32) -> Vec<u8> {
     let exchange = book.set_to(location, Leaf::Nullary(5));
     book.agent(exchange, 2);
     let contents = [(1, 5, at_5), (2, 0, 5), (3, 0, 4), (4, 0, 4), (5, 0, w)];
+    contents.into_iter().for_each(|(function, argument, value)| book.holds(function, argument, value));
+    book.text()
+}
+
+/// Agent 0 imports a label to t and one more where t is undef, and otherwise releases what t holds, twice; agent 1 imports a label and clashes where s
+/// is undef, and otherwise imports one and releases what s holds; agent 2 releases what u holds, unless it is undef. At the start s holds 6 and u
+/// holds 8, and 4, 5 and 7 are free.
+fn counting_labels() -> Vec<u8> {
+    let [t, s, u] = [2, 3, 4];
+    let mut book = BookDraft::new(9, 4, &[[1, 3], [0, 2], [0, 2], [0, 2]]);
+    let (guard, skip) = (book.is_undef(t), book.skip());
+    let one_more = book.import(1, 1, skip);
+    let location = book.nullary(t);
+    let set = book.set_to(location, Leaf::Variable(0));
+    let body = book.both(set, one_more);
+    let import = book.import(0, 1, body);
+    let (once, again) = (book.release_of(Leaf::Nullary(t)), book.release_of(Leaf::Nullary(t)));
+    let twice = book.both(once, again);
+    let two_or_twice = book.conditional(guard, import, twice);
+    let guard = book.is_undef(s);
+    let sets = [Leaf::Variable(0), Leaf::Element(3)].map(|value| {
+        let location = book.nullary(s);
+        book.set_to(location, value)
+    });
+    let body = book.both(sets[0], sets[1]);
+    let clash = book.import(0, 1, body);
+    let skip = book.skip();
+    let (import, release) = (book.import(0, 1, skip), book.release_of(Leaf::Nullary(s)));
+    let exchange = book.both(import, release);
+    let clash_or_exchange = book.conditional(guard, clash, exchange);
+    let (guard, skip, release) = (book.is_undef(u), book.skip(), book.release_of(Leaf::Nullary(u)));
+    let release_once = book.conditional(guard, skip, release);
+    let roots = [two_or_twice, clash_or_exchange, release_once];
+    (0..).zip(roots).for_each(|(agent, root)| book.agent(root, agent));
+    let contents = [(0, 4, 2), (0, 5, 2), (0, 7, 2), (s, 0, 6), (u, 0, 8)];
     contents.into_iter().for_each(|(function, argument, value)| book.holds(function, argument, value));
     book.text()
 }

@@ -1,11 +1,11 @@
-// Each answer of each entry, each reason of the book's refusals, picks, releases, and moves that change nothing occur often enough.
+// Each answer of each entry, each reason of the book's refusals, picks, releases, label tallies, and moves that change nothing occur often enough.
 
 use inputs::{
-    book_and_log_in, book_input, cuts, first_line_in, idle_ways, lines_in, operands, picked_ways,
-    printed_answer, released_ways, report_input, run_input, step_input, Counts, Cut, Idle, Picked, Released,
-    Rng,
+    book_and_log_in, book_input, counted_ways, cuts, first_line_in, idle_ways, lines_in, operands,
+    picked_ways, printed_answer, released_ways, report_input, run_input, step_input, tallied_ways, Counted,
+    Counts, Cut, Idle, Picked, Released, Rng, Tallied,
 };
-use paper::{book_answer, check_book, report, Answer, Pick};
+use paper::{book_answer, check_book, report, report_tallied, Answer, Outcome, Pick};
 
 const SEED: u64 = 22;
 const INPUTS: u64 = 20_000;
@@ -84,6 +84,30 @@ fn releases_in_logs() {
     counts.assert_all(Released::ALL, INPUTS * 20 / 10_000);
     let often = [Released::Unordered, Released::BesideChange].map(|way| counts.of(way));
     assert!(often.iter().all(|&count| count >= INPUTS * 3 / 100), "{often:?} in accepted logs");
+}
+
+#[test]
+fn tallies_of_logs() {
+    let (mut tallied, mut counted) = (Counts::new(), Counts::new());
+    for input in (0..INPUTS).map(|input| run_input(&mut Rng::for_input(SEED, input))) {
+        let outcome = input.outcome();
+        tallied.extend(tallied_ways(outcome));
+        counted.extend(counted_ways(&input.book, &input.log, outcome.answer));
+    }
+    println!("tallies of logs: {tallied:?}; of their moves {counted:?}");
+    tallied.assert_all(Tallied::ALL, INPUTS * 2 / 100);
+    counted.assert_all(Counted::ALL, INPUTS * 20 / 10_000);
+    assert!(counted.of(Counted::Once) >= INPUTS / 100, "{counted:?}");
+}
+
+#[test]
+fn tallies_of_the_printer() {
+    let counts = count(|rng| {
+        let (printed, tally) = report_tallied(&report_input(rng));
+        tallied_ways(Outcome { answer: printed_answer(&printed), tally })
+    });
+    println!("tallies of whole inputs: {counts:?}");
+    counts.assert_all(Tallied::ALL, INPUTS * 2 / 100);
 }
 
 /// Why a choice line is at fault by 9, or the log's header for their count.

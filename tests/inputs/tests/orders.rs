@@ -1,4 +1,4 @@
-// Any order of an accepted log that keeps the pairs, each move with its picks, fires the same moves and leaves the same end.
+// Any order of an accepted log that keeps the pairs, each move with its picks, fires the same moves, leaves the same end and has the same tally.
 
 use inputs::{
     all_orders, keeps, random_order, run_input, small_input, small_inputs, AcceptedLog, BookAndLog, Counts,
@@ -12,9 +12,10 @@ const SEED: u64 = 20;
 /// Locations with the values they get.
 type Updates = Vec<(usize, u16)>;
 
-/// What the moves of a log do, in this order: each move's updates, by number, and the end.
-fn carried_out(book: &Book, log: &Log, order: &[usize]) -> Result<(Vec<Updates>, Vec<u16>), Refusal> {
+/// What the moves of a log do, in this order: each move's updates, by number, the end and the tally.
+fn carried_out(book: &Book, log: &Log, order: &[usize]) -> Result<(Vec<Updates>, Vec<u16>, Tally), Refusal> {
     let mut contents = start_table(book);
+    let mut tally = Tally::default();
     let mut by_move = vec![Vec::new(); log.agents.len()];
     let mut list = Vec::new();
     for &number in order {
@@ -22,27 +23,28 @@ fn carried_out(book: &Book, log: &Log, order: &[usize]) -> Result<(Vec<Updates>,
         let (agent, picks) = (log.agents[number], &log.picks[number]);
         fire_move(book, &mut contents, agent, picks, Marks::none(), &mut list)?;
         by_move[number] = updates(book, &before, &list);
+        tally += Tally::of_move(book, &list);
     }
-    Ok((by_move, contents))
+    Ok((by_move, contents, tally))
 }
 
-/// The contents that the run of a log ends with, if it is accepted.
-fn end_of(book: &[u8], log: &[u8]) -> Option<Vec<u16>> {
+/// The contents that the run of a log ends with and its tally, if it is accepted.
+fn end_of(book: &[u8], log: &[u8]) -> Option<(Vec<u16>, Tally)> {
     let book = check_book(book).ok()?;
     let log = check_log(&book, log).ok()?;
     let mut end = vec![0; book.locations];
     let (mut readers, mut writers) = (vec![0; book.locations], vec![0; book.locations]);
-    run_checked(&book, &log, &mut end, &mut readers, &mut writers, INSTRUCTIONS).ok()?;
-    Some(end)
+    let outcome = run_checked(&book, &log, &mut end, &mut readers, &mut writers, INSTRUCTIONS);
+    (outcome.answer == Answer::ACCEPTED).then_some((end, outcome.tally))
 }
 
-/// All these orders do what the listing does, and end as the run did.
-fn assert_alike(accepted: &AcceptedLog, end: Vec<u16>, orders: &[Vec<usize>], what: &str) {
+/// All these orders do what the listing does, and end as the run did, with its tally.
+fn assert_alike(accepted: &AcceptedLog, ended: (Vec<u16>, Tally), orders: &[Vec<usize>], what: &str) {
     let AcceptedLog { book, log, .. } = accepted;
     let listing: Vec<usize> = (0..log.agents.len()).collect();
-    let (by_move, listed_end) = carried_out(book, log, &listing).expect("the run was accepted");
-    assert_eq!(listed_end, end, "{what}");
-    let expected = Ok((by_move, end));
+    let (by_move, end, tally) = carried_out(book, log, &listing).expect("the run was accepted");
+    assert_eq!((&end, tally), (&ended.0, ended.1), "{what}");
+    let expected = Ok((by_move, end, tally));
     for order in orders {
         assert!(keeps(order, &log.pairs), "{what}: {order:?}");
         assert_eq!(carried_out(book, log, order), expected, "{what}: {order:?}");
@@ -60,10 +62,10 @@ impl Found {
     /// Checks some orders of a log, if it is accepted, and counts what they show.
     fn check(&mut self, log: BookAndLog, orders: impl Fn(&Log) -> Vec<Vec<usize>>, what: &str) {
         let BookAndLog { book, log } = log;
-        let Some(end) = end_of(&book, &log) else { return };
+        let Some(ended) = end_of(&book, &log) else { return };
         let accepted = AcceptedLog::new(&book, &log);
         let orders = orders(&accepted.log);
-        assert_alike(&accepted, end, &orders, what);
+        assert_alike(&accepted, ended, &orders, what);
         let shown: Vec<Shown> = orders.iter().flat_map(|order| accepted.shown_by(order)).collect();
         self.orders.extend(shown.iter().copied());
         self.logs.extend(shown.into_iter().collect::<BTreeSet<_>>());
@@ -71,7 +73,7 @@ impl Found {
 
     /// So many orders show this at least. At least a fifth of the logs have a release unordered with a move that changes something, and in
     /// most of those with a release unordered with any other move the two changed places.
-    fn assert(&self, floors: [(Shown, u64); 6]) {
+    fn assert(&self, floors: [(Shown, u64); 9]) {
         let releases = [Shown::Release, Shown::ReleaseBesideChange, Shown::ReleaseExchanged];
         self.orders.assert_floors(floors.into_iter().chain(releases.map(|shown| (shown, 1))));
         let [all, with, beside, exchanged] =
@@ -101,6 +103,9 @@ fn any_order_that_keeps_the_pairs_does_the_same() {
         (Shown::Picks, 4_000),
         (Shown::PicksInTurns, 500),
         (Shown::PicksExchanged, 1_500),
+        (Shown::Issued, 1_000),
+        (Shown::Returned, 3_000),
+        (Shown::ImportExchanged, 800),
     ]);
 }
 
@@ -119,6 +124,9 @@ fn all_orders_of_the_small_logs_do_the_same() {
         (Shown::Picks, 250),
         (Shown::PicksInTurns, 150),
         (Shown::PicksExchanged, 250),
+        (Shown::Issued, 3_000),
+        (Shown::Returned, 5_000),
+        (Shown::ImportExchanged, 2_000),
     ]);
 }
 

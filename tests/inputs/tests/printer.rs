@@ -1,7 +1,7 @@
-// What `rental` prints agrees with the run, and its lines are contents lines of the book.
+// What `rental` prints agrees with the run, with the same tally, and its lines are contents lines of the book.
 
 use inputs::{book_and_log_in, padded, report_input, Rng};
-use paper::{check_book, report, run, LINE_BYTES};
+use paper::{check_book, report, report_tallied, run, Outcome, LINE_BYTES};
 
 const SEED: u64 = 23;
 
@@ -24,8 +24,9 @@ fn printed_lines_are_a_start() {
             continue;
         }
         let (mut contents, mut readers, mut writers) = (vec![0; 2_048], vec![0; 2_048], vec![0; 2_048]);
-        let answer = run(book, log, &mut contents, &mut readers, &mut writers, 2_048);
-        let printed = report(&input);
+        let Outcome { answer, tally } = run(book, log, &mut contents, &mut readers, &mut writers, 2_048);
+        let (printed, same_tally) = report_tallied(&input);
+        assert_eq!(same_tally, tally);
         if answer.number == 0 {
             accepted += 1;
             let again = [with_contents(book, &printed), padded("0 0 0 0")].concat();

@@ -1,8 +1,8 @@
 // The small inputs are those that they are said to be, and get many different answers.
 
 use inputs::{
-    cuts, picked_ways, printed_answer, released_ways, small_input, small_inputs, small_move, small_moves,
-    Counts, Cut, Picked, Released, RunInput,
+    counted_ways, cuts, picked_ways, printed_answer, released_ways, small_input, small_inputs, small_move,
+    small_moves, tallied_ways, Counted, Counts, Cut, Picked, Released, RunInput, Tallied,
 };
 use paper::report;
 
@@ -35,6 +35,19 @@ fn releases() {
     let counts: Counts<Released> = (0..small_inputs()).map(|i| small_input(i).run()).flat_map(ways).collect();
     println!("releases in small inputs: {counts:?}");
     counts.assert_all(Released::ALL, 8);
+}
+
+#[test]
+fn tallies() {
+    let (mut tallied, mut counted) = (Counts::new(), Counts::new());
+    for run in (0..small_inputs()).map(|i| small_input(i).run()) {
+        let outcome = run.outcome();
+        tallied.extend(tallied_ways(outcome));
+        counted.extend(counted_ways(&run.book, &run.log, outcome.answer));
+    }
+    println!("tallies of small inputs: {tallied:?}; of their moves {counted:?}");
+    tallied.assert_all(Tallied::ALL, 1_000);
+    counted.assert_all(Counted::ALL, 100);
 }
 
 #[test]

@@ -1,11 +1,26 @@
-// The run of a log with its marks, and 17.
+// The run of a log with its marks and its label tally, and 17.
 
 use crate::answer::Answer;
 use crate::book::{check_book, Book};
 use crate::log::{check_log, Log};
 use crate::step::fire_move;
 use crate::table::fill_start;
+use crate::tally::Tally;
 use crate::walk::{Marks, INSTRUCTIONS};
+
+/// The result of a run: its answer, and the tally of the moves that fired.
+#[derive(Debug, Clone, Copy, PartialEq, Eq)]
+pub struct Outcome {
+    pub answer: Answer,
+    pub tally: Tally,
+}
+
+impl From<Answer> for Outcome {
+    /// A refusal before the first move.
+    fn from(answer: Answer) -> Outcome {
+        Outcome { answer, tally: Tally::default() }
+    }
+}
 
 /// Runs a log from its book's start; the tables are changed as a run changes them (SPECIFICATION 7).
 pub fn run(
@@ -15,12 +30,12 @@ pub fn run(
     readers: &mut [u64],
     writers: &mut [u64],
     lent: usize,
-) -> Answer {
+) -> Outcome {
     let outcome = check_book(book).and_then(|book| {
         let log = check_log(&book, log)?;
-        run_checked(&book, &log, contents, readers, writers, lent)
+        Ok(run_checked(&book, &log, contents, readers, writers, lent))
     });
-    outcome.into()
+    outcome.unwrap_or_else(Outcome::from)
 }
 
 /// As `run`, after the checks of book and log.
@@ -31,12 +46,12 @@ pub fn run_checked(
     readers: &mut [u64],
     writers: &mut [u64],
     lent: usize,
-) -> Result<(), Answer> {
+) -> Outcome {
     let needed = book.locations;
     let tables =
         [(contents.len(), needed), (readers.len(), needed), (writers.len(), needed), (lent, INSTRUCTIONS)];
     if let Some(table) = tables.iter().position(|&(len, needed)| len < needed) {
-        return Err(Answer::refused(2, tables[table].1, table));
+        return Answer::refused(2, tables[table].1, table).into();
     }
     let contents = &mut contents[..needed];
     let readers = &mut readers[..needed];
@@ -45,15 +60,17 @@ pub fn run_checked(
     readers.fill(0);
     writers.fill(0);
     let mut list = Vec::with_capacity(INSTRUCTIONS);
+    let mut tally = Tally::default();
     for (number, (&agent, picks)) in log.agents.iter().zip(&log.picks).enumerate() {
         let marks = Marks { readers, writers, bit: 1 << number };
-        fire_move(book, contents, agent, picks, marks, &mut list)
-            .map_err(|refusal| refusal.in_move(number))?;
+        if let Err(refusal) = fire_move(book, contents, agent, picks, marks, &mut list) {
+            return Outcome { answer: refusal.in_move(number), tally };
+        }
+        tally += Tally::of_move(book, &list);
     }
-    match unordered_touch(&log.before, readers, writers) {
-        Some((first, second)) => Err(Answer::refused(17, first, second)),
-        None => Ok(()),
-    }
+    let touching = unordered_touch(&log.before, readers, writers);
+    let answer = touching.map_or(Answer::ACCEPTED, |(first, second)| Answer::refused(17, first, second));
+    Outcome { answer, tally }
 }
 
 /// The least pair of moves that touch and are not ordered.

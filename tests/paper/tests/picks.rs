@@ -436,9 +436,9 @@ mod choice_lines {
     fn nine_before_ten_and_two() {
         assert_eq!(answer("2 0 1 0 / 0 0 0 0 / 0 0 0 0 / 2 3 0 0"), refused(9, 3, 0));
         let log = padded("1 0 1 0 / 0 0 0 0 / 1 3 0 0");
-        assert_eq!(run(&choosing_agents(), &log, &mut [], &mut [], &mut [], 0), refused(9, 2, 0));
+        assert_eq!(run(&choosing_agents(), &log, &mut [], &mut [], &mut [], 0).answer, refused(9, 2, 0));
         let log = padded("1 0 1 0 / 0 0 0 0 / 0 5 0 0");
-        assert_eq!(run(&choosing_agents(), &log, &mut [], &mut [], &mut [], 0), refused(2, 44, 0));
+        assert_eq!(run(&choosing_agents(), &log, &mut [], &mut [], &mut [], 0).answer, refused(2, 44, 0));
         assert_eq!(run_of(&choosing_agents(), &log).answer, refused(18, 0, 3));
     }
 

@@ -486,7 +486,7 @@ mod logs {
     fn ten_before_two() {
         let shown = specification::book();
         let unordered = log(&[0, 0], &[]);
-        assert_eq!(run(&shown, &unordered, &mut [], &mut [], &mut [], 0), refused(10, 0, 1));
+        assert_eq!(run(&shown, &unordered, &mut [], &mut [], &mut [], 0).answer, refused(10, 0, 1));
     }
 
     #[test]

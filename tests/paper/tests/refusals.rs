@@ -11,7 +11,8 @@ fn run_with_lengths([contents, readers, writers, instructions]: [usize; 4]) -> A
     let mut contents = vec![LENT_VALUE; contents];
     let mut readers = vec![LENT_MARK; readers];
     let mut writers = vec![LENT_MARK; writers];
-    let answer = run(&specification::book(), &log, &mut contents, &mut readers, &mut writers, instructions);
+    let outcome = run(&specification::book(), &log, &mut contents, &mut readers, &mut writers, instructions);
+    let answer = outcome.answer;
     if answer.number != 0 {
         assert!(contents.iter().all(|&value| value == LENT_VALUE));
         assert!(readers.iter().chain(&writers).all(|&mark| mark == LENT_MARK));
@@ -192,7 +193,7 @@ fn order_of_the_logs_refusals() {
     ];
     for (answer, line, mended) in steps {
         let log = padded(&lines.join("/"));
-        assert_eq!(run(&book, &log, &mut [], &mut [], &mut [], 0), answer);
+        assert_eq!(run(&book, &log, &mut [], &mut [], &mut [], 0).answer, answer);
         lines[line] = mended;
     }
     assert_eq!(run_of(&book, &padded(&lines.join("/"))).answer, refused(17, 0, 1));

@@ -9,7 +9,7 @@ use Rattle.engine_instruction.specs.Code.{items}
 use Rattle.engine_term.specs.Marks.{marked}
 use Rattle.engine_term.proofs.Marking.{marked-on}
 use Rattle.engine_release.specs.Steps.{all-cleared, all-reads}
-use Rattle.engine_fire.specs.Steps.{puts, put-marked, put-reads}
+use Rattle.engine_fire.specs.Steps.{puts, put-marked, put-reads, put-tally}
 use Rattle.engine_fire.proofs.Fires.{fired-is, marked-is}
 use borrow.Author.Needs.{needs}
 use Rattle.engine_fire.proofs.fire.Statement.{statement}
@@ -37,13 +37,16 @@ returns c =
     let is = items (a .list .now) (a .len) in
     let k = c .before .before .before .before .before .before .before .before .before .before .before .before .before .before .before .before .clear-released in
     let r = c .before .before .before .before .before .before .put-values in (
-      λ free. r .ensures .0 ∙ ap (puts (L B) is) (k .ensures .0) ∙ fired-is B is (a .contents .now) free,
+      r .ensures .0 ∙ ap (put-tally B is) (k .ensures .0),
       (
-        marked-on (a .bit) (all-reads B is (a .contents .now)) (put-reads (B .P) (L B) is (all-cleared B is (a .contents .now))) (a .readers .now) (k .last .1 .1 .0) (r .last .1 .1 .0)
-            (k .ensures .1 .1)
-            (r .ensures .1 .0 ∙ ap (λ (C : List ℕ). marked (a .bit) (put-reads (B .P) (L B) is C) (k .last .1 .1 .0)) (k .ensures .0)),
-        r .ensures .1 .1 ∙ ap₂ (λ (C W : List ℕ). put-marked (a .bit) (min (L B) (length C)) is W) (k .ensures .0) (k .ensures .1 .0)
-            ∙ marked-is B is (a .contents .now) (a .bit) (a .writers .now),
+        (λ free. r .ensures .1 .0 ∙ ap (puts (L B) is) (k .ensures .0) ∙ fired-is B is (a .contents .now) free),
+        (
+          marked-on (a .bit) (all-reads B is (a .contents .now)) (put-reads (B .P) (L B) is (all-cleared B is (a .contents .now))) (a .readers .now) (k .last .1 .1 .0) (r .last .1 .1 .0)
+              (k .ensures .1 .1)
+              (r .ensures .1 .1 .0 ∙ ap (λ (C : List ℕ). marked (a .bit) (put-reads (B .P) (L B) is C) (k .last .1 .1 .0)) (k .ensures .0)),
+          r .ensures .1 .1 .1 ∙ ap₂ (λ (C W : List ℕ). put-marked (a .bit) (min (L B) (length C)) is W) (k .ensures .0) (k .ensures .1 .0)
+              ∙ marked-is B is (a .contents .now) (a .bit) (a .writers .now),
+        ),
       ),
     )
 

@@ -53,8 +53,8 @@ returns-2 c =
     let high : L (low-program m) ≤ 4294967295 = omega (arith, locations-fit m) in
     let h = ltb-false (r .result) (L (low-program m)) (sym (s .before .is-location .ensures) ∙ s .if1 .left) in
     let e = clash-none m (a .contents .now) (a .list .now) (a .len) 4294967295 high (r .result) (r .ensures) h in
-    fire-settled m (a .list .now) (a .len) (a .bit) (tables (a .contents .now) (a .readers .now) (a .writers .now)) e (tables (f .last .1 .0) (f .last .1 .1 .0) (f .last .1 .1 .1 .0))
-    (f .ensures .0 e) (f .ensures .1 .0) (f .ensures .1 .1)
+    fire-settled m (a .list .now) (a .len) (a .bit) (tables (a .contents .now) (a .readers .now) (a .writers .now)) e (f .result) (f .ensures .0) (tables (f .last .1 .0) (f .last .1 .1 .0) (f .last .1 .1 .1 .0))
+    (f .ensures .1 .0 e) (f .ensures .1 .1 .0) (f .ensures .1 .1 .1)
 
 pub settle-spec : {M : Type 1} → statement M
 settle-spec =

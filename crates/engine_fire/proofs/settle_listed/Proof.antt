@@ -1,6 +1,7 @@
 -- `settle_listed` meets its contract.
 use mathlib.Core.Path.{sym, ap, ap₂, _∙_}
 use borrow.Author.Needs.{needs}
+use Rattle.engine.specs.declared.TalliedAnswer.{TalliedAnswer}
 use Rattle.engine.specs.Move.{settle}
 use Rattle.engine_fire.specs.Outcome.{move-by}
 use Rattle.engine_fire.specs.Effect.{move-answer}
@@ -33,7 +34,8 @@ returns c =
     let f = move-by (a .image .now) (a .contents .now) (a .list .now) (a .len) in
     let t = s .ensures in
     record {
-      answer = λ ls. e .0 (f ls) ∙ ap (move-answer (a .at)) (sym (t .outcome ls));
+      answer = λ ls. ap (λ (r : TalliedAnswer). r .answer) (e .0 (f ls)) ∙ ap (move-answer (a .at)) (sym (t .outcome ls));
+      tally = λ ls. ap (λ (r : TalliedAnswer). r .tally) (e .0 (f ls)) ∙ t .tally ls;
       contents = t .contents;
       readers = λ ls. e .1 (f ls) ∙ ap₂ (readers-kept (a .bit)) (sym (t .outcome ls)) (t .readers ls);
       writers = t .writers;

@@ -47,10 +47,12 @@ same-length c = search needs
 
 returns-2 : tie.Need-returns-2
 returns-2 c =
-    let a = c .before .before .before .before .before .before .before .before .before .before .before .before .before .before .before .before .args in
-    let n = c .before .before .before .before .before .before .before .before .smaller in
-    let m = c .before .before .before .before .finish-move in
-    concluded-first (a .image .now) (a .contents .now) (a .work .now) (a .p) (n .result) (n .ensures ∙ ap (λ (x : ℕ). min x (length (a .contents .now))) (c .before .before .before .before .before .before .before .before .before .locations .ensures)) (c .before .before .before .before .before .before .before .before .before .before .before .before .if1 .left) (m .result) (m .last .1 .0) (m .last .1 .1 .0) (m .last .1 .1 .1 .0) (m .ensures)
+    let a = c .before .before .before .before .before .before .before .before .before .before .before .before .before .before .before .before .before .args in
+    let n = c .before .before .before .before .before .before .before .before .before .smaller in
+    let m = c .before .before .before .before .before .finish-move in
+    concluded-first (a .image .now) (a .contents .now) (a .work .now) (a .p) (n .result)
+    (n .ensures ∙ ap (λ (x : ℕ). min x (length (a .contents .now))) (c .before .before .before .before .before .before .before .before .before .before .locations .ensures)) (c .before .before .before .before .before .before .before .before .before .before .before .before .before .if1 .left) (m .result) (m .last .1 .0)
+    (m .last .1 .1 .0) (m .last .1 .1 .1 .0) (m .ensures)
 
 pub finish-call-spec : {M : Type 1} → statement M
 finish-call-spec =

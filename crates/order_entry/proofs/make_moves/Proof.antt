@@ -50,11 +50,11 @@ use denote.Triple.Walked.{says, Stays, stay-none, stay-none-ref, stay-slice, wal
 use denote.Exit.{yes}
 use denote.Signature.{plain}
 use Rattle.text.specs.Words.{if_then_else_}
-use Rattle.text.proofs.Answer as N
-use Rattle.text.proofs.Answer.Laws as N′
 use Rattle.book.specs.Image.{low-program}
 use Rattle.engine.specs.declared.Instruction.{Instruction}
 use Rattle.engine.specs.declared.Record.{Record}
+use Rattle.engine.proofs.TalliedAnswer as N
+use Rattle.engine.proofs.TalliedAnswer.Laws as N′
 use Rattle.engine.specs.Rule.{most-instructions}
 use Rattle.engine.proofs.Record as T
 use Rattle.engine_instruction.specs.Code.{items}
@@ -158,7 +158,7 @@ module _ (m o : List ℕ) (t₀ : RunState) (C R D : List ℕ) (Y : List Record)
 
   -- the invariant of the loop
   record Good (s : Now) : Type 0 where
-    none : t₀ .more ≡ false → (answer-with (s .t .answer) (s .cs) (s .rs) (s .ws) ≡ answer-with (t₀ .answer) C R D) × (s .zs ≡ Y) × (s .t .more ≡ false)
+    none : t₀ .more ≡ false → (answer-with (s .t .result) (s .cs) (s .rs) (s .ws) ≡ answer-with (t₀ .result) C R D) × (s .zs ≡ Y) × (s .t .more ≡ false)
     so : So s
     contents : length (s .cs) ≡ length C
     readers : length (s .rs) ≡ length R
@@ -198,7 +198,7 @@ module _ (m o : List ℕ) (t₀ : RunState) (C R D : List ℕ) (Y : List Record)
   }
 
   -- what the loop leaves is what the contract says
-  ends-so : (s : Now) → Good s → s .t .more ≡ false → MovesMade m o t₀ C R D Y (s .t .answer) (s .cs) (s .rs) (s .ws) (s .zs)
+  ends-so : (s : Now) → Good s → s .t .more ≡ false → MovesMade m o t₀ C R D Y (s .t .result) (s .cs) (s .rs) (s .ws) (s .zs)
   ends-so s good off = record {
     none = λ e. (good .none e .0, good .none e .1);
     run = λ g c rest room h.
@@ -256,7 +256,7 @@ module _ {M : Type 1} (𝓤 : URA M) (H : Heap 𝓤) (A : Atoms 𝓤) (W : Given
   Fine = Good (xi .now) (xo .now) t₀ C R D Y
 
   abbrev answer-val : Now → Val
-  answer-val s = LL.tuple-val N.the-type N′.the-laws (N.the-type .to (s .t .answer))
+  answer-val s = LL.tuple-val N.the-type N′.the-laws (N.the-type .to (s .t .result))
 
   exits : (s : Now) → Fine s → s .t .more ≡ false
       → ent 𝓤 (⋆ 𝓤 H A (‵ (flft κ₀ q₀) ∷ ‵ (flft κ₁ q₁) ∷ ‵ (flft κ₂ q₂) ∷ ‵ (flft κ₃ q₃) ∷ ‵ (flft κ₄ q₄) ∷ ‵ (flft κ₅ q₅) ∷ ‵ Image ∷ ‵ Order
@@ -266,7 +266,7 @@ module _ {M : Type 1} (𝓤 : URA M) (H : Heap 𝓤) (A : Atoms 𝓤) (W : Given
       qed W (‵ (flft κ₀ q₀) ∷ ‵ (flft κ₁ q₁) ∷ ‵ (flft κ₂ q₂) ∷ ‵ (flft κ₃ q₃) ∷ ‵ (flft κ₄ q₄) ∷ ‵ (flft κ₅ q₅) ∷ ‵ Image ∷ ‵ Order
       ∷ ‵ (fobs δ₀ (codedHoleys u16 .code (heres u16 (s .cs)))) ∷ ‵ (fbor κ₀ (Held u16 (length (s .cs)) b₀ o₀ δ₀)) ∷ ‵ (fobs δ₁ (codedHoleys u64 .code (heres u64 (s .rs)))) ∷ ‵ (fbor κ₁ (Held u64 (length (s .rs)) b₁ o₁ δ₁))
       ∷ ‵ (fobs δ₂ (codedHoleys u64 .code (heres u64 (s .ws)))) ∷ ‵ (fbor κ₂ (Held u64 (length (s .ws)) b₂ o₂ δ₂)) ∷ ‵ (fobs δ₃ (codedHoleys T.the-row .code (heres T.the-row (s .zs)))) ∷ ‵ (fbor κ₃ (Held T.the-row (length (s .zs)) b₃ o₃ δ₃)) ∷ []) ∵
-      suffices ! _ (ends-at 𝓤 H A made.ended stayed (made.clauses 𝓤 H A mem run) W ((κs, qs, tt, a, vals), tt) (answer-val s) (s .t .answer) (s .cs, (s .rs, (s .ws, (s .zs, (tt, (tt, (tt, tt))))))) (good .contents, (good .readers, (good .writers, (good .records, (tt, (tt, (tt, tt)))))))) $
+      suffices ! _ (ends-at 𝓤 H A made.ended stayed (made.clauses 𝓤 H A mem run) W ((κs, qs, tt, a, vals), tt) (answer-val s) (s .t .result) (s .cs, (s .rs, (s .ws, (s .zs, (tt, (tt, (tt, tt))))))) (good .contents, (good .readers, (good .writers, (good .records, (tt, (tt, (tt, tt)))))))) $
       says ! (ends-so (xi .now) (xo .now) t₀ C R D Y s good off) $
       nothing ! $ move ! (6 ∷ 0 ∷ []) $ join ! $ move ! (5 ∷ 0 ∷ []) $ join ! $ move ! (4 ∷ 0 ∷ []) $ join ! $ move ! (3 ∷ 0 ∷ []) $ join ! $ move ! (2 ∷ 0 ∷ []) $ join ! $ move ! (1 ∷ 0 ∷ []) $ join ! $ frame ! $
       -- [image; order; the contents' two; the readers'; the writers'; the list's]
@@ -275,7 +275,7 @@ module _ {M : Type 1} (𝓤 : URA M) (H : Heap 𝓤) (A : Atoms 𝓤) (W : Given
       move ! (5 ∷ 6 ∷ []) $ fjoin ! $ pureI ! (at-slice u64 (ref-at u64 b₂ o₂ δ₂ (s .ws)) (sw ∷ [])) (tt, (tt, tt)) (ap (λ (j : ℕ). sliceVal (b₂, o₂) j ∷ []) (sym (good .writers)), subst (Room u64) (sym (good .writers)) room-w) $ fjoin ! $ fjoin ! $
       move ! (3 ∷ 4 ∷ []) $ fjoin ! $ pureI ! (at-slice u64 (ref-at u64 b₁ o₁ δ₁ (s .rs)) (sr ∷ [])) (tt, (tt, tt)) (ap (λ (j : ℕ). sliceVal (b₁, o₁) j ∷ []) (sym (good .readers)), subst (Room u64) (sym (good .readers)) room-r) $ fjoin ! $ fjoin ! $
       move ! (1 ∷ 2 ∷ []) $ fjoin ! $ pureI ! (at-slice u16 (ref-at u16 b₀ o₀ δ₀ (s .cs)) (sc ∷ [])) (tt, (tt, tt)) (ap (λ (j : ℕ). sliceVal (b₀, o₀) j ∷ []) (sym (good .contents)), subst (Room u16) (sym (good .contents)) room-c) $ fjoin ! $ fjoin ! $ frame ! $
-      owned ! N.the-row (Is N.the-row) (LL.makes N.the-type N′.the-plain 𝓤 H A) (s .t .answer) _ (LL.owed G.the-type G′.the-laws (s .t) _ (good .is) .1 .1 .1 .0) $ done !
+      owned ! N.the-row (Is N.the-row) (LL.makes N.the-type N′.the-plain 𝓤 H A) (s .t .result) _ (LL.owed G.the-type G′.the-laws (s .t) _ (good .is) .1 .1 .1 .0) $ done !
 
   -- what each callee's triple binds outside, and that the caller has what it asks; the numbers lie at j
   abbrev BeginArg : Type 0
@@ -458,7 +458,7 @@ module _ {M : Type 1} (𝓤 : URA M) (H : Heap 𝓤) (A : Atoms 𝓤) (W : Given
         let fields = LL.owed G.the-type G′.the-laws (s .t) _ (good .is) in
         assigns ! (of-opd ! (load ! (from ! (fld ! refl (stop !))) (look-in ! 5 (sub ! 0 refl (whole !))))) (from ! (stop !)) (init ! 8 refl (tt, tt)) $ rewrite ! 8 (λ (v : Bool). ‵ (fat fullShare tyBool l₁₂ 0 (vbool v))) off refl $
         leaves-loop ! (load ! (from ! (stop !)) (look ! 8 refl)) $ exec ! C′ Λ En mir.t-4 (atRet En Post) $
-        assigns ! (of-opd ! (load ! (from ! (fld ! refl (stop !))) (look-in ! 5 (sub ! 3 refl (whole !))))) (from ! (stop !)) (init ! 33 refl (LL.lawful N.the-type N′.the-laws 𝓤 H A W .typed (s .t .answer) _ (fields .1 .1 .1 .0) .0)) $
+        assigns ! (of-opd ! (load ! (from ! (fld ! refl (stop !))) (look-in ! 5 (sub ! 3 refl (whole !))))) (from ! (stop !)) (init ! 33 refl (LL.lawful N.the-type N′.the-laws 𝓤 H A W .typed (s .t .result) _ (fields .1 .1 .1 .0) .0)) $
         move ! (34 ∷ []) $ fsplit ! $ move ! (1 ∷ []) $ fsplit ! $ move ! (3 ∷ 2 ∷ 0 ∷ 1 ∷ []) $ closes-slice ! tt u16 C (s .cs) (good .contents) b₀ o₀ $
         move ! (36 ∷ []) $ fsplit ! $ move ! (1 ∷ []) $ fsplit ! $ move ! (6 ∷ 2 ∷ 0 ∷ 1 ∷ []) $ closes-slice ! tt u64 R (s .rs) (good .readers) b₁ o₁ $
         move ! (38 ∷ []) $ fsplit ! $ move ! (1 ∷ []) $ fsplit ! $ move ! (9 ∷ 2 ∷ 0 ∷ 1 ∷ []) $ closes-slice ! tt u64 D (s .ws) (good .writers) b₂ o₂ $

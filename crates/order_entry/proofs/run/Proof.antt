@@ -46,16 +46,17 @@ use denote.Triple.Walked.{says, Stays, stay-none-slice, stay-slice, walkOf, goes
 use denote.Exit.{yes}
 use denote.Signature.{plain}
 use Rattle.text.specs.Words.{if_then_else_}
-use Rattle.text.specs.declared.Answer.{Answer}
-use Rattle.text.proofs.Answer as N
-use Rattle.text.proofs.Answer.Laws as N′
 use Rattle.engine.specs.declared.Instruction.{Instruction}
 use Rattle.engine.specs.declared.Record.{Record}
+use Rattle.engine.specs.declared.TalliedAnswer.{TalliedAnswer}
+use Rattle.engine.proofs.TalliedAnswer as N
+use Rattle.engine.proofs.TalliedAnswer.Laws as N′
 use Rattle.engine.proofs.Record as T
 use Rattle.order.specs.Run.{LogAnswer}
 use Rattle.order.specs.Call.{log-call}
 use Rattle.order.specs.Lists.{call-lists}
 use Rattle.order.proofs.Claim.{demand3}
+use Rattle.order.proofs.Tallied.{tallied}
 use Rattle.engine_list.specs.Written.{all-records-written}
 use Rattle.engine_list.proofs.Lending.{ref-at, LentMut, lend-mut, mut-back}
 use Rattle.engine_list.proofs.Arrays.{array-at, LentArray, fresh-typed, begins, over, lend-array, array-back, share-array}
@@ -106,7 +107,7 @@ record Opened : Type 0 where
   t : RunState
 
 -- what `run_from` says
-abbrev Goes : List ℕ → List ℕ → RunState → List ℕ → List ℕ → List ℕ → List Record → Answer → List ℕ → List ℕ → List ℕ → List Record → Type 0
+abbrev Goes : List ℕ → List ℕ → RunState → List ℕ → List ℕ → List ℕ → List Record → TalliedAnswer → List ℕ → List ℕ → List ℕ → List Record → Type 0
 Goes m o t cs rs ws ys r cs′ rs′ ws′ zs =
     (lent : Tables′) (whole : LogAnswer) (rest : List (List Instruction)) → CallAt lent (length ys) whole m o rest t cs rs ws → (answer-with r cs′ rs′ ws′ ≡ whole) × (zs ≡ all-records-written rest ys)
 
@@ -164,7 +165,7 @@ module _ {M : Type 1} (𝓤 : URA M) (H : Heap 𝓤) (A : Atoms 𝓤) (W : Given
   abbrev Log′ : Fml
   Log′ = ShrSlice (named 1) κ₁ u8 .own xg (sg ∷ [])
 
-  exits : (r : Answer) (w : Val) → Is N.the-row r (w ∷ []) → (cs rs ws : List ℕ) (zs : List Record) → length cs ≡ length C → length rs ≡ length R → length ws ≡ length D → length zs ≡ n
+  exits : (r : TalliedAnswer) (w : Val) → Is N.the-row r (w ∷ []) → (cs rs ws : List ℕ) (zs : List Record) → length cs ≡ length C → length rs ≡ length R → length ws ≡ length D → length zs ≡ n
       → (answer-with r cs rs ws ≡ log-call (xb .now) (xg .now) lent n) × (zs ≡ all-records-written lists Y)
       → ent 𝓤 (⋆ 𝓤 H A (‵ (flft κ₀ q₀) ∷ ‵ (flft κ₁ q₁) ∷ ‵ (flft κ₂ q₂) ∷ ‵ (flft κ₃ q₃) ∷ ‵ (flft κ₄ q₄) ∷ ‵ (flft κ₅ q₅) ∷ ‵ Program ∷ ‵ Log′
       ∷ ‵ (fobs δ₂ (codedHoleys u16 .code (heres u16 cs))) ∷ ‵ (fbor κ₂ (Held u16 (length cs) b₂ o₂ δ₂)) ∷ ‵ (fobs δ₃ (codedHoleys u64 .code (heres u64 rs))) ∷ ‵ (fbor κ₃ (Held u64 (length rs) b₃ o₃ δ₃))
@@ -174,7 +175,7 @@ module _ {M : Type 1} (𝓤 : URA M) (H : Heap 𝓤) (A : Atoms 𝓤) (W : Given
       ∷ ‵ (fobs δ₂ (codedHoleys u16 .code (heres u16 cs))) ∷ ‵ (fbor κ₂ (Held u16 (length cs) b₂ o₂ δ₂)) ∷ ‵ (fobs δ₃ (codedHoleys u64 .code (heres u64 rs))) ∷ ‵ (fbor κ₃ (Held u64 (length rs) b₃ o₃ δ₃))
       ∷ ‵ (fobs δ₄ (codedHoleys u64 .code (heres u64 ws))) ∷ ‵ (fbor κ₄ (Held u64 (length ws) b₄ o₄ δ₄)) ∷ ‵ (fobs δ₅ (codedHoleys T.the-row .code (heres T.the-row zs))) ∷ ‵ (fbor κ₅ (Held T.the-row (length zs) b₅ o₅ δ₅)) ∷ []) ∵
       suffices ! _ (ends-at 𝓤 H A run′.ended stayed (run′.clauses 𝓤 H A mem run) W ((κs, qs, tt, a, vals), tt) w r (tt, (tt, (cs, (rs, (ws, (zs, tt)))))) (tt, (tt, (lc, (lr, (lw, (ll, tt))))))) $
-      says ! (record { answer = said .0; written = said .1; demand3 = demand3 (xb .now) (xg .now) lent n }) $
+      says ! (record { answer = said .0; written = said .1; demand3 = demand3 (xb .now) (xg .now) lent n; tallied = tallied (xb .now) (xg .now) lent n }) $
       nothing ! $ move ! (6 ∷ 0 ∷ []) $ join ! $ move ! (5 ∷ 0 ∷ []) $ join ! $ move ! (4 ∷ 0 ∷ []) $ join ! $ move ! (3 ∷ 0 ∷ []) $ join ! $ move ! (2 ∷ 0 ∷ []) $ join ! $ move ! (1 ∷ 0 ∷ []) $ join ! $ frame ! $
       -- [book; log; the contents' two; the readers'; the writers'; the list's]
       move ! (8 ∷ 9 ∷ []) $ fjoin ! $ pureI ! (at-slice T.the-row (ref-at T.the-row b₅ o₅ δ₅ zs) (sl ∷ [])) (tt, (tt, tt)) (ap (λ (j : ℕ). sliceVal (b₅, o₅) j ∷ []) (sym ll), subst (Room T.the-row) (sym ll) room-l) $ fjoin ! $
@@ -294,7 +295,7 @@ module _ {M : Type 1} (𝓤 : URA M) (H : Heap 𝓤) (A : Atoms 𝓤) (W : Given
       nothing ! $ move ! (3 ∷ 0 ∷ []) $ join ! $ move ! (5 ∷ 0 ∷ []) $ join ! $ move ! (7 ∷ 0 ∷ []) $ join ! $ move ! (9 ∷ 0 ∷ []) $ join ! $ move ! (11 ∷ 0 ∷ []) $ join ! $ move ! (13 ∷ 0 ∷ []) $ join ! $ nothing ! $ owned ! G.the-row (Is G.the-row) (LL.makes G.the-type G′.the-plain 𝓤 H A) t _ (is-turn t w₁ ist) $ fjoin ! $ move ! (2 ∷ 0 ∷ []) $ fjoin ! $ move ! (3 ∷ 0 ∷ []) $ fjoin ! $ move ! (4 ∷ 0 ∷ []) $ fjoin ! $ move ! (5 ∷ 0 ∷ []) $ fjoin ! $ move ! (6 ∷ 0 ∷ []) $ fjoin ! $ move ! (7 ∷ 0 ∷ []) $ fjoin ! $
       move ! (1 ∷ 0 ∷ []) $ use2 W (raw (Go 𝓤 H A mem run .pre (to-go ν₅ ν₆ ν₇ ν₈ ν₉ ν₁₀ γ₅ γ₆ γ₇ γ₈ γ₉ γ₁₀ l₈ l₉ (record { cs = (os .1 .1 .0); rs = (os .1 .1 .1 .0); ws = (os .1 .1 .1 .1 .0); mi = (os .1 .1 .1 .1 .1 .1 .0); od = (os .1 .1 .1 .1 .1 .1 .1 .0); t = t })))) (asked-go ν₅ ν₆ ν₇ ν₈ ν₉ ν₁₀ γ₅ γ₆ γ₇ γ₈ γ₉ γ₁₀ l₈ l₉ (record { cs = (os .1 .1 .0); rs = (os .1 .1 .1 .0); ws = (os .1 .1 .1 .1 .0); mi = (os .1 .1 .1 .1 .1 .1 .0); od = (os .1 .1 .1 .1 .1 .1 .1 .0); t = t })) $
       calls-at ! fm (Go 𝓤 H A mem run) known-go (to-go ν₅ ν₆ ν₇ ν₈ ν₉ ν₁₀ γ₅ γ₆ γ₇ γ₈ γ₉ γ₁₀ l₈ l₉ (record { cs = (os .1 .1 .0); rs = (os .1 .1 .1 .0); ws = (os .1 .1 .1 .1 .0); mi = (os .1 .1 .1 .1 .1 .1 .0); od = (os .1 .1 .1 .1 .1 .1 .1 .0); t = t })) (and-then ! (load ! (from ! (stop !)) (look ! 31 refl)) (and-then ! (load ! (from ! (stop !)) (look ! 27 refl)) (and-then ! (load ! (from ! (stop !)) (look ! 23 refl)) (and-then ! (load ! (from ! (stop !)) (look ! 19 refl)) (and-then ! (load ! (from ! (stop !)) (look ! 17 refl)) (and-then ! (load ! (from ! (stop !)) (look ! 15 refl)) (and-then ! (load ! (from ! (stop !)) (look ! 51 refl)) (no-more !)))))))) (λ w₂.
-      use1 W (later (some (λ (r : Answer). ((‵ (flft (ν₅ ∷ []) fullShare) ⊛ ‵ (flft (ν₆ ∷ []) fullShare) ⊛ ‵ (flft (ν₇ ∷ []) fullShare) ⊛ ‵ (flft (ν₈ ∷ []) fullShare) ⊛ ‵ (flft (ν₉ ∷ []) fullShare) ⊛ ‵ (flft (ν₁₀ ∷ []) fullShare) ⊛ ‵ ftrue) ⊛ ‵ (N.the-row .own r (w₂ ∷ []))) ⊛ raw (ensured 𝓤 H A go.ended (go.clauses 𝓤 H A mem run) (go-lfts ν₅ ν₆ ν₇ ν₈ ν₉ ν₁₀) (go-a γ₅ γ₆ γ₇ γ₈ γ₉ γ₁₀ l₈ l₉ (record { cs = (os .1 .1 .0); rs = (os .1 .1 .1 .0); ws = (os .1 .1 .1 .1 .0); mi = (os .1 .1 .1 .1 .1 .1 .0); od = (os .1 .1 .1 .1 .1 .1 .1 .0); t = t })) tt r)))) (id⊢ 𝓤 _) $ await ! tt $ pick ! (λ r. split ! $ move ! (1 ∷ []) $ use1 W (some (λ (gs : List ℕ × (List ℕ × (List ℕ × (List Record × (Unit {0} × (Unit {0} × (Unit {0} × Unit {0}))))))). ‵ (lasts go.ended (go-lfts ν₅ ν₆ ν₇ ν₈ ν₉ ν₁₀) (go-a γ₅ γ₆ γ₇ γ₈ γ₉ γ₁₀ l₈ l₉ (record { cs = (os .1 .1 .0); rs = (os .1 .1 .1 .0); ws = (os .1 .1 .1 .1 .0); mi = (os .1 .1 .1 .1 .1 .1 .0); od = (os .1 .1 .1 .1 .1 .1 .1 .0); t = t })) gs) ⊛ raw (fact 𝓤 (Goes (os .1 .1 .1 .1 .1 .1 .0) (os .1 .1 .1 .1 .1 .1 .1 .0) t (os .1 .1 .0) (os .1 .1 .1 .0) (os .1 .1 .1 .1 .0) Y r (gs .0) (gs .1 .0) (gs .1 .1 .0) (gs .1 .1 .1 .0))))) (id⊢ 𝓤 _) $ pick ! (λ gs. split ! $ move ! (1 ∷ []) $ heard ! (Goes (os .1 .1 .1 .1 .1 .1 .0) (os .1 .1 .1 .1 .1 .1 .1 .0) t (os .1 .1 .0) (os .1 .1 .1 .0) (os .1 .1 .1 .1 .0) Y r (gs .0) (gs .1 .0) (gs .1 .1 .0) (gs .1 .1 .1 .0)) (λ e₂.
+      use1 W (later (some (λ (r : TalliedAnswer). ((‵ (flft (ν₅ ∷ []) fullShare) ⊛ ‵ (flft (ν₆ ∷ []) fullShare) ⊛ ‵ (flft (ν₇ ∷ []) fullShare) ⊛ ‵ (flft (ν₈ ∷ []) fullShare) ⊛ ‵ (flft (ν₉ ∷ []) fullShare) ⊛ ‵ (flft (ν₁₀ ∷ []) fullShare) ⊛ ‵ ftrue) ⊛ ‵ (N.the-row .own r (w₂ ∷ []))) ⊛ raw (ensured 𝓤 H A go.ended (go.clauses 𝓤 H A mem run) (go-lfts ν₅ ν₆ ν₇ ν₈ ν₉ ν₁₀) (go-a γ₅ γ₆ γ₇ γ₈ γ₉ γ₁₀ l₈ l₉ (record { cs = (os .1 .1 .0); rs = (os .1 .1 .1 .0); ws = (os .1 .1 .1 .1 .0); mi = (os .1 .1 .1 .1 .1 .1 .0); od = (os .1 .1 .1 .1 .1 .1 .1 .0); t = t })) tt r)))) (id⊢ 𝓤 _) $ await ! tt $ pick ! (λ r. split ! $ move ! (1 ∷ []) $ use1 W (some (λ (gs : List ℕ × (List ℕ × (List ℕ × (List Record × (Unit {0} × (Unit {0} × (Unit {0} × Unit {0}))))))). ‵ (lasts go.ended (go-lfts ν₅ ν₆ ν₇ ν₈ ν₉ ν₁₀) (go-a γ₅ γ₆ γ₇ γ₈ γ₉ γ₁₀ l₈ l₉ (record { cs = (os .1 .1 .0); rs = (os .1 .1 .1 .0); ws = (os .1 .1 .1 .1 .0); mi = (os .1 .1 .1 .1 .1 .1 .0); od = (os .1 .1 .1 .1 .1 .1 .1 .0); t = t })) gs) ⊛ raw (fact 𝓤 (Goes (os .1 .1 .1 .1 .1 .1 .0) (os .1 .1 .1 .1 .1 .1 .1 .0) t (os .1 .1 .0) (os .1 .1 .1 .0) (os .1 .1 .1 .1 .0) Y r (gs .0) (gs .1 .0) (gs .1 .1 .0) (gs .1 .1 .1 .0))))) (id⊢ 𝓤 _) $ pick ! (λ gs. split ! $ move ! (1 ∷ []) $ heard ! (Goes (os .1 .1 .1 .1 .1 .1 .0) (os .1 .1 .1 .1 .1 .1 .1 .0) t (os .1 .1 .0) (os .1 .1 .1 .0) (os .1 .1 .1 .1 .0) Y r (gs .0) (gs .1 .0) (gs .1 .1 .0) (gs .1 .1 .1 .0)) (λ e₂.
       fsplit ! $ fsplit ! $ move ! (1 ∷ []) $ feqL ! (λ lc. move ! (1 ∷ []) $ fsplit ! $ fsplit ! $ move ! (1 ∷ []) $ feqL ! (λ lr. move ! (1 ∷ []) $ fsplit ! $ fsplit ! $ move ! (1 ∷ []) $ feqL ! (λ lw. move ! (1 ∷ []) $ fsplit ! $ fsplit ! $ move ! (1 ∷ []) $ feqL ! (λ ll. move ! (1 ∷ []) $ fsplit ! $ drop ! $ fsplit ! $ drop ! $ fsplit ! $ drop ! $ drop ! $
       move ! (4 ∷ []) $ split ! $ move ! (1 ∷ []) $ peeks ! N.the-row (Is N.the-row) (shows 𝓤 H A N.the-row) r (w₂ ∷ []) (λ isr.
       land ! (from ! (stop !)) (init ! 74 refl (LL.lawful N.the-type N′.the-laws 𝓤 H A W .typed r _ isr .0)) $

@@ -48,12 +48,12 @@ use denote.Triple.Table.{entered, cited}
 use denote.Triple.Walked.{says, Stays, stay-none, stay-none-ref, stay-slice, gave-slice, walkOf, goes-none, goes-none-ref, goes-slice, goes-gave-slice, Walks, ends-at, walked, walk-meets}
 use denote.Exit.{yes}
 use denote.Signature.{plain}
-use Rattle.text.specs.declared.Answer.{Answer}
-use Rattle.text.proofs.Answer as N
-use Rattle.text.proofs.Answer.Laws as N′
 use Rattle.book.specs.Image.{word}
 use Rattle.engine.specs.declared.Instruction.{Instruction}
 use Rattle.engine.specs.declared.Record.{Record}
+use Rattle.engine.specs.declared.TalliedAnswer.{TalliedAnswer}
+use Rattle.engine.proofs.TalliedAnswer as N
+use Rattle.engine.proofs.TalliedAnswer.Laws as N′
 use Rattle.engine.proofs.Record as T
 use Rattle.order.specs.Run.{LogAnswer}
 use Rattle.engine_list.specs.Written.{all-records-written}
@@ -97,7 +97,7 @@ mach t = LL.tuple-val G.the-type G′.the-laws (G.the-type .to t)
 unchanged : (k : ℕ) (C d : List ℕ) → d ≡ take k C → d ++ rest-from k C ≡ C
 unchanged k C d e = ap (λ (y : List ℕ). y ++ rest-from k C) e ∙ take-append-drop k C
 
-module _ (m o : List ℕ) (t : RunState) (C R D : List ℕ) (Y : List Record) (k : ℕ) (r : Answer) (cs rs ws : List ℕ) (zs : List Record) where
+module _ (m o : List ℕ) (t : RunState) (C R D : List ℕ) (Y : List Record) (k : ℕ) (r : TalliedAnswer) (cs rs ws : List ℕ) (zs : List Record) where
   -- what `make_moves` says on the first k records, with the others, is what the contract says
   of-all-records : MovesMade m o t (take k C) (take k R) (take k D) Y r cs rs ws zs → k ≡ min (word m 6) (min (length C) (min (length R) (length D))) → length cs ≡ length (take k C) → length rs ≡ length (take k R) → length ws ≡ length (take k D)
       → (lent : Tables′) (whole : LogAnswer) (rest : List (List Instruction)) → CallAt lent (length Y) whole m o rest t C R D
@@ -109,8 +109,9 @@ module _ (m o : List ℕ) (t : RunState) (C R D : List ℕ) (Y : List Record) (k
       by-turn false y =
           let q = said .none y in
           let e = h .over y in
-          let same : answer-with r (cs ++ rest-from k C) (rs ++ rest-from k R) (ws ++ rest-from k D) ≡ answer-with (t .answer) C R D = rw (
+          let same : answer-with r (cs ++ rest-from k C) (rs ++ rest-from k R) (ws ++ rest-from k D) ≡ answer-with (t .result) C R D = rw (
             ap (λ (v : LogAnswer). v .answer) (q .0),
+            ap (λ (v : LogAnswer). v .tally) (q .0),
             unchanged k C cs (ap (λ (v : LogAnswer). v .contents) (q .0)),
             unchanged k R rs (ap (λ (v : LogAnswer). v .readers) (q .0)),
             unchanged k D ws (ap (λ (v : LogAnswer). v .writers) (q .0)),
@@ -162,13 +163,13 @@ module _ {M : Type 1} (𝓤 : URA M) (H : Heap 𝓤) (A : Atoms 𝓤) (W : Given
   abbrev Order : Fml
   Order = ShrRef (named 5) κ₅ (Array u64 512) .own xo (so ∷ [])
 
-  abbrev Said : ℕ → Answer → List ℕ → List ℕ → List ℕ → List Record → Type 0
+  abbrev Said : ℕ → TalliedAnswer → List ℕ → List ℕ → List ℕ → List Record → Type 0
   Said k = MovesMade (xi .now) (xo .now) t (take k C) (take k R) (take k D) (xl .now)
 
   abbrev Least : ℕ → Type 0
   Least k = k ≡ min (word (xi .now) 6) (min (length C) (min (length R) (length D)))
 
-  exits : (r : Answer) (w : Val) → Is N.the-row r (w ∷ []) → (cs rs ws : List ℕ) (zs : List Record) → length cs ≡ length C → length rs ≡ length R → length ws ≡ length D → length zs ≡ length (xl .now)
+  exits : (r : TalliedAnswer) (w : Val) → Is N.the-row r (w ∷ []) → (cs rs ws : List ℕ) (zs : List Record) → length cs ≡ length C → length rs ≡ length R → length ws ≡ length D → length zs ≡ length (xl .now)
       → ((lent : Tables′) (whole : LogAnswer) (rest : List (List Instruction)) → CallAt lent (length (xl .now)) whole (xi .now) (xo .now) rest t C R D → (answer-with r cs rs ws ≡ whole) × (zs ≡ all-records-written rest (xl .now)))
       → ent 𝓤 (⋆ 𝓤 H A (‵ (flft κ₀ q₀) ∷ ‵ (flft κ₁ q₁) ∷ ‵ (flft κ₂ q₂) ∷ ‵ (flft κ₃ q₃) ∷ ‵ (flft κ₄ q₄) ∷ ‵ (flft κ₅ q₅) ∷ ‵ Image ∷ ‵ Order
       ∷ ‵ (fobs δ₀ (codedHoleys u16 .code (heres u16 cs))) ∷ ‵ (fbor κ₀ (Held u16 (length cs) b₀ o₀ δ₀)) ∷ ‵ (fobs δ₁ (codedHoleys u64 .code (heres u64 rs))) ∷ ‵ (fbor κ₁ (Held u64 (length rs) b₁ o₁ δ₁))
@@ -264,7 +265,7 @@ module _ {M : Type 1} (𝓤 : URA M) (H : Heap 𝓤) (A : Atoms 𝓤) (W : Given
       nothing ! $ move ! (20 ∷ 0 ∷ []) $ join ! $ move ! (14 ∷ 0 ∷ []) $ join ! $ move ! (19 ∷ 0 ∷ []) $ join ! $ move ! (7 ∷ 0 ∷ []) $ join ! $ move ! (9 ∷ 0 ∷ []) $ join ! $ move ! (11 ∷ 0 ∷ []) $ join ! $ nothing ! $ owned ! G.the-row (Is G.the-row) (LL.makes G.the-type G′.the-plain 𝓤 H A) t _ is-t $ fjoin ! $ move ! (2 ∷ 0 ∷ []) $ fjoin ! $ move ! (3 ∷ 0 ∷ []) $ fjoin ! $ move ! (14 ∷ 0 ∷ []) $ fjoin ! $ move ! (4 ∷ 0 ∷ []) $ fjoin ! $ move ! (5 ∷ 0 ∷ []) $ fjoin ! $ move ! (6 ∷ 0 ∷ []) $ fjoin ! $
       move ! (1 ∷ 0 ∷ []) $ use2 W (raw (Make 𝓤 H A mem run .pre (to-make ν₀ ν₁ ν₂ γ₀ γ₁ γ₂ k))) (asked-make ν₀ ν₁ ν₂ γ₀ γ₁ γ₂ k) $
       calls-at ! fm (Make 𝓤 H A mem run) known-make (to-make ν₀ ν₁ ν₂ γ₀ γ₁ γ₂ k) (and-then ! (load ! (from ! (stop !)) (look ! 22 refl)) (and-then ! (load ! (from ! (stop !)) (look ! 18 refl)) (and-then ! (load ! (from ! (stop !)) (look ! 14 refl)) (and-then ! (load ! (from ! (stop !)) (look ! 10 refl)) (and-then ! (load ! (from ! (stop !)) (look ! 38 refl)) (and-then ! (load ! (from ! (stop !)) (look ! 36 refl)) (and-then ! (load ! (from ! (stop !)) (look ! 34 refl)) (no-more !)))))))) (λ w₁.
-      use1 W (later (some (λ (r : Answer). ((‵ (flft (ν₀ ∷ []) fullShare) ⊛ ‵ (flft (ν₁ ∷ []) fullShare) ⊛ ‵ (flft (ν₂ ∷ []) fullShare) ⊛ ‵ (flft κ₃ q₃) ⊛ ‵ (flft κ₄ q₄) ⊛ ‵ (flft κ₅ q₅) ⊛ ‵ ftrue) ⊛ ‵ (N.the-row .own r (w₁ ∷ []))) ⊛ raw (ensured 𝓤 H A make.ended (make.clauses 𝓤 H A mem run) (make-lfts ν₀ ν₁ ν₂) (make-a γ₀ γ₁ γ₂ k) tt r)))) (id⊢ 𝓤 _) $ await ! tt $ pick ! (λ r. split ! $ move ! (1 ∷ []) $ use1 W (some (λ (zs : List ℕ × (List ℕ × (List ℕ × (List Record × (Unit {0} × (Unit {0} × (Unit {0} × Unit {0}))))))). ‵ (lasts make.ended (make-lfts ν₀ ν₁ ν₂) (make-a γ₀ γ₁ γ₂ k) zs) ⊛ raw (fact 𝓤 (Said k r (zs .0) (zs .1 .0) (zs .1 .1 .0) (zs .1 .1 .1 .0))))) (id⊢ 𝓤 _) $ pick ! (λ zs. split ! $ move ! (1 ∷ []) $ heard ! (Said k r (zs .0) (zs .1 .0) (zs .1 .1 .0) (zs .1 .1 .1 .0)) (λ said.
+      use1 W (later (some (λ (r : TalliedAnswer). ((‵ (flft (ν₀ ∷ []) fullShare) ⊛ ‵ (flft (ν₁ ∷ []) fullShare) ⊛ ‵ (flft (ν₂ ∷ []) fullShare) ⊛ ‵ (flft κ₃ q₃) ⊛ ‵ (flft κ₄ q₄) ⊛ ‵ (flft κ₅ q₅) ⊛ ‵ ftrue) ⊛ ‵ (N.the-row .own r (w₁ ∷ []))) ⊛ raw (ensured 𝓤 H A make.ended (make.clauses 𝓤 H A mem run) (make-lfts ν₀ ν₁ ν₂) (make-a γ₀ γ₁ γ₂ k) tt r)))) (id⊢ 𝓤 _) $ await ! tt $ pick ! (λ r. split ! $ move ! (1 ∷ []) $ use1 W (some (λ (zs : List ℕ × (List ℕ × (List ℕ × (List Record × (Unit {0} × (Unit {0} × (Unit {0} × Unit {0}))))))). ‵ (lasts make.ended (make-lfts ν₀ ν₁ ν₂) (make-a γ₀ γ₁ γ₂ k) zs) ⊛ raw (fact 𝓤 (Said k r (zs .0) (zs .1 .0) (zs .1 .1 .0) (zs .1 .1 .1 .0))))) (id⊢ 𝓤 _) $ pick ! (λ zs. split ! $ move ! (1 ∷ []) $ heard ! (Said k r (zs .0) (zs .1 .0) (zs .1 .1 .0) (zs .1 .1 .1 .0)) (λ said.
       fsplit ! $ fsplit ! $ move ! (1 ∷ []) $ feqL ! (λ lc. move ! (1 ∷ []) $ fsplit ! $ fsplit ! $ move ! (1 ∷ []) $ feqL ! (λ lr. move ! (1 ∷ []) $ fsplit ! $ fsplit ! $ move ! (1 ∷ []) $ feqL ! (λ lw. move ! (1 ∷ []) $ fsplit ! $ fsplit ! $ move ! (1 ∷ []) $ feqL ! (λ ll. move ! (1 ∷ []) $ fsplit ! $ drop ! $ fsplit ! $ drop ! $ fsplit ! $ drop ! $ drop ! $
       move ! (4 ∷ []) $ split ! $ move ! (1 ∷ []) $ peeks ! N.the-row (Is N.the-row) (shows 𝓤 H A N.the-row) r (w₁ ∷ []) (λ is-r.
       land ! (from ! (stop !)) (init ! 53 refl (LL.lawful N.the-type N′.the-laws 𝓤 H A W .typed r _ is-r .0)) $

@@ -42,10 +42,10 @@ use denote.Triple.Table.{entered, cited}
 use denote.Triple.Walked.{says, Stays, stay-none, stay-none-ref, gave-slice, walkOf, goes-none, goes-none-ref, goes-gave-slice, Walks, ends-at, walked, walk-meets}
 use denote.Exit.{yes}
 use denote.Signature.{plain}
-use Rattle.text.specs.declared.Answer.{Answer}
-use Rattle.text.proofs.Answer as N
-use Rattle.text.proofs.Answer.Laws as N′
 use Rattle.engine.specs.declared.Record.{Record}
+use Rattle.engine.specs.declared.TalliedAnswer.{TalliedAnswer}
+use Rattle.engine.proofs.TalliedAnswer as N
+use Rattle.engine.proofs.TalliedAnswer.Laws as N′
 use Rattle.engine.proofs.Record as T
 use Rattle.engine.proofs.Record.Laws as T′
 use Rattle.engine.specs.declared.Instruction.{Instruction}
@@ -129,7 +129,7 @@ module _ {M : Type 1} (𝓤 : URA M) (H : Heap 𝓤) (A : Atoms 𝓤) (W : Given
   Order = ShrRef (named 4) κ₄ (Array u64 512) .own xo (so ∷ [])
 
   -- what `order_entry::run_from` says
-  abbrev Said : List Record → Answer → List ℕ → List ℕ → List ℕ → List Record → Type 0
+  abbrev Said : List Record → TalliedAnswer → List ℕ → List ℕ → List ℕ → List Record → Type 0
   Said ys r cs rs ws zs = (lent : Tables′) (whole : LogAnswer) (rest : List (List Instruction)) → CallAt lent (length ys) whole (xi .now) (xo .now) rest t (xc .now) (xr .now) (xw .now) → (answer-with r cs rs ws ≡ whole) × (zs ≡ all-records-written rest ys)
 
   -- how many records are lent
@@ -139,7 +139,7 @@ module _ {M : Type 1} (𝓤 : URA M) (H : Heap 𝓤) (A : Atoms 𝓤) (W : Given
   few : m ≤ 256
   few = min-le-right n 256
 
-  exits : (ys : List Record) (r : Answer) (w : Val) → Is N.the-row r (w ∷ []) → (cs rs ws : List ℕ) (zs : List Record) → Said ys r cs rs ws zs → length ys ≡ m → length cs ≡ length (xc .now) → length rs ≡ length (xr .now) → length ws ≡ length (xw .now)
+  exits : (ys : List Record) (r : TalliedAnswer) (w : Val) → Is N.the-row r (w ∷ []) → (cs rs ws : List ℕ) (zs : List Record) → Said ys r cs rs ws zs → length ys ≡ m → length cs ≡ length (xc .now) → length rs ≡ length (xr .now) → length ws ≡ length (xw .now)
       → ent 𝓤 (⋆ 𝓤 H A (‵ (flft κ₀ q₀) ∷ ‵ (flft κ₁ q₁) ∷ ‵ (flft κ₂ q₂) ∷ ‵ (flft κ₃ q₃) ∷ ‵ (flft κ₄ q₄) ∷ ‵ Image ∷ ‵ Order ∷ ‵ (finally u16 (xc .name) cs) ∷ ‵ (finally u64 (xr .name) rs) ∷ ‵ (finally u64 (xw .name) ws) ∷ [])) (Post w)
   exits ys r w is cs rs ws zs said l lc lr lw =
       qed W (‵ (flft κ₀ q₀) ∷ ‵ (flft κ₁ q₁) ∷ ‵ (flft κ₂ q₂) ∷ ‵ (flft κ₃ q₃) ∷ ‵ (flft κ₄ q₄) ∷ ‵ Image ∷ ‵ Order ∷ ‵ (finally u16 (xc .name) cs) ∷ ‵ (finally u64 (xr .name) rs) ∷ ‵ (finally u64 (xw .name) ws) ∷ []) ∵
@@ -202,7 +202,7 @@ module _ {M : Type 1} (𝓤 : URA M) (H : Heap 𝓤) (A : Atoms 𝓤) (W : Given
       nothing ! $ move ! (13 ∷ 0 ∷ []) $ join ! $ move ! (13 ∷ 0 ∷ []) $ join ! $ move ! (7 ∷ 0 ∷ []) $ join ! $ move ! (12 ∷ 0 ∷ []) $ join ! $ move ! (12 ∷ 0 ∷ []) $ join ! $ move ! (12 ∷ 0 ∷ []) $ join ! $ nothing ! $ owned ! G.the-row (Is G.the-row) (LL.makes G.the-type G′.the-plain 𝓤 H A) t _ is-t $ fjoin ! $ move ! (3 ∷ 0 ∷ []) $ fjoin ! $ move ! (4 ∷ 0 ∷ []) $ fjoin ! $ move ! (4 ∷ 0 ∷ []) $ fjoin ! $ move ! (7 ∷ 0 ∷ []) $ fjoin ! $ move ! (7 ∷ 0 ∷ []) $ fjoin ! $ move ! (7 ∷ 0 ∷ []) $ fjoin ! $
       move ! (1 ∷ 0 ∷ []) $ use2 W (raw (Go 𝓤 H A mem run .pre (to-go ν γ l₉ (take m ys)))) (asked-go ν γ l₉ (take m ys)) $
       calls-at ! fm (Go 𝓤 H A mem run) known-go (to-go ν γ l₉ (take m ys)) (and-then ! (load ! (from ! (stop !)) (look ! 18 refl)) (and-then ! (load ! (from ! (stop !)) (look ! 14 refl)) (and-then ! (load ! (from ! (stop !)) (look ! 10 refl)) (and-then ! (load ! (from ! (stop !)) (look ! 6 refl)) (and-then ! (load ! (from ! (stop !)) (look ! 31 refl)) (and-then ! (load ! (from ! (stop !)) (look ! 29 refl)) (and-then ! (load ! (from ! (stop !)) (look ! 27 refl)) (no-more !)))))))) (λ w₁.
-      use1 W (later (some (λ (r : Answer). ((‵ (flft κ₀ q₀) ⊛ ‵ (flft κ₁ q₁) ⊛ ‵ (flft κ₂ q₂) ⊛ ‵ (flft (ν ∷ []) fullShare) ⊛ ‵ (flft κ₃ q₃) ⊛ ‵ (flft κ₄ q₄) ⊛ ‵ ftrue) ⊛ ‵ (N.the-row .own r (w₁ ∷ []))) ⊛ raw (ensured 𝓤 H A go.ended (go.clauses 𝓤 H A mem run) (go-lfts ν) (go-a γ l₉ (take m ys)) tt r)))) (id⊢ 𝓤 _) $ await ! tt $ pick ! (λ r. split ! $ move ! (1 ∷ []) $ use1 W (some (λ (zs : List ℕ × (List ℕ × (List ℕ × (List Record × (Unit {0} × (Unit {0} × (Unit {0} × Unit {0}))))))). ‵ (lasts go.ended (go-lfts ν) (go-a γ l₉ (take m ys)) zs) ⊛ raw (fact 𝓤 (Said (take m ys) r (zs .0) (zs .1 .0) (zs .1 .1 .0) (zs .1 .1 .1 .0))))) (id⊢ 𝓤 _) $ pick ! (λ zs. split ! $ move ! (1 ∷ []) $ heard ! (Said (take m ys) r (zs .0) (zs .1 .0) (zs .1 .1 .0) (zs .1 .1 .1 .0)) (λ e₁.
+      use1 W (later (some (λ (r : TalliedAnswer). ((‵ (flft κ₀ q₀) ⊛ ‵ (flft κ₁ q₁) ⊛ ‵ (flft κ₂ q₂) ⊛ ‵ (flft (ν ∷ []) fullShare) ⊛ ‵ (flft κ₃ q₃) ⊛ ‵ (flft κ₄ q₄) ⊛ ‵ ftrue) ⊛ ‵ (N.the-row .own r (w₁ ∷ []))) ⊛ raw (ensured 𝓤 H A go.ended (go.clauses 𝓤 H A mem run) (go-lfts ν) (go-a γ l₉ (take m ys)) tt r)))) (id⊢ 𝓤 _) $ await ! tt $ pick ! (λ r. split ! $ move ! (1 ∷ []) $ use1 W (some (λ (zs : List ℕ × (List ℕ × (List ℕ × (List Record × (Unit {0} × (Unit {0} × (Unit {0} × Unit {0}))))))). ‵ (lasts go.ended (go-lfts ν) (go-a γ l₉ (take m ys)) zs) ⊛ raw (fact 𝓤 (Said (take m ys) r (zs .0) (zs .1 .0) (zs .1 .1 .0) (zs .1 .1 .1 .0))))) (id⊢ 𝓤 _) $ pick ! (λ zs. split ! $ move ! (1 ∷ []) $ heard ! (Said (take m ys) r (zs .0) (zs .1 .0) (zs .1 .1 .0) (zs .1 .1 .1 .0)) (λ e₁.
       fsplit ! $ fsplit ! $ move ! (1 ∷ []) $ feqL ! (λ lc. move ! (1 ∷ []) $ fsplit ! $ fsplit ! $ move ! (1 ∷ []) $ feqL ! (λ lr. move ! (1 ∷ []) $ fsplit ! $ fsplit ! $ move ! (1 ∷ []) $ feqL ! (λ lw. move ! (1 ∷ []) $ fsplit ! $ fsplit ! $ move ! (1 ∷ []) $ feqL ! (λ ll. move ! (1 ∷ []) $ fsplit ! $ drop ! $ fsplit ! $ drop ! $ fsplit ! $ drop ! $ drop ! $
       move ! (4 ∷ []) $ split ! $ move ! (1 ∷ []) $ peeks ! N.the-row (Is N.the-row) (shows 𝓤 H A N.the-row) r (w₁ ∷ []) (λ is-r.
       land ! (from ! (stop !)) (init ! 46 refl (LL.lawful N.the-type N′.the-laws 𝓤 H A W .typed r _ is-r .0)) $

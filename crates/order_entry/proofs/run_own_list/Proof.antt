@@ -42,14 +42,15 @@ use denote.Triple.Table.{entered, cited}
 use denote.Triple.Walked.{says, Stays, stay-none, stay-none-slice, gave-slice, walkOf, goes-none, goes-none-slice, goes-gave-slice, Walks, ends-at, walked, walk-meets}
 use denote.Exit.{yes}
 use denote.Signature.{plain}
-use Rattle.text.specs.declared.Answer.{Answer}
-use Rattle.text.proofs.Answer as N
-use Rattle.text.proofs.Answer.Laws as N′
 use Rattle.engine.specs.declared.Record.{Record}
+use Rattle.engine.specs.declared.TalliedAnswer.{TalliedAnswer}
+use Rattle.engine.proofs.TalliedAnswer as N
+use Rattle.engine.proofs.TalliedAnswer.Laws as N′
 use Rattle.engine.proofs.Record as T
 use Rattle.engine.proofs.Record.Laws as T′
 use Rattle.order.specs.Call.{log-call}
 use Rattle.order.proofs.Claim.{demand3}
+use Rattle.order.proofs.Tallied.{tallied}
 use Rattle.order_entry.proofs.Longer.{call-longer}
 use Rattle.engine_list.proofs.Records.{first-ones, repeated-typed, takes-records, lends-first, first-back}
 use Rattle.engine_list.proofs.Calls.{Smaller, Blank, calls-smaller, calls-blank}
@@ -124,7 +125,7 @@ module _ {M : Type 1} (𝓤 : URA M) (H : Heap 𝓤) (A : Atoms 𝓤) (W : Given
   lent = record { contents = xc .now; readers = xr .now; writers = xw .now }
 
   -- what `run` says
-  abbrev Said : List Record → Answer → List ℕ → List ℕ → List ℕ → List Record → Type 0
+  abbrev Said : List Record → TalliedAnswer → List ℕ → List ℕ → List ℕ → List Record → Type 0
   Said ys r cs rs ws zs = LogRun (xb .now) (xg .now) lent ys r (record { contents = cs; readers = rs; writers = ws }) zs
 
   -- how many records are lent
@@ -134,12 +135,12 @@ module _ {M : Type 1} (𝓤 : URA M) (H : Heap 𝓤) (A : Atoms 𝓤) (W : Given
   few : m ≤ 256
   few = min-le-right n 256
 
-  exits : (ys : List Record) (r : Answer) (w : Val) → Is N.the-row r (w ∷ []) → (cs rs ws : List ℕ) (zs : List Record) → Said ys r cs rs ws zs → length ys ≡ m → length cs ≡ length (xc .now) → length rs ≡ length (xr .now) → length ws ≡ length (xw .now)
+  exits : (ys : List Record) (r : TalliedAnswer) (w : Val) → Is N.the-row r (w ∷ []) → (cs rs ws : List ℕ) (zs : List Record) → Said ys r cs rs ws zs → length ys ≡ m → length cs ≡ length (xc .now) → length rs ≡ length (xr .now) → length ws ≡ length (xw .now)
       → ent 𝓤 (⋆ 𝓤 H A (‵ (flft κ₀ q₀) ∷ ‵ (flft κ₁ q₁) ∷ ‵ (flft κ₂ q₂) ∷ ‵ (flft κ₃ q₃) ∷ ‵ (flft κ₄ q₄) ∷ ‵ Program ∷ ‵ Log′ ∷ ‵ (finally u16 (xc .name) cs) ∷ ‵ (finally u64 (xr .name) rs) ∷ ‵ (finally u64 (xw .name) ws) ∷ [])) (Post w)
   exits ys r w is cs rs ws zs said l lc lr lw =
       qed W (‵ (flft κ₀ q₀) ∷ ‵ (flft κ₁ q₁) ∷ ‵ (flft κ₂ q₂) ∷ ‵ (flft κ₃ q₃) ∷ ‵ (flft κ₄ q₄) ∷ ‵ Program ∷ ‵ Log′ ∷ ‵ (finally u16 (xc .name) cs) ∷ ‵ (finally u64 (xr .name) rs) ∷ ‵ (finally u64 (xw .name) ws) ∷ []) ∵
       suffices ! _ (ends-at 𝓤 H A alone.ended stayed (alone.clauses 𝓤 H A mem run) W ((κs, qs, tt, a, vals), tt) w r (tt, (tt, (cs, (rs, (ws, (tt, tt)))))) (tt, (tt, (lc, (lr, (lw, (tt, tt))))))) $
-      says ! (record { answer = said .answer ∙ ap (λ (m : ℕ). log-call (xb .now) (xg .now) lent m) l ∙ call-longer (xb .now) (xg .now) lent n; demand3 = demand3 (xb .now) (xg .now) lent n }) $
+      says ! (record { answer = said .answer ∙ ap (λ (m : ℕ). log-call (xb .now) (xg .now) lent m) l ∙ call-longer (xb .now) (xg .now) lent n; demand3 = demand3 (xb .now) (xg .now) lent n; tallied = tallied (xb .now) (xg .now) lent n }) $
       nothing ! $ move ! (5 ∷ 0 ∷ []) $ join ! $ move ! (4 ∷ 0 ∷ []) $ join ! $ move ! (3 ∷ 0 ∷ []) $ join ! $ move ! (2 ∷ 0 ∷ []) $ join ! $ move ! (1 ∷ 0 ∷ []) $ join ! $ frame ! $
       -- [book; log; the last contents, readers and writers]
       nothing ! $ owned ! usize (Is usize) (uint-makes 𝓤 H A W w64) n _ (refl, n-fits) $ fjoin ! $ move ! (5 ∷ 0 ∷ []) $ fjoin ! $ move ! (4 ∷ 0 ∷ []) $ fjoin ! $ move ! (3 ∷ 0 ∷ []) $ fjoin ! $ move ! (2 ∷ 0 ∷ []) $ fjoin ! $ move ! (1 ∷ 0 ∷ []) $ fjoin ! $ frame ! $
@@ -199,7 +200,7 @@ module _ {M : Type 1} (𝓤 : URA M) (H : Heap 𝓤) (A : Atoms 𝓤) (W : Given
         nothing ! $ move ! (7 ∷ 0 ∷ []) $ join ! $ move ! (10 ∷ 0 ∷ []) $ join ! $ move ! (10 ∷ 0 ∷ []) $ join ! $ move ! (10 ∷ 0 ∷ []) $ join ! $ move ! (10 ∷ 0 ∷ []) $ join ! $ move ! (10 ∷ 0 ∷ []) $ join ! $ nothing ! $ move ! (6 ∷ 0 ∷ []) $ fjoin ! $ move ! (7 ∷ 0 ∷ []) $ fjoin ! $ move ! (7 ∷ 0 ∷ []) $ fjoin ! $ move ! (7 ∷ 0 ∷ []) $ fjoin ! $ move ! (3 ∷ 0 ∷ []) $ fjoin ! $ move ! (4 ∷ 0 ∷ []) $ fjoin ! $
         move ! (1 ∷ 0 ∷ []) $ use2 W (raw (Run 𝓤 H A mem run .pre (to-run ν γ l₈ (take m ys)))) (asked-run ν γ l₈ (take m ys)) $
         calls-at ! fm (Run 𝓤 H A mem run) known-run (to-run ν γ l₈ (take m ys)) (and-then ! (load ! (from ! (stop !)) (look ! 35 refl)) (and-then ! (load ! (from ! (stop !)) (look ! 33 refl)) (and-then ! (load ! (from ! (stop !)) (look ! 16 refl)) (and-then ! (load ! (from ! (stop !)) (look ! 12 refl)) (and-then ! (load ! (from ! (stop !)) (look ! 8 refl)) (and-then ! (load ! (from ! (stop !)) (look ! 4 refl)) (no-more !))))))) (λ w₁.
-        use1 W (later (some (λ (r : Answer). ((‵ (flft κ₀ q₀) ⊛ ‵ (flft κ₁ q₁) ⊛ ‵ (flft κ₂ q₂) ⊛ ‵ (flft κ₃ q₃) ⊛ ‵ (flft κ₄ q₄) ⊛ ‵ (flft (ν ∷ []) fullShare) ⊛ ‵ ftrue) ⊛ ‵ (N.the-row .own r (w₁ ∷ []))) ⊛ raw (ensured 𝓤 H A run′.ended (run′.clauses 𝓤 H A mem run) (run-lfts ν) (run-a γ l₈ (take m ys)) tt r)))) (id⊢ 𝓤 _) $ await ! tt $ pick ! (λ r. split ! $ move ! (1 ∷ []) $
+        use1 W (later (some (λ (r : TalliedAnswer). ((‵ (flft κ₀ q₀) ⊛ ‵ (flft κ₁ q₁) ⊛ ‵ (flft κ₂ q₂) ⊛ ‵ (flft κ₃ q₃) ⊛ ‵ (flft κ₄ q₄) ⊛ ‵ (flft (ν ∷ []) fullShare) ⊛ ‵ ftrue) ⊛ ‵ (N.the-row .own r (w₁ ∷ []))) ⊛ raw (ensured 𝓤 H A run′.ended (run′.clauses 𝓤 H A mem run) (run-lfts ν) (run-a γ l₈ (take m ys)) tt r)))) (id⊢ 𝓤 _) $ await ! tt $ pick ! (λ r. split ! $ move ! (1 ∷ []) $
         use1 W (some (λ (zs : Unit {0} × (Unit {0} × (List ℕ × (List ℕ × (List ℕ × (List Record × Unit {0})))))). ‵ (lasts run′.ended (run-lfts ν) (run-a γ l₈ (take m ys)) zs) ⊛ raw (fact 𝓤 (Said (take m ys) r (zs .1 .1 .0) (zs .1 .1 .1 .0) (zs .1 .1 .1 .1 .0) (zs .1 .1 .1 .1 .1 .0))))) (id⊢ 𝓤 _) $ pick ! (λ zs. split ! $ move ! (1 ∷ []) $ heard ! (Said (take m ys) r (zs .1 .1 .0) (zs .1 .1 .1 .0) (zs .1 .1 .1 .1 .0) (zs .1 .1 .1 .1 .1 .0)) (λ e₁.
         fsplit ! $ drop ! $ fsplit ! $ drop ! $ fsplit ! $ fsplit ! $ move ! (1 ∷ []) $ feqL ! (λ lc. move ! (1 ∷ []) $ fsplit ! $ fsplit ! $ move ! (1 ∷ []) $ feqL ! (λ lr. move ! (1 ∷ []) $ fsplit ! $ fsplit ! $ move ! (1 ∷ []) $ feqL ! (λ lw. move ! (1 ∷ []) $ fsplit ! $ fsplit ! $ move ! (1 ∷ []) $ feqL ! (λ ll. move ! (1 ∷ []) $ drop ! $
         move ! (4 ∷ []) $ split ! $ move ! (1 ∷ []) $ peeks ! N.the-row (Is N.the-row) (shows 𝓤 H A N.the-row) r (w₁ ∷ []) (λ is-r.

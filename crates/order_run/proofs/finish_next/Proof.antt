@@ -24,10 +24,23 @@ same-length-3 : tie.Need-same-length-3
 same-length-3 c = search needs
 
 returns : tie.Need-returns
-returns c = let a = c .before .before .before .before .before .before .before .before .before .before .before .before .before .before .before .before .before .before .args in let f = c .before .before .before .before .before .before .before .before .before .finish-move in (λ g s w. rw (c .run-over .ensures) (finish-off (a .image .now) (a .order .now) g s (a .t) (a .s) (a .list .now) (a .contents .now) (a .readers .now) (a .writers .now) w (f .result) (f .last .1 .0) (f .last .1 .1 .0) (f .last .1 .1 .1 .0) (c .before .before .before .before .before .before .before .before .before .before .before .before .before .before .move-bit .result) (c .before .before .before .before .before .before .before .before .before .before .before .before .before .before .move-bit .ensures (low (a .image .now) (a .order .now) g s (a .t) (w .old .contents) (w .old .readers) (w .old .writers) (w .next))) (f .ensures) (c .before .if1 .taken)), rw (c .run-over .ensures) (omega arith))
+returns c =
+    let a = c .before .before .before .before .before .before .before .before .before .before .before .before .before .before .before .before .before .before .before .before .args in
+    let f = c .before .before .before .before .before .before .before .before .before .before .before .finish-move in
+    let b = c .before .before .before .before .before .before .before .before .before .before .before .before .before .before .before .before .move-bit in (
+      (λ g s w.
+          let l = low (a .image .now) (a .order .now) g s (a .t) (w .old .contents) (w .old .readers) (w .old .writers) (w .next) in
+          rw (c .run-over .ensures)
+          (finish-off (a .image .now) (a .order .now) g s (a .t) (a .s) (a .list .now) (a .contents .now) (a .readers .now) (a .writers .now) w (f .result)
+          (f .last .1 .0) (f .last .1 .1 .0) (f .last .1 .1 .1 .0) (b .result) (b .ensures l) (f .ensures) (c .before .if1 .taken))),
+      rw (c .run-over .ensures) (omega arith),
+    )
 
 number-after-requires : tie.Need-number-after-requires
 number-after-requires c κs = search needs
+
+add-tallies-requires : tie.Need-add-tallies-requires
+add-tallies-requires c κs = search needs
 
 next-move-requires : tie.Need-next-move-requires
 next-move-requires c κs = search needs
@@ -42,7 +55,19 @@ same-length-6 : tie.Need-same-length-6
 same-length-6 c = search needs
 
 returns-2 : tie.Need-returns-2
-returns-2 c = let a = c .before .before .before .before .before .before .before .before .before .before .before .before .before .before .before .before .before .before .before .before .before .args in let f = c .before .before .before .before .before .before .before .before .before .before .before .before .finish-move in let n = c .before .before .before .number-after in (λ g s w. let l = low (a .image .now) (a .order .now) g s (a .t) (w .old .contents) (w .old .readers) (w .old .writers) (w .next) in finish-on (a .image .now) (a .order .now) g s (a .t) (a .s) (a .list .now) (a .contents .now) (a .readers .now) (a .writers .now) w (f .result) (f .last .1 .0) (f .last .1 .1 .0) (f .last .1 .1 .1 .0) (c .before .before .before .before .before .before .before .before .before .before .before .before .before .before .before .before .before .move-bit .result) (c .before .before .before .before .before .before .before .before .before .before .before .before .before .before .before .before .before .move-bit .ensures l) (f .ensures) (c .before .before .before .before .if1 .left) (c .next-move .result) (n .result) (n .ensures .0 l) (c .next-move .ensures .0 (a .image .now) s (f .last .1 .0) g), omega (arith, c .next-move .ensures .1, n .ensures .1))
+returns-2 c =
+    let a = c .before .before .before .before .before .before .before .before .before .before .before .before .before .before .before .before .before .before .before .before .before .before .before .before .args in
+    let f = c .before .before .before .before .before .before .before .before .before .before .before .before .before .before .before .finish-move in
+    let b = c .before .before .before .before .before .before .before .before .before .before .before .before .before .before .before .before .before .before .before .before .move-bit in
+    let n = c .before .before .before .before .number-after in
+    let t = c .before .before .before .add-tallies in (
+      (λ g s w.
+          let l = low (a .image .now) (a .order .now) g s (a .t) (w .old .contents) (w .old .readers) (w .old .writers) (w .next) in
+          finish-on (a .image .now) (a .order .now) g s (a .t) (a .s) (a .list .now) (a .contents .now) (a .readers .now) (a .writers .now) w (f .result)
+          (f .last .1 .0) (f .last .1 .1 .0) (f .last .1 .1 .1 .0) (b .result) (b .ensures l) (f .ensures) (c .before .before .before .before .before .if1 .left) (c .next-move .result) (n .result)
+          (n .ensures .0 l) (t .result) (t .ensures .0) (t .ensures .1) (c .next-move .ensures .0 (a .image .now) s (f .last .1 .0) g)),
+      omega (arith, c .next-move .ensures .1, n .ensures .1),
+    )
 
 pub finish-next-spec : {M : Type 1} → statement M
 finish-next-spec =
@@ -56,6 +81,7 @@ finish-next-spec =
     same-length-3
     returns
     number-after-requires
+    add-tallies-requires
     next-move-requires
     same-length-4
     same-length-5

@@ -14,7 +14,7 @@ same-length : tie.Need-same-length
 same-length c = search needs
 
 returns : tie.Need-returns
-returns c = let a = c .before .before .before .before .before .args in refusal-shown (a .answer) (a .output .now) (c .before .before .write-line .last .0) (c .before .before .write-line .ensures) (c .before .before .before .before .before .pre)
+returns c = let a = c .before .before .before .before .before .args in refusal-shown (a .answer) (a .tally) (a .output .now) (c .before .before .write-line .last .0) (c .before .before .write-line .ensures) (c .before .before .before .before .before .pre)
 
 pub print-refusal-spec : {M : Type 1} → statement M
 print-refusal-spec = tie.close (tie.spec write-line-requires same-length returns)

@@ -1,19 +1,14 @@
 -- `report_input` meets its contract.
-use mathlib.Core.Path.{_≡_, sym, subst}
-use mathlib.Core.List.{List}
-use Prim.Native.Nat.{ℕ}
+use mathlib.Core.Path.{sym}
 use native.Mathlib.Omega.{arith}
 use lib.Seq.{length-take-le}
-use Rattle.report_print.specs.Shown.{Shown}
-use Rattle.report_print.proofs.Printed.{book-within, rental-long, split-shown}
+use Rattle.report_print.proofs.Printed.{book-within, long-shown, split-shown}
 use borrow.Author.Needs.{needs}
 use Rattle.report_print.proofs.report_input.Statement.{statement}
 use Rattle.report_print.proofs.report_input.Tie as tie
-use Rattle.report_print.proofs.report_input.Reads as reads
-use Rattle.report_print.proofs.report_input.Lts as lts
-use Rattle.report_print.proofs.book_bytes.Reads as book-bytes-reads
-use Rattle.report_print.proofs.print_refusal.Reads as print-refusal-reads
-use Rattle.report_print.proofs.report_parts.Reads as report-parts-reads
+
+no-labels-requires : tie.Need-no-labels-requires
+no-labels-requires c κs = search needs
 
 print-refusal-requires : tie.Need-print-refusal-requires
 print-refusal-requires c κs = search needs
@@ -22,8 +17,10 @@ same-length : tie.Need-same-length
 same-length c = search needs
 
 returns : tie.Need-returns
-returns c = let a = c .before .before .before .before .before .before .before .args in let p = c .before .before .print-refusal in
-    subst (λ (y : List ℕ). Shown y (a .output .now) (p .result) (p .last .1 .0)) (sym (rental-long (a .input .now) (omega arith))) (p .ensures)
+returns c =
+    let a = c .before .before .before .before .before .before .before .before .args in
+    let p = c .before .before .print-refusal in
+    long-shown (a .input .now) (omega (arith, c .before .before .before .before .before .if1 .taken)) (a .output .now) (p .result) (p .last .1 .1 .0) (rw (← (c .before .before .before .before .no-labels .ensures)) (p .ensures))
 
 book-bytes-requires : tie.Need-book-bytes-requires
 book-bytes-requires c κs = search needs
@@ -53,6 +50,7 @@ pub report-input-spec : {M : Type 1} → statement M
 report-input-spec =
     tie.close
     (tie.spec
+    no-labels-requires
     print-refusal-requires
     same-length
     returns

@@ -28,11 +28,11 @@ same-length-4 c = search needs
 returns : tie.Need-returns
 returns c = λ b g p.
     let k = c .before .before .print-image in
-    let q = c .before .before .before .before .before .before .before .before .before .before .before .before .before .run-from-own-list in
-    run-shown _ b g _ _ _ _ p (q .result) (q .last .0) (q .last .1 .0) (q .last .1 .1 .0) (q .ensures _ _ _ (c .before .before .before .before .before .before .before .before .before .before .before .before .before .before .before .before .before .before .before .before .before .before .before .start-run .ensures b g 2048 (p .passed))) _ (c .before .before .before .before .before .before .before .before .before .before .before .before .before .before .before .before .before .before .before .before .before .before .before .before .before .before .before .before .before .before .before .before .pre) (k .result) (k .last .1 .1 .1 .0) (k .ensures)
+    let q = c .before .before .before .before .before .before .before .before .before .before .before .before .before .before .before .run-from-own-list in
+    run-shown _ b g _ _ _ _ p (q .result) (q .last .0) (q .last .1 .0) (q .last .1 .1 .0) (q .ensures _ _ _ (c .before .before .before .before .before .before .before .before .before .before .before .before .before .before .before .before .before .before .before .before .before .before .before .before .before .start-run .ensures b g 2048 (p .passed))) _ (c .before .before .before .before .before .before .before .before .before .before .before .before .before .before .before .before .before .before .before .before .before .before .before .before .before .before .before .before .before .before .before .before .before .before .pre) (k .last .1 .1 .1 .0) (k .result) (k .ensures)
 
 print-refusal-requires : tie.Need-print-refusal-requires
-print-refusal-requires c κs = c .before .before .before .before .before .before .before .before .before .before .before .before .before .before .before .before .before .before .before .before .before .before .before .before .before .before .before .before .pre
+print-refusal-requires c κs = c .before .before .before .before .before .before .before .before .before .before .before .before .before .before .before .before .before .before .before .before .before .before .before .before .before .before .before .before .before .before .pre
 
 same-length-5 : tie.Need-same-length-5
 same-length-5 c = search needs
@@ -49,8 +49,8 @@ same-length-8 c = search needs
 returns-2 : tie.Need-returns-2
 returns-2 c = λ b g p.
     let k = c .before .before .print-refusal in
-    let q = c .before .before .before .before .before .before .before .before .before .before .before .before .run-from-own-list in
-    halt-shown _ b g _ _ _ _ p (q .result) (q .last .0) (q .last .1 .0) (q .last .1 .1 .0) (q .ensures _ _ _ (c .before .before .before .before .before .before .before .before .before .before .before .before .before .before .before .before .before .before .before .before .before .before .start-run .ensures b g 2048 (p .passed))) _ (c .before .before .before .before .before .before .before .before .before .before .before .before .before .before .before .before .before .before .before .before .before .before .before .before .before .before .before .before .before .before .before .pre) (k .result) (k .last .1 .0) (c .before .before .before .before .if1 .left) (k .ensures)
+    let q = c .before .before .before .before .before .before .before .before .before .before .before .before .before .before .run-from-own-list in
+    halt-shown _ b g _ _ _ _ p (q .result) (q .last .0) (q .last .1 .0) (q .last .1 .1 .0) (q .ensures _ _ _ (c .before .before .before .before .before .before .before .before .before .before .before .before .before .before .before .before .before .before .before .before .before .before .before .before .start-run .ensures b g 2048 (p .passed))) _ (c .before .before .before .before .before .before .before .before .before .before .before .before .before .before .before .before .before .before .before .before .before .before .before .before .before .before .before .before .before .before .before .before .before .pre) (k .last .1 .1 .0) (k .result) (c .before .before .before .before .if1 .left) (k .ensures)
 
 pub report-on-spec : {M : Type 1} → statement M
 report-on-spec =

@@ -7,6 +7,9 @@ use Rattle.report_print.proofs.report_parts.Tie as tie
 check-all-requires : tie.Need-check-all-requires
 check-all-requires c κs = search needs
 
+no-labels-requires : tie.Need-no-labels-requires
+no-labels-requires c κs = search needs
+
 print-refusal-requires : tie.Need-print-refusal-requires
 print-refusal-requires c κs = search needs
 
@@ -15,7 +18,7 @@ same-length c = search needs
 
 returns : tie.Need-returns
 returns c = let k = c .before .before .print-refusal in
-    parts-refused _ _ _ _ _ (c .before .before .before .before .before .before .before .check-all .ensures) _ (k .result) (k .last .1 .0) (c .before .before .before .before .if1 .taken) (k .ensures)
+    parts-refused _ _ _ _ _ (c .before .before .before .before .before .before .before .before .check-all .ensures) _ (k .result) (k .last .1 .1 .0) (c .before .before .before .before .before .if1 .taken) (rw (← (c .before .before .before .before .no-labels .ensures)) (k .ensures))
 
 report-small-requires : tie.Need-report-small-requires
 report-small-requires c κs = search needs
@@ -43,6 +46,7 @@ report-parts-spec =
     tie.close
     (tie.spec
     check-all-requires
+    no-labels-requires
     print-refusal-requires
     same-length
     returns

@@ -2,7 +2,9 @@
 #![allow(dead_code)]
 
 use inputs::{compact_lines, compact_of, lines_in, log_lines, text_of, BookDraft, LogDraft};
-use paper::{check_book, reads_and_writes, report, run, step_listed, Answer, Instruction, Pick};
+use paper::{
+    check_book, reads_and_writes, report, run, step_listed, Answer, Instruction, Outcome, Pick, Tally,
+};
 
 /// What filled a lent table before the call.
 pub const LENT_VALUE: u16 = 4_321;
@@ -56,9 +58,10 @@ pub fn ordered(agents: &[u32]) -> Vec<u8> {
     LogDraft::in_sequence(agents.to_vec()).text()
 }
 
-/// What a run left in tables of L + 1 records each.
+/// The result of a run, and what it left in tables of L + 1 records each.
 pub struct Run {
     pub answer: Answer,
+    pub tally: Tally,
     pub contents: Vec<u16>,
     pub readers: Vec<u64>,
     pub writers: Vec<u64>,
@@ -85,8 +88,8 @@ pub fn run_of(book: &[u8], log: &[u8]) -> Run {
     let mut contents = vec![LENT_VALUE; records];
     let mut readers = vec![LENT_MARK; records];
     let mut writers = vec![LENT_MARK; records];
-    let answer = run(book, log, &mut contents, &mut readers, &mut writers, 256);
-    Run { answer, contents, readers, writers }
+    let Outcome { answer, tally } = run(book, log, &mut contents, &mut readers, &mut writers, 256);
+    Run { answer, tally, contents, readers, writers }
 }
 
 /// The run of one move of each of two agents, in this order and not ordered by a pair.
