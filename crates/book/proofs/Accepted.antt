@@ -15,13 +15,14 @@ use Rattle.text.specs.Words.{table-from, table, least, good}
 use Rattle.text.specs.Text.{line, no-line}
 use Rattle.text.proofs.Words.{so-true, length-table-from, getD-table, getD-table-past, least-none, bind-good, then-good, none-good, found-good, test-good, good-same}
 use Rattle.book.specs.declared.Header.{Header}
-use Rattle.book.specs.Book.{Program, Book, L, size, no-function, no-agent, node-at, agent-at}
+use Rattle.book.specs.Book.{Program, Book, L, size, stride, no-function, no-agent, node-at, agent-at}
 use Rattle.book.specs.Kinds.{is-rule}
 use Rattle.book.specs.Lines.{header-of, bad-field, most-locations, first-function, first-agent, lay-out, line-agent, program-of, entries-of, book-of, bad-function, bad-node, bad-agent}
 use Rattle.book.specs.Use.{bad-use}
 use Rattle.book.specs.Scopes.{bad-scope}
 use Rattle.book.specs.Contents.{bad-entry}
 use Rattle.book.specs.Check.{check-header, check-present, check-surplus, check-program, check-lines, check-book}
+use Rattle.book.specs.Sum.{Strided}
 use Rattle.book.specs.Sound.{Laid, Lawful}
 
 -- ---- the header
@@ -77,6 +78,18 @@ laid-arity E n [] f = refl
 laid-arity E n (l ∷ ls) zero = refl
 laid-arity E n (l ∷ ls) (suc f) = laid-arity E (n + size E (l .a)) ls f
 
+-- a function's stride is that of its arity
+laid-stride : (E n : ℕ) (ls : List Line) (f : ℕ) → getD (lay-out E n ls) f no-function .stride ≡ stride E (getD (lay-out E n ls) f no-function .arity)
+unfolding lay-out
+laid-stride E n [] f = refl
+laid-stride E n (l ∷ ls) zero = refl
+laid-stride E n (l ∷ ls) (suc f) = laid-stride E (n + size E (l .a)) ls f
+
+-- every function of the program that a text says has the stride of its arity
+pub program-strided : (h : Header) (text : List ℕ) → Strided (program-of h text)
+unfolding program-of
+program-strided h text = laid-stride (h .elements) 0 (table (λ i. line text (first-function + i)) (h .functions))
+
 function-good : (l : Line) (f : ℕ) → bad-function l f ≡ false → l .a ≤ 2
 unfolding bad-function
 function-good l f h = leb-true (l .a) 2 (so-true (leb (l .a) 2) (bad-function l f) h (λ q. simp q))
@@ -90,7 +103,7 @@ roll-good l h = (
 
 -- function 0 is Reserve
 first-good : (E : ℕ) (at : ℕ → Line) (n : ℕ) → 0 < n → bad-function (at 0) 0 ≡ false
-    → getD (lay-out E 0 (table at n)) 0 no-function ≡ record { first = 0; arity = 1; kind = 3 }
+    → getD (lay-out E 0 (table at n)) 0 no-function ≡ record { first = 0; arity = 1; kind = 3; stride = 1 }
 unfolding lay-out table-from
 first-good E at zero h e = absurd (omega arith)
 first-good E at (suc n) h e =
@@ -176,6 +189,7 @@ book-lawful h text b p =
           (dite (decLt f (h .functions))
           (λ q. rw (getD-table at (h .functions) f no-line q) (function-good (at f) f (p .functions f q)))
           (λ (q : ¬ (f < h .functions)). rw (getD-table-past at (h .functions) f no-line (omega arith)) (omega arith)));
+      strides = program-strided h text;
       reserve = first-good (h .elements) at (h .functions) (b .functions .0) (p .functions 0 (b .functions .0));
       nodes = λ n q. p .nodes n (omega (arith, long .1));
       uses = λ n q. p .uses n (omega (arith, long .1));

@@ -7,8 +7,8 @@ use native.Mathlib.Omega.{arith}
 use lib.ListN.{length, getD, length-map, List·getD-map}
 use Rattle.book.specs.declared.Function.{Function}
 use Rattle.book.specs.declared.Agent.{Agent}
-use Rattle.book.specs.Book.{Program, function-at, node-at, agent-at, no-function, no-node, no-agent}
-use Rattle.book.specs.Image.{low-function, low-node, low-agent, low, program-in, low-program}
+use Rattle.book.specs.Book.{Program, function-at, node-at, agent-at, no-node, no-agent}
+use Rattle.book.specs.Image.{low-node, low-agent, low, program-in, low-program}
 use Rattle.book.proofs.Image.{elements-most, functions-most, agents-most}
 
 module _ (m : List ℕ) where
@@ -22,15 +22,15 @@ module _ (m : List ℕ) where
 
   pub held-functions : length (low-program m .functions) ≡ length (program-in m .functions)
   unfolding low-program
-  held-functions = length-map (program-in m .functions) low-function
+  held-functions = refl
 
   pub held-agents : length (low-program m .agents) ≡ length (program-in m .agents)
   unfolding low-program
   held-agents = length-map (program-in m .agents) low-agent
 
-  pub held-function : (f : ℕ) → function-at (low-program m) f ≡ low-function (function-at (program-in m) f)
+  pub held-function : (f : ℕ) → function-at (low-program m) f ≡ function-at (program-in m) f
   unfolding low-program
-  held-function f = List·getD-map low-function (program-in m .functions) f no-function
+  held-function f = refl
 
   pub held-node : (n : ℕ) → node-at (low-program m) n ≡ low-node (node-at (program-in m) n)
   unfolding low-program
@@ -43,9 +43,9 @@ module _ (m : List ℕ) where
   pub held-agents-most : length (low-program m .agents) ≤ 16
   held-agents-most = rw held-agents (agents-most m)
 
-  -- a function read from the image is held with its first location in sixteen bits
-  pub function-held : (f : ℕ) (r : Function) → r ≡ function-at (program-in m) f → low-function r ≡ function-at (low-program m) f
-  function-held f r e = ap low-function e ∙ sym (held-function f)
+  -- a function read from the image is held as it is
+  pub function-held : (f : ℕ) (r : Function) → r ≡ function-at (program-in m) f → r ≡ function-at (low-program m) f
+  function-held f r e = e ∙ sym (held-function f)
 
   pub agent-held : (i : ℕ) (r : Agent) → r ≡ agent-at (program-in m) i → low-agent r ≡ agent-at (low-program m) i
   agent-held i r e = ap low-agent e ∙ sym (held-agent i)
@@ -67,7 +67,6 @@ map-same f d [] h = refl
 map-same f d (x ∷ xs) h = ap₂ _∷_ (h 0 (omega arith)) (map-same f d xs (λ i l. h (suc i) (omega arith)))
 
 module _ (m : List ℕ) (B : Program) (is : program-in m ≡ B) (permanent : B .P < 65536)
-    (functions : (f : ℕ) → f < length (B .functions) → low-function (function-at B f) ≡ function-at B f)
     (nodes : (n : ℕ) → n < length (B .nodes) → low-node (node-at B n) ≡ node-at B n)
     (agents : (i : ℕ) → i < length (B .agents) → low-agent (agent-at B i) ≡ agent-at B i) where
   pub held-same : low-program m ≡ B
@@ -76,7 +75,6 @@ module _ (m : List ℕ) (B : Program) (is : program-in m ≡ B) (permanent : B .
       rw (
         is,
         mod-eq-of-lt permanent,
-        map-same low-function no-function (B .functions) functions,
         map-same low-node no-node (B .nodes) nodes,
         map-same low-agent no-agent (B .agents) agents,
       )

@@ -14,6 +14,7 @@ use Rattle.text.proofs.Words.{so-true}
 use Rattle.book.specs.declared.Node.{Node}
 use Rattle.book.specs.declared.Entry.{Entry}
 use Rattle.book.specs.Book.{Program, function-at, node-at, no-function, no-node}
+use Rattle.book.specs.Sum.{Strided}
 use Rattle.book.specs.Kinds.{sort, sort-table}
 use Rattle.book.specs.Lines.{fits, bad-node}
 use Rattle.book.specs.Contents.{in-bounds, least-location, bad-entry}
@@ -108,6 +109,10 @@ module _ (B : Program) where
   node-kept : (n : ℕ) → node-at (kept-program B) n ≡ kept-node (node-at B n)
   unfolding kept-program
   node-kept n = List·getD-map kept-node (B .nodes) n no-node
+
+  pub kept-strided : Strided B → Strided (kept-program B)
+  unfolding kept-program
+  kept-strided ok = ok
 
   pub entry-kept : (es : List Entry) (i : ℕ) → bad-entry (kept-program B) es i ≡ bad-entry B es i
   unfolding kept-program bad-entry in-bounds least-location

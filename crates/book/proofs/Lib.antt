@@ -1,4 +1,6 @@
 pub mod Places
+pub mod Sum
+pub mod Apart
 pub mod Accepted
 pub mod Start
 pub mod Table

@@ -31,7 +31,7 @@ place-laid E n (g ∷ gs) d (suc f) i h k =
     (rw (le-ltb (l - n) (size E (g .arity)) (omega (arith, r .1)), e) (r .0), omega (arith, r .1), omega (arith, r .2))
 
 -- the first location of each function is not below that of the first function
-past-laid : (E n : ℕ) (gs : List Function) → Laid E n gs → (f : ℕ) → f < length gs → n ≤ getD gs f no-function .first
+pub past-laid : (E n : ℕ) (gs : List Function) → Laid E n gs → (f : ℕ) → f < length gs → n ≤ getD gs f no-function .first
 past-laid E n [] d f h = absurd (omega arith)
 past-laid E n (g ∷ gs) d zero h = omega (arith, d .0)
 past-laid E n (g ∷ gs) d (suc f) h = omega (arith, past-laid E (n + size E (g .arity)) gs (d .1) f (omega arith))
@@ -41,7 +41,7 @@ past-laid E n (g ∷ gs) d (suc f) h = omega (arith, past-laid E (n + size E (g 
 square : (E x y : ℕ) → x < E → y < E → x * E + y < E * E
 square E x y h k = omega (arith, mul-le-mul-right E h, suc-mul x E)
 
-offset-fits : (E arity x y : ℕ) → x < E → y < E → offset E arity x y < size E arity
+pub offset-fits : (E arity x y : ℕ) → x < E → y < E → offset E arity x y < size E arity
 offset-fits E arity x y h k = go (eqb arity 0) (eqb arity 1)
   where
     go : (a b : Bool) → (if a then 0 else if b then x else x * E + y) < (if a then 1 else if b then E else E * E)
@@ -111,14 +111,14 @@ module _ (B : Program) (ok : Lawful B) where
   unfolding total
   roll-inside = go (B .functions) (ok .some) (ok .reserve)
     where
-      go : (gs : List Function) → 0 < length gs → getD gs 0 no-function ≡ record { first = 0; arity = 1; kind = 3 } → B .E ≤ total (B .E) gs
+      go : (gs : List Function) → 0 < length gs → getD gs 0 no-function ≡ record { first = 0; arity = 1; kind = 3; stride = 1 } → B .E ≤ total (B .E) gs
       go [] h e = absurd (omega arith)
       go (g ∷ gs) h e = let q : size (B .E) (g .arity) ≡ B .E = rw e in omega arith
 
   pub past-roll : (f x y : ℕ) → 0 < f → f < length (B .functions) → B .E ≤ location B f x y
   past-roll f x y h k = go (B .functions) (ok .laid) (ok .reserve) f h k
     where
-      go : (gs : List Function) → Laid (B .E) 0 gs → getD gs 0 no-function ≡ record { first = 0; arity = 1; kind = 3 } → (f : ℕ) → 0 < f → f < length gs
+      go : (gs : List Function) → Laid (B .E) 0 gs → getD gs 0 no-function ≡ record { first = 0; arity = 1; kind = 3; stride = 1 } → (f : ℕ) → 0 < f → f < length gs
           → B .E ≤ getD gs f no-function .first + offset (B .E) (getD gs f no-function .arity) x y
       go [] d e f h k = absurd (omega arith)
       go (g ∷ gs) d e zero h k = absurd (omega arith)

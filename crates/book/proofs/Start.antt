@@ -9,12 +9,13 @@ use native.Mathlib.Decide.{ℕ-discrete, decLt}
 use lib.Dec.{eqb, ltb, leb}
 use lib.ListN.{length, getD, set, length-set}
 use lib.Seq.{getD-set-same, getD-set-other}
-use borrow.Author.Tests.{eqb-true, eq-eqb, ne-eqb, ltb-true, leb-true}
+use borrow.Author.Tests.{eqb-true, eq-eqb, ne-eqb, ltb-true, leb-true, lt-leb}
 use Rattle.text.specs.Words.{if_then_else_, table}
 use Rattle.text.proofs.Words.{so-true, so-false, length-table-from, getD-table, getD-table-past}
 use Rattle.book.specs.declared.Function.{Function}
 use Rattle.book.specs.declared.Entry.{Entry}
 use Rattle.book.specs.Book.{Program, Book, L, no-entry, true-element, boolean, relation, dynamic, defaults, enter, start, location, entry-location, function-at, entry-at, place, relation-at, dynamic-at, default-at}
+use Rattle.book.specs.Sum.{Fitting}
 use Rattle.book.specs.Contents.{in-bounds, entry-fits, least-location, rolled, untraced, bad-entry}
 use Rattle.book.specs.Sound.{Lawful, at, Argument, OnRoll, Sound}
 use Rattle.book.proofs.Places.{Located, located, held-argument, roll-place, roll-location, past-roll, roll-argument, boolean-low, default-low}
@@ -43,6 +44,14 @@ in-bounds-is B e h = (
 )
 
 module _ (P : ℕ) (e : Entry) (f : Function) (h : entry-fits P e f ≡ true) where
+  -- an argument that the function has not is 0
+  pub entry-fitting : Fitting (f .arity) (e .arg1) (e .arg2)
+  unfolding entry-fits
+  entry-fitting = (
+    λ l. eqb-true (e .arg1) 0 (so-true (eqb (e .arg1) 0) (entry-fits P e f) h (λ q. simp (lt-leb 1 (f .arity) l, q))),
+    λ l. eqb-true (e .arg2) 0 (so-true (eqb (e .arg2) 0) (entry-fits P e f) h (λ q. simp (ne-eqb (f .arity) 2 (λ z. omega arith), q, and-false))),
+  )
+
   true-in-relation : relation f ≡ true → e .value ≡ true-element
   unfolding entry-fits
   true-in-relation r = eqb-true (e .value) true-element (so-true (eqb (e .value) true-element) (entry-fits P e f) h (λ q. simp (r, q, and-false)))

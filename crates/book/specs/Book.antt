@@ -69,7 +69,7 @@ pub record Book : Type 0 where
 
 -- what stands past the end of a list of functions, and is never read in an accepted book
 abbrev pub no-function : Function
-no-function = record { first = 0; arity = 0; kind = 0 }
+no-function = record { first = 0; arity = 0; kind = 0; stride = 1 }
 
 -- what stands past the end of a list of nodes
 abbrev pub no-node : Node
@@ -117,6 +117,10 @@ offset E arity x y = if eqb arity 0 then 0 else if eqb arity 1 then x else x * E
 -- the location of function f at the arguments x and y, an argument that it has not being 0
 abbrev pub location : Program → ℕ → ℕ → ℕ → ℕ
 location B f x y = function-at B f .first + offset (B .E) (function-at B f .arity) x y
+
+-- A function's stride: how far apart its locations are whose first arguments are neighbours. It is said here of an arity; where it serves, see Sum.
+abbrev pub stride : ℕ → ℕ → ℕ
+stride E arity = if eqb arity 0 || eqb arity 1 then 1 else E
 
 -- the location of Reserve at x is location x, since Reserve is function 0 and unary
 abbrev pub reserve : ℕ → ℕ

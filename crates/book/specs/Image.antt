@@ -1,5 +1,5 @@
 -- The image of a program, which the code holds: words of 32 bits. The first 200 are rows of four. Rows 0 and 1 are `E P F N` and `A C L 0`; function f is
--- row 2 + f (first, arity, kind), agent i row 34 + i (root, element). After them each node has two words: kind and a, b and c. A count past its bound counts
+-- row 2 + f (first, arity, kind, stride), agent i row 34 + i (root, element). After them each node has two words: kind and a, b and c. A count past its bound counts
 -- as the bound: every image holds a program.
 use mathlib.Core.Path.{_≡_}
 use mathlib.Core.List.{List, map}
@@ -12,7 +12,7 @@ use Rattle.book.specs.declared.Header.{Header}
 use Rattle.book.specs.declared.Function.{Function}
 use Rattle.book.specs.declared.Node.{Node}
 use Rattle.book.specs.declared.Agent.{Agent}
-use Rattle.book.specs.Book.{Program, L, size}
+use Rattle.book.specs.Book.{Program, L, size, stride}
 use Rattle.book.specs.Lines.{first-function, line-agent, program-of}
 
 abbrev pub image-length : ℕ
@@ -43,7 +43,7 @@ node-in m n =
 
 -- the function that a row of an image says
 abbrev pub image-function : Line → Function
-image-function l = record { first = l .a; arity = l .b; kind = l .c }
+image-function l = record { first = l .a; arity = l .b; kind = l .c; stride = l .d }
 
 -- the program that an image holds
 unfoldable pub program-in : List ℕ → Program
@@ -68,10 +68,6 @@ entry-count-in m = capped (word m 5) 65536
 abbrev pub low : ℕ → ℕ
 low x = x % 65536
 
--- a function, with its first location in sixteen bits
-abbrev pub low-function : Function → Function
-low-function f = record { first = low (f .first); arity = f .arity; kind = f .kind }
-
 -- a node, with its numbers in sixteen bits
 abbrev pub low-node : Node → Node
 low-node y = record { kind = low (y .kind); a = low (y .a); b = low (y .b); c = low (y .c) }
@@ -80,15 +76,14 @@ low-node y = record { kind = low (y .kind); a = low (y .a); b = low (y .b); c = 
 abbrev pub low-agent : Agent → Agent
 low-agent i = record { root = low (i .root); element = low (i .element) }
 
--- What the engine takes an image to hold: the program, with first locations, elements and the numbers of nodes in sixteen bits. Of an accepted book it is
--- the program itself.
+-- What the engine takes an image to hold: the program, with elements and the numbers of nodes in sixteen bits. Of an accepted book it is the program itself.
 unfoldable pub low-program : List ℕ → Program
 low-program m =
     let B = program-in m in
     record {
       E = B .E;
       P = low (B .P);
-      functions = map low-function (B .functions);
+      functions = B .functions;
       nodes = map low-node (B .nodes);
       agents = map low-agent (B .agents);
     }
@@ -151,6 +146,6 @@ unfoldable pub first-location : (ℕ → Line) → ℕ → ℕ → ℕ
 first-location at E zero = 0
 first-location at E (suc f) = first-location at E f + size E (at f .a)
 
--- the row of function f: its first location, its arity and its kind
+-- the row of function f: its first location, its arity, its kind and its stride
 abbrev pub laid-row : (ℕ → Line) → ℕ → ℕ → Line
-laid-row at E f = record { a = first-location at E f; b = at f .a; c = at f .b; d = 0 }
+laid-row at E f = record { a = first-location at E f; b = at f .a; c = at f .b; d = stride E (at f .a) }

@@ -1,4 +1,5 @@
 pub mod Book
+pub mod Sum
 pub mod Kinds
 pub mod Lines
 pub mod Use
@@ -8,5 +9,6 @@ pub mod Check
 pub mod Sound
 pub mod Open
 pub mod Examples
+pub mod Numbers
 pub mod Claims
 pub mod Image

@@ -13,7 +13,7 @@ use Rattle.book.specs.declared.Function.{Function}
 use Rattle.book.specs.declared.Node.{Node}
 use Rattle.book.specs.declared.Agent.{Agent}
 use Rattle.book.specs.declared.Entry.{Entry}
-use Rattle.book.specs.Book.{Program, Book, size, relation, dynamic, dynamic-relation, function-at, node-at, agent-at}
+use Rattle.book.specs.Book.{Program, Book, size, stride, relation, dynamic, dynamic-relation, function-at, node-at, agent-at}
 use Rattle.book.specs.Kinds.{is-term, is-rule, names-location, variables, sort, unused, permanent, variable, function0, function1, function2, universe, dynamic-universe, term, rule, target-sort}
 
 -- ---- Refusal 3: the header
@@ -62,7 +62,7 @@ line-count h = first-entry h + h .contents
 -- the functions of these lines, the first of which has its first location at `first`
 unfoldable pub lay-out : ℕ → ℕ → List Line → List Function
 lay-out E first [] = []
-lay-out E first (l ∷ ls) = record { first = first; arity = l .a; kind = l .b } ∷ lay-out E (first + size E (l .a)) ls
+lay-out E first (l ∷ ls) = record { first = first; arity = l .a; kind = l .b; stride = stride E (l .a) } ∷ lay-out E (first + size E (l .a)) ls
 
 -- the node that a node line says
 abbrev pub node-of : Line → Node

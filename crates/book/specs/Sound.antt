@@ -8,6 +8,7 @@ use lib.ListN.{length, getD}
 use Rattle.text.specs.Words.{has}
 use Rattle.book.specs.declared.Function.{Function}
 use Rattle.book.specs.Book.{Program, L, size, true-element, boolean, function-at, node-at, agent-at, relation-at, dynamic-at, default-at, arguments-at}
+use Rattle.book.specs.Sum.{Strided}
 use Rattle.book.specs.Kinds.{is-rule}
 use Rattle.book.specs.Lines.{bad-node}
 use Rattle.book.specs.Use.{bad-use}
@@ -29,7 +30,8 @@ pub record Lawful (B : Program) : Type 0 where
   pub locations : L B ≤ 65536
   pub laid : Laid (B .E) 0 (B .functions)
   pub arities : (f : ℕ) → function-at B f .arity ≤ 2
-  pub reserve : function-at B 0 ≡ record { first = 0; arity = 1; kind = 3 }
+  pub strides : Strided B
+  pub reserve : function-at B 0 ≡ record { first = 0; arity = 1; kind = 3; stride = 1 }
   pub nodes : (n : ℕ) → n < length (B .nodes) → bad-node B n ≡ false
   pub uses : (n : ℕ) → n < length (B .nodes) → bad-use B n ≡ false
   pub scopes : (n : ℕ) → n < length (B .nodes) → bad-scope B n ≡ false

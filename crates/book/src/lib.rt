@@ -26,11 +26,12 @@ pub struct Header {
     pub contents: u32,
 }
 
-// A function: its first location, its arity and its kind.
+// A function: its first location, its arity, its kind, and its stride: how far apart its locations are whose first arguments are neighbours.
 pub struct Function {
     pub first: u32,
     pub arity: u32,
     pub kind: u32,
+    pub stride: u32,
 }
 
 // A node of a rule: its kind and its three fields.

@@ -18,15 +18,16 @@ use Rattle.text.proofs.Words.{least-same, least-from-same, least-none, least-fi
 use Rattle.text.proofs.Checks.{Numbered, none-numbered, must-numbered, then-ends, then-stops, then-goes-on}
 use Rattle.book.specs.declared.Header.{Header}
 use Rattle.book.specs.Book.{Program, Book, L}
+use Rattle.book.specs.Sum.{Strided}
 use Rattle.book.specs.Lines.{header-of, bad-field, most-locations, first-agent, first-entry, line-count, program-of, entries-of, bad-function, bad-node, bad-agent}
 use Rattle.book.specs.Use.{bad-use}
 use Rattle.book.specs.Scopes.{bad-scope}
 use Rattle.book.specs.Contents.{bad-entry}
 use Rattle.book.specs.Check.{check-header, check-present, check-surplus, check-program, check-lines, check-book}
 use Rattle.book.specs.Image.{image-length, word, image-row, capped, program-in, first-entry-in, entry-count-in, kept-program, HoldsText, FitsImage, capped-header}
-use Rattle.book.proofs.Accepted.{header-bounded, lines-book, lines-nodes, book-lengths}
+use Rattle.book.proofs.Accepted.{header-bounded, program-strided, lines-book, lines-nodes, book-lengths}
 use Rattle.book.proofs.Image.{uncapped, within-bounds, functions-long}
-use Rattle.book.proofs.Kept.{kept-nodes, entry-kept, bad-node-kept, kept-whole}
+use Rattle.book.proofs.Kept.{kept-nodes, kept-strided, entry-kept, bad-node-kept, kept-whole}
 use Rattle.book_load.specs.Loaded.{header-loaded, lines-loaded, lines-before, functions-laid, HoldsLines}
 use Rattle.book_load.proofs.Loaded.{length-headed, length-taken, taken-rows, laid-holds, laid-agent}
 use Rattle.text.specs.declared.LineFaults.{LineFaults}
@@ -276,9 +277,13 @@ module _ (o : List ℕ) (h : Header) (text : List ℕ) (room : FitsImage h) (hol
   unfolding faults-from
   found = rw (first-is, count-is, holds .program, rule-kept)
 
-  module _ (r : LineFaults) (is : r ≡ faults-from (program-in o) text (first-entry-in o) (entry-count-in o)) where
+  -- every function of the image has the stride of its arity
+  strided : Strided (program-in o)
+  strided = subst Strided (sym (holds .program)) (kept-strided (program-of h text) (program-strided h text))
+
+  module _ (r : LineFaults) (is : Strided (program-in o) → r ≡ faults-from (program-in o) text (first-entry-in o) (entry-count-in o)) where
     pub form-found : r .ill ≡ contents-form h text
-    form-found = ap (λ (x : LineFaults). x .ill) (is ∙ found)
+    form-found = ap (λ (x : LineFaults). x .ill) (is strided ∙ found)
 
     pub rule-found :
         answer-of (none-at ill-formed 0 book-text (r .ill)) .number ≡ 0 →
@@ -286,7 +291,7 @@ module _ (o : List ℕ) (h : Header) (text : List ℕ) (room : FitsImage h) (hol
     unfolding none-at entries-of
     rule-found z =
         let n : first-entry h + 0 ≡ first-entry h = omega arith in
-        ap (none-at contents-rule 0 0) (ap (λ (x : LineFaults). x .fault) (is ∙ found) ∙ go (contents-form h text) (rw form-found at z))
+        ap (none-at contents-rule 0 0) (ap (λ (x : LineFaults). x .fault) (is strided ∙ found) ∙ go (contents-form h text) (rw form-found at z))
         ∙ (rw n at (shifted contents-rule 0 (first-entry h) (bad-entry (program-of h text) (entries-of h text)) (h .contents) 0))
       where
         go : (f : Found) → answer-of (none-at ill-formed 0 book-text f) .number ≡ 0 → faults f rule .fault ≡ rule

@@ -6,15 +6,14 @@ use native.Mathlib.Nat.{mod-eq-of-lt}
 use native.Mathlib.Omega.{arith}
 use lib.ListN.{length}
 use Rattle.text.specs.Words.{good}
-use Rattle.book.specs.Book.{Program, Book, function-at, node-at, agent-at}
-use Rattle.book.specs.Image.{low-function, low-node, low-agent, program-in, low-program}
+use Rattle.book.specs.Book.{Program, Book, node-at, agent-at}
+use Rattle.book.specs.Image.{low-node, low-agent, program-in, low-program}
 use Rattle.book.specs.Check.{check-book}
 use Rattle.book.specs.Sound.{Lawful}
 use Rattle.book.proofs.Accepted.{accepted}
 use Rattle.book.proofs.Image.{functions-most, nodes-most}
 use Rattle.book.proofs.Held.{held-same}
 use Rattle.book.proofs.Kept.{small-node}
-use Rattle.book.proofs.Places.{located}
 use Rattle.book_check.specs.ImageOf.{ImageOf}
 
 -- ---- the image of a lawful book
@@ -28,12 +27,6 @@ module _ (m : List ℕ) (B : Program) (ok : Lawful B) (is : program-in m ≡ B) 
 
   few-permanent : B .P ≤ 10000
   few-permanent = omega (arith, ok .high, ok .elements)
-
-  function-same : (f : ℕ) → f < length (B .functions) → low-function (function-at B f) ≡ function-at B f
-  function-same f h =
-      let s = located B ok f 0 0 h (omega (arith, ok .low, ok .high)) (omega (arith, ok .low, ok .high)) .inside in
-      let first : function-at B f .first < 65536 = omega (arith, s, ok .locations) in
-      rw (mod-eq-of-lt first)
 
   node-same : (n : ℕ) → n < length (B .nodes) → low-node (node-at B n) ≡ node-at B n
   node-same n h =
@@ -51,7 +44,7 @@ module _ (m : List ℕ) (B : Program) (ok : Lawful B) (is : program-in m ≡ B) 
       rw (mod-eq-of-lt root, mod-eq-of-lt element)
 
   lawful-held : low-program m ≡ B
-  lawful-held = held-same m B is (omega (arith, few-permanent)) function-same node-same agent-same
+  lawful-held = held-same m B is (omega (arith, few-permanent)) node-same agent-same
 
 -- the image that the check of an accepted book leaves holds, as the engine reads it, the book's program
 pub low-program-is : (text m : List ℕ) → ImageOf m (check-book text) → (b : Book) → check-book text ≡ good b → low-program m ≡ b .program

@@ -1,6 +1,6 @@
 -- The table of the labels on the roll, and what the loop over contents lines has tested.
-use mathlib.Core.Path.{_≡_, refl, sym, _∙_}
-use mathlib.Core.Bool.{Bool, true, false, not, _&&_, _||_}
+use mathlib.Core.Path.{_≡_, refl, sym, ap, _∙_}
+use mathlib.Core.Bool.{Bool, true, false, not, _&&_, _||_, true≢false}
 use mathlib.Core.List.{List}
 use Prim.Native.Nat.{ℕ, zero, suc, _+_, _<_, _≤_}
 use native.Mathlib.Numerals.{add-one}
@@ -14,8 +14,11 @@ use Rattle.text.specs.Text.{line}
 use Rattle.text.proofs.Words.{and-cases, getD-table}
 use Rattle.book.specs.declared.Entry.{Entry}
 use Rattle.book.specs.Book.{Program, no-entry, function-at, entry-at, entry-location}
+use Rattle.book.specs.Sum.{Strided, sum}
 use Rattle.book.specs.Lines.{entry-of}
 use Rattle.book.specs.Contents.{in-bounds, entry-fits, least-location, rolled, untraced, bad-entry}
+use Rattle.book.proofs.Sum.{sum-location}
+use Rattle.book.proofs.Start.{entry-fitting}
 use Rattle.book_entries.specs.Roll.{entries-from, roll-with, roll-of, untraced-by, RollEmpty}
 
 -- ---- the table has exactly the labels that the entries put on the roll
@@ -76,26 +79,13 @@ pub roll-step : (es : List Entry) (i : ℕ) (s : List ℕ) (e : Entry) → entry
 unfolding roll-of
 roll-step es i s e p = rw (add-one i, ← p)
 
-pub record Inside (B : Program) (e : Entry) : Type 0 where
-  pub arg1 : e .arg1 < B .E
-  pub arg2 : e .arg2 < B .E
-  pub value : e .value < B .E
-
-inside : (B : Program) (e : Entry) → in-bounds B e ≡ true → Inside B e
-unfolding in-bounds
-inside B e p =
-    let f : Bool = ltb (e .function) (length (B .functions)) in
-    let x : Bool = ltb (e .arg1) (B .E) in
-    let y : Bool = ltb (e .arg2) (B .E) in
-    let v : Bool = ltb (e .value) (B .E) in
-    let q = and-cases (f && x && y) v p in
-    let r = and-cases (f && x) y (q .0) in
-    let s = and-cases f x (r .0) in
-    record {
-      arg1 = ltb-true (e .arg1) (B .E) (s .1);
-      arg2 = ltb-true (e .arg2) (B .E) (r .1);
-      value = ltb-true (e .value) (B .E) (q .1);
-    }
+-- the elements of an entry in bounds
+pub bounded : (f x y v F E : ℕ) → (ltb f F && ltb x E && ltb y E && ltb v E) ≡ true → (x < E) × (y < E) × (v < E)
+bounded f x y v F E p =
+    let q = and-cases (ltb f F && ltb x E && ltb y E) (ltb v E) p in
+    let r = and-cases (ltb f F && ltb x E) (ltb y E) (q .0) in
+    let s = and-cases (ltb f F) (ltb x E) (r .0) in
+    (ltb-true x E (s .1), ltb-true y E (r .1), ltb-true v E (q .1))
 
 rest-of :
     (B : Program) (es : List Entry) (i : ℕ) (e : Entry) (s : List ℕ) → entry-at es i ≡ e → in-bounds B e ≡ true → RollEmpty (B .E) s →
@@ -103,38 +93,58 @@ rest-of :
     ≡ not
     (entry-fits (B .P) e (function-at B (e .function)) && leb (least-location B es i) (entry-location B e)
     && untraced-by (roll-of es i s) e)
-unfolding bad-entry untraced
+unfolding in-bounds bad-entry untraced
 rest-of B es i e s at p k =
-    let w = inside B e p in
+    let w = bounded (e .function) (e .arg1) (e .arg2) (e .value) (length (B .functions)) (B .E) p in
     rw (
       at,
       p,
-      roll-clear es (B .E) (e .arg1) i s k (w .arg1),
-      roll-clear es (B .E) (e .arg2) i s k (w .arg2),
-      roll-clear es (B .E) (e .value) i s k (w .value),
+      roll-clear es (B .E) (e .arg1) i s k (w .0),
+      roll-clear es (B .E) (e .arg2) i s k (w .1),
+      roll-clear es (B .E) (e .value) i s k (w .2),
     )
 
-module _ (B : Program) (es : List Entry) (i : ℕ) (e : Entry) (at : entry-at es i ≡ e) where
+-- the tests of an entry that passed say that it is in bounds and fits its function
+pub tests-passed : (a b c d : Bool) → not (a && (b && c && d)) ≡ false → (a ≡ true) × (b ≡ true)
+tests-passed true true c d h = (refl, refl)
+tests-passed true false c d h = absurd (true≢false h)
+tests-passed false b c d h = absurd (true≢false h)
+
+module _ (B : Program) (strided : Strided B) (es : List Entry) (i : ℕ) (e : Entry) (at : entry-at es i ≡ e) where
+  abbrev fits : Bool
+  fits = entry-fits (B .P) e (function-at B (e .function))
+
+  abbrev found : ℕ
+  found = sum (function-at B (e .function)) (e .arg1) (e .arg2)
+
+  -- the location of an entry that fits its function is the sum
+  found-is : fits ≡ true → found ≡ entry-location B e
+  found-is p = sum-location B strided (e .function) (e .arg1) (e .arg2) (entry-fitting (B .P) e (function-at B (e .function)) p)
+
   -- the tests that the code makes of an entry say whether it is at fault
   pub bad-tests :
       (s : List ℕ) → RollEmpty (B .E) s →
       bad-entry B es i
       ≡ not
       ((ltb (e .function) (length (B .functions)) && ltb (e .arg1) (B .E) && ltb (e .arg2) (B .E) && ltb (e .value) (B .E))
-      && (entry-fits (B .P) e (function-at B (e .function)) && leb (least-location B es i) (entry-location B e) && untraced-by (roll-of es i s) e))
+      && (fits && leb (least-location B es i) found && untraced-by (roll-of es i s) e))
   unfolding in-bounds bad-entry
-  bad-tests s k = go (in-bounds B e) refl
+  bad-tests s k = go (in-bounds B e) refl ∙ ap (λ (t : Bool). not (in-bounds B e && t)) (by-sum fits refl)
     where
-      rest : Bool
-      rest = entry-fits (B .P) e (function-at B (e .function)) && leb (least-location B es i) (entry-location B e) && untraced-by (roll-of es i s) e
+      rest : ℕ → Bool
+      rest l = fits && leb (least-location B es i) l && untraced-by (roll-of es i s) e
 
-      go : (t : Bool) → in-bounds B e ≡ t → bad-entry B es i ≡ not (t && rest)
+      go : (t : Bool) → in-bounds B e ≡ t → bad-entry B es i ≡ not (t && rest (entry-location B e))
       go true p = rest-of B es i e s at p k
       go false p = rw (at, p)
 
-  pub low-step : least-location B es (i + 1) ≡ entry-location B e + 1
+      by-sum : (t : Bool) → fits ≡ t → rest (entry-location B e) ≡ rest found
+      by-sum true p = ap rest (sym (found-is p))
+      by-sum false p = rw p
+
+  pub low-step : fits ≡ true → least-location B es (i + 1) ≡ found + 1
   unfolding least-location
-  low-step = rw (add-one i, at)
+  low-step p = rw (add-one i, at, found-is p)
 
 pub low-none : (B : Program) (es : List Entry) → 0 ≡ least-location B es 0
 unfolding least-location

@@ -12,7 +12,8 @@ ghost use lib.Dec.{eqb, ltb, leb};
 ghost use Rattle.text.specs.declared.Found.the-variants.{Here};
 ghost use Rattle.text.specs.Words.{least-from};
 ghost use Rattle.text.specs.Text.{bad-line};
-ghost use Rattle.book.specs.Book.{true-element, relation, dynamic, default, offset};
+ghost use Rattle.book.specs.Book.{true-element, relation, dynamic, default};
+ghost use Rattle.book.specs.Sum.{Strided};
 ghost use Rattle.book.specs.Lines.{entry-of};
 ghost use Rattle.book.specs.Contents.{entry-fits};
 ghost use Rattle.book.specs.Image.{program-in, first-entry-in, entry-count-in};
@@ -38,15 +39,13 @@ fn in_bounds(f: u32, e: u32, x: Entry) -> bool
     (x.function < f) & (x.arg1 < e) & (x.arg2 < e) & (x.value < e)
 }
 
-// The arguments that function f has not are 0 in the entry.
+// The arguments that function f has not are 0 in the entry: those that it has are left out, and the others add up to 0.
 fn arguments_fit(x: Entry, f: Function) -> bool
     ensures { λ r. ⌜ r ≡ (leb 1 (f .arity) || eqb (x .arg1) 0) && (eqb (f .arity) 2 || eqb (x .arg2) 0) ⌝ }
 {
-    if f.arity == 2 {
-        true
-    } else {
-        ((1 <= f.arity) | (x.arg1 == 0)) & (x.arg2 == 0)
-    }
+    let first = x.arg1 as u64 * (f.arity == 0) as u64;
+    let second = x.arg2 as u64 * (f.arity != 2) as u64;
+    first + second == 0
 }
 
 // The entry's value is true if f is a relation, and not undef otherwise.
@@ -83,21 +82,6 @@ fn entry_fits(p: u32, x: Entry, f: Function) -> bool
     ensures { λ r. ⌜ r ≡ entry-fits p x f ⌝ }
 {
     arguments_fit(x, f) & value_fits(x, f) & static_fits(p, x, f) & reserve_fits(p, x)
-}
-
-// The location of an entry of function f, e being the number of elements.
-fn entry_location(e: u32, f: Function, x: Entry) -> u64
-    requires { ⌜ e ≤ 10000 ⌝ }
-    ensures { λ r. ⌜ (r ≡ f .first + offset e (f .arity) (x .arg1) (x .arg2)) × (r < 1000000000000000) ⌝ }
-{
-    let first = f.first as u64;
-    if f.arity == 0 {
-        first + 0
-    } else if f.arity == 1 {
-        first + x.arg1 as u64
-    } else {
-        first + (x.arg1 as u64 * e as u64 + x.arg2 as u64)
-    }
 }
 
 // Adds the label that the entry puts on the roll to the table of such labels, if it is an entry of Reserve.
@@ -145,13 +129,13 @@ fn check_entry_lines<'a>(
     roll: &mut [u8],
 ) -> LineFaults
     requires { ⌜ RollEmpty (program-in (now image) .E) (now roll) ⌝ }
-    ensures { λ r. ⌜ r ≡ faults-from (program-in (now (image .entry))) (now (text .entry)) first (end - first) ⌝ }
+    ensures { λ r. ⌜ (Strided (program-in (now (image .entry))) → r ≡ faults-from (program-in (now (image .entry))) (now (text .entry)) first (end - first)) ⌝ }
 {
     let p = book_image::permanent(image);
     let e = book_image::elements(image) as u32;
     let n = book_image::functions(image) as u32;
     let mut i = first;
-    let mut low: u64 = 0;
+    let mut low: usize = 0;
     while i < end {
         let l = text::parse(text, i);
         if !l.ok {
@@ -162,7 +146,8 @@ fn check_entry_lines<'a>(
         }
         let x = entry(l.line);
         let f = book_image::function_at(image, x.function);
-        let place = entry_location(e, f, x);
+        // This is the entry's location if its arguments fit f, which is tested together with it.
+        let place = book_parts::location(f, x.arg1, x.arg2);
         if !(in_bounds(n, e, x) & (entry_fits(p, x, f) & (low <= place) & no_trace(roll, x))) {
             return fault_at(text, i, end);
         }
@@ -178,7 +163,7 @@ fn check_entry_lines<'a>(
 
 // Refusals 1 and 8: the least contents line that is ill-formed, or else the least at fault. Most books have few elements, and a small table is soon cleared.
 pub fn check_entries<'a>(text: &'a [u8], image: &'a Image) -> LineFaults
-    ensures { λ r. ⌜ r ≡ faults-from (program-in (now (image .entry))) (now (text .entry)) (first-entry-in (now (image .entry))) (entry-count-in (now (image .entry))) ⌝ }
+    ensures { λ r. ⌜ (Strided (program-in (now (image .entry))) → r ≡ faults-from (program-in (now (image .entry))) (now (text .entry)) (first-entry-in (now (image .entry))) (entry-count-in (now (image .entry)))) ⌝ }
 {
     let first = book_image::first_entry(image);
     let end = first + book_image::entries(image);

@@ -9,7 +9,7 @@ use text::Value;
 ghost use mathlib.Core.Path.{_≡_};
 ghost use Prim.Native.Nat.{_+_, _≤_};
 ghost use lib.ListN.{length};
-ghost use Rattle.book.specs.Book.{size, no-node, function-at, node-at, agent-at};
+ghost use Rattle.book.specs.Book.{size, stride, no-function, no-node, function-at, node-at, agent-at};
 ghost use Rattle.book.specs.Image.{image-length, word, image-row, capped, program-in, first-entry-in, entry-count-in, FitsImage, capped-header, stored, node-stored};
 
 // The first row of the functions.
@@ -144,23 +144,34 @@ pub fn locations(image: &Image) -> u32
 
 // ---- functions, nodes, agents
 
-// Function f; past the last one all fields are 0.
+// What stands past the last function: all fields are 0, but the stride is 1.
+fn no_function() -> Function
+    ensures { λ r. ⌜ r ≡ no-function ⌝ }
+{
+    Function {
+        first: 0,
+        arity: 0,
+        kind: 0,
+        stride: 1,
+    }
+}
+
+// Function f; past the last one all fields are 0, but the stride is 1. Every location is found through here, so the two bounds are tested one by one.
 pub fn function_at(image: &Image, f: u32) -> Function
     ensures { λ r. ⌜ r ≡ function-at (program-in (now (image .entry))) f ⌝ }
 {
-    if f < cap(image[2], book::MOST_FUNCTIONS) {
-        let at = (FUNCTION_ROWS as usize + f as usize) * 4;
-        Function {
-            first: image[at],
-            arity: image[at + 1],
-            kind: image[at + 2],
-        }
-    } else {
-        Function {
-            first: 0,
-            arity: 0,
-            kind: 0,
-        }
+    if image[2] <= f {
+        return no_function();
+    }
+    if book::MOST_FUNCTIONS <= f {
+        return no_function();
+    }
+    let at = (FUNCTION_ROWS as usize + f as usize) * 4;
+    Function {
+        first: image[at],
+        arity: image[at + 1],
+        kind: image[at + 2],
+        stride: image[at + 3],
     }
 }
 
@@ -227,4 +238,11 @@ pub fn size(e: Value, arity: u32) -> u32
         return e as u32;
     }
     e as u32 * e as u32
+}
+
+// The stride of a function of that arity, e being the number of elements.
+pub fn stride(e: Value, arity: u32) -> u32
+    ensures { λ r. ⌜ r ≡ stride e arity ⌝ }
+{
+    if arity < 2 { 1 } else { e as u32 }
 }

@@ -41,7 +41,7 @@ abbrev pub lines-before : ℕ → ℕ → Found → ℕ
 lines-before first end Nowhere = end - first
 lines-before first end (Here p) = p - first
 
--- image m with the functions' first locations in their rows, and L in the header's second row
+-- image m with the functions' first locations and strides in their rows, and L in the header's second row
 unfoldable pub functions-laid : List ℕ → List ℕ
 functions-laid m =
     let at : ℕ → Line = λ f. image-row m (first-function + f) in

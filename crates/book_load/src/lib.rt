@@ -93,7 +93,7 @@ pub fn load(text: &[u8], h: Header, image: &mut Image) -> Found
     load_lines(text, g, image)
 }
 
-// Gives the rows of n functions their first locations, and says how many locations the functions have together.
+// Gives the rows of n functions their first locations and strides, and says how many locations the functions have together.
 fn lay_functions(e: Value, n: u32, image: &mut Image) -> u32
     requires { ⌜ (e ≤ 10000) × (n ≤ 32) ⌝ }
     ensures { λ r. ⌜ (r ≡ first-location (λ f. image-row (now (image .entry)) (2 + f)) e n) × (now (image .exit) ≡ filled (laid-row (λ f. image-row (now (image .entry)) (2 + f)) e) 2 n 0 (now (image .entry))) ⌝ }
@@ -109,7 +109,7 @@ fn lay_functions(e: Value, n: u32, image: &mut Image) -> u32
                 a: sum,
                 b: l.a,
                 c: l.b,
-                d: 0,
+                d: book_image::stride(e, l.a),
             },
         );
         sum += book_image::size(e, l.a);
@@ -118,7 +118,7 @@ fn lay_functions(e: Value, n: u32, image: &mut Image) -> u32
     sum
 }
 
-// Gives the functions of an image their first locations, and the header's second row L.
+// Gives the functions of an image their first locations and strides, and the header's second row L.
 pub fn lay_out(image: &mut Image)
     ensures { λ _. ⌜ (now (image .exit) ≡ functions-laid (now (image .entry))) × (length (now (image .entry)) ≡ image-length) ⌝ }
 {

@@ -1,9 +1,10 @@
-// A program as the engine holds it, in numbers of sixteen bits, and each function's part of the contents table.
+// A program as the engine holds it, its locations found and taken apart, and each function's part of the contents table.
 use book::Function;
 use book::Image;
 use text::Value;
 ghost use mathlib.Core.Path.{_≡_};
-ghost use Rattle.book.specs.Book.{boolean, relation, dynamic, default, function-at, node-at};
+ghost use Rattle.book.specs.Book.{boolean, relation, dynamic, default, node-at};
+ghost use Rattle.book.specs.Sum.{sum, first-argument, second-argument};
 ghost use Rattle.book.specs.Image.{low-program};
 ghost use Rattle.book_parts.specs.Part.{part-from, part-of, owner-of};
 ghost use Rattle.book_parts.specs.StoredNodes.{stored-node};
@@ -15,18 +16,6 @@ pub fn permanent(image: &Image) -> Value
     ensures { λ r. ⌜ r ≡ low-program (now (image .entry)) .P ⌝ }
 {
     text::low(book_image::permanent(image))
-}
-
-// Function f, its first location in sixteen bits; past the last one all fields are 0.
-pub fn function_at(image: &Image, f: u16) -> Function
-    ensures { λ r. ⌜ r ≡ function-at (low-program (now (image .entry))) f ⌝ }
-{
-    let w = book_image::function_at(image, f as u32);
-    Function {
-        first: text::low(w.first) as u32,
-        arity: w.arity,
-        kind: w.kind,
-    }
 }
 
 // A node, its numbers in sixteen bits.
@@ -50,7 +39,7 @@ pub fn node(image: &Image, n: u16) -> StoredNode
     }
 }
 
-// ---- kinds of functions, and parts
+// ---- kinds of functions
 
 // The function is a relation, static or dynamic.
 pub fn is_relation(f: Function) -> bool
@@ -80,6 +69,46 @@ pub fn default_of(f: Function) -> Value
     if is_relation(f) { 1 } else { 0 }
 }
 
+// ---- locations
+
+// The location of f at x and y, an argument that f has not being 0: every location is found here.
+pub fn location(f: Function, x: u32, y: u32) -> usize
+    ensures { λ r. ⌜ r ≡ sum f x y ⌝ }
+{
+    f.first as usize + x as usize * f.stride as usize + y as usize
+}
+
+// The two arguments of a location; one that its function has not is 0.
+pub struct Arguments {
+    pub first: usize,
+    pub second: usize,
+}
+
+// The arguments of location i of f: every location is taken apart here. A division by 1 is left out, since most functions are unary.
+pub fn take_apart(f: Function, i: usize) -> Arguments
+    ensures { λ r. ⌜ (r .first ≡ first-argument f i) × (r .second ≡ second-argument f i) ⌝ }
+{
+    let s = f.stride as usize;
+    if s == 1 {
+        return Arguments {
+            first: i,
+            second: 0,
+        };
+    }
+    if s == 0 {
+        return Arguments {
+            first: 0,
+            second: i,
+        };
+    }
+    Arguments {
+        first: i / s,
+        second: i % s,
+    }
+}
+
+// ---- parts
+
 // A run of the contents table, from location `first` up to `end`.
 pub struct Part {
     pub first: usize,
@@ -97,7 +126,7 @@ pub struct Owner {
 pub fn part_from(image: &Image, g: u16, first: u32) -> Owner
     ensures { λ r. ⌜ r ≡ part-from (low-program (now (image .entry))) g first ⌝ }
 {
-    let f = function_at(image, g);
+    let f = book_image::function_at(image, g as u32);
     let size = book_image::size(book_image::elements(image), f.arity);
     Owner {
         function: f,
@@ -122,7 +151,7 @@ pub fn owner_of(image: &Image, l: usize) -> Owner
         g = g + 1;
     }
     Owner {
-        function: function_at(image, n),
+        function: book_image::function_at(image, n as u32),
         first: first as usize,
         end: first as usize,
     }

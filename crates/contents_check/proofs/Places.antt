@@ -8,8 +8,8 @@ use lib.ListN.{length}
 use Rattle.text.specs.Words.{if_then_else_, least-from, least}
 use Rattle.text.specs.declared.Found.{Found}
 use Rattle.text.specs.declared.Found.the-variants.{Nowhere, Here}
-use Rattle.text.proofs.Words.{least-here}
 use Rattle.book.specs.Book.{Program, L, size, function-at}
+use Rattle.book.specs.Sum.{Strided}
 use Rattle.book.specs.Contents.{bad-value}
 use Rattle.book_parts.specs.declared.Owner.{Owner}
 use Rattle.book_parts.specs.Part.{part-from}
@@ -74,19 +74,16 @@ module _ (bad : ℕ → Bool) where
 
 -- function g's part: r is its least place at fault, counted from its first, and no place before the part is at fault
 module _ (B : Program) (c : List ℕ) (E P g first : ℕ) (own : Owner) (r : Found) (e : E ≡ B .E) (p : P ≡ B .P) (is : own ≡ part-from B g first)
-    (at : From B g first) (more : g < length (B .functions)) (below : least-from (bad-value B c) (L B - first) first ≡ least (bad-value B c) (L B))
+    (strides : Strided B) (at : From B g first) (more : g < length (B .functions)) (below : least-from (bad-value B c) (L B - first) first ≡ least (bad-value B c) (L B))
     (found : (B : Program) → Part B E P (own .function) first (own .end) → r ≡ least (λ i. bad-value B c (first + i)) (size E (own .function .arity))) where
   abbrev n : ℕ
   n = size (B .E) (function-at B g .arity)
 
   own-part : Part B E P (own .function) first (own .end)
-  own-part = record { elements = sym e; permanent = sym p; long = rw (is, e); places = λ i h. rw is (from-here B g first at more i (rw (e, is) at h)) }
+  own-part = record { elements = sym e; permanent = sym p; strided = rw (is, e) (strides g); long = rw (is, e); places = λ i h. rw is (from-here B g first at more i (rw (e, is) at h)) }
 
   least-is : r ≡ least (λ i. bad-value B c (first + i)) n
   least-is = found B own-part ∙ rw (is, e)
-
-  pub own-low : (i : ℕ) → r ≡ Here i → first + i < own .end
-  own-low i h = omega (arith, least-here (λ i. bad-value B c (first + i)) n i (sym least-is ∙ h) .0, part-ends B g first own is)
 
   pub own-stop : (i : ℕ) → r ≡ Here i → Here (first + i) ≡ least (bad-value B c) (L B)
   own-stop i h = part-stop (bad-value B c) (L B) first n i (from-fits B g first at more) (sym least-is ∙ h) below

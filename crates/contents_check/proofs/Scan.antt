@@ -8,9 +8,9 @@ use Rattle.text.specs.Words.{least-from, least}
 use Rattle.text.specs.declared.Found.the-variants.{Nowhere, Here}
 use Rattle.text.proofs.Words.{least-start, least-pass, least-stop, least-end}
 use Rattle.book.specs.declared.Function.{Function}
-use Rattle.book.specs.Book.{Program, Place, size, place}
+use Rattle.book.specs.Book.{Program, Place, size}
 use Rattle.book.specs.Contents.{bad-value}
-use Rattle.contents_check.specs.Part.{Faultless, SkippedTo, Part}
+use Rattle.contents_check.specs.Part.{Held, Faultless, SkippedTo, Part}
 
 -- places that are not at fault are passed over
 least-skip :
@@ -50,20 +50,27 @@ module _ (B : Program) (c : List ℕ) (E P : ℕ) (f : Function) (first end : �
         (h .held (first + j) (omega arith) (omega (arith, h .from))))
         p)
 
-    place-is : l < end → place B l ≡ record { function = f; index = l - first }
-    place-is h = let e : first + (l - first) ≡ l = omega arith in rw e at (part .places (l - first) (omega (arith, part .long)))
+    held-is : l < end → Held B E P f l (l - first)
+    held-is h =
+        let e : first + (l - first) ≡ l = omega arith in
+        record {
+          elements = part .elements;
+          permanent = part .permanent;
+          strided = part .strided;
+          here = rw e at (part .places (l - first) (omega (arith, part .long)));
+        }
 
     -- a location that is checked and is not at fault is passed over
-    pub scan-pass : (r : Bool) → l < end → (place B l ≡ record { function = f; index = l - first } → r ≡ bad-value B c l) → r ≡ false → Passed (l + 1)
+    pub scan-pass : (r : Bool) → l < end → (Held B E P f l (l - first) → r ≡ bad-value B c l) → r ≡ false → Passed (l + 1)
     scan-pass r h k q =
         let e : first + (l - first) ≡ l = omega arith in
         let d : l - first + 1 ≡ l + 1 - first = omega arith in
-        rw d at (least-pass bad n (l - first) (omega (arith, part .long)) (rw e (sym (k (place-is h)) ∙ q)) p)
+        rw d at (least-pass bad n (l - first) (omega (arith, part .long)) (rw e (sym (k (held-is h)) ∙ q)) p)
 
-    pub scan-stop : (r : Bool) → l < end → (place B l ≡ record { function = f; index = l - first } → r ≡ bad-value B c l) → r ≡ true → Here (l - first) ≡ least bad n
+    pub scan-stop : (r : Bool) → l < end → (Held B E P f l (l - first) → r ≡ bad-value B c l) → r ≡ true → Here (l - first) ≡ least bad n
     scan-stop r h k q =
         let e : first + (l - first) ≡ l = omega arith in
-        least-stop bad n (l - first) (omega (arith, part .long)) (rw e (sym (k (place-is h)) ∙ q)) p
+        least-stop bad n (l - first) (omega (arith, part .long)) (rw e (sym (k (held-is h)) ∙ q)) p
 
     pub scan-end : end ≤ l → Nowhere ≡ least bad n
     scan-end h = least-end bad n (l - first) (omega (arith, part .long)) p

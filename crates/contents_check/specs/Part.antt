@@ -1,18 +1,19 @@
--- A function's part of a contents table, the arguments of a location in it, and what it may hold without fault.
+-- A function's part of a contents table, a location in it, and what it may hold without fault.
 use mathlib.Core.Path.{_≡_}
 use mathlib.Core.Bool.{false}
-use mathlib.Core.List.{List, [], _∷_}
+use mathlib.Core.List.{List}
 use Prim.Native.Nat.{ℕ, _+_, _<_, _≤_}
-use lib.Dec.{eqb}
 use lib.ListN.{getD}
-use Rattle.text.specs.Words.{if_then_else_}
 use Rattle.book.specs.declared.Function.{Function}
-use Rattle.book.specs.Book.{Program, size, place}
+use Rattle.book.specs.Book.{Program, size, stride, place}
 use Rattle.book.specs.Contents.{bad-value}
 
--- the arguments of location i of a function of that arity; row and column are i / E and i % E
-abbrev pub arguments-by : ℕ → ℕ → ℕ → ℕ → List ℕ
-arguments-by arity i row col = if eqb arity 0 then [] else if eqb arity 1 then i ∷ [] else row ∷ col ∷ []
+-- in the book B, with these E and P, location l is number i of f
+pub record Held (B : Program) (E P : ℕ) (f : Function) (l i : ℕ) : Type 0 where
+  pub elements : B .E ≡ E
+  pub permanent : B .P ≡ P
+  pub strided : f .stride ≡ stride E (f .arity)
+  pub here : place B l ≡ record { function = f; index = i }
 
 -- a location of f that holds v is not at fault in the contents c
 abbrev pub Faultless : List ℕ → ℕ → Function → ℕ → Type 0
@@ -28,5 +29,6 @@ pub record SkippedTo (c : List ℕ) (v l end r : ℕ) : Type 0 where
 pub record Part (B : Program) (E P : ℕ) (f : Function) (first end : ℕ) : Type 0 where
   pub elements : B .E ≡ E
   pub permanent : B .P ≡ P
+  pub strided : f .stride ≡ stride E (f .arity)
   pub long : end ≡ first + size E (f .arity)
   pub places : (i : ℕ) → i < size E (f .arity) → place B (first + i) ≡ record { function = f; index = i }

@@ -1,6 +1,6 @@
 -- The contents lines of an accepted book, put one by one over the defaults, are the start of a run.
 use mathlib.Core.Path.{_≡_, refl, sym, ap, _∙_}
-use mathlib.Core.Bool.{true, false}
+use mathlib.Core.Bool.{true, false, and-false}
 use mathlib.Core.List.{List, _++_}
 use Prim.Native.Nat.{ℕ, zero, suc, _+_, _-_, _≤_, _<_}
 use native.Mathlib.Numerals.{add-one}
@@ -15,14 +15,16 @@ use Rattle.text.proofs.Words.{so-true, length-table-from, getD-table}
 use Rattle.book.specs.declared.Header.{Header}
 use Rattle.book.specs.declared.Entry.{Entry}
 use Rattle.book.specs.Book.{Program, Book, L, size, function-at, no-entry, entry-at, entry-location, default-at, defaults, enter, start}
+use Rattle.book.specs.Sum.{Fitting}
 use Rattle.book.specs.Lines.{first-entry, entry-of, entries-of}
-use Rattle.book.specs.Contents.{in-bounds, bad-entry}
+use Rattle.book.specs.Contents.{in-bounds, entry-fits, bad-entry}
 use Rattle.book.specs.Image.{word, capped, program-in, first-entry-in, low-program}
 use Rattle.book.specs.Check.{check-header, check-lines, check-book}
 use Rattle.book.specs.Sound.{Lawful}
 use Rattle.book.proofs.Accepted.{header-bounded, lines-book, book-lengths, accepted-lines, accepted, accepted-entries}
 use Rattle.book.proofs.Places.{located}
-use Rattle.book.proofs.Start.{in-bounds-is}
+use Rattle.book.proofs.Start.{in-bounds-is, entry-fitting}
+use Rattle.book.proofs.Sum.{sum-location}
 use Rattle.book_parts.proofs.Parts.{between-inside, part-numbered, part-own}
 use Rattle.book.proofs.Image.{uncapped}
 use Rattle.contents_start.specs.Written.{defaults-in, entry-put, entries-put, entry-lines, started}
@@ -50,6 +52,7 @@ record Small (B : Program) (l : Line) : Type 0 where
   pub first : l .b < B .E
   pub second : l .c < B .E
   pub value : l .d < B .E
+  pub fitting : Fitting (function-at B (l .a) .arity) (l .b) (l .c)
 
 module _ (B : Program) (ok : Lawful B) (few : length (B .functions) ≤ 32) (rest : List ℕ) where
   put-same : (l : Line) (c : List ℕ) → length c ≡ L B → Small B l → entry-put B l (c ++ rest) ≡ set c (entry-location B (entry-of l)) (l .d) ++ rest
@@ -63,6 +66,7 @@ module _ (B : Program) (ok : Lawful B) (few : length (B .functions) ≤ 32) (res
         mod-eq-of-lt {n = l .b} {m = 65536} (omega (arith, s .first, ok .elements)),
         mod-eq-of-lt {n = l .c} {m = 65536} (omega (arith, s .second, ok .elements)),
         mod-eq-of-lt {n = l .d} {m = 65536} (omega (arith, s .value, ok .elements)),
+        sum-location B (ok .strides) (l .a) (l .b) (l .c) (s .fitting),
         between-inside (f .first) (f .first + size (B .E) (f .arity)) (entry-location B (entry-of l)) (omega arith) own,
       ) (set-append-left c rest (entry-location B (entry-of l)) (l .d) (omega (arith, e, inside)))
 
@@ -80,6 +84,10 @@ module _ (B : Program) (ok : Lawful B) (few : length (B .functions) ≤ 32) (res
 in-range : (B : Program) (es : List Entry) (i : ℕ) → bad-entry B es i ≡ false → in-bounds B (entry-at es i) ≡ true
 unfolding bad-entry
 in-range B es i h = so-true (in-bounds B (entry-at es i)) (bad-entry B es i) h (λ q. simp q)
+
+in-form : (B : Program) (es : List Entry) (i : ℕ) → bad-entry B es i ≡ false → entry-fits (B .P) (entry-at es i) (function-at B (entry-at es i .function)) ≡ true
+unfolding bad-entry
+in-form B es i h = so-true (entry-fits (B .P) (entry-at es i) (function-at B (entry-at es i .function))) (bad-entry B es i) h (λ q. simp (q, and-false))
 
 entries-are : (h : Header) (text : List ℕ) → entries-of h text ≡ table (λ i. entry-of (line text (first-entry h + i))) (h .contents)
 unfolding entries-of
@@ -125,8 +133,16 @@ module _ (text : List ℕ) (b : Book) (passes : check-book text ≡ good b) (m :
   small s k h =
       let e : entry-at (b .entries) k ≡ entry-of (at k) =
       ap (λ (es : List Entry). getD es k no-entry) (s .entries) ∙ getD-table (λ i. entry-of (at i)) (length (b .entries)) k no-entry h in
-      let k = in-bounds-is B (entry-of (at k)) (rw e at (in-range B (b .entries) k (accepted-entries text b passes k h))) in
-      record { function = k .0; first = k .1; second = k .2; value = k .3 }
+      let right = accepted-entries text b passes k h in
+      let inside = in-bounds-is B (entry-of (at k)) (rw e at (in-range B (b .entries) k right)) in
+      let form = rw e at (in-form B (b .entries) k right) in
+      record {
+        function = inside .0;
+        first = inside .1;
+        second = inside .2;
+        value = inside .3;
+        fitting = entry-fitting (B .P) (entry-of (at k)) (function-at B (at k .a)) form;
+      }
 
   -- what is written into a table that is long enough is the start of a run
   pub start-is : (c : List ℕ) → low-program m ≡ B → L B ≤ length c → started m text c ≡ start b ++ drop (L B) c

@@ -6,7 +6,8 @@ use Rattle.text.specs.declared.Line.{Line}
 use Rattle.text.specs.Words.{if_then_else_, table}
 use Rattle.text.specs.Text.{line}
 use Rattle.book.specs.declared.Function.{Function}
-use Rattle.book.specs.Book.{Program, L, size, location, function-at, defaults}
+use Rattle.book.specs.Book.{Program, L, size, function-at, defaults}
+use Rattle.book.specs.Sum.{sum}
 use Rattle.book.specs.Image.{first-entry-in, entry-count-in, low-program}
 use Rattle.book_parts.specs.Part.{between, put-in}
 
@@ -25,7 +26,7 @@ function-put E g l v c = put-in (g .first) (g .first + size E (g .arity)) l v c
 -- contents c with the value of the contents line l at its location: in an accepted book each of its numbers fits in sixteen bits
 abbrev pub entry-put : Program → Line → List ℕ → List ℕ
 entry-put B l c =
-    function-put (B .E) (function-at B (l .a % 65536)) (location B (l .a % 65536) (l .b % 65536) (l .c % 65536)) (l .d % 65536) c
+    function-put (B .E) (function-at B (l .a % 65536)) (sum (function-at B (l .a % 65536)) (l .b % 65536) (l .c % 65536)) (l .d % 65536) c
 
 -- contents c with the value of each contents line at its location, one after the other
 unfoldable pub entries-put : Program → List Line → List ℕ → List ℕ

@@ -3,9 +3,8 @@ use book::Image;
 use text::Line;
 use text::Value;
 ghost use mathlib.Core.Path.{_≡_};
-ghost use Prim.Native.Nat.{_+_, _≤_};
+ghost use Prim.Native.Nat.{_≤_};
 ghost use lib.ListN.{length, set, replicate};
-ghost use Rattle.book.specs.Book.{offset};
 ghost use Rattle.book.specs.Image.{low-program};
 ghost use Rattle.book_parts.specs.Part.{put-in};
 ghost use Rattle.contents_start.specs.Written.{function-filled, defaults-in, entry-put, entries-put, entry-lines, started};
@@ -48,19 +47,6 @@ fn write_defaults(image: &Image, contents: &mut [Value])
     }
 }
 
-// The number within its function of the location at arguments x and y.
-fn offset(e: Value, arity: u32, x: Value, y: Value) -> usize
-    ensures { λ r. ⌜ r ≡ offset e arity x y ⌝ }
-{
-    if arity == 0 {
-        0
-    } else if arity == 1 {
-        x as usize
-    } else {
-        x as usize * e as usize + y as usize
-    }
-}
-
 // Puts v at place i of a part; past its end nothing is put.
 fn store_value(part: &mut [Value], i: usize, v: Value)
     ensures { λ _. ⌜ now (part .exit) ≡ set (now (part .entry)) i v ⌝ }
@@ -70,15 +56,15 @@ fn store_value(part: &mut [Value], i: usize, v: Value)
     }
 }
 
-// Puts v at place i of the part from `first` up to `end`, as far as the table goes.
-fn store_in_part(contents: &mut [Value], first: usize, end: usize, i: usize, v: Value)
-    requires { ⌜ first ≤ end ⌝ }
-    ensures { λ _. ⌜ now (contents .exit) ≡ put-in first end (first + i) v (now (contents .entry)) ⌝ }
+// Puts v at location l of the part from `first` up to `end`, as far as the table goes.
+fn store_in_part(contents: &mut [Value], first: usize, end: usize, l: usize, v: Value)
+    requires { ⌜ (first ≤ end) × (first ≤ l) ⌝ }
+    ensures { λ _. ⌜ now (contents .exit) ≡ put-in first end l v (now (contents .entry)) ⌝ }
 {
     let n = contents.len();
     let a = text::smaller(first, n);
     let b = text::smaller(end, n);
-    store_value(&mut contents[a..b], i, v);
+    store_value(&mut contents[a..b], l - first, v);
 }
 
 // Puts the value of a contents line at its location.
@@ -88,11 +74,10 @@ fn write_entry(image: &Image, contents: &mut [Value], l: Line)
     let f = text::low(l.a);
     let x = text::low(l.b);
     let y = text::low(l.c);
-    let e = book_image::elements(image);
-    let g = book_parts::function_at(image, f);
+    let g = book_image::function_at(image, f as u32);
     let own = book_parts::part_from(image, f, g.first);
-    let i = offset(e, g.arity, x, y);
-    store_in_part(contents, own.first, own.end, i, text::low(l.d));
+    let place = book_parts::location(g, x as u32, y as u32);
+    store_in_part(contents, own.first, own.end, place, text::low(l.d));
 }
 
 // Puts the values of all contents lines, one by one, from where the image says that the lines are.

@@ -145,21 +145,32 @@ module _ (B : Program) (ok : Lawful B) where
       let q = and-cases (ltb 0 f) (ltb f (length (B .functions))) (p .0) in
       (ltb-true 0 f (q .0), ltb-true f (length (B .functions)) (q .1), eqb-true (function-at B f .arity) r (p .1))
 
+  -- a term of kind 4 to 6 names a function with as many arguments, and a rule of kind 25, 26 or 28 a unary one
+
+  pub names-none : (n : ℕ) → ns n .kind ≡ 4 → Named B (ns n .a) 0
+  unfolding fits sort
+  names-none n e = named-as (ns n .a) 0 (ors-true 7 (named B (ns n .a) && eqb (function-at B (ns n .a) .arity) 0) (operands n 4 e (omega arith) .0))
+
+  pub names-one : (n : ℕ) → ns n .kind ≡ 5 → Named B (ns n .a) 1
+  unfolding fits sort
+  names-one n e = named-as (ns n .a) 1 (ors-true 6 (named B (ns n .a) && eqb (function-at B (ns n .a) .arity) 1) (operands n 5 e (omega arith) .0))
+
+  pub names-two : (n : ℕ) → ns n .kind ≡ 6 → Named B (ns n .a) 2
+  unfolding fits sort
+  names-two n e = named-as (ns n .a) 2 (ors-true 5 (named B (ns n .a) && eqb (function-at B (ns n .a) .arity) 2) (operands n 6 e (omega arith) .0))
+
   proper-target : (d n : ℕ) → 4 ≤ ns n .kind → ns n .kind ≤ 6 → dynamic (function-at B (ns n .a)) ≡ true → ProperTarget B (term-at ns (suc d) n)
-  unfolding tree fits sort
+  unfolding tree
   proper-target d n lo hi dy = dite (ℕ-discrete (ns n .kind) 4) four (λ x. dite (ℕ-discrete (ns n .kind) 5) five (λ y. six (omega arith)))
     where
-      of-arity : ℕ → Bool
-      of-arity r = named B (ns n .a) && eqb (function-at B (ns n .a) .arity) r
-
       four : ns n .kind ≡ 4 → ProperTarget B (term-at ns (suc d) n)
-      four e = rw e (named-as (ns n .a) 0 (ors-true 7 (of-arity 0) (operands n 4 e (omega arith) .0)), dy)
+      four e = rw e (names-none n e, dy)
 
       five : ns n .kind ≡ 5 → ProperTarget B (term-at ns (suc d) n)
-      five e = rw e (named-as (ns n .a) 1 (ors-true 6 (of-arity 1) (operands n 5 e (omega arith) .0)), dy, proper-term d (ns n .b))
+      five e = rw e (names-one n e, dy, proper-term d (ns n .b))
 
       six : ns n .kind ≡ 6 → ProperTarget B (term-at ns (suc d) n)
-      six e = rw e (named-as (ns n .a) 2 (ors-true 5 (of-arity 2) (operands n 6 e (omega arith) .0)), dy, proper-term d (ns n .b), proper-term d (ns n .c))
+      six e = rw e (names-two n e, dy, proper-term d (ns n .b), proper-term d (ns n .c))
 
   -- ---- rules
 
@@ -207,6 +218,15 @@ module _ (B : Program) (ok : Lawful B) where
           let p = and-cases (unary (ns n .b)) (relation (function-at B (ns n .b))) h in
           (named-as (ns n .b) 1 (p .0), p .1)
       go (suc (suc (suc (suc (suc (suc (suc (suc (suc j))))))))) e = tt
+
+  pub universe-of-forall : (n : ℕ) → ns n .kind ≡ 25 → Named B (ns n .b) 1
+  universe-of-forall n e = let f : FitsRule a-for-all (ns n) = rw e at (fits-rule n) in f .0
+
+  pub universe-of-import : (n : ℕ) → ns n .kind ≡ 26 → Named B (ns n .b) 1
+  universe-of-import n e = let f : FitsRule an-import (ns n) = rw e at (fits-rule n) in f .0
+
+  pub universe-of-choose : (n : ℕ) → ns n .kind ≡ 28 → Named B (ns n .b) 1
+  universe-of-choose n e = let f : FitsRule a-choose (ns n) = rw e at (fits-rule n) in f .0
 
   abbrev tree-at : ℕ → ℕ → Rule
   tree-at d n = rule-tree ns d (rule-shape (ns n)) n (ns n)

@@ -6,19 +6,22 @@ use Prim.Native.Nat.{ℕ, _<_, _≤_}
 use native.Mathlib.Omega.{arith}
 use borrow.Author.Tests.{eqb-true, eqb-false, ltb-true, ltb-false, eq-eqb, ne-eqb, not-false}
 use lib.Dec.{eqb, ltb}
-use lib.ListN.{length, getD}
+use lib.ListN.{length}
 use Rattle.text.specs.Words.{if_then_else_, has, least}
 use Rattle.text.specs.declared.Found.{Found}
 use Rattle.text.specs.declared.Found.the-variants.{Nowhere, Here}
 use Rattle.text.proofs.Words.{refuted, or-no, least-none, least-all, least-here, has-append}
-use Rattle.book.specs.Book.{Program, L, dynamic-at, default-at, concerns}
+use Rattle.book.specs.Book.{Program, L, default, place}
+use Rattle.book.specs.Sum.{Strided}
 use Rattle.engine.specs.declared.Instruction.{Instruction}
 use Rattle.engine.specs.declared.Instruction.the-variants.{Update, Release}
-use Rattle.engine.specs.Move.{given, values, updates, released, other, two-values, sets-label, set-to-label, clashes}
+use Rattle.engine.specs.Move.{updates, released, other, two-values, sets-label, set-to-label, clashes}
 use Rattle.engine.proofs.Values.{length-updates, updates-at}
 use Rattle.engine_instruction.specs.Given.{own, gets, any}
-use Rattle.engine_clash.specs.LeastClash.{sets-released, clashes-by, least-with, least-clash}
-use Rattle.engine_instruction.proofs.Laws.{and-none, other-append, own-given}
+use Rattle.engine_clash.specs.LeastClash.{held-place, clears-held, values-given, values-given-by, sets-released, clashes-by, least-with, least-clash}
+use Rattle.engine_clash.specs.declared.HeldPlace.{HeldPlace}
+use Rattle.engine_instruction.proofs.Laws.{and-none, other-append}
+use Rattle.engine_clash.proofs.Laws.{own-value, given-strided}
 
 -- ---- tests
 
@@ -37,14 +40,14 @@ least-is bad n m h e none = go (least bad n) refl
 
 -- ---- at one location
 
--- an instruction that is about another location gives l nothing, or its default
-else-given : (B : Program) (c : List ℕ) (l : ℕ) (i : Instruction) → (own i ≡ l → ⊥) → other (default-at B l) (given B c l i) ≡ false
-unfolding given other
-else-given B c l (Update k v) e = rw (ne-eqb k l e)
-else-given B c l (Release x) e = rw (ne-eqb x l e) (step (dynamic-at B l && concerns B l (getD c l 0) x))
+-- an instruction that is about another location gives that of s nothing, or its default
+else-given : (s : HeldPlace) (i : Instruction) → (own i ≡ s .location → ⊥) → other (default (s .function)) (values-given s i) ≡ false
+unfolding values-given other
+else-given s (Update k v) e = rw (ne-eqb k (s .location) e)
+else-given s (Release x) e = rw (ne-eqb x (s .location) e) (step (clears-held s x))
   where
-    step : (b : Bool) → other (default-at B l) (if b then default-at B l ∷ [] else []) ≡ false
-    step true = rw (eq-eqb (default-at B l) (default-at B l) refl)
+    step : (b : Bool) → other (default (s .function)) (if b then default (s .function) ∷ [] else []) ≡ false
+    step true = rw (eq-eqb (default (s .function)) (default (s .function)) refl)
     step false = refl
 
 -- a list whose values are all v has no two different values
@@ -74,11 +77,11 @@ two-other v (w ∷ ws) e = step (eqb w v) refl e
     step true f h = rw (f, eqb-true w v f)
     step false f h = rw f (sym (has-other v w ws h (eqb-false w v f)))
 
-has-values : (v : ℕ) (B : Program) (c : List ℕ) (l : ℕ) (is : List Instruction) → has (values B c l is) v ≡ any (λ i. has (given B c l i) v) is
-unfolding any values
-has-values v B c l [] = refl
-has-values v B c l (i ∷ is) =
-    has-append (given B c l i) (values B c l is) v ∙ ap (λ (b : Bool). has (given B c l i) v || b) (has-values v B c l is)
+has-values : (v : ℕ) (s : HeldPlace) (is : List Instruction) → has (values-given-by s is) v ≡ any (λ i. has (values-given s i) v) is
+unfolding any values-given-by
+has-values v s [] = refl
+has-values v s (i ∷ is) =
+    has-append (values-given s i) (values-given-by s is) v ∙ ap (λ (b : Bool). has (values-given s i) v || b) (has-values v s is)
 
 sets-any : (xs : List ℕ) (l : ℕ) (is : List Instruction) → set-to-label xs l is ≡ any (λ i. eqb (own i) l && sets-released xs i) is
 unfolding any set-to-label
@@ -90,13 +93,13 @@ sets-any xs l (i ∷ is) = rw (sets-any xs l is) (ap (λ (b : Bool). b || any (�
     step (Release x) = sym (and-none (eqb x l))
 
 -- if no instruction is about the location, all that it is given is its default, or nothing
-none-own : (B : Program) (c : List ℕ) (l : ℕ) (is : List Instruction) → any (λ i. eqb (own i) l) is ≡ false → other (default-at B l) (values B c l is) ≡ false
-unfolding any values other
-none-own B c l [] h = refl
-none-own B c l (i ∷ is) h =
-    let n = or-no (eqb (own i) l) (any (λ i. eqb (own i) l) is) h in
-    other-append (default-at B l) (given B c l i) (values B c l is)
-    ∙ rw (else-given B c l i (eqb-false (own i) l (n .0)), none-own B c l is (n .1))
+none-own : (s : HeldPlace) (is : List Instruction) → any (λ i. eqb (own i) (s .location)) is ≡ false → other (default (s .function)) (values-given-by s is) ≡ false
+unfolding any values-given-by other
+none-own s [] h = refl
+none-own s (i ∷ is) h =
+    let n = or-no (eqb (own i) (s .location)) (any (λ i. eqb (own i) (s .location)) is) h in
+    other-append (default (s .function)) (values-given s i) (values-given-by s is)
+    ∙ rw (else-given s i (eqb-false (own i) (s .location) (n .0)), none-own s is (n .1))
 
 -- ---- all instructions
 
@@ -127,21 +130,25 @@ module _ (all : List Instruction) where
       step false g k n = rw (n k) (or-true (r i))
 
 module _ (B : Program) (c : List ℕ) (all : List Instruction) where
+  -- the values that location l is given
+  abbrev given-at : ℕ → List ℕ
+  given-at l = values-given-by (held-place B c l) all
+
   -- an instruction of the list gives its own location its own value
-  pub gives-own : (i : Instruction) → Member all i → has (values B c (own i) all) (gets i) ≡ true
+  pub gives-own : (i : Instruction) → Member all i → has (given-at (own i)) (gets i) ≡ true
   gives-own i h =
-      has-values (gets i) B c (own i) all
-      ∙ h (λ j. has (given B c (own i) j) (gets i)) (rw (own-given B c (own i) i refl, eq-eqb (gets i) (gets i) refl))
+      has-values (gets i) (held-place B c (own i)) all
+      ∙ h (λ j. has (values-given (held-place B c (own i)) j) (gets i)) (rw (own-value (held-place B c (own i)) i refl, eq-eqb (gets i) (gets i) refl))
 
   -- location l clashes
   abbrev Bad : ℕ → Bool
-  Bad l = two-values (values B c l all) || set-to-label (released all) l all
+  Bad l = two-values (given-at l) || set-to-label (released all) l all
 
   -- an instruction that clashes by its own value is a clash at its own location
   clashes-clash : (i : Instruction) → Member all i → clashes-by B c all i ≡ true → Bad (own i) ≡ true
   clashes-clash i h e =
-      rw (← (two-other (gets i) (values B c (own i) all) (gives-own i h)))
-      (step (other (gets i) (values B c (own i) all)) (sets-released (released all) i) refl e)
+      rw (← (two-other (gets i) (given-at (own i)) (gives-own i h)))
+      (step (other (gets i) (given-at (own i))) (sets-released (released all) i) refl e)
     where
       step : (a b : Bool) → sets-released (released all) i ≡ b → a || b ≡ true → a || set-to-label (released all) (own i) all ≡ true
       step true b f g = refl
@@ -156,23 +163,23 @@ module _ (B : Program) (c : List ℕ) (all : List Instruction) where
 
   -- a clash at location l is one by some instruction that is about l
   clash-clashes : (l : ℕ) → Bad l ≡ true → any (bad-one l) all ≡ true
-  clash-clashes l e = step (two-values (values B c l all)) refl e
+  clash-clashes l e = step (two-values (given-at l)) refl e
     where
-      about : (b : Bool) → any (λ i. eqb (own i) l) all ≡ b → two-values (values B c l all) ≡ true → b ≡ true
+      about : (b : Bool) → any (λ i. eqb (own i) l) all ≡ b → two-values (given-at l) ≡ true → b ≡ true
       about true f g = refl
-      about false f g = sym (all-one (default-at B l) (values B c l all) (none-own B c l all f)) ∙ g
+      about false f g = sym (all-one (default (place B l .function)) (given-at l) (none-own (held-place B c l) all f)) ∙ g
 
-      step : (b : Bool) → two-values (values B c l all) ≡ b → b || set-to-label (released all) l all ≡ true → any (bad-one l) all ≡ true
+      step : (b : Bool) → two-values (given-at l) ≡ b → b || set-to-label (released all) l all ≡ true → any (bad-one l) all ≡ true
       step true f g =
           find all (λ i. eqb (own i) l) (bad-one l) all (λ t h. h)
           (about (any (λ i. eqb (own i) l) all) refl f)
           (λ i h k.
           let o : own i ≡ l = eqb-true (own i) l k in
-          rw (eq-eqb (own i) l o, two-other (gets i) (values B c (own i) all) (gives-own i h), o, f))
+          rw (eq-eqb (own i) l o, two-other (gets i) (given-at (own i)) (gives-own i h), o, f))
       step false f g =
           find all (λ i. eqb (own i) l && sets-released (released all) i) (bad-one l) all (λ t h. h)
           (sym (sets-any (released all) l all) ∙ g)
-          (λ i h k. either (eqb (own i) l) (sets-released (released all) i) (other (gets i) (values B c (own i) all)) k)
+          (λ i h k. either (eqb (own i) l) (sets-released (released all) i) (other (gets i) (given-at (own i))) k)
         where
           either : (a b d : Bool) → a && b ≡ true → a && (d || b) ≡ true
           either true b d k = rw k (or-true d)
@@ -232,12 +239,12 @@ module _ (B : Program) (c : List ℕ) (all : List Instruction) where
   pub least-clash-by : (b : ℕ) → least-clash B c all all b < b → any (bad-one (least-clash B c all all b)) all ≡ true
   least-clash-by b h = clash-clashes (least-clash B c all all b) (best-clashes all (λ t k. k) b b (λ k. absurd (omega arith)) h)
 
-  clashes-at : (l : ℕ) → l < L B → clashes all (updates B c all) l ≡ Bad l
-  unfolding clashes
-  clashes-at l h = rw (updates-at B c all l h)
+  -- the search begins from a number k that is no location, in a program with the strides of its arities
+  module _ (k : ℕ) (k-high : L B ≤ k) (ok : Strided B) where
+    clashes-at : (l : ℕ) → l < L B → clashes all (updates B c all) l ≡ Bad l
+    unfolding clashes
+    clashes-at l h = rw (updates-at B c all l h, given-strided B ok c l all)
 
-  -- the search begins from a number k that is no location
-  module _ (k : ℕ) (k-high : L B ≤ k) where
     abbrev found : ℕ
     found = least-clash B c all all k
 

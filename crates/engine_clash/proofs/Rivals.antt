@@ -16,10 +16,10 @@ use Rattle.text.proofs.Words.{and-cases, refuted, some-below-true, some-below-f
 use Rattle.book.specs.Book.{Program}
 use Rattle.engine.specs.declared.Instruction.{Instruction}
 use Rattle.engine.specs.declared.Instruction.the-variants.{Update}
-use Rattle.engine.specs.Move.{values, label-of, released, other}
+use Rattle.engine.specs.Move.{label-of, released, other}
 use Rattle.engine_instruction.specs.Code.{decode-of, items}
 use Rattle.engine_instruction.specs.Given.{any}
-use Rattle.engine_clash.specs.LeastClash.{held-place, values-given, least-clash}
+use Rattle.engine_clash.specs.LeastClash.{held-place, values-given, values-given-by, least-clash}
 use Rattle.engine_clash.specs.Steps.{releases, location-of, slot-of, Last, Linked, Chain, least-with-update}
 use Rattle.engine_instruction.proofs.Laws.{or-assoc}
 use Rattle.engine_clash.proofs.Laws.{other-any, has-any}
@@ -307,7 +307,7 @@ module _ (B : Program) (c : List ℕ) {list : List ℕ} {n b j least : ℕ} (fit
       false≢true (sym (ap (λ (i : Instruction). has (label-of i []) x) (is-update (s .0) (s .1))) ∙ s .2))
 
   -- an update gives a location a value other than w
-  gives-other : (l w k : ℕ) → k < n → other w (values-given (B .E) (held-place B c l) (decode-of (getD list k 0))) ≡ eqb (at list n k) l && not (eqb (val k) w)
+  gives-other : (l w k : ℕ) → k < n → other w (values-given (held-place B c l) (decode-of (getD list k 0))) ≡ eqb (at list n k) l && not (eqb (val k) w)
   unfolding values-given other
   gives-other l w k h = rw (is-update k h) (go (eqb (at list n k) l))
     where
@@ -315,8 +315,8 @@ module _ (B : Program) (c : List ℕ) {list : List ℕ} {n b j least : ℕ} (fit
       go true = or-false (not (eqb (val k) w))
       go false = refl
 
-  others : (l w : ℕ) → other w (values B c l all) ≡ some-below (λ k. other w (values-given (B .E) (held-place B c l) (decode-of (getD list k 0)))) n
-  others l w = other-any w B c l all ∙ any-some (λ i. other w (values-given (B .E) (held-place B c l) i)) list n fits
+  others : (l w : ℕ) → other w (values-given-by (held-place B c l) all) ≡ some-below (λ k. other w (values-given (held-place B c l) (decode-of (getD list k 0)))) n
+  others l w = other-any w (held-place B c l) all ∙ any-some (λ i. other w (values-given (held-place B c l) i)) list n fits
 
   rivals-clash : (l : ℕ) → Rivals list n l → any (bad-one B c all l) all ≡ true
   rivals-clash l r =
@@ -327,10 +327,10 @@ module _ (B : Program) (c : List ℕ) {list : List ℕ} {n b j least : ℕ} (fit
       apart : val (r .two) ≡ val (r .one) → ⊥
       apart e = r .differ (omega (arith, e, r .one-at, r .two-at))
 
-      two : other (val (r .one)) (values B c (at list n (r .one)) all) ≡ true
+      two : other (val (r .one)) (values-given-by (held-place B c (at list n (r .one))) all) ≡ true
       two =
           others (at list n (r .one)) (val (r .one))
-          ∙ some-below-from (λ k. other (val (r .one)) (values-given (B .E) (held-place B c (at list n (r .one))) (decode-of (getD list k 0)))) n (r .two) (r .two-in)
+          ∙ some-below-from (λ k. other (val (r .one)) (values-given (held-place B c (at list n (r .one))) (decode-of (getD list k 0)))) n (r .two) (r .two-in)
           (gives-other (at list n (r .one)) (val (r .one)) (r .two) (r .two-in)
           ∙ rw (eq-eqb (at list n (r .two)) (at list n (r .one)) (r .two-at ∙ sym (r .one-at)), ne-eqb (val (r .two)) (val (r .one)) apart))
 
@@ -338,9 +338,9 @@ module _ (B : Program) (c : List ℕ) {list : List ℕ} {n b j least : ℕ} (fit
   clash-rivals l e =
       let s = some-below-true (λ k. bad-one B c all l (decode-of (getD list k 0))) n (sym (any-some (bad-one B c all l) list n fits) ∙ e) in
       let k = s .0 in
-      let t = and-cases (eqb (at list n k) l) (other (val k) (values B c (at list n k) all) || has (released all) (val k)) (sym (ap (bad-one B c all l) (is-update k (s .1))) ∙ s .2) in
-      let u : other (val k) (values B c (at list n k) all) ≡ true = sym (or-false (other (val k) (values B c (at list n k) all))) ∙ (rw (none-released (val k)) at (t .1)) in
-      let v = some-below-true (λ i. other (val k) (values-given (B .E) (held-place B c (at list n k)) (decode-of (getD list i 0)))) n (sym (others (at list n k) (val k)) ∙ u) in
+      let t = and-cases (eqb (at list n k) l) (other (val k) (values-given-by (held-place B c (at list n k)) all) || has (released all) (val k)) (sym (ap (bad-one B c all l) (is-update k (s .1))) ∙ s .2) in
+      let u : other (val k) (values-given-by (held-place B c (at list n k)) all) ≡ true = sym (or-false (other (val k) (values-given-by (held-place B c (at list n k)) all))) ∙ (rw (none-released (val k)) at (t .1)) in
+      let v = some-below-true (λ i. other (val k) (values-given (held-place B c (at list n k)) (decode-of (getD list i 0)))) n (sym (others (at list n k) (val k)) ∙ u) in
       let i = v .0 in
       let w = and-cases (eqb (at list n i) (at list n k)) (not (eqb (val i) (val k))) (sym (gives-other (at list n k) (val k) i (v .1)) ∙ v .2) in
       let same : at list n k ≡ l = eqb-true (at list n k) l (t .0) in

@@ -5,40 +5,36 @@ use engine::Instruction;
 use text::Value;
 ghost use mathlib.Core.Path.{_≡_};
 ghost use mathlib.Core.List.{[]};
-ghost use Rattle.text.specs.Words.{has};
+ghost use Rattle.text.specs.Words.{if_then_else_, has};
 ghost use Rattle.book.specs.Image.{low-program};
 ghost use Rattle.engine.specs.Move.{label-of, released, other};
 ghost use Rattle.engine_instruction.specs.Code.{items};
-ghost use Rattle.engine_instruction.specs.Given.{any, clears-in};
-ghost use Rattle.engine_clash.specs.LeastClash.{held-place, values-given, sets-released, least-with, least-clash};
+ghost use Rattle.engine_instruction.specs.Given.{any};
+ghost use Rattle.engine_clash.specs.LeastClash.{held-place, clears-held, values-given, sets-released, least-with, least-clash};
 ghost use Prim.Native.Nat.{_<_, _≤_};
 ghost use lib.ListN.{length};
 ghost use Rattle.engine_clash.specs.Steps.{location-of, slot-of, Last, Chain, least-with-update};
 
-// A location, its function and its number within it, and what it holds.
+// A location, its function, its arguments, and what it holds, which also stands in place of an argument that the function has not: a release clears the
+// location if its label is one of the three. They are found once, since a location is held against every instruction of a move.
 struct HeldPlace {
     location: u32,
     function: Function,
-    index: usize,
+    first: usize,
+    second: usize,
     held: Value,
 }
 
 // ---- one location
 
-// A release of x clears the location of s.
-fn clears(e: Value, s: HeldPlace, x: Value) -> bool
-    ensures { λ r. ⌜ r ≡ clears-in e (s .function) (s .index) (s .held) x ⌝ }
+// x if the test passes, else y.
+fn either(test: bool, x: usize, y: usize) -> usize
+    ensures { λ r. ⌜ r ≡ (if test then x else y) ⌝ }
 {
-    let i = s.index;
-    let n = e as usize;
-    let f = s.function;
-    if n == 0 {
-        return engine_instruction::clears_at(f, i, 0, i, s.held, x);
-    }
-    engine_instruction::clears_at(f, i, i / n, i % n, s.held, x)
+    if test { x } else { y }
 }
 
-// Location l with its function and what it holds; past the last function there is none.
+// Location l, taken apart, and what it holds; past the last function there is none.
 fn held_place(image: &Image, contents: &[Value], l: u32) -> HeldPlace
     ensures { λ r. ⌜ r ≡ held-place (low-program (now (image .entry))) (now (contents .entry)) l ⌝ }
 {
@@ -46,17 +42,28 @@ fn held_place(image: &Image, contents: &[Value], l: u32) -> HeldPlace
     let owner = book_parts::owner_of(image, at);
     let index = if at < owner.end { at - owner.first } else { 0 };
     let f = owner.function;
+    let a = book_parts::take_apart(f, index);
+    let held = text::fetch(contents, at);
     HeldPlace {
         location: l,
         function: f,
-        index: index,
-        held: text::fetch(contents, at),
+        first: either(1 <= f.arity, a.first, held as usize),
+        second: either(2 <= f.arity, a.second, held as usize),
+        held,
     }
 }
 
+// A release of x clears the location of s.
+fn clears(s: HeldPlace, x: Value) -> bool
+    ensures { λ r. ⌜ r ≡ clears-held s x ⌝ }
+{
+    let y = x as usize;
+    book_parts::is_dynamic(s.function) & ((s.first == y) | (s.second == y) | (s.held == x))
+}
+
 // The instruction gives the location of s a value other than w.
-fn gives_other(e: Value, s: HeldPlace, w: Value, what: Instruction) -> bool
-    ensures { λ r. ⌜ r ≡ other w (values-given e s what) ⌝ }
+fn gives_other(s: HeldPlace, w: Value, what: Instruction) -> bool
+    ensures { λ r. ⌜ r ≡ other w (values-given s what) ⌝ }
 {
     match what {
         Instruction::Update { location, value } => {
@@ -69,7 +76,7 @@ fn gives_other(e: Value, s: HeldPlace, w: Value, what: Instruction) -> bool
             if label as u32 == s.location {
                 return 2 != w;
             }
-            if clears(e, s, label) {
+            if clears(s, label) {
                 return book_parts::default_of(s.function) != w;
             }
             false
@@ -78,14 +85,14 @@ fn gives_other(e: Value, s: HeldPlace, w: Value, what: Instruction) -> bool
 }
 
 // Some instruction of the list gives the location of s a value other than w.
-fn some_gives_other(e: Value, list: &[u64], len: usize, s: HeldPlace, w: Value) -> bool
-    ensures { λ r. ⌜ r ≡ any (λ i. other w (values-given e s i)) (items (now (list .entry)) len) ⌝ }
+fn some_gives_other(list: &[u64], len: usize, s: HeldPlace, w: Value) -> bool
+    ensures { λ r. ⌜ r ≡ any (λ i. other w (values-given s i)) (items (now (list .entry)) len) ⌝ }
 {
     let n = text::smaller(len, list.len());
     let mut j: usize = 0;
     while j < n {
         let what = engine_instruction::decode(list[j]);
-        if gives_other(e, s, w, what) {
+        if gives_other(s, w, what) {
             return true;
         }
         j = j + 1;
@@ -149,9 +156,8 @@ fn least_with(
     if best <= at {
         return best;
     }
-    let e = book_image::elements(image);
     let s = held_place(image, contents, at);
-    if some_gives_other(e, list, len, s, engine_instruction::own_value(what)) {
+    if some_gives_other(list, len, s, engine_instruction::own_value(what)) {
         return at;
     }
     if sets_released(list, len, what) {

@@ -65,24 +65,24 @@ module _ (B : Program) (x r n : ℕ) where
 -- ---- an import's label
 
 -- with label x taken, the two updates of an import, unless there is a refusal already
-pub taking-from : (B : Program) (u x n : ℕ) (ys : List ℕ) (s : Progress) (l : List ℕ)
-    → (reached ys (record { len = s .len; label = x + 1; refused = s .refused; node = s .node }) l then emit n (Update (reserve x) false-element) then emit n (Update (location B u x 0) true-element))
-    ≡ (reached ys s l then importing B u x n)
+pub taking-from : (at x n : ℕ) (ys : List ℕ) (s : Progress) (l : List ℕ)
+    → (reached ys (record { len = s .len; label = x + 1; refused = s .refused; node = s .node }) l then emit n (Update (reserve x) false-element) then emit n (Update at true-element))
+    ≡ (reached ys s l then importing at x n)
 unfolding reached
-taking-from B u x n ys s l = rw (add-one x) (go (eqb (s .refused) 0))
+taking-from at x n ys s l = rw (add-one x) (go (eqb (s .refused) 0))
   where
-    go : (b : Bool) → ((if b then walking (record { made = items l (s .len); next = suc x; left = ys }) else refused-at (s .refused) (s .node)) then emit n (Update (reserve x) false-element) then emit n (Update (location B u x 0) true-element))
-        ≡ ((if b then walking (walk-from ys s l) else refused-at (s .refused) (s .node)) then importing B u x n)
+    go : (b : Bool) → ((if b then walking (record { made = items l (s .len); next = suc x; left = ys }) else refused-at (s .refused) (s .node)) then emit n (Update (reserve x) false-element) then emit n (Update at true-element))
+        ≡ ((if b then walking (walk-from ys s l) else refused-at (s .refused) (s .node)) then importing at x n)
     go true = refl
     go false = refl
 
-module _ (B : Program) (u x n : ℕ) where
-  pub enrolling-in : x < B .E → (o : Walked) → (o then importing-found B u x n) ≡ (o then importing B u x n)
-  enrolling-in h (walking w) = rw (lt-ltb x (B .E) h)
+module _ (E at x n : ℕ) where
+  pub enrolling-in : x < E → (o : Walked) → (o then importing-found E at x n) ≡ (o then importing at x n)
+  enrolling-in h (walking w) = rw (lt-ltb x E h)
   enrolling-in h (refused-at r q) = refl
 
-  pub enrolling-none : B .E ≤ x → (o : Walked) → (o then importing-found B u x n) ≡ (o then refused-by no-label-left n)
-  enrolling-none h (walking w) = rw (le-ltb x (B .E) h)
+  pub enrolling-none : E ≤ x → (o : Walked) → (o then importing-found E at x n) ≡ (o then refused-by no-label-left n)
+  enrolling-none h (walking w) = rw (le-ltb x E h)
   enrolling-none h (refused-at r q) = refl
 
 -- ---- picks

@@ -7,7 +7,7 @@ use lib.ListN.{getD, drop}
 use lib.Dec.{eqb, ltb}
 use Rattle.text.specs.Words.{if_then_else_}
 use Rattle.text.specs.Refusals.{non-boolean, not-releasable, no-label-left, not-in-universe, pick-count}
-use Rattle.book.specs.Book.{true-element, false-element, boolean, relation, Program, function-at, location, reserve}
+use Rattle.book.specs.Book.{true-element, false-element, boolean, relation, Program, function-at, reserve}
 use Rattle.engine.specs.declared.Instruction.the-variants.{Update, Release}
 use Rattle.engine.specs.Rule.{Walk, Walked, walking, refused-at, _then_, emit, take-label, take-pick, refuse-if, unreleasable, not-member}
 use Rattle.engine_instruction.specs.Code.{items}
@@ -41,13 +41,13 @@ setting B f l v n w = refuse-if (relation (function-at B f) && not (boolean v)) 
 abbrev pub releasing : Program → ℕ → ℕ → ℕ → Walk → Walked
 releasing B x r n w = refuse-if (unreleasable B x r) not-releasable n w then emit n (Release x)
 
--- Kind 26, an import, at node n: label x is taken into the universe u
-abbrev pub importing : Program → ℕ → ℕ → ℕ → Walk → Walked
-importing B u x n w = emit n (Update (reserve x) false-element) (take-label x w) then emit n (Update (location B u x 0) true-element)
+-- Kind 26, an import, at node n: label x is taken into a universe, which has location l at x
+abbrev pub importing : ℕ → ℕ → ℕ → Walk → Walked
+importing l x n w = emit n (Update (reserve x) false-element) (take-label x w) then emit n (Update l true-element)
 
--- Kind 26, an import, at node n: the search for a label came to x; refusal 13 if that is past the elements
-abbrev pub importing-found : Program → ℕ → ℕ → ℕ → Walk → Walked
-importing-found B u x n w = if ltb x (B .E) then importing B u x n w else refused-at no-label-left n
+-- Kind 26, an import, at node n: the search among E elements for a label came to x; refusal 13 if that is past them
+abbrev pub importing-found : ℕ → ℕ → ℕ → ℕ → Walk → Walked
+importing-found E l x n w = if ltb x E then importing l x n w else refused-at no-label-left n
 
 -- the pick that is next; E, which is no element, if there is none or it is no element
 abbrev pub next-pick : ℕ → List ℕ → ℕ

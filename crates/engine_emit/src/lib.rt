@@ -118,10 +118,10 @@ pub fn emit_update(
     }
 }
 
-// The two updates by which an import at node n takes label x into universe u.
-fn emit_import(image: &Image, list: &mut Work, s: Progress, n: u16, u: u16, x: Value) -> Progress
+// The two updates by which an import at node n takes label x into a universe that has the location `at` there.
+fn emit_import(list: &mut Work, s: Progress, n: u16, at: u32, x: Value) -> Progress
     requires { ⌜ x < 65535 ⌝ }
-    ensures { λ r. ⌜ ((ys : List ℕ) → reached ys r (now (list .exit)) ≡ (reached ys s (now (list .entry)) then importing (low-program (now (image .entry))) u x n)) ⌝ }
+    ensures { λ r. ⌜ ((ys : List ℕ) → reached ys r (now (list .exit)) ≡ (reached ys s (now (list .entry)) then importing at x n)) ⌝ }
 {
     let r = Progress {
         len: s.len,
@@ -138,7 +138,6 @@ fn emit_import(image: &Image, list: &mut Work, s: Progress, n: u16, u: u16, x: V
         },
         n,
     );
-    let at = engine_term::location(image, u, x, 0);
     emit(
         list,
         t,
@@ -150,19 +149,19 @@ fn emit_import(image: &Image, list: &mut Work, s: Progress, n: u16, u: u16, x: V
     )
 }
 
-// An import at node n takes label x into universe u; refusal 13 if x is no element, since no label is left.
+// An import at node n takes label x into a universe that has the location `at` there; refusal 13 if x is no element, since no label is left.
 pub fn import_label(
     image: &Image,
     list: &mut Work,
     s: Progress,
     n: u16,
-    u: u16,
+    at: u32,
     x: Value,
 ) -> Progress
-    ensures { λ r. ⌜ ((ys : List ℕ) → reached ys r (now (list .exit)) ≡ (reached ys s (now (list .entry)) then importing-found (low-program (now (image .entry))) u x n)) ⌝ }
+    ensures { λ r. ⌜ ((ys : List ℕ) → reached ys r (now (list .exit)) ≡ (reached ys s (now (list .entry)) then importing-found (low-program (now (image .entry)) .E) at x n)) ⌝ }
 {
     if x < book_image::elements(image) {
-        emit_import(image, list, s, n, u, x)
+        emit_import(list, s, n, at, x)
     } else {
         refuse_at(s, text::NO_LABEL_LEFT, n)
     }

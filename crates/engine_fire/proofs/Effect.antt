@@ -61,7 +61,7 @@ module _ (B : Program) (i : Input) (bit at : ℕ) (c rs ws : List ℕ) (fit : Mo
       (done : MoveFinished B bit at o (tables c rs′ ws) r (tables c″ rs″ ws″)) where
     same : move B c i ≡ settle B c ls o
     unfolding move
-    same = ap (settle B c ls) (sym (walks .outcome))
+    same = ap (settle B c ls) (sym (walks .outcome (placed B (fit .lawful))))
 
     whole : (m : Moved) → settle B c ls o ≡ m → tables c″ rs″ ws″ ≡ tables (contents-after c m) (readers-at-end-of B bit c o m rs′) (writers-after bit (length c) ws m)
     whole m e = rw (done .contents ls, done .readers ls, done .writers ls, e)

@@ -14,6 +14,7 @@ use Rattle.text.specs.Words.{if_then_else_, least}
 use Rattle.text.specs.declared.Found.the-variants.{Nowhere}
 use Rattle.text.proofs.Words.{or-no, least-none, set-at}
 use Rattle.book.specs.Book.{Program, L, true-element, default-at}
+use Rattle.book.specs.Sum.{Strided}
 use Rattle.book_parts.proofs.Places.{place-past}
 use Rattle.engine.specs.declared.Instruction.{Instruction}
 use Rattle.engine.specs.declared.Instruction.the-variants.{Update, Release}
@@ -21,12 +22,12 @@ use Rattle.engine.specs.Move.{given, values, updates, values-at, released, othe
 use Rattle.engine.proofs.Values.{length-updates, updates-at, updates-past, fire-inside}
 use Rattle.engine.proofs.Moves.{fire-length}
 use Rattle.engine_fire.specs.Outcome.{write-marked}
-use Rattle.engine_instruction.specs.Given.{own, gets, any}
+use Rattle.engine_instruction.specs.Given.{own, gets, any, clears-at}
 use Rattle.engine_release.specs.Steps.{value-cleared, instruction-cleared, instruction-marked, all-cleared, all-marked}
 use Rattle.engine_fire.specs.Steps.{puts, put-marked}
-use Rattle.engine_instruction.proofs.Laws.{and-none, other-append}
+use Rattle.engine_instruction.proofs.Laws.{and-none, other-append, own-given}
 use Rattle.engine_release.proofs.ByPlace.{length-each, getD-each, each-is}
-use Rattle.engine_instruction.proofs.Laws.{own-given}
+use Rattle.engine_instruction.proofs.Strides.{clears-strided}
 use Rattle.engine_term.specs.Marks.{mark}
 
 -- ---- marks: a bit that is there stays
@@ -76,7 +77,7 @@ module _ (B : Program) (l : ℕ) where
   -- the instruction is a release that clears l
   abbrev pub instruction-clears : ℕ → Instruction → Bool
   instruction-clears v (Update k w) = false
-  instruction-clears v (Release x) = clears B l v x
+  instruction-clears v (Release x) = clears-at B l v x
 
   abbrev mark-of : ℕ → Instruction → ℕ → ℕ → ℕ
   mark-of bit i v m = mark bit (instruction-clears v i) m
@@ -86,7 +87,7 @@ module _ (B : Program) (l : ℕ) where
   mark-by bit (i ∷ is) v m = mark-by bit is (clear-of-value i v) (mark-of bit i v m)
 
   -- past the last location nothing is cleared
-  clears-past : L B ≤ l → (v x : ℕ) → clears B l v x ≡ false
+  clears-past : L B ≤ l → (v x : ℕ) → clears-at B l v x ≡ false
   clears-past h v x = rw (place-past B l h)
 
   none-clears-past : L B ≤ l → (v : ℕ) (is : List Instruction) → any (instruction-clears v) is ≡ false
@@ -101,18 +102,18 @@ module _ (B : Program) (l : ℕ) where
   past-clear h (Update k w ∷ is) v = past-clear h is v
   past-clear h (Release x ∷ is) v = rw (clears-past h v x) (past-clear h is v)
 
-  pub cleared-true : (x v : ℕ) → clears B l v x ≡ true → value-cleared B x l v ≡ rest
+  pub cleared-true : (x v : ℕ) → clears-at B l v x ≡ true → value-cleared B x l v ≡ rest
   cleared-true x v e = rw e
 
-  pub cleared-false : (x v : ℕ) → clears B l v x ≡ false → value-cleared B x l v ≡ v
+  pub cleared-false : (x v : ℕ) → clears-at B l v x ≡ false → value-cleared B x l v ≡ v
   cleared-false x v e = rw e
 
   -- the default stays the default
   clear-rest : (i : Instruction) → clear-of-value i rest ≡ rest
   clear-rest (Update k w) = refl
-  clear-rest (Release x) = step (clears B l rest x) refl
+  clear-rest (Release x) = step (clears-at B l rest x) refl
     where
-      step : (b : Bool) → clears B l rest x ≡ b → value-cleared B x l rest ≡ rest
+      step : (b : Bool) → clears-at B l rest x ≡ b → value-cleared B x l rest ≡ rest
       step true e = cleared-true x rest e
       step false e = cleared-false x rest e
 
@@ -143,9 +144,9 @@ module _ (B : Program) (l : ℕ) where
       step : (j : Instruction) → mark-by bit is v m ≡ mark bit (any (instruction-clears v) is) m
           → mark-by bit is (clear-of-value j v) (mark-of bit j v m) ≡ mark bit (instruction-clears v j || any (instruction-clears v) is) m
       step (Update k w) r = r
-      step (Release x) r = look (clears B l v x) refl
+      step (Release x) r = look (clears-at B l v x) refl
         where
-          look : (b : Bool) → clears B l v x ≡ b → mark-by bit is (value-cleared B x l v) (mark bit (clears B l v x) m) ≡ mark bit (clears B l v x || any (instruction-clears v) is) m
+          look : (b : Bool) → clears-at B l v x ≡ b → mark-by bit is (value-cleared B x l v) (mark bit (clears-at B l v x) m) ≡ mark bit (clears-at B l v x || any (instruction-clears v) is) m
           look true e = rw e (mark-by-again bit is rest m)
           look false e =
               ap₂ (mark-by bit is) (cleared-false x v e) (ap (λ (b : Bool). mark bit b m) e) ∙ r ∙ ap (λ (b : Bool). mark bit (b || any (instruction-clears v) is) m) (sym e)
@@ -160,24 +161,24 @@ module _ (B : Program) (l : ℕ) where
     unfolding given
     given-update k w h = rw h
 
-    given-release : (x : ℕ) (b : Bool) → eqb x l ≡ false → clears B l held x ≡ b → given B c l (Release x) ≡ (if b then rest ∷ [] else [])
+    given-release : Strided B → (x : ℕ) (b : Bool) → eqb x l ≡ false → clears-at B l held x ≡ b → given B c l (Release x) ≡ (if b then rest ∷ [] else [])
     unfolding given
-    given-release x b h e = rw (h, e)
+    given-release ok x b h e = rw (h, sym (clears-strided B ok l held x) ∙ e)
 
     -- if no instruction is about the location, clearing leaves the value that it is given
-    clear-latest : (is : List Instruction) → any about is ≡ false → clear-by is held ≡ new-value held (values B c l is)
+    clear-latest : Strided B → (is : List Instruction) → any about is ≡ false → clear-by is held ≡ new-value held (values B c l is)
     unfolding clear-by any values
-    clear-latest [] h = refl
-    clear-latest (i ∷ is) h = let n = or-no (about i) (any about is) h in step i (n .0) (clear-latest is (n .1))
+    clear-latest ok [] h = refl
+    clear-latest ok (i ∷ is) h = let n = or-no (about i) (any about is) h in step i (n .0) (clear-latest ok is (n .1))
       where
         step : (j : Instruction) → about j ≡ false → clear-by is held ≡ new-value held (values B c l is)
             → clear-by is (clear-of-value j held) ≡ new-value held (given B c l j ++ values B c l is)
         step (Update k w) f r = rw (given-update k w f) r
-        step (Release x) f r = look (clears B l held x) refl
+        step (Release x) f r = look (clears-at B l held x) refl
           where
-            look : (b : Bool) → clears B l held x ≡ b → clear-by is (value-cleared B x l held) ≡ new-value held (given B c l (Release x) ++ values B c l is)
-            look true e = ap (clear-by is) (cleared-true x held e) ∙ clear-by-rest is ∙ rw (given-release x true f e)
-            look false e = ap (clear-by is) (cleared-false x held e) ∙ r ∙ rw (given-release x false f e)
+            look : (b : Bool) → clears-at B l held x ≡ b → clear-by is (value-cleared B x l held) ≡ new-value held (given B c l (Release x) ++ values B c l is)
+            look true e = ap (clear-by is) (cleared-true x held e) ∙ clear-by-rest is ∙ rw (given-release ok x true f e)
+            look false e = ap (clear-by is) (cleared-false x held e) ∙ r ∙ rw (given-release ok x false f e)
 
     pub own-is : (i : Instruction) (w : ℕ) → about i ≡ true → other w (given B c l i) ≡ false → gets i ≡ w
     unfolding other
@@ -220,26 +221,26 @@ module _ (B : Program) (l : ℕ) where
     some-append [] ys = refl
     some-append (x ∷ xs) ys = refl
 
-    pub some-given : (i : Instruction) → is-some (given B c l i) ≡ about i || instruction-clears held i
+    pub some-given : Strided B → (i : Instruction) → is-some (given B c l i) ≡ about i || instruction-clears held i
     unfolding given
-    some-given (Update k w) = step (eqb k l)
+    some-given ok (Update k w) = step (eqb k l)
       where
         step : (b : Bool) → is-some (if b then w ∷ [] else []) ≡ b || false
         step true = refl
         step false = refl
-    some-given (Release x) = step (eqb x l) (clears B l held x)
+    some-given ok (Release x) = rw (clears-strided B ok l held x) (step (eqb x l) (clears B l held x))
       where
         step : (b t : Bool) → is-some (if b then true-element ∷ [] else if t then rest ∷ [] else []) ≡ b || t
         step true t = refl
         step false true = refl
         step false false = refl
 
-    pub some-values : (is : List Instruction) → is-some (values B c l is) ≡ any about is || any (instruction-clears held) is
+    pub some-values : Strided B → (is : List Instruction) → is-some (values B c l is) ≡ any about is || any (instruction-clears held) is
     unfolding values any
-    some-values [] = refl
-    some-values (i ∷ is) =
+    some-values ok [] = refl
+    some-values ok (i ∷ is) =
         some-append (given B c l i) (values B c l is)
-        ∙ ap₂ _||_ (some-given i) (some-values is)
+        ∙ ap₂ _||_ (some-given ok i) (some-values ok is)
         ∙ swap (about i) (instruction-clears held i) (any about is) (any (instruction-clears held) is)
       where
         swap : (a b c d : Bool) → (a || b) || (c || d) ≡ (a || c) || (b || d)
@@ -249,20 +250,20 @@ module _ (B : Program) (l : ℕ) where
 
     -- ---- the contents at the location
 
-    after-is : (is : List Instruction) → two-values (values B c l is) ≡ false → put-by is (clear-by is held) ≡ new-value held (values B c l is)
+    after-is : Strided B → (is : List Instruction) → two-values (values B c l is) ≡ false → put-by is (clear-by is held) ≡ new-value held (values B c l is)
     unfolding two-values other
-    after-is is m = step (any about is) refl
+    after-is ok is m = step (any about is) refl
       where
         one : (vs : List ℕ) → values B c l is ≡ vs → two-values vs ≡ false → any about is ≡ true → put-by is (clear-by is held) ≡ new-value held vs
         one [] e n f =
-            let z : is-some (values B c l is) ≡ true = some-values is ∙ rw f in
+            let z : is-some (values B c l is) ≡ true = some-values ok is ∙ rw f in
             let y : _≡_ {A = ℕ} 0 1 = cc (sym (ap is-some e) ∙ z) in
             absurd (omega arith)
         one (w ∷ us) e n f = put-some is w (clear-by is held) (ap (other w) e ∙ rw (eq-eqb w w refl) n) f
 
         step : (b : Bool) → any about is ≡ b → put-by is (clear-by is held) ≡ new-value held (values B c l is)
         step true f = one (values B c l is) refl m f
-        step false f = put-none is (clear-by is held) f ∙ clear-latest is f
+        step false f = put-none is (clear-by is held) f ∙ clear-latest ok is f
 
 -- ---- the whole tables
 
@@ -287,7 +288,7 @@ length-puts n (i ∷ is) c =
 
 length-clear-marks-of : (bit : ℕ) (B : Program) (i : Instruction) (c ms : List ℕ) → length (instruction-marked bit B i c ms) ≡ length ms
 length-clear-marks-of bit B (Update k w) c ms = refl
-length-clear-marks-of bit B (Release x) c ms = length-each (λ (l m : ℕ). mark bit (ltb l (length c) && clears B l (getD c l 0) x) m) 0 ms
+length-clear-marks-of bit B (Release x) c ms = length-each (λ (l m : ℕ). mark bit (ltb l (length c) && clears-at B l (getD c l 0) x) m) 0 ms
 
 length-clear-marks : (bit : ℕ) (B : Program) (is : List Instruction) (c ms : List ℕ) → length (all-marked bit B is c ms) ≡ length ms
 unfolding all-marked
@@ -304,11 +305,11 @@ pub clear-of-at : (B : Program) (i : Instruction) (c : List ℕ) (l : ℕ) → l
 clear-of-at B (Update k w) c l h = refl
 clear-of-at B (Release x) c l h = getD-each (value-cleared B x) c l h
 
-pub clears-at : (B : Program) (is : List Instruction) (c : List ℕ) (l : ℕ) → l < length c → getD (all-cleared B is c) l 0 ≡ clear-by B l is (getD c l 0)
+pub all-cleared-at : (B : Program) (is : List Instruction) (c : List ℕ) (l : ℕ) → l < length c → getD (all-cleared B is c) l 0 ≡ clear-by B l is (getD c l 0)
 unfolding all-cleared clear-by
-clears-at B [] c l h = refl
-clears-at B (i ∷ is) c l h =
-    clears-at B is (instruction-cleared B i c) l (omega (arith, length-clear-of B i c)) ∙ ap (clear-by B l is) (clear-of-at B i c l h)
+all-cleared-at B [] c l h = refl
+all-cleared-at B (i ∷ is) c l h =
+    all-cleared-at B is (instruction-cleared B i c) l (omega (arith, length-clear-of B i c)) ∙ ap (clear-by B l is) (clear-of-at B i c l h)
 
 puts-at : (B : Program) (n : ℕ) (is : List Instruction) (c : List ℕ) (l : ℕ) → l < length c → l < n → getD (puts n is c) l 0 ≡ put-by B l is (getD c l 0)
 unfolding puts put-by
@@ -335,7 +336,7 @@ clear-marks-of-at :
     (bit : ℕ) (B : Program) (i : Instruction) (c ms : List ℕ) (l : ℕ) → l < length ms →
     getD (instruction-marked bit B i c ms) l 0 ≡ mark bit (ltb l (length c) && instruction-clears B l (getD c l 0) i) (getD ms l 0)
 clear-marks-of-at bit B (Update k w) c ms l h = rw (and-none (ltb l (length c)))
-clear-marks-of-at bit B (Release x) c ms l h = getD-each (λ (l m : ℕ). mark bit (ltb l (length c) && clears B l (getD c l 0) x) m) ms l h
+clear-marks-of-at bit B (Release x) c ms l h = getD-each (λ (l m : ℕ). mark bit (ltb l (length c) && clears-at B l (getD c l 0) x) m) ms l h
 
 clear-marks-at :
     (bit : ℕ) (B : Program) (is : List Instruction) (c ms : List ℕ) (l : ℕ) → l < length ms → l < length c →
@@ -386,8 +387,8 @@ module _ (B : Program) (is : List Instruction) (c : List ℕ) where
       rw (updates-at B c is l k) at (or-no (two-values (values-at (updates B c is) l)) (set-to-label (released is) l is) e .0)
 
   -- the contents after a move that does not clash are what clearing and then putting leave
-  pub fired-is : least (clashes is (updates B c is)) (length (updates B c is)) ≡ Nowhere → puts (L B) is (all-cleared B is c) ≡ fire (updates B c is) c
-  fired-is h =
+  pub fired-is : Strided B → least (clashes is (updates B c is)) (length (updates B c is)) ≡ Nowhere → puts (L B) is (all-cleared B is c) ≡ fire (updates B c is) c
+  fired-is ok h =
       let n : length (puts (L B) is (all-cleared B is c)) ≡ length c = length-puts (L B) is (all-cleared B is c) ∙ length-clears B is c in
       ext-getD 0 (puts (L B) is (all-cleared B is c)) (fire (updates B c is) c) (n ∙ sym (fire-length (updates B c is) c))
       (λ l k. let m : l < length c = omega arith in step l m (ltb l (L B)) refl ∙ sym (fire-inside (updates B c is) c l m))
@@ -397,13 +398,13 @@ module _ (B : Program) (is : List Instruction) (c : List ℕ) where
       step l m true e =
           let i : l < L B = ltb-true l (L B) e in
           puts-at B (L B) is (all-cleared B is c) l (omega (arith, length-clears B is c)) i
-          ∙ ap (put-by B l is) (clears-at B is c l m)
-          ∙ after-is B l c is (unclashed h l i)
+          ∙ ap (put-by B l is) (all-cleared-at B is c l m)
+          ∙ after-is B l c ok is (unclashed h l i)
           ∙ rw (updates-at B c is l i)
       step l m false e =
           let o : L B ≤ l = ltb-false l (L B) e in
           puts-past (L B) is (all-cleared B is c) l o
-          ∙ clears-at B is c l m
+          ∙ all-cleared-at B is c l m
           ∙ past-clear B l o is (getD c l 0)
           ∙ rw (updates-past B c is l o)
 
@@ -411,9 +412,9 @@ module _ (B : Program) (is : List Instruction) (c : List ℕ) where
   abbrev n : ℕ
   n = min (L B) (length (all-cleared B is c))
 
-  pub marked-is : (bit : ℕ) (ms : List ℕ)
+  pub marked-is : Strided B → (bit : ℕ) (ms : List ℕ)
       → put-marked bit n is (all-marked bit B is c ms) ≡ write-marked bit (length c) (updates B c is) ms
-  marked-is bit ms =
+  marked-is ok bit ms =
       each-is (λ (l m : ℕ). mark bit (ltb l (length c) && writes (updates B c is) l) m) ms (put-marked bit n is (all-marked bit B is c ms))
       (length-put-marks bit n is (all-marked bit B is c ms) ∙ length-clear-marks bit B is c ms)
       (λ l k. put-marks-at bit n is (all-marked bit B is c ms) l (omega (arith, length-clear-marks bit B is c ms))
@@ -425,7 +426,7 @@ module _ (B : Program) (is : List Instruction) (c : List ℕ) where
           let h : l < L B = omega (arith, ltb-true l n e) in
           ap (mark bit (any (about B l) is)) (clear-marks-at bit B is c ms l k (ltb-true l (length c) f) ∙ mark-by-is B l bit is (getD c l 0) (getD ms l 0))
           ∙ mark-mark bit (any (about B l) is) (any (instruction-clears B l (getD c l 0)) is) (getD ms l 0)
-          ∙ ap (λ (b : Bool). mark bit b (getD ms l 0)) (sym (ap is-some (updates-at B c is l h) ∙ some-values B l c is))
+          ∙ ap (λ (b : Bool). mark bit b (getD ms l 0)) (sym (ap is-some (updates-at B c is l h) ∙ some-values B l c ok is))
       step l k true e false f = absurd (omega (arith, ltb-true l n e, ltb-false l (length c) f, length-clears B is c))
       step l k false e true f =
           let h : L B ≤ l = omega (arith, ltb-false l n e, ltb-true l (length c) f, length-clears B is c) in

@@ -5,6 +5,7 @@ use Prim.Native.Nat.{ℕ, _<_, _≤_}
 use native.Mathlib.Omega.{arith}
 use lib.ListN.{length}
 use Rattle.book.specs.Book.{Program, L}
+use Rattle.book.specs.Sum.{Strided}
 use Rattle.book.specs.Image.{low-program}
 use Rattle.engine.specs.declared.Instruction.{Instruction}
 use Rattle.engine.specs.declared.Tally.{Tally}
@@ -59,7 +60,7 @@ module _ (image list : List ℕ) (n bit : ℕ) (t : Tables) where
 
 -- ---- what the code finds
 
-module _ (image c list : List ℕ) (n : ℕ) (k : ℕ) (high : L (low-program image) ≤ k) where
+module _ (image c list : List ℕ) (n : ℕ) (k : ℕ) (high : L (low-program image) ≤ k) (ok : Strided (low-program image)) where
   abbrev B : Program
   B = low-program image
 
@@ -68,7 +69,7 @@ module _ (image c list : List ℕ) (n : ℕ) (k : ℕ) (high : L (low-program im
 
   -- the search for a clash, begun from k, gives r
   pub clash-at : (r : ℕ) → r ≡ least-clash B c is is k → r < L B → clash-by image c list n ≡ Here r
-  clash-at r q h = sym (best-least B c is k high (omega (arith, q, h))) ∙ ap Here (sym q)
+  clash-at r q h = sym (best-least B c is k high ok (omega (arith, q, h))) ∙ ap Here (sym q)
 
   pub clash-none : (r : ℕ) → r ≡ least-clash B c is is k → L B ≤ r → clash-by image c list n ≡ Nowhere
-  clash-none r q h = sym (best-none B c is k high (omega (arith, q, h)))
+  clash-none r q h = sym (best-none B c is k high ok (omega (arith, q, h)))

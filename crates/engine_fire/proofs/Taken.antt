@@ -4,6 +4,7 @@ use mathlib.Core.Logic.{_⊎_, inl, inr, dite, _≢_}
 use mathlib.Core.Bool.{Bool, true, false, _||_, or-true, false≢true, true≢false}
 use mathlib.Core.List.{List, [], _∷_}
 use Prim.Native.Nat.{ℕ, _+_, _<_, _≤_, min}
+use native.Mathlib.Nat.{div-one}
 use native.Mathlib.Omega.{arith}
 use native.Mathlib.Decide.{ℕ-discrete}
 use borrow.Author.Tests.{eqb-true, eq-eqb, ne-eqb, ltb-true, ltb-false, lt-ltb}
@@ -17,15 +18,16 @@ use Rattle.book.specs.Sound.{Lawful}
 use Rattle.book.proofs.Places.{roll-place, default-low}
 use Rattle.engine.specs.declared.Instruction.{Instruction}
 use Rattle.engine.specs.declared.Instruction.the-variants.{Update, Release}
-use Rattle.engine.specs.Move.{given, values, updates, released, other, two-values, clashes, new-value, is-some, append-from, release-gives, release-reads, taken-reads, changed-reads, extra-reads, clears}
+use Rattle.engine.specs.Move.{given, values, updates, released, other, two-values, clashes, new-value, is-some, append-from, release-gives, release-reads, taken-reads, changed-reads, extra-reads}
 use Rattle.engine.proofs.Append.{append-has, append-in}
 use Rattle.engine.proofs.Extra.{release-in, taken-in, taken-has}
 use Rattle.engine.proofs.Values.{Releases, updates-at, releases-values, only-value}
-use Rattle.engine_instruction.specs.Given.{own, gets, any}
+use Rattle.engine_instruction.specs.Given.{own, gets, any, clears-at}
+use Rattle.engine_instruction.proofs.Strides.{clears-strided}
 use Rattle.engine_release.specs.Part.{cleared-reads}
 use Rattle.engine_release.specs.Steps.{value-cleared, instruction-cleared, label-reads, all-cleared, all-reads}
 use Rattle.engine_fire.specs.Steps.{put-reads, fire-reads}
-use Rattle.engine_fire.proofs.Fires.{rest, clear-by, about, instruction-clears, cleared-true, cleared-false, clear-by-rest, own-is, both, some-given, some-values, length-clear-of, length-clears, length-put, clear-of-at, clears-at, unclashed}
+use Rattle.engine_fire.proofs.Fires.{rest, clear-by, about, instruction-clears, cleared-true, cleared-false, clear-by-rest, own-is, both, some-given, some-values, length-clear-of, length-clears, length-put, clear-of-at, all-cleared-at, unclashed}
 
 module _ (B : Program) where
   -- ---- labels cleared
@@ -35,7 +37,7 @@ module _ (B : Program) where
   Why l v k = (k ≡ l) ⊎ ((B .P ≤ v) × (default-at B l ≢ v) × (k ≡ v))
 
   abbrev cleared-at : ℕ → List ℕ → ℕ → List ℕ
-  cleared-at x c l = if clears B l (getD c l 0) x then cleared-reads (B .P) (default-at B l) l (getD c l 0) else []
+  cleared-at x c l = if clears-at B l (getD c l 0) x then cleared-reads (B .P) (default-at B l) l (getD c l 0) else []
 
   why-read : (l v k : ℕ) → has (cleared-reads (B .P) (default-at B l) l v) k ≡ true → Why l v k
   why-read l v k h = go (or-cases (eqb l k) (has (taken-reads (B .P) v (default-at B l)) k) h)
@@ -49,16 +51,16 @@ module _ (B : Program) where
   read-why l v k (inr (p, n, e)) = rw (e, taken-has (B .P) v (default-at B l) p n) (or-true (eqb l v))
 
   clear-in : (x : ℕ) (c : List ℕ) (k : ℕ) → has (label-reads B x c) k ≡ true
-      → (l : ℕ) × (l < length c) × (clears B l (getD c l 0) x ≡ true) × Why l (getD c l 0) k
-  clear-in x c k h = let s = append-in (cleared-at x c) 0 (length c) k h in go (s .0) (s .1) (clears B (s .0) (getD c (s .0) 0) x) refl (s .2)
+      → (l : ℕ) × (l < length c) × (clears-at B l (getD c l 0) x ≡ true) × Why l (getD c l 0) k
+  clear-in x c k h = let s = append-in (cleared-at x c) 0 (length c) k h in go (s .0) (s .1) (clears-at B (s .0) (getD c (s .0) 0) x) refl (s .2)
     where
-      go : (l : ℕ) → l < 0 + length c → (b : Bool) → clears B l (getD c l 0) x ≡ b
+      go : (l : ℕ) → l < 0 + length c → (b : Bool) → clears-at B l (getD c l 0) x ≡ b
           → has (if b then cleared-reads (B .P) (default-at B l) l (getD c l 0) else []) k ≡ true
-          → (l : ℕ) × (l < length c) × (clears B l (getD c l 0) x ≡ true) × Why l (getD c l 0) k
+          → (l : ℕ) × (l < length c) × (clears-at B l (getD c l 0) x ≡ true) × Why l (getD c l 0) k
       go l m true e h = (l, omega arith, e, why-read l (getD c l 0) k h)
       go l m false e h = absurd (false≢true h)
 
-  clear-has : (x : ℕ) (c : List ℕ) (l k : ℕ) → l < length c → clears B l (getD c l 0) x ≡ true → Why l (getD c l 0) k → has (label-reads B x c) k ≡ true
+  clear-has : (x : ℕ) (c : List ℕ) (l k : ℕ) → l < length c → clears-at B l (getD c l 0) x ≡ true → Why l (getD c l 0) k → has (label-reads B x c) k ≡ true
   clear-has x c l k h e w = append-has (cleared-at x c) 0 (length c) l k (omega arith) (omega arith) (rw e (read-why l (getD c l 0) k w))
 
   -- k is read where some location is cleared: what that held before the first release decides
@@ -73,12 +75,12 @@ module _ (B : Program) where
       go (or-cases (has (label-reads B x c) k) (has (all-reads B is (instruction-cleared B (Release x) c)) k) (sym (has-append (label-reads B x c) (all-reads B is (instruction-cleared B (Release x) c)) k) ∙ h))
       (clears-in is (instruction-cleared B (Release x) c) k)
     where
-      later : (l : ℕ) → l < length c → (v : ℕ) → v ≡ value-cleared B x l (getD c l 0) → any (instruction-clears B l v) is ≡ true → Why l v k → (b : Bool) → clears B l (getD c l 0) x ≡ b → ClearedAt (Release x ∷ is) c k
+      later : (l : ℕ) → l < length c → (v : ℕ) → v ≡ value-cleared B x l (getD c l 0) → any (instruction-clears B l v) is ≡ true → Why l v k → (b : Bool) → clears-at B l (getD c l 0) x ≡ b → ClearedAt (Release x ∷ is) c k
       later l m v q a (inl e) true t = (l, m, rw t, inl e)
       later l m v q a (inr (p, n, e)) true t = absurd (n (sym (q ∙ cleared-true B l x (getD c l 0) t)))
       later l m v q a w false t =
           let s : v ≡ getD c l 0 = q ∙ cleared-false B l x (getD c l 0) t in
-          (l, m, rw (rw s at a) (or-true (clears B l (getD c l 0) x)), rw s at w)
+          (l, m, rw (rw s at a) (or-true (clears-at B l (getD c l 0) x)), rw s at w)
 
       go : (has (label-reads B x c) k ≡ true) ⊎ (has (all-reads B is (instruction-cleared B (Release x) c)) k ≡ true)
           → (has (all-reads B is (instruction-cleared B (Release x) c)) k ≡ true → ClearedAt is (instruction-cleared B (Release x) c) k) → ClearedAt (Release x ∷ is) c k
@@ -86,7 +88,7 @@ module _ (B : Program) where
       go (inr e) r =
           let s = r e in
           let m : s .0 < length c = omega (arith, s .1, length-clear-of B (Release x) c) in
-          later (s .0) m (getD (instruction-cleared B (Release x) c) (s .0) 0) (clear-of-at B (Release x) c (s .0) m) (s .2) (s .3) (clears B (s .0) (getD c (s .0) 0) x) refl
+          later (s .0) m (getD (instruction-cleared B (Release x) c) (s .0) 0) (clear-of-at B (Release x) c (s .0) m) (s .2) (s .3) (clears-at B (s .0) (getD c (s .0) 0) x) refl
 
   clears-has : (is : List Instruction) (c : List ℕ) (l k : ℕ) → l < length c → any (instruction-clears B l (getD c l 0)) is ≡ true → Why l (getD c l 0) k
       → has (all-reads B is c) k ≡ true
@@ -95,9 +97,9 @@ module _ (B : Program) where
   clears-has (Update j v ∷ is) c l k h a w = clears-has is c l k h a w
   clears-has (Release x ∷ is) c l k h a w =
       has-append (label-reads B x c) (all-reads B is (instruction-cleared B (Release x) c)) k
-      ∙ go (clears B l (getD c l 0) x) refl (clears-has is (instruction-cleared B (Release x) c) l k (omega (arith, length-clear-of B (Release x) c)))
+      ∙ go (clears-at B l (getD c l 0) x) refl (clears-has is (instruction-cleared B (Release x) c) l k (omega (arith, length-clear-of B (Release x) c)))
     where
-      go : (b : Bool) → clears B l (getD c l 0) x ≡ b
+      go : (b : Bool) → clears-at B l (getD c l 0) x ≡ b
           → (any (instruction-clears B l (getD (instruction-cleared B (Release x) c) l 0)) is ≡ true → Why l (getD (instruction-cleared B (Release x) c) l 0) k → has (all-reads B is (instruction-cleared B (Release x) c)) k ≡ true)
           → (has (label-reads B x c) k || has (all-reads B is (instruction-cleared B (Release x) c)) k) ≡ true
       go true t r = rw (clear-has x c l k h t w)
@@ -111,22 +113,22 @@ module _ (B : Program) where
   unfolding clear-by any
   clear-is l [] v = refl
   clear-is l (Update j w ∷ is) v = clear-is l is v
-  clear-is l (Release x ∷ is) v = go (clears B l v x) refl (clear-is l is v)
+  clear-is l (Release x ∷ is) v = go (clears-at B l v x) refl (clear-is l is v)
     where
-      go : (b : Bool) → clears B l v x ≡ b → clear-by B l is v ≡ (if any (instruction-clears B l v) is then rest B l else v)
-          → clear-by B l is (value-cleared B x l v) ≡ (if clears B l v x || any (instruction-clears B l v) is then rest B l else v)
+      go : (b : Bool) → clears-at B l v x ≡ b → clear-by B l is v ≡ (if any (instruction-clears B l v) is then rest B l else v)
+          → clear-by B l is (value-cleared B x l v) ≡ (if clears-at B l v x || any (instruction-clears B l v) is then rest B l else v)
       go true t r = ap (clear-by B l is) (cleared-true B l x v t) ∙ clear-by-rest B l is ∙ rw t
       go false t r = ap (clear-by B l is) (cleared-false B l x v t) ∙ r ∙ rw t
 
   -- a location that is cleared is cleared by the release of some label
-  clears-released : (l v : ℕ) (is : List Instruction) → any (instruction-clears B l v) is ≡ true → (x : ℕ) × Releases x is × (clears B l v x ≡ true)
+  clears-released : (l v : ℕ) (is : List Instruction) → any (instruction-clears B l v) is ≡ true → (x : ℕ) × Releases x is × (clears-at B l v x ≡ true)
   unfolding any
   clears-released l v [] h = absurd (false≢true h)
   clears-released l v (Update j w ∷ is) h = clears-released l v is h
-  clears-released l v (Release x ∷ is) h = go (or-cases (clears B l v x) (any (instruction-clears B l v) is) h) (clears-released l v is)
+  clears-released l v (Release x ∷ is) h = go (or-cases (clears-at B l v x) (any (instruction-clears B l v) is) h) (clears-released l v is)
     where
-      go : (clears B l v x ≡ true) ⊎ (any (instruction-clears B l v) is ≡ true) → (any (instruction-clears B l v) is ≡ true → (y : ℕ) × Releases y is × (clears B l v y ≡ true))
-          → (y : ℕ) × Releases y (Release x ∷ is) × (clears B l v y ≡ true)
+      go : (clears-at B l v x ≡ true) ⊎ (any (instruction-clears B l v) is ≡ true) → (any (instruction-clears B l v) is ≡ true → (y : ℕ) × Releases y is × (clears-at B l v y ≡ true))
+          → (y : ℕ) × Releases y (Release x ∷ is) × (clears-at B l v y ≡ true)
       go (inl e) r = (x, inl refl, e)
       go (inr e) r = let s = r e in (s .0, inr (s .1), s .2)
 
@@ -233,12 +235,12 @@ module _ (B : Program) (ok : Lawful B) (c : List ℕ) (long : length c ≡ L B) 
   low l = omega (arith, ok .low, default-low (place B l .function))
 
   -- a release gives a value exactly to the locations that it clears
-  gives-cleared : (l x : ℕ) → x < B .E → is-some (given B c l (Release x)) ≡ clears B l (getD c l 0) x
-  gives-cleared l x h = some-given B l c (Release x) ∙ go (eqb x l) refl
+  gives-cleared : (l x : ℕ) → x < B .E → is-some (given B c l (Release x)) ≡ clears-at B l (getD c l 0) x
+  gives-cleared l x h = some-given B l c (ok .strides) (Release x) ∙ go (eqb x l) refl
     where
-      go : (b : Bool) → eqb x l ≡ b → (eqb x l || clears B l (getD c l 0) x) ≡ clears B l (getD c l 0) x
+      go : (b : Bool) → eqb x l ≡ b → (eqb x l || clears-at B l (getD c l 0) x) ≡ clears-at B l (getD c l 0) x
       go false e = rw e
-      go true e = rw (e, ← (eqb-true x l e), roll-place B ok x h, ok .reserve, eq-eqb x x refl)
+      go true e = rw (e, ← (eqb-true x l e), roll-place B ok x h, ok .reserve, div-one x, eq-eqb x x refl)
 
   gives-any : (l : ℕ) (js : List Instruction) → ((x : ℕ) → has (released js) x ≡ true → x < B .E)
       → release-gives B c (released js) l ≡ any (instruction-clears B l (getD c l 0)) js
@@ -252,7 +254,7 @@ module _ (B : Program) (ok : Lawful B) (c : List ℕ) (long : length c ≡ L B) 
   cleared-new : (l : ℕ) → l < L B → any (instruction-clears B l (getD c l 0)) is ≡ true → new l < B .P
   cleared-new l h a =
       let s = clears-released B l (getD c l 0) is a in
-      let t = and-cases (dynamic-at B l) (concerns B l (getD c l 0) (s .0)) (s .2) in
+      let t = and-cases (dynamic-at B l) (concerns B l (getD c l 0) (s .0)) (sym (clears-strided B (ok .strides) l (getD c l 0) (s .0)) ∙ s .2) in
       dite (ℕ-discrete (s .0) l)
       (λ (e : s .0 ≡ l). omega (arith, given true-element (releases-values B c is (s .0) l true-element (s .1) (inl (e, refl))), ok .low))
       (λ (e : s .0 ≢ l). omega (arith, given (default-at B l) (releases-values B c is (s .0) l (default-at B l) (s .1) (inr (e, t .0, t .1, refl))), low l))
@@ -261,7 +263,7 @@ module _ (B : Program) (ok : Lawful B) (c : List ℕ) (long : length c ≡ L B) 
       given v m = only-value (getD c l 0) (values B c l is) v (unclashed B is c fired l h) m
 
   wiped-at : (l : ℕ) → l < L B → getD (all-cleared B is c) l 0 ≡ (if any (instruction-clears B l (getD c l 0)) is then rest B l else getD c l 0)
-  wiped-at l h = clears-at B is c l (omega (arith, long)) ∙ clear-is B l is (getD c l 0)
+  wiped-at l h = all-cleared-at B is c l (omega (arith, long)) ∙ clear-is B l is (getD c l 0)
 
   changes : (l : ℕ) → l < L B → B .P ≤ getD c l 0 → new l ≢ getD c l 0 → has (append-from (changed-reads B c (updates B c is)) 0 (L B)) (getD c l 0) ≡ true
   changes l h p n =
@@ -322,7 +324,7 @@ module _ (B : Program) (ok : Lawful B) (c : List ℕ) (long : length c ≡ L B) 
           given-about : (vs : List ℕ) → values B c l is ≡ vs → any (about B l) is ≡ true
           given-about [] r = absurd (n (rw r))
           given-about (v ∷ vs) r =
-              let g : any (about B l) is || any (instruction-clears B l (getD c l 0)) is ≡ true = sym (some-values B l c is) ∙ rw r in
+              let g : any (about B l) is || any (instruction-clears B l (getD c l 0)) is ≡ true = sym (some-values B l c (ok .strides) is) ∙ rw r in
               pick (or-cases (any (about B l) is) (any (instruction-clears B l (getD c l 0)) is) g)
             where
               pick : (any (about B l) is ≡ true) ⊎ (any (instruction-clears B l (getD c l 0)) is ≡ true) → any (about B l) is ≡ true

@@ -25,7 +25,7 @@ use Rattle.engine.proofs.Values.{Sets}
 use Rattle.engine_instruction.specs.Given.{any, own, gets}
 use Rattle.engine_release.specs.Steps.{all-cleared}
 use Rattle.engine_fire.specs.Steps.{returns-at, put-issued, put-returned, fire-tally}
-use Rattle.engine_fire.proofs.Fires.{rest, instruction-clears, length-clears, clears-at}
+use Rattle.engine_fire.proofs.Fires.{rest, instruction-clears, length-clears, all-cleared-at}
 use Rattle.engine_fire.proofs.Taken.{clear-is}
 
 -- updates at Reserve's locations set them to false
@@ -133,7 +133,7 @@ fire-tally-is B ok c sound i f e =
 
     -- a label that is released is not on the roll, and clearing does not put it there
     off : (x : ℕ) → x < B .E → has (released is) x ≡ true → getD (all-cleared B is c) x 0 ≢ true-element
-    off x k h q = by (any (instruction-clears B x (getD c x 0)) is) (sym (clears-at B is c x (omega (arith, sound .long, roll-inside B ok)) ∙ clear-is B x is (getD c x 0)) ∙ q)
+    off x k h q = by (any (instruction-clears B x (getD c x 0)) is) (sym (all-cleared-at B is c x (omega (arith, sound .long, roll-inside B ok)) ∙ clear-is B x is (getD c x 0)) ∙ q)
       where
         by : (b : Bool) → (if b then rest B x else getD c x 0) ≡ true-element → ⊥
         by true z = omega (arith, default-low (place B x .function), z)

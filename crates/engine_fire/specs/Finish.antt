@@ -4,6 +4,8 @@ use mathlib.Core.List.{List}
 use Prim.Native.Nat.{ℕ}
 use lib.ListN.{length}
 use Rattle.book.specs.Book.{Program}
+use Rattle.book.specs.Sum.{Strided}
+use Rattle.book.specs.Image.{low-program}
 use Rattle.engine.specs.declared.TalliedAnswer.{TalliedAnswer}
 use Rattle.engine.specs.Labels.{no-labels}
 use Rattle.engine.specs.Rule.{Walked, walking, refused-at}
@@ -38,3 +40,7 @@ pub record MoveFinished (B : Program) (bit i : ℕ) (w : Walked) (t : Tables) (r
   pub contents : (ls : List ℕ) → u .contents ≡ contents-after (t .contents) (settle B (t .contents) ls w)
   pub readers : (ls : List ℕ) → u .readers ≡ readers-at-end-of B bit (t .contents) w (settle B (t .contents) ls w) (t .readers)
   pub writers : (ls : List ℕ) → u .writers ≡ writers-after bit (length (t .contents)) (t .writers) (settle B (t .contents) ls w)
+
+-- move i, made with the program that an image holds, is finished so, if each function has the stride of its arity
+abbrev pub Finishes : List ℕ → ℕ → ℕ → Walked → Tables → TalliedAnswer → Tables → Type 0
+Finishes image bit i w t r u = Strided (low-program image) → MoveFinished (low-program image) bit i w t r u

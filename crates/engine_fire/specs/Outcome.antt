@@ -7,7 +7,9 @@ use Prim.Native.Nat.{ℕ}
 use lib.Dec.{ltb}
 use lib.ListN.{length}
 use Rattle.text.specs.Refusals.{clash}
+use Rattle.text.specs.declared.Found.the-variants.{Nowhere}
 use Rattle.book.specs.Book.{Program}
+use Rattle.book.specs.Sum.{Strided}
 use Rattle.book.specs.Image.{low-program}
 use Rattle.engine.specs.declared.Instruction.{Instruction}
 use Rattle.engine.specs.declared.Tally.{Tally}
@@ -15,6 +17,7 @@ use Rattle.engine.specs.Move.{Moved, fires, move-refused, fire, writes, fired-o
 use Rattle.engine.specs.Move as move
 use Rattle.engine.specs.Labels.{no-labels}
 use Rattle.engine_instruction.specs.Code.{items}
+use Rattle.engine_clash.specs.Clash.{updates-by, clash-by}
 use Rattle.engine_term.specs.Marks.{marked, marked-where}
 use Rattle.engine_fire.specs.Steps.{fire-reads, fire-tally}
 use Rattle.engine_fire.specs.declared.Outcome.{Outcome}
@@ -69,6 +72,10 @@ read-marked bit B is c rs = marked bit (fire-reads B is c) rs
 abbrev pub readers-after : ℕ → Program → List ℕ → List ℕ → Moved → List ℕ
 readers-after bit B c rs (fires f) = read-marked bit B (f .instructions) c rs
 readers-after bit B c rs (move-refused k q) = rs
+
+-- the contents d are those after the move of the first n of a list in the contents c, if each function has the stride of its arity and no location clashes
+abbrev pub FiresTo : List ℕ → List ℕ → List ℕ → ℕ → List ℕ → Type 0
+FiresTo image c list n d = Strided (low-program image) → clash-by image c list n ≡ Nowhere → d ≡ fire (updates-by image c list n) c
 
 -- the move of the first n of a list, whatever its walk read, is settled: how, with which tally, and what it leaves of the tables t
 pub record Settled (image list : List ℕ) (n bit : ℕ) (t : Tables) (r : Outcome) (u : Tables) : Type 0 where

@@ -15,22 +15,22 @@ ghost use lib.Bits.{bitOr};
 ghost use lib.Dec.{ltb};
 ghost use lib.ListN.{length, getD, set};
 ghost use Rattle.text.specs.Words.{if_then_else_, one-if};
-ghost use Rattle.text.specs.declared.Found.the-variants.{Nowhere};
 ghost use Rattle.book.specs.Book.{L};
+ghost use Rattle.book.specs.Sum.{Strided};
 ghost use Rattle.book.specs.Image.{low-program};
 ghost use Rattle.book_parts.specs.Part.{put-in};
 ghost use Rattle.engine.specs.Labels.{no-labels};
-ghost use Rattle.engine.specs.Move.{taken-reads, fire, Fired, input};
+ghost use Rattle.engine.specs.Move.{taken-reads, Fired, input};
 ghost use Rattle.engine_instruction.specs.Code.{items};
-ghost use Rattle.engine_clash.specs.Clash.{updates-by, clash-by};
+ghost use Rattle.engine_clash.specs.Clash.{updates-by};
 ghost use Rattle.engine_term.specs.Marks.{marked, mark};
-ghost use Rattle.engine_fire.specs.Outcome.{write-marked, read-marked, Settled, moved-by, tally-told};
+ghost use Rattle.engine_fire.specs.Outcome.{write-marked, read-marked, FiresTo, Settled, moved-by, tally-told};
 ghost use Rattle.engine_fire.specs.Steps.{part-after, puts, put-marked, put-reads, issues-at, returns-at, put-tally, fire-tally};
 ghost use Rattle.engine.specs.Rule.{walking, most-instructions};
 ghost use Rattle.engine_walk.specs.WalkMarks.{bits-cleared};
 ghost use Rattle.engine_walk.specs.Walk.{outcome};
 ghost use Rattle.engine_fire.specs.Effect.{move-answer, Begins};
-ghost use Rattle.engine_fire.specs.Finish.{refused-answer, readers-kept, MoveFinished};
+ghost use Rattle.engine_fire.specs.Finish.{refused-answer, readers-kept, Finishes};
 ghost use Rattle.engine_fire.specs.Count.{instructions-given};
 ghost use Rattle.engine.specs.Tables.{tables-before, tables-after};
 
@@ -209,9 +209,9 @@ fn fire(
     bit: u64,
 ) -> Tally
     ensures { λ r. ⌜ r ≡ fire-tally (low-program (now (image .entry))) (items (now (list .entry)) len) (now (contents .entry)) ⌝ }
-    ensures { λ _. ⌜ (clash-by (now (image .entry)) (now (contents .entry)) (now (list .entry)) len ≡ Nowhere → now (contents .exit) ≡ fire (updates-by (now (image .entry)) (now (contents .entry)) (now (list .entry)) len) (now (contents .entry))) ⌝ }
+    ensures { λ _. ⌜ FiresTo (now (image .entry)) (now (contents .entry)) (now (list .entry)) len (now (contents .exit)) ⌝ }
     ensures { λ _. ⌜ now (readers .exit) ≡ read-marked bit (low-program (now (image .entry))) (items (now (list .entry)) len) (now (contents .entry)) (now (readers .entry)) ⌝ }
-    ensures { λ _. ⌜ now (writers .exit) ≡ write-marked bit (length (now (contents .entry))) (updates-by (now (image .entry)) (now (contents .entry)) (now (list .entry)) len) (now (writers .entry)) ⌝ }
+    ensures { λ _. ⌜ (Strided (low-program (now (image .entry))) → now (writers .exit) ≡ write-marked bit (length (now (contents .entry))) (updates-by (now (image .entry)) (now (contents .entry)) (now (list .entry)) len) (now (writers .entry))) ⌝ }
 {
     engine_release::clear_released(image, contents, readers, writers, list, len, bit);
     put_values(image, contents, readers, writers, list, len, bit)
@@ -229,7 +229,7 @@ pub fn settle(
     len: usize,
     bit: u64,
 ) -> Outcome
-    ensures { λ r. ⌜ Settled (now (image .entry)) (now (list .entry)) len bit (tables-before contents readers writers) r (tables-after contents readers writers) ⌝ }
+    ensures { λ r. ⌜ (Strided (low-program (now (image .entry))) → Settled (now (image .entry)) (now (list .entry)) len bit (tables-before contents readers writers) r (tables-after contents readers writers)) ⌝ }
 {
     let at = engine_clash::least_clash(image, contents, list, len, NO_LOCATION);
     if is_location(image, at) {
@@ -327,7 +327,7 @@ fn settle_listed(
     len: usize,
     at: u32,
 ) -> TalliedAnswer
-    ensures { λ r. ⌜ ((next : ℕ) → MoveFinished (low-program (now (image .entry))) bit at (walking (record { made = items (now (list .entry)) len; next = next; left = [] })) (tables-before contents readers writers) r (tables-after contents readers writers)) ⌝ }
+    ensures { λ r. ⌜ ((next : ℕ) → Finishes (now (image .entry)) bit at (walking (record { made = items (now (list .entry)) len; next = next; left = [] })) (tables-before contents readers writers) r (tables-after contents readers writers)) ⌝ }
 {
     let what = settle(image, contents, readers, writers, list, len, bit);
     answer_move(readers, bit, at, what)
@@ -344,7 +344,7 @@ pub fn finish_move(
     s: Progress,
     at: u32,
 ) -> TalliedAnswer
-    ensures { λ r. ⌜ MoveFinished (low-program (now (image .entry))) bit at (outcome s (now (list .entry))) (tables-before contents readers writers) r (tables-after contents readers writers) ⌝ }
+    ensures { λ r. ⌜ Finishes (now (image .entry)) bit at (outcome s (now (list .entry))) (tables-before contents readers writers) r (tables-after contents readers writers) ⌝ }
 {
     if s.refused != 0 {
         return refused_answer(s.refused as u32, at, s.node as u32);

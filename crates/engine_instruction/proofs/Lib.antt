@@ -1,3 +1,4 @@
 pub mod Coding
 pub mod Lists
 pub mod Laws
+pub mod Strides

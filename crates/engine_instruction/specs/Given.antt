@@ -5,10 +5,10 @@ use Prim.Native.Nat.{ℕ}
 use lib.Dec.{eqb}
 use Rattle.text.specs.Words.{has}
 use Rattle.book.specs.declared.Function.{Function}
-use Rattle.book.specs.Book.{true-element, dynamic, arguments}
+use Rattle.book.specs.Book.{Program, true-element, dynamic, place}
+use Rattle.book.specs.Sum.{first-argument, second-argument, arguments-by}
 use Rattle.engine.specs.declared.Instruction.{Instruction}
 use Rattle.engine.specs.declared.Instruction.the-variants.{Update, Release}
-use Rattle.contents_check.specs.Part.{arguments-by}
 
 -- the location that an instruction is about: an update's, or Reserve at a release's label
 abbrev pub own : Instruction → ℕ
@@ -25,10 +25,14 @@ unfoldable pub any : (Instruction → Bool) → List Instruction → Bool
 any p [] = false
 any p (i ∷ is) = p i || any p is
 
--- a release of x clears location i of f, holding v (`clears`, engine/specs/Move), where row and col are the arguments of i in a binary f
-abbrev pub clears-by : Function → ℕ → ℕ → ℕ → ℕ → ℕ → Bool
-clears-by f i row col v x = dynamic f && (has (arguments-by (f .arity) i row col) x || eqb v x)
+-- a release of x clears the location of f at the arguments a and b, holding v (`clears`, engine/specs/Move)
+abbrev pub clears-by : Function → ℕ → ℕ → ℕ → ℕ → Bool
+clears-by f a b v x = dynamic f && (has (arguments-by (f .arity) a b) x || eqb v x)
 
--- a release of x clears location i of f, holding v (`clears`, engine/specs/Move)
-abbrev pub clears-in : ℕ → Function → ℕ → ℕ → ℕ → Bool
-clears-in E f i v x = dynamic f && (has (arguments E (f .arity) i) x || eqb v x)
+-- a release of x clears location i of f, holding v, where i is taken apart by the stride of f
+abbrev pub clears-in : Function → ℕ → ℕ → ℕ → Bool
+clears-in f i v x = clears-by f (first-argument f i) (second-argument f i) v x
+
+-- a release of x clears location l, holding v, where l is taken apart by its function's stride
+abbrev pub clears-at : Program → ℕ → ℕ → ℕ → Bool
+clears-at B l v x = clears-in (place B l .function) (place B l .index) v x

@@ -1,11 +1,12 @@
 // A move's instructions as the code holds them, each one number; and what one gives: its own location and value, and whether it clears a location.
 use book::Function;
+use book_parts::Arguments;
 use engine::Instruction;
 use text::Value;
 ghost use mathlib.Core.Path.{_≡_};
 ghost use Rattle.engine_instruction.specs.Code.{decode-of};
 ghost use Rattle.text.specs.Words.{has};
-ghost use Rattle.contents_check.specs.Part.{arguments-by};
+ghost use Rattle.book.specs.Sum.{arguments-by};
 ghost use Rattle.engine_instruction.specs.Given.{own, gets, clears-by};
 
 // From here on a number stands for a release.
@@ -57,23 +58,16 @@ pub fn own_value(what: Instruction) -> Value
     }
 }
 
-// x is an argument of location i of a function of that arity; of a binary one, row and col are its arguments.
-fn has_argument(arity: u32, i: usize, row: usize, col: usize, x: Value) -> bool
-    ensures { λ r. ⌜ r ≡ has (arguments-by arity i row col) x ⌝ }
+// x is one of the two arguments, of those that a function of that arity has.
+fn has_argument(arity: u32, a: Arguments, x: Value) -> bool
+    ensures { λ r. ⌜ r ≡ has (arguments-by arity (a .first) (a .second)) x ⌝ }
 {
-    let y = x as usize;
-    if arity == 0 {
-        return false;
-    }
-    if arity == 1 {
-        return i == y;
-    }
-    (row == y) | (col == y)
+    ((1 <= arity) & (a.first == x as usize)) | ((2 <= arity) & (a.second == x as usize))
 }
 
-// A release of x clears location i of f, holding `held`; of a binary f, row and col are its arguments.
-pub fn clears_at(f: Function, i: usize, row: usize, col: usize, held: Value, x: Value) -> bool
-    ensures { λ r. ⌜ r ≡ clears-by f i row col held x ⌝ }
+// A release of x clears the location of f at these arguments, holding `held`.
+pub fn clears_at(f: Function, a: Arguments, held: Value, x: Value) -> bool
+    ensures { λ r. ⌜ r ≡ clears-by f (a .first) (a .second) held x ⌝ }
 {
-    book_parts::is_dynamic(f) & (has_argument(f.arity, i, row, col, x) | (held == x))
+    book_parts::is_dynamic(f) & (has_argument(f.arity, a, x) | (held == x))
 }

@@ -65,6 +65,6 @@ pub runs-lowest : (B : Program) (c : List ℕ) (bit from e x : ℕ) (m n : List 
     → n ≡ marked bit (locations-read c (lowest from (e - from))) m → Runs B c bit (lowest from (B .E - from)) (found-below (B .E) x) m n
 runs-lowest B c bit from e x m n q h k =
     record {
-      value = rw (← q) h;
+      value = λ p. rw (← q) h;
       marks = λ p. k ∙ rw q (ap (λ (s : List ℕ). marked bit s m) (sym (all-roll B p c (B .E - from) from (λ j i. omega arith))));
     }

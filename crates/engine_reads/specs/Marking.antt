@@ -4,14 +4,14 @@ use mathlib.Core.List.{List, [], _∷_}
 use Prim.Native.Nat.{ℕ, zero, suc, _+_, _-_}
 use lib.Dec.{eqb, ltb}
 use lib.ListN.{getD}
-use Rattle.text.specs.Words.{if_then_else_, table}
+use Rattle.text.specs.Words.{if_then_else_, table-from}
 use Rattle.text.specs.declared.Found.{Found}
 use Rattle.text.specs.declared.Found.the-variants.{Nowhere, Here}
 use Rattle.book.specs.declared.Function.{Function}
-use Rattle.book.specs.Book.{Program, true-element, offset, location}
+use Rattle.book.specs.Book.{Program, true-element, dynamic}
 use Rattle.engine.specs.Reader.{value-in}
 use Rattle.engine.specs.Rule.{members}
-use Rattle.engine_term.specs.Marks.{marked, dynamic-of}
+use Rattle.engine_term.specs.Marks.{marked}
 
 -- a search below e came to x, which is e if nothing was found
 abbrev pub found-below : ℕ → ℕ → Found
@@ -19,13 +19,13 @@ found-below e x = if ltb x e then Here x else Nowhere
 
 -- ---- universes
 
--- the marks m with this bit put in at all elements of the universe u, if u is dynamic
-abbrev pub universe-marked : Program → ℕ → ℕ → List ℕ → List ℕ
-universe-marked B bit u m = if dynamic-of B u 0 0 then marked bit (table (λ y. location B u y 0) (B .E)) m else m
+-- the marks m with this bit put in at the E locations of the universe f, if f is dynamic
+abbrev pub universe-marked : Function → ℕ → ℕ → List ℕ → List ℕ
+universe-marked f E bit m = if dynamic f then marked bit (table-from (λ l. l) (f .first) E) m else m
 
--- y is in the universe f: f is true there
-abbrev pub member : List ℕ → Function → ℕ → ℕ → Bool
-member c f E y = eqb (getD c (f .first + offset E (f .arity) y 0) 0) true-element
+-- y is in the universe whose first location is `first`: it is true there
+abbrev pub member : List ℕ → ℕ → ℕ → Bool
+member c first y = eqb (getD c (first + y) 0) true-element
 
 -- the least of the k numbers from x on that passes the test, or the one past them
 unfoldable pub next-passing : (ℕ → Bool) → ℕ → ℕ → ℕ

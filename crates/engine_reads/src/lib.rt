@@ -4,14 +4,14 @@ use book::Image;
 use text::Value;
 ghost use mathlib.Core.Path.{_≡_};
 ghost use mathlib.Core.List.{map};
-ghost use Prim.Native.Nat.{_+_, _-_, _≤_};
+ghost use Prim.Native.Nat.{_-_, _≤_};
 ghost use lib.Bits.{bitOr, bitAnd};
-ghost use Rattle.text.specs.Words.{table, table-from};
-ghost use Rattle.book.specs.Book.{offset, reserve, dynamic-at};
+ghost use Rattle.text.specs.Words.{table-from};
+ghost use Rattle.book.specs.Book.{reserve, dynamic-at};
 ghost use Rattle.engine.specs.Reader.{read};
 ghost use Rattle.engine.specs.Rule.{lowest, universe-at};
-ghost use Rattle.book.specs.Image.{low, low-function, low-program};
-ghost use Rattle.engine_term.specs.Marks.{marked-if-dynamic, marked, Placed, Runs};
+ghost use Rattle.book.specs.Image.{low-program};
+ghost use Rattle.engine_term.specs.Marks.{marked-if-dynamic, marked, Has, Placed, Runs};
 ghost use Rattle.engine_reads.specs.Marking.{found-below, universe-marked, member, next-passing};
 
 // ---- marks of a part
@@ -78,7 +78,7 @@ fn is_reserve_dynamic(image: &Image, x: Value) -> bool
     if x < book_image::elements(image) {
         return true;
     }
-    engine_term::dynamic_at(image, x as u32)
+    engine_term::dynamic_at(image, x as usize)
 }
 
 // Marks Reserve at x as read.
@@ -106,41 +106,13 @@ pub fn read_reserve(
 
 // ---- universes
 
-// Marks the function as read at the elements below e, location by location.
-fn mark_each(readers: &mut [u64], bit: u64, f: Function, e: Value)
-    ensures { λ _. ⌜ now (readers .exit) ≡ marked bit (table (λ y. low (f .first) + offset e (f .arity) y 0) e) (now (readers .entry)) ⌝ }
+// Marks the universe f as read at all elements, of which there are e, if it is dynamic: its locations are one run from its first on.
+pub fn mark_universe(readers: &mut [u64], bit: u64, f: Function, e: Value)
+    ensures { λ _. ⌜ now (readers .exit) ≡ universe-marked f e bit (now (readers .entry)) ⌝ }
 {
-    let mut y: Value = 0;
-    while y < e {
-        let at = engine_term::locate(f, e, y, 0);
-        engine_term::mark(readers, bit, at as usize);
-        y += 1;
-    }
-}
-
-// Marks the function as read at the elements below e. The locations of a unary function, as every universe is, are one part.
-fn mark_function(readers: &mut [u64], bit: u64, f: Function, e: Value)
-    ensures { λ _. ⌜ now (readers .exit) ≡ marked bit (table (λ y. low (f .first) + offset e (f .arity) y 0) e) (now (readers .entry)) ⌝ }
-{
-    if f.arity == 1 {
-        let first = text::low(f.first) as usize;
+    if book_parts::is_dynamic(f) {
+        let first = f.first as usize;
         mark_between(readers, bit, first, first + e as usize);
-    } else {
-        mark_each(readers, bit, f, e);
-    }
-}
-
-// Marks the universe u as read at all elements, if it is dynamic.
-pub fn mark_universe(image: &Image, readers: &mut [u64], bit: u64, u: u16)
-    ensures { λ _. ⌜ now (readers .exit) ≡ universe-marked (low-program (now (image .entry))) bit u (now (readers .entry)) ⌝ }
-{
-    if engine_term::dynamic(image, u, 0, 0) {
-        mark_function(
-            readers,
-            bit,
-            book_image::function_at(image, u as u32),
-            book_image::elements(image),
-        );
     }
 }
 
@@ -153,22 +125,21 @@ pub fn read_universe(
     u: u16,
     x: Value,
 ) -> Value
-    ensures { λ r. ⌜ Runs (low-program (now (image .entry))) (now (contents .entry)) bit (universe-at (low-program (now (image .entry))) u x) r (now (readers .entry)) (now (readers .exit)) ⌝ }
+    ensures { λ r. ⌜ (Has (low-program (now (image .entry))) u 1 → Runs (low-program (now (image .entry))) (now (contents .entry)) bit (universe-at (low-program (now (image .entry))) u x) r (now (readers .entry)) (now (readers .exit))) ⌝ }
 {
     if x < book_image::elements(image) {
-        return engine_term::read(image, contents, readers, bit, u, x, 0);
+        return engine_term::read(image, contents, readers, bit, u, 0, x);
     }
     1
 }
 
-// The least member of the universe f from `from` on, or e if there is none.
-pub fn next_member(contents: &[Value], f: Function, e: Value, from: Value) -> Value
-    ensures { λ r. ⌜ (from ≤ r) × (r ≡ next-passing (member (now (contents .entry)) (low-function f) e) from (e - from)) ⌝ }
+// The least member from `from` on of a universe of e elements whose first location is `first`, or e if there is none.
+pub fn next_member(contents: &[Value], first: u32, e: Value, from: Value) -> Value
+    ensures { λ r. ⌜ (from ≤ r) × (r ≡ next-passing (member (now (contents .entry)) first) from (e - from)) ⌝ }
 {
     let mut y = from;
     while y < e {
-        let at = engine_term::locate(f, e, y, 0);
-        if text::fetch(contents, at as usize) == 2 {
+        if text::fetch(contents, first as usize + y as usize) == 2 {
             return y;
         }
         y += 1;

@@ -1,5 +1,5 @@
 pub mod Next
 pub mod ByPlace
-pub mod Row
+pub mod Arguments
 pub mod Upto
 pub mod Runs

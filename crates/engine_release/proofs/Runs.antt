@@ -15,9 +15,9 @@ use Rattle.book_parts.specs.declared.Owner.{Owner}
 use Rattle.book_parts.specs.Part.{between, part-from}
 use Rattle.book_parts.proofs.Parts.{between-before, between-inside, between-after}
 use Rattle.book_parts.proofs.Places.{From, from-start, from-at, from-next, from-past}
-use Rattle.engine.specs.Move.{append-from, clears}
+use Rattle.engine.specs.Move.{append-from}
 use Rattle.engine_term.specs.Marks.{marked, mark}
-use Rattle.engine_instruction.specs.Given.{clears-in}
+use Rattle.engine_instruction.specs.Given.{clears-in, clears-at}
 use Rattle.engine_release.specs.Part.{value-cleared-in, part-cleared, part-marked, cleared-reads, reads-in, part-reads}
 use Rattle.engine_release.specs.Steps.{function-cleared, function-marked, function-reads, value-cleared, label-cleared, label-marked, label-reads}
 use Rattle.engine_instruction.proofs.Laws.{and-none}
@@ -29,13 +29,13 @@ cut-length : (a b : ℕ) (c : List ℕ) → b ≤ length c → length (take (b -
 cut-length a b c h = rw (length-take, length-drop) (omega arith)
 
 -- the function's part of the contents is lent, and its part of the marks, each as far as the table goes
-module _ (E : ℕ) (f : Function) (x bit first end : ℕ) (c ms : List ℕ) (ordered : first ≤ end) (a b : ℕ) (a-is : a ≡ min first (length c))
+module _ (f : Function) (x bit first end : ℕ) (c ms : List ℕ) (ordered : first ≤ end) (a b : ℕ) (a-is : a ≡ min first (length c))
     (b-is : b ≡ min end (length c)) where
   pub run-contents :
-      (ys : List ℕ) → ys ≡ part-cleared E f x (take (b - a) (drop a c)) →
-      take a c ++ (ys ++ drop (b - a) (drop a c)) ≡ function-cleared E f x first end c
+      (ys : List ℕ) → ys ≡ part-cleared f x (take (b - a) (drop a c)) →
+      take a c ++ (ys ++ drop (b - a) (drop a c)) ≡ function-cleared f x first end c
   run-contents ys q =
-      part-back (value-cleared-in E f x) (λ (l v : ℕ). if between first end l then value-cleared-in E f x (l - first) v else v) a b c ys (omega arith) (omega arith)
+      part-back (value-cleared-in f x) (λ (l v : ℕ). if between first end l then value-cleared-in f x (l - first) v else v) a b c ys (omega arith) (omega arith)
       (λ k h v. rw (between-before first end k (omega arith)))
       (λ k h l v.
       let n : first ≡ a = omega arith in
@@ -51,7 +51,7 @@ module _ (E : ℕ) (f : Function) (x bit first end : ℕ) (c ms : List ℕ) (ord
   part-at k h l i = getD-take (b - a) (drop a c) (k - first) 0 (omega arith) ∙ getD-drop a c (k - first) 0 ∙ ap (λ (z : ℕ). getD c z 0) (omega arith)
 
   seen : (k : ℕ) → first ≤ k → k < end → (v : ℕ) (t : Bool) → ltb k (length c) ≡ t
-      → ltb (k - first) (length part) && clears-in E f (k - first) (getD part (k - first) 0) x ≡ t && clears-in E f (k - first) (getD c k 0) x
+      → ltb (k - first) (length part) && clears-in f (k - first) (getD part (k - first) 0) x ≡ t && clears-in f (k - first) (getD c k 0) x
   seen k h l v true e =
       let i : k < length c = ltb-true k (length c) e in
       let m : k - first < length part = rw (length-take, length-drop) (omega arith) in
@@ -63,11 +63,11 @@ module _ (E : ℕ) (f : Function) (x bit first end : ℕ) (c ms : List ℕ) (ord
 
   pub run-marks :
       (p r : ℕ) (ys : List ℕ) → p ≡ min first (length ms) → r ≡ min end (length ms) →
-      ys ≡ part-marked bit E f x (take (b - a) (drop a c)) (take (r - p) (drop p ms)) →
-      take p ms ++ (ys ++ drop (r - p) (drop p ms)) ≡ function-marked bit E f x first end c ms
+      ys ≡ part-marked bit f x (take (b - a) (drop a c)) (take (r - p) (drop p ms)) →
+      take p ms ++ (ys ++ drop (r - p) (drop p ms)) ≡ function-marked bit f x first end c ms
   run-marks p r ys p-is r-is q =
-      part-back (λ (i m : ℕ). mark bit (ltb i (length part) && clears-in E f i (getD part i 0) x) m)
-      (λ (l m : ℕ). mark bit (between first end l && (ltb l (length c) && clears-in E f (l - first) (getD c l 0) x)) m) p r ms ys (omega arith) (omega arith)
+      part-back (λ (i m : ℕ). mark bit (ltb i (length part) && clears-in f i (getD part i 0) x) m)
+      (λ (l m : ℕ). mark bit (between first end l && (ltb l (length c) && clears-in f (l - first) (getD c l 0) x)) m) p r ms ys (omega arith) (omega arith)
       (λ k h v. rw (between-before first end k (omega arith)))
       (λ k h l v.
       let n : p ≡ first = omega arith in
@@ -76,18 +76,18 @@ module _ (E : ℕ) (f : Function) (x bit first end : ℕ) (c ms : List ℕ) (ord
       q
 
   -- the part ends where the contents do; past them nothing of the function is cleared
-  pub run-read : (P : ℕ) → part-reads E P f x first (take (b - a) (drop a c)) ≡ function-reads E P f x first end c
+  pub run-read : (P : ℕ) → part-reads P f x first (take (b - a) (drop a c)) ≡ function-reads P f x first end c
   run-read P =
       let n : length part ≡ b - a = cut-length a b c (omega arith) in
       let m : length part + (end - first - length part) ≡ end - first = omega arith in
-      append-same (λ (i : ℕ). reads-in E P f x first i (getD part i 0)) at 0 first (length part) inside
+      append-same (λ (i : ℕ). reads-in P f x first i (getD part i 0)) at 0 first (length part) inside
       ∙ sym (append-past at first (length part) (end - first - length part) after)
       ∙ ap (append-from at first) m
     where
       at : ℕ → List ℕ
-      at l = if ltb l (length c) && clears-in E f (l - first) (getD c l 0) x then cleared-reads P (default f) l (getD c l 0) else []
+      at l = if ltb l (length c) && clears-in f (l - first) (getD c l 0) x then cleared-reads P (default f) l (getD c l 0) else []
 
-      inside : (k : ℕ) → k < length part → reads-in E P f x first (0 + k) (getD part (0 + k) 0) ≡ at (first + k)
+      inside : (k : ℕ) → k < length part → reads-in P f x first (0 + k) (getD part (0 + k) 0) ≡ at (first + k)
       inside k h =
           let n : length part ≡ b - a = cut-length a b c (omega arith) in
           let i : first + k < length c = omega arith in
@@ -105,10 +105,10 @@ module _ (B : Program) (x bit : ℕ) (c₀ ms₀ rs₀ : List ℕ) where
   clear-value l v = value-cleared B x l v
 
   abbrev mark-place : ℕ → ℕ → ℕ
-  mark-place l m = mark bit (ltb l (length c₀) && clears B l (getD c₀ l 0) x) m
+  mark-place l m = mark bit (ltb l (length c₀) && clears-at B l (getD c₀ l 0) x) m
 
   abbrev read : ℕ → List ℕ
-  read l = if ltb l (length c₀) && clears B l (getD c₀ l 0) x then cleared-reads (B .P) (default-at B l) l (getD c₀ l 0) else []
+  read l = if ltb l (length c₀) && clears-at B l (getD c₀ l 0) x then cleared-reads (B .P) (default-at B l) l (getD c₀ l 0) else []
 
   -- the functions before g are cleared; their locations are those below `first`
   pub record Upto (first g : ℕ) (c ms rs : List ℕ) : Type 0 where
@@ -130,9 +130,9 @@ module _ (B : Program) (x bit : ℕ) (c₀ ms₀ rs₀ : List ℕ) where
     here k h l = from-at B g first (u .at) more k h (omega arith)
 
     -- what clearing this function reads
-    run-here : function-reads (B .E) (B .P) (function-at B g) x first end c ≡ append-from read (0 + first) (end - first)
+    run-here : function-reads (B .P) (function-at B g) x first end c ≡ append-from read (0 + first) (end - first)
     run-here =
-        append-same (λ (l : ℕ). if ltb l (length c) && clears-in (B .E) (function-at B g) (l - first) (getD c l 0) x then cleared-reads (B .P) (default (function-at B g)) l (getD c l 0) else [])
+        append-same (λ (l : ℕ). if ltb l (length c) && clears-in (function-at B g) (l - first) (getD c l 0) x then cleared-reads (B .P) (default (function-at B g)) l (getD c l 0) else [])
         read first (0 + first) (end - first)
         (λ k h.
         let z : 0 + first ≡ first = omega arith in
@@ -140,18 +140,18 @@ module _ (B : Program) (x bit : ℕ) (c₀ ms₀ rs₀ : List ℕ) where
         rw (z, here (first + k) (omega arith) l, u .contents .left (first + k) (omega arith), u .contents .same))
 
     upto-function :
-        (c′ ms′ rs′ : List ℕ) → c′ ≡ function-cleared (B .E) (function-at B g) x first end c → ms′ ≡ function-marked bit (B .E) (function-at B g) x first end c ms →
-        rs′ ≡ marked bit (function-reads (B .E) (B .P) (function-at B g) x first end c) rs → Upto end (g + 1) c′ ms′ rs′
+        (c′ ms′ rs′ : List ℕ) → c′ ≡ function-cleared (function-at B g) x first end c → ms′ ≡ function-marked bit (function-at B g) x first end c ms →
+        rs′ ≡ marked bit (function-reads (B .P) (function-at B g) x first end c) rs → Upto end (g + 1) c′ ms′ rs′
     upto-function c′ ms′ rs′ p q r =
         record {
           contents =
-              sweep-run clear-value (λ (l v : ℕ). if between first end l then value-cleared-in (B .E) (function-at B g) x (l - first) v else v) first end c₀ c c′
+              sweep-run clear-value (λ (l v : ℕ). if between first end l then value-cleared-in (function-at B g) x (l - first) v else v) first end c₀ c c′
               (omega arith) (u .contents) p
               (λ k h l v. rw (between-before first end k h))
               (λ k h l m. rw (between-inside first end k h l, here k h l))
               (λ k h l v. rw (between-after first end k h));
           marks =
-              sweep-run mark-place (λ (l m : ℕ). mark bit (between first end l && (ltb l (length c) && clears-in (B .E) (function-at B g) (l - first) (getD c l 0) x)) m) first end ms₀ ms ms′
+              sweep-run mark-place (λ (l m : ℕ). mark bit (between first end l && (ltb l (length c) && clears-in (function-at B g) (l - first) (getD c l 0) x)) m) first end ms₀ ms ms′
               (omega arith) (u .marks) q
               (λ k h l v. rw (between-before first end k h))
               (λ k h l m. rw (between-inside first end k h l, here k h l, u .contents .left k h, u .contents .same))
@@ -164,8 +164,8 @@ module _ (B : Program) (x bit : ℕ) (c₀ ms₀ rs₀ : List ℕ) where
         }
 
     pub upto-next :
-        (own : Owner) (c′ ms′ rs′ : List ℕ) → own ≡ part-from B g first → c′ ≡ function-cleared (B .E) (own .function) x first (own .end) c →
-        ms′ ≡ function-marked bit (B .E) (own .function) x first (own .end) c ms → rs′ ≡ marked bit (function-reads (B .E) (B .P) (own .function) x first (own .end) c) rs →
+        (own : Owner) (c′ ms′ rs′ : List ℕ) → own ≡ part-from B g first → c′ ≡ function-cleared (own .function) x first (own .end) c →
+        ms′ ≡ function-marked bit (own .function) x first (own .end) c ms → rs′ ≡ marked bit (function-reads (B .P) (own .function) x first (own .end) c) rs →
         Upto (own .end) (g + 1) c′ ms′ rs′
     upto-next own c′ ms′ rs′ is p q r = rw is (upto-function c′ ms′ rs′ (rw is at p) (rw is at q) (rw is at r))
 
@@ -177,7 +177,7 @@ module _ (B : Program) (x bit : ℕ) (c₀ ms₀ rs₀ : List ℕ) where
         sym (append-past read 0 first (length c₀ - first) (λ k h. rw (from-past B g first (u .at) done (0 + first + k) (omega arith), and-none)))
         ∙ ap (append-from read 0) n
         ∙ append-past read 0 (length c₀) (first - length c₀) (λ k h. rw (le-ltb (0 + length c₀ + k) (length c₀) (omega arith)))
-        ∙ append-same read (λ (l : ℕ). if clears B l (getD c₀ l 0) x then cleared-reads (B .P) (default-at B l) l (getD c₀ l 0) else []) 0 0 (length c₀)
+        ∙ append-same read (λ (l : ℕ). if clears-at B l (getD c₀ l 0) x then cleared-reads (B .P) (default-at B l) l (getD c₀ l 0) else []) 0 0 (length c₀)
         (λ k h. rw (lt-ltb (0 + k) (length c₀) (omega arith)))
 
     pub upto-end : (c ≡ label-cleared B x c₀) × (ms ≡ label-marked bit B x c₀ ms₀) × (rs ≡ marked bit (label-reads B x c₀) rs₀)

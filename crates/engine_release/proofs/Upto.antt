@@ -19,16 +19,16 @@ use Rattle.engine_release.proofs.ByPlace.{Swept, sweep-start, sweep-nex
 
 module _ (r : Released) (part₀ readers₀ marks₀ : List ℕ) where
   abbrev clears-place : ℕ → ℕ → Bool
-  clears-place k v = clears-in (r .elements) (r .function) k v (r .label)
+  clears-place k v = clears-in (r .function) k v (r .label)
 
   abbrev clear-value : ℕ → ℕ → ℕ
-  clear-value k v = value-cleared-in (r .elements) (r .function) (r .label) k v
+  clear-value k v = value-cleared-in (r .function) (r .label) k v
 
   abbrev mark-place : ℕ → ℕ → ℕ
   mark-place k m = mark (r .bit) (ltb k (length part₀) && clears-place k (getD part₀ k 0)) m
 
   abbrev read : ℕ → List ℕ
-  read k = reads-in (r .elements) (r .permanent) (r .function) (r .label) (r .first) k (getD part₀ k 0)
+  read k = reads-in (r .permanent) (r .function) (r .label) (r .first) k (getD part₀ k 0)
 
   pub record Upto (i : ℕ) (part readers marks : List ℕ) : Type 0 where
     pub contents : Swept clear-value i part₀ part
@@ -61,7 +61,7 @@ module _ (r : Released) (part₀ readers₀ marks₀ : List ℕ) where
 
     -- place i is cleared if the label's release clears it
     pub upto-one : i < length part₀ → (part′ readers′ marks′ : List ℕ) → part′ ≡ set part i (clear-value i (getD part i 0))
-        → readers′ ≡ marked (r .bit) (reads-in (r .elements) (r .permanent) (r .function) (r .label) (r .first) i (getD part i 0)) readers
+        → readers′ ≡ marked (r .bit) (reads-in (r .permanent) (r .function) (r .label) (r .first) i (getD part i 0)) readers
         → marks′ ≡ set marks i (mark (r .bit) (clears-place i (getD part i 0)) (getD marks i 0)) → Upto (i + 1) part′ readers′ marks′
     upto-one t part′ readers′ marks′ p q o =
         record {
@@ -77,9 +77,9 @@ module _ (r : Released) (part₀ readers₀ marks₀ : List ℕ) where
         same = u .contents .left i (omega arith)
 
     pub upto-end : length part ≤ i
-        → (part ≡ part-cleared (r .elements) (r .function) (r .label) part₀)
-        × ((marks ≡ part-marked (r .bit) (r .elements) (r .function) (r .label) part₀ marks₀)
-        × (readers ≡ marked (r .bit) (part-reads (r .elements) (r .permanent) (r .function) (r .label) (r .first) part₀) readers₀))
+        → (part ≡ part-cleared (r .function) (r .label) part₀)
+        × ((marks ≡ part-marked (r .bit) (r .function) (r .label) part₀ marks₀)
+        × (readers ≡ marked (r .bit) (part-reads (r .permanent) (r .function) (r .label) (r .first) part₀) readers₀))
     upto-end h =
         let t : i ≡ length part₀ = omega (arith, u .contents .same, u .most) in (
           sweep-end clear-value i part₀ part (u .contents) (λ k m n. absurd (omega arith)),

@@ -12,16 +12,16 @@ use Rattle.engine_instruction.specs.Given.{clears-in}
 use Rattle.engine_term.specs.Marks.{marked-where}
 
 -- what location i of f, holding v, has after x is cleared
-abbrev pub value-cleared-in : ℕ → Function → ℕ → ℕ → ℕ → ℕ
-value-cleared-in E f x i v = if clears-in E f i v x then default f else v
+abbrev pub value-cleared-in : Function → ℕ → ℕ → ℕ → ℕ
+value-cleared-in f x i v = if clears-in f i v x then default f else v
 
 -- the part after x is cleared from it
-abbrev pub part-cleared : ℕ → Function → ℕ → List ℕ → List ℕ
-part-cleared E f x part = by-place (value-cleared-in E f x) 0 part
+abbrev pub part-cleared : Function → ℕ → List ℕ → List ℕ
+part-cleared f x part = by-place (value-cleared-in f x) 0 part
 
 -- the writer marks of the part after x is cleared from it
-abbrev pub part-marked : ℕ → ℕ → Function → ℕ → List ℕ → List ℕ → List ℕ
-part-marked bit E f x part ms = marked-where bit (λ i. ltb i (length part) && clears-in E f i (getD part i 0) x) ms
+abbrev pub part-marked : ℕ → Function → ℕ → List ℕ → List ℕ → List ℕ
+part-marked bit f x part ms = marked-where bit (λ i. ltb i (length part) && clears-in f i (getD part i 0) x) ms
 
 -- ---- what clearing reads
 
@@ -30,9 +30,9 @@ abbrev pub cleared-reads : ℕ → ℕ → ℕ → ℕ → List ℕ
 cleared-reads P d l v = l ∷ taken-reads P v d
 
 -- what clearing x reads at location i of f, holding v, where f's part starts at location `first`
-abbrev pub reads-in : ℕ → ℕ → Function → ℕ → ℕ → ℕ → ℕ → List ℕ
-reads-in E P f x first i v = if clears-in E f i v x then cleared-reads P (default f) (first + i) v else []
+abbrev pub reads-in : ℕ → Function → ℕ → ℕ → ℕ → ℕ → List ℕ
+reads-in P f x first i v = if clears-in f i v x then cleared-reads P (default f) (first + i) v else []
 
 -- what clearing x reads in the whole part
-abbrev pub part-reads : ℕ → ℕ → Function → ℕ → ℕ → List ℕ → List ℕ
-part-reads E P f x first part = append-from (λ i. reads-in E P f x first i (getD part i 0)) 0 (length part)
+abbrev pub part-reads : ℕ → Function → ℕ → ℕ → List ℕ → List ℕ
+part-reads P f x first part = append-from (λ i. reads-in P f x first i (getD part i 0)) 0 (length part)

@@ -6,12 +6,12 @@ use engine::Instruction;
 use text::Value;
 ghost use mathlib.Core.Path.{_≡_};
 ghost use mathlib.Core.Bool.{false};
-ghost use mathlib.Core.List.{[], _∷_};
-ghost use Prim.Native.Nat.{ℕ, _+_, _/_, _%_, _≤_, _<_};
+ghost use Prim.Native.Nat.{ℕ, _+_, _≤_, _<_};
 ghost use lib.Dec.{eqb};
 ghost use lib.ListN.{length, getD, set};
 ghost use Rattle.text.specs.Words.{has};
-ghost use Rattle.book.specs.Book.{default, arguments};
+ghost use Rattle.book.specs.Book.{default};
+ghost use Rattle.book.specs.Sum.{first-argument, second-argument, arguments-by};
 ghost use Rattle.engine.specs.Move.{taken-reads};
 ghost use Rattle.engine_term.specs.Marks.{marked, mark};
 ghost use Rattle.engine_instruction.specs.Given.{clears-in};
@@ -20,10 +20,9 @@ ghost use Rattle.book.specs.Image.{low-program};
 ghost use Rattle.engine_instruction.specs.Code.{items};
 ghost use Rattle.engine_release.specs.Steps.{function-cleared, function-marked, function-reads, label-cleared, label-marked, label-reads, instruction-cleared, instruction-marked, instruction-reads, all-cleared, all-marked, all-reads};
 
-// A label that a move releases, and what clearing it from a function's part needs: E and P, the function with its first location, the move's bit.
+// A label that a move releases, and what clearing it from a function's part needs: P, the function with its first location, the move's bit.
 pub struct Released {
     pub label: Value,
-    pub elements: Value,
     pub permanent: Value,
     pub function: Function,
     pub first: u32,
@@ -51,65 +50,48 @@ fn mark_cleared(readers: &mut [u64], r: Released, i: usize, held: Value)
 
 // ---- places passed over
 
-// The first argument of place i of a binary function.
-fn row_of(e: Value, i: usize) -> usize
-    ensures { λ r. ⌜ r ≡ i / e ⌝ }
+// The next place from i on that has x as first argument, at most n: these places come one after the other, as many as the stride.
+fn next_first(f: Function, x: Value, i: usize, n: usize) -> usize
+    requires { ⌜ (0 < f .stride) × (i ≤ n) ⌝ }
+    ensures { λ r. ⌜ (i ≤ r) × (r ≤ n) × ((k : ℕ) → i ≤ k → k < r → first-argument f k ≡ x → ⊥) ⌝ }
 {
-    if e == 0 {
-        return 0;
+    let s = f.stride as usize;
+    let from = x as usize * s;
+    if i < from {
+        return text::smaller(from, n);
     }
-    i / e as usize
-}
-
-// The second argument of place i of a binary function.
-fn column_of(e: Value, i: usize) -> usize
-    ensures { λ r. ⌜ r ≡ i % e ⌝ }
-{
-    if e == 0 {
+    if i < from + s {
         return i;
     }
-    i % e as usize
+    n
 }
 
-// A place from i on, of a binary function, up to which none has x as argument: i itself, column x of its row, or where the next row starts.
-fn pass_row(e: Value, x: Value, i: usize) -> usize
-    requires { ⌜ i < 9223372036854775808 ⌝ }
-    ensures { λ r. ⌜ (i ≤ r) × ((k : ℕ) → i ≤ k → k < r → has ((k / e) ∷ (k % e) ∷ []) x ≡ false) ⌝ }
+// The next place from i on that has x as second argument, at most n: there is none if x is not below the stride, else one in as many places as the stride.
+fn next_second(f: Function, x: Value, i: usize, n: usize) -> usize
+    requires { ⌜ (0 < f .stride) × (i ≤ n) × (n < 9223372036854775808) ⌝ }
+    ensures { λ r. ⌜ (i ≤ r) × (r ≤ n) × ((k : ℕ) → i ≤ k → k < r → second-argument f k ≡ x → ⊥) ⌝ }
 {
+    let s = f.stride as usize;
     let y = x as usize;
-    let w = e as usize;
-    let col = column_of(e, i);
-    if w <= col {
-        return i;
+    if s <= y {
+        return n;
     }
-    if row_of(e, i) == y {
-        return i;
+    let here = book_parts::take_apart(f, i);
+    if here.second <= y {
+        return text::smaller(i + (y - here.second), n);
     }
-    if y < col {
-        return i + (w - col);
-    }
-    if w <= y {
-        return i + (w - col);
-    }
-    i + (y - col)
+    text::smaller(i + (s - here.second) + y, n)
 }
 
 // A place from i on up to which none has x as argument, at most n.
-fn pass_arguments(arity: u32, e: Value, x: Value, i: usize, n: usize) -> usize
+fn pass_arguments(f: Function, x: Value, i: usize, n: usize) -> usize
     requires { ⌜ (i ≤ n) × (n < 9223372036854775808) ⌝ }
-    ensures { λ r. ⌜ (i ≤ r) × (r ≤ n) × ((k : ℕ) → i ≤ k → k < r → has (arguments e arity k) x ≡ false) ⌝ }
+    ensures { λ r. ⌜ (i ≤ r) × (r ≤ n) × ((k : ℕ) → i ≤ k → k < r → has (arguments-by (f .arity) (first-argument f k) (second-argument f k)) x ≡ false) ⌝ }
 {
-    if arity == 0 {
-        return n;
+    if f.stride == 0 {
+        return i;
     }
-    if arity == 1 {
-        let y = x as usize;
-        if y < i {
-            return n;
-        }
-        return text::smaller(y, n);
-    }
-    text::smaller(pass_row(e, x, i), n)
+    next_second(f, x, i, next_first(f, x, i, n))
 }
 
 // The first of the places from i to `stop` that holds x, or `stop`.
@@ -130,12 +112,12 @@ fn pass_values(part: &[Value], x: Value, i: usize, stop: usize) -> usize
 // A place from i on up to which the label's release clears none: most of a part is passed over.
 fn pass_over(part: &[Value], r: Released, i: usize) -> usize
     requires { ⌜ i ≤ length (now part) ⌝ }
-    ensures { λ j. ⌜ (i ≤ j) × (j ≤ length (now (part .entry))) × ((k : ℕ) → i ≤ k → k < j → clears-in (r .elements) (r .function) k (getD (now (part .entry)) k 0) (r .label) ≡ false) ⌝ }
+    ensures { λ j. ⌜ (i ≤ j) × (j ≤ length (now (part .entry))) × ((k : ℕ) → i ≤ k → k < j → clears-in (r .function) k (getD (now (part .entry)) k 0) (r .label) ≡ false) ⌝ }
 {
     let n = part.len();
     let f = r.function;
     if book_parts::is_dynamic(f) {
-        let stop = pass_arguments(f.arity, r.elements, r.label, i, n);
+        let stop = pass_arguments(f, r.label, i, n);
         return pass_values(part, r.label, i, stop);
     }
     n
@@ -146,14 +128,13 @@ fn pass_over(part: &[Value], r: Released, i: usize) -> usize
 // Location i of the part gets its default, if the label's release clears it; what that reads and writes is marked.
 fn clear_one(part: &mut [Value], readers: &mut [u64], writers: &mut [u64], r: Released, i: usize)
     requires { ⌜ i < length (now part) ⌝ }
-    ensures { λ _. ⌜ now (part .exit) ≡ set (now (part .entry)) i (value-cleared-in (r .elements) (r .function) (r .label) i (getD (now (part .entry)) i 0)) ⌝ }
-    ensures { λ _. ⌜ now (writers .exit) ≡ set (now (writers .entry)) i (mark (r .bit) (clears-in (r .elements) (r .function) i (getD (now (part .entry)) i 0) (r .label)) (getD (now (writers .entry)) i 0)) ⌝ }
-    ensures { λ _. ⌜ now (readers .exit) ≡ marked (r .bit) (reads-in (r .elements) (r .permanent) (r .function) (r .label) (r .first) i (getD (now (part .entry)) i 0)) (now (readers .entry)) ⌝ }
+    ensures { λ _. ⌜ now (part .exit) ≡ set (now (part .entry)) i (value-cleared-in (r .function) (r .label) i (getD (now (part .entry)) i 0)) ⌝ }
+    ensures { λ _. ⌜ now (writers .exit) ≡ set (now (writers .entry)) i (mark (r .bit) (clears-in (r .function) i (getD (now (part .entry)) i 0) (r .label)) (getD (now (writers .entry)) i 0)) ⌝ }
+    ensures { λ _. ⌜ now (readers .exit) ≡ marked (r .bit) (reads-in (r .permanent) (r .function) (r .label) (r .first) i (getD (now (part .entry)) i 0)) (now (readers .entry)) ⌝ }
 {
     let held = part[i];
-    let row = row_of(r.elements, i);
-    let col = column_of(r.elements, i);
-    if engine_instruction::clears_at(r.function, i, row, col, held, r.label) {
+    let a = book_parts::take_apart(r.function, i);
+    if engine_instruction::clears_at(r.function, a, held, r.label) {
         part[i] = book_parts::default_of(r.function);
         mark_cleared(readers, r, i, held);
         engine_term::mark(writers, r.bit, i);
@@ -162,9 +143,9 @@ fn clear_one(part: &mut [Value], readers: &mut [u64], writers: &mut [u64], r: Re
 
 // Each location of the part that the label's release clears gets its default; what that reads and writes is marked.
 pub fn clear_part(part: &mut [Value], readers: &mut [u64], writers: &mut [u64], r: Released)
-    ensures { λ _. ⌜ now (part .exit) ≡ part-cleared (r .elements) (r .function) (r .label) (now (part .entry)) ⌝ }
-    ensures { λ _. ⌜ now (writers .exit) ≡ part-marked (r .bit) (r .elements) (r .function) (r .label) (now (part .entry)) (now (writers .entry)) ⌝ }
-    ensures { λ _. ⌜ now (readers .exit) ≡ marked (r .bit) (part-reads (r .elements) (r .permanent) (r .function) (r .label) (r .first) (now (part .entry))) (now (readers .entry)) ⌝ }
+    ensures { λ _. ⌜ now (part .exit) ≡ part-cleared (r .function) (r .label) (now (part .entry)) ⌝ }
+    ensures { λ _. ⌜ now (writers .exit) ≡ part-marked (r .bit) (r .function) (r .label) (now (part .entry)) (now (writers .entry)) ⌝ }
+    ensures { λ _. ⌜ now (readers .exit) ≡ marked (r .bit) (part-reads (r .permanent) (r .function) (r .label) (r .first) (now (part .entry))) (now (readers .entry)) ⌝ }
 {
     let mut i = pass_over(part, r, 0);
     while i < part.len() {
@@ -184,9 +165,9 @@ fn clear_function(
     end: usize,
 )
     requires { ⌜ r .first ≤ end ⌝ }
-    ensures { λ _. ⌜ now (contents .exit) ≡ function-cleared (r .elements) (r .function) (r .label) (r .first) end (now (contents .entry)) ⌝ }
-    ensures { λ _. ⌜ now (writers .exit) ≡ function-marked (r .bit) (r .elements) (r .function) (r .label) (r .first) end (now (contents .entry)) (now (writers .entry)) ⌝ }
-    ensures { λ _. ⌜ now (readers .exit) ≡ marked (r .bit) (function-reads (r .elements) (r .permanent) (r .function) (r .label) (r .first) end (now (contents .entry))) (now (readers .entry)) ⌝ }
+    ensures { λ _. ⌜ now (contents .exit) ≡ function-cleared (r .function) (r .label) (r .first) end (now (contents .entry)) ⌝ }
+    ensures { λ _. ⌜ now (writers .exit) ≡ function-marked (r .bit) (r .function) (r .label) (r .first) end (now (contents .entry)) (now (writers .entry)) ⌝ }
+    ensures { λ _. ⌜ now (readers .exit) ≡ marked (r .bit) (function-reads (r .permanent) (r .function) (r .label) (r .first) end (now (contents .entry))) (now (readers .entry)) ⌝ }
 {
     let first = r.first as usize;
     let n = contents.len();
@@ -211,7 +192,6 @@ fn clear_label(
     ensures { λ _. ⌜ now (writers .exit) ≡ label-marked bit (low-program (now (image .entry))) x (now (contents .entry)) (now (writers .entry)) ⌝ }
     ensures { λ _. ⌜ now (readers .exit) ≡ marked bit (label-reads (low-program (now (image .entry))) x (now (contents .entry))) (now (readers .entry)) ⌝ }
 {
-    let e = book_image::elements(image);
     let p = book_parts::permanent(image);
     let n = book_image::functions(image);
     let mut first: u32 = 0;
@@ -221,7 +201,6 @@ fn clear_label(
         let f = own.function;
         let r = Released {
             label: x,
-            elements: e,
             permanent: p,
             function: f,
             first: first,

@@ -8,11 +8,13 @@ use native.Mathlib.Omega.{arith}
 use lib.ListN.{length, take, drop}
 use Rattle.text.specs.declared.Answer.{Answer}
 use Rattle.book.specs.Book.{Program, L}
+use Rattle.book.specs.Sum.{Strided}
 use Rattle.book.specs.Image.{word, low-program}
 use Rattle.engine.specs.Move.{Input, Moved, fires, move-refused, walked, walk-reads, made-by, move}
 use Rattle.engine.specs.Single.{Stepped, stepped, step-move, step-call}
 use Rattle.engine_instruction.specs.Code.{items}
 use Rattle.engine_instruction.proofs.Laws.{take-min, drop-min}
+use Rattle.engine_term.proofs.Leaves.{placed}
 use Rattle.engine_walk.specs.Walk.{outcome}
 use Rattle.engine_walk.specs.WalkMarks.{WalkMarked}
 use Rattle.engine_fire.specs.declared.Begun.{Begun}
@@ -57,6 +59,7 @@ module _ (text c : List ℕ) (k : Input) (n : ℕ) (m l : List ℕ) (p : BegunCa
     stops = λ h. absurd (h z);
     moves = λ _. record {
       lent = e .passed .records;
+      lawful = e .lawful;
       locations = e .locations;
       long = e .passed .long;
       walked = subst (λ (i : ℕ). MoveWalked (low-program m) (take i c) k l (p .begun)) (e .locations) w;
@@ -83,7 +86,7 @@ module _ (text c : List ℕ) (k : Input) (n : ℕ) (m l : List ℕ) (p : BegunCa
       (λ (z : p .answer .number ≡ 0).
       let w = h .moves z in
       let o = w .walked in
-      ap (items l) (o .count) ∙ made-of (p .begun .walk) l (o .room) ∙ ap made-by (o .walk .outcome) ∙ sym (step-instructions A c k) ∙ ap (λ (s : Stepped). s .instructions) (w .whole))
+      ap (items l) (o .count) ∙ made-of (p .begun .walk) l (o .room) ∙ ap made-by (o .walk .outcome (placed A (w .lawful))) ∙ sym (step-instructions A c k) ∙ ap (λ (s : Stepped). s .instructions) (w .whole))
       (λ (z : p .answer .number ≢ 0). ap (items l) (h .stops z .0) ∙ h .stops z .1 .instructions)
 
   -- with the call's answer and contents, all that the call leaves is known
@@ -106,6 +109,7 @@ module _ (text c : List ℕ) (k : Input) (n : ℕ) (m l : List ℕ) (p : BegunCa
         let i : outcome (p .begun .walk) l′ ≡ outcome (p .begun .walk) l = same-outcome (p .begun .walk) l l′ (o .room) e (rw (o .count) at q) in
         record {
           lent = w .lent;
+          lawful = w .lawful;
           locations = w .locations;
           long = w .long;
           walked = record { walk = rw i (o .walk); count = o .count; room = e };
@@ -120,7 +124,7 @@ module _ (text c : List ℕ) (k : Input) (n : ℕ) (m l : List ℕ) (p : BegunCa
   concluded-moves z r d s =
       let w = h .moves z in
       let t : (r ≡ move-answer 0 (move A (take (L A) c) k)) × (d ≡ contents-after (take (L A) c) (move A (take (L A) c) k) ++ drop (L A) c) =
-      rw (w .locations, w .walked .walk .outcome) at (s .moves z (walk-reads A (take (L A) c) k)) in
+      rw (w .locations, w .walked .walk .outcome (placed A (w .lawful))) at (s .moves z (w .lawful .strides) (walk-reads A (take (L A) c) k)) in
       moved-step A c k (w .long) r d (t .0) (t .1)
 
   -- the answer, the instructions and the contents are those that the call leaves
@@ -134,9 +138,9 @@ module _ (text c : List ℕ) (k : Input) (n : ℕ) (m l : List ℕ) (p : BegunCa
 
 -- what `finish_move` says of the first j records of the table, said of the whole
 pub concluded-first : (m c l : List ℕ) (p : BegunCall) (j : ℕ) → j ≡ min (word m 6) (length c) → p .answer .number ≡ 0 → (r : TalliedAnswer) (d rs ws : List ℕ)
-    → MoveFinished (low-program m) 1 0 (outcome (p .begun .walk) l) (tables (take j c) [] []) r (tables d rs ws) → CallFinished m c l p (r .answer) (d ++ drop j c)
+    → (Strided (low-program m) → MoveFinished (low-program m) 1 0 (outcome (p .begun .walk) l) (tables (take j c) [] []) r (tables d rs ws)) → CallFinished m c l p (r .answer) (d ++ drop j c)
 concluded-first m c l p j e z r d rs ws does = record {
   stops = λ h. absurd (h z);
-  moves = λ y ls.
-      rw (← take-min c j (word m 6) e, ← drop-min c j (word m 6) e) (does .answer ls, ap (λ (x : List ℕ). x ++ drop j c) (does .contents ls));
+  moves = λ y strides ls.
+      rw (← take-min c j (word m 6) e, ← drop-min c j (word m 6) e) (does strides .answer ls, ap (λ (x : List ℕ). x ++ drop j c) (does strides .contents ls));
 }

@@ -1,5 +1,5 @@
 -- The whole call from its stages: a refusal of the book, refusal 9, 2 or 8, and the move.
-use mathlib.Core.Path.{_≡_, refl, sym, ap, _∙_}
+use mathlib.Core.Path.{_≡_, refl, sym, ap, subst, _∙_}
 use mathlib.Core.Logic.{_≢_}
 use mathlib.Core.List.{List}
 use Prim.Native.Nat.{ℕ}
@@ -7,12 +7,15 @@ use lib.ListN.{take}
 use Rattle.text.specs.declared.Answer.{Answer}
 use Rattle.text.specs.Words.{Checked, good, refused, _>>=_, _>>_, answer-of}
 use Rattle.book.specs.Book.{Program, Book, L}
+use Rattle.book.specs.Sum.{Strided}
+use Rattle.book.specs.Sound.{Lawful}
 use Rattle.book.specs.Check.{check-book}
 use Rattle.book.specs.Image.{word, low-program}
 use Rattle.engine.specs.Move.{Input}
 use Rattle.engine.specs.Single.{check-agent, check-picks, check-step-lengths, check-contents, check-step, step-move, step-answer, step-call}
 use Rattle.engine_step.specs.Call.{check-call}
 use Rattle.engine_step.specs.Leaves.{CallLeaves}
+use Rattle.book.proofs.Accepted.{accepted}
 use Rattle.book_check.specs.ImageOf.{ImageOf}
 use Rattle.book_check.proofs.Fits.{low-program-is}
 use Rattle.engine_step.proofs.UpToTen.{book-numbered, call-numbered, accepts}
@@ -36,6 +39,7 @@ module _ (c l : List ℕ) (k : Input) where
 
 -- what a call has passed before its move, whose image is m, and that the move is all that is left of it
 pub record Cleared (text c : List ℕ) (k : Input) (n : ℕ) (m : List ℕ) : Type 0 where
+  pub lawful : Lawful (low-program m)
   pub passed : Passed (low-program m) c k n
   pub locations : word m 6 ≡ L (low-program m)
   pub moved : step-move (low-program m) c k ≡ step-call text c k n
@@ -65,7 +69,7 @@ module _ (text c l : List ℕ) (k : Input) (n : ℕ) where
       (ap (step-answer c k) (joined (check-agent B (k .agent)) (check-picks B (k .picks)) (check-step-lengths i c n) (check-contents B (take i c)) (good B)))
 
   module _ (m : List ℕ) (opened : ImageOf m (check-book text)) (a : Answer) (told : a ≡ answer-of (check-book text)) (zero-a : a .number ≡ 0)
-      (b : Answer) (call : b ≡ answer-of (check-call (low-program m) (word m 6) c k n)) where
+      (b : Answer) (call : Strided (low-program m) → b ≡ answer-of (check-call (low-program m) (word m 6) c k n)) where
     accepted-as : (b : Book) × (check-book text ≡ good b)
     accepted-as = accepts (check-book text) (book-numbered text) (sym (ap (λ (r : Answer). r .number) told) ∙ zero-a)
 
@@ -74,6 +78,12 @@ module _ (text c l : List ℕ) (k : Input) (n : ℕ) where
 
     is-held : low-program m ≡ B
     is-held = low-program-is text m opened (accepted-as .0) (accepted-as .1)
+
+    lawful : Lawful (low-program m)
+    lawful = subst Lawful (sym is-held) (accepted text (accepted-as .0) (accepted-as .1))
+
+    called : b ≡ answer-of (check-call (low-program m) (word m 6) c k n)
+    called = call (lawful .strides)
 
     located : word m 6 ≡ L B
     located = opened (accepted-as .0) (accepted-as .1) .1
@@ -86,12 +96,12 @@ module _ (text c l : List ℕ) (k : Input) (n : ℕ) where
 
     pub refused-call : b .number ≢ 0 → CallLeaves b 0 l c (step-call text c k n)
     refused-call h =
-        let e : b ≡ answer-of (check-call B (word m 6) c k n) = call ∙ ap (λ (x : Checked (Unit {0})). answer-of x) call-held in
+        let e : b ≡ answer-of (check-call B (word m 6) c k n) = called ∙ ap (λ (x : Checked (Unit {0})). answer-of x) call-held in
         rw (e, whole) (call-stops c l k (check-call B (word m 6) c k n) B (λ z. h (ap (λ (r : Answer). r .number) e ∙ z)))
 
     module _ (zero-b : b .number ≡ 0) where
       goes : (u : Unit {0}) × (check-call (low-program m) (word m 6) c k n ≡ good u)
-      goes = accepts (check-call (low-program m) (word m 6) c k n) (call-numbered (low-program m) (word m 6) c k n) (sym (ap (λ (r : Answer). r .number) call) ∙ zero-b)
+      goes = accepts (check-call (low-program m) (word m 6) c k n) (call-numbered (low-program m) (word m 6) c k n) (sym (ap (λ (r : Answer). r .number) called) ∙ zero-b)
 
       locations : word m 6 ≡ L (low-program m)
       locations = located ∙ ap L (sym is-held)
@@ -106,4 +116,4 @@ module _ (text c l : List ℕ) (k : Input) (n : ℕ) where
           ∙ sym whole
 
       pub cleared : Cleared text c k n m
-      cleared = record { passed = shown; locations = locations; moved = moved }
+      cleared = record { lawful = lawful; passed = shown; locations = locations; moved = moved }

@@ -12,6 +12,7 @@ use text::Value;
 ghost use mathlib.Core.Path.{_≡_};
 ghost use lib.ListN.{take};
 ghost use Rattle.text.specs.Words.{answer-of};
+ghost use Rattle.book.specs.Sum.{Strided};
 ghost use Rattle.book.specs.Image.{word, low-program};
 ghost use Rattle.engine.specs.Move.{input};
 ghost use Rattle.engine.specs.Single.{pick-place, check-agent, check-picks, check-step-lengths, check-contents};
@@ -73,7 +74,7 @@ fn check_lent(image: &Image, contents: &[Value], lent: usize) -> Answer
 
 // Refusal 8 of a lent table, on as many records as there are locations.
 fn check_contents(image: &Image, contents: &[Value]) -> Answer
-    ensures { λ r. ⌜ r ≡ answer-of (check-contents (low-program (now (image .entry))) (take (word (now (image .entry)) 6) (now (contents .entry)))) ⌝ }
+    ensures { λ r. ⌜ (Strided (low-program (now (image .entry))) → r ≡ answer-of (check-contents (low-program (now (image .entry))) (take (word (now (image .entry)) 6) (now (contents .entry))))) ⌝ }
 {
     let n = text::smaller(book_image::locations(image) as usize, contents.len());
     let found = contents_check::bad_value(image, &contents[..n]);
@@ -91,7 +92,7 @@ pub fn check_call(
     picks: &[Pick],
     lent: usize,
 ) -> Answer
-    ensures { λ r. ⌜ r ≡ answer-of (check-call (low-program (now (image .entry))) (word (now (image .entry)) 6) (now (contents .entry)) (input agent (now (picks .entry))) lent) ⌝ }
+    ensures { λ r. ⌜ (Strided (low-program (now (image .entry))) → r ≡ answer-of (check-call (low-program (now (image .entry))) (word (now (image .entry)) 6) (now (contents .entry)) (input agent (now (picks .entry))) lent)) ⌝ }
 {
     let nine = check_agent(image, agent);
     if nine.number != 0 {

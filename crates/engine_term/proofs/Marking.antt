@@ -48,12 +48,16 @@ marked-noted B bit l ls m = go (dynamic-at B l)
 module _ (B : Program) (c : List ℕ) (bit : ℕ) where
   pub runs-done : {A : Type 0} (a : A) (m : List ℕ) → Runs B c bit (done a) a m m
   unfolding value-in locations-read dynamic-among marked
-  runs-done a m = record { value = refl; marks = λ p. refl }
+  runs-done a m = record { value = λ p. refl; marks = λ p. refl }
+
+  -- what holds of a program that the engine can rely on may be used
+  pub runs-given : {A : Type 0} (w : Reader A) (a : A) (m n : List ℕ) → (Placed B → Runs B c bit w a m n) → Runs B c bit w a m n
+  runs-given w a m n h = record { value = λ p. h p .value p; marks = λ p. h p .marks p }
 
   pub runs-value : {A : Type 0} (a b : A) (m : List ℕ) → a ≡ b → Runs B c bit (done b) a m m
   runs-value a b m e = rw e (runs-done b m)
 
-  pub runs-read : (l v : ℕ) (m n : List ℕ) → v ≡ getD c l 0 → (Placed B → n ≡ marked-if-dynamic B bit l m) → Runs B c bit (read l) v m n
+  pub runs-read : (l v : ℕ) (m n : List ℕ) → (Placed B → v ≡ getD c l 0) → (Placed B → n ≡ marked-if-dynamic B bit l m) → Runs B c bit (read l) v m n
   unfolding value-in locations-read marked dynamic-among
   runs-read l v m n e h = record { value = e; marks = λ p. h p ∙ sym (marked-noted B bit l [] m) }
 
@@ -61,8 +65,8 @@ module _ (B : Program) (c : List ℕ) (bit : ℕ) where
       → Runs B c bit w a m n → Runs B c bit (f a) z n o → Runs B c bit (w >>= f) z m o
   runs-bind w f a z m n o h k =
       record {
-        value = k .value ∙ rw (h .value) (sym (value-bind c w f));
-        marks = λ p. k .marks p ∙ rw (h .marks p, h .value, reads-bind c w f, dynamic-append B (locations-read c w) (locations-read c (f (value-in c w)))) (sym (marked-append bit (dynamic-among B (locations-read c w)) (dynamic-among B (locations-read c (f (value-in c w)))) m));
+        value = λ p. k .value p ∙ rw (h .value p) (sym (value-bind c w f));
+        marks = λ p. k .marks p ∙ rw (h .marks p, h .value p, reads-bind c w f, dynamic-append B (locations-read c w) (locations-read c (f (value-in c w)))) (sym (marked-append bit (dynamic-among B (locations-read c w)) (dynamic-among B (locations-read c (f (value-in c w)))) m));
       }
 
   -- a computation may be put in another, equal form

@@ -2,8 +2,7 @@
 use mathlib.Core.Path.{_≡_, refl}
 use mathlib.Core.Logic.{_⊎_, inl, inr}
 use mathlib.Core.Bool.{true}
-use Prim.Native.Nat.{ℕ, zero, suc, _*_, _≤_, _<_}
-use native.Mathlib.Nat.{le-trans, mul-le-mul-left, mul-le-mul-right}
+use Prim.Native.Nat.{ℕ, zero, suc, _≤_, _<_}
 use native.Mathlib.Omega.{arith}
 use lib.Dec.{eqb, ltb, leb}
 use lib.ListN.{getD}
@@ -12,10 +11,6 @@ use Rattle.text.proofs.Words.{or-cases, and-cases}
 use Rattle.book.specs.Book.{undef, boolean, truth}
 use Rattle.engine.specs.Term.{Op, equal, conjunction, disjunction, plus, minus, less, number, shapes, no-term, a-join}
 use Rattle.engine_term.specs.Bindings.{operator-value}
-
--- the product of two numbers up to m is at most m × m
-pub product : (m : ℕ) {a b : ℕ} → a ≤ m → b ≤ m → a * b ≤ m * m
-product m {a} {b} ha hb = le-trans (mul-le-mul-left a hb) (mul-le-mul-right m ha)
 
 -- a Boolean is the truth of being true
 pub truth-boolean : (y : ℕ) → boolean y ≡ true → truth (eqb y 2) ≡ y

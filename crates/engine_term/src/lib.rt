@@ -3,64 +3,40 @@ use book::Function;
 use book::Image;
 use text::Value;
 ghost use mathlib.Core.Path.{_≡_};
-ghost use Prim.Native.Nat.{_+_};
+ghost use Prim.Native.Nat.{ℕ, _%_};
 ghost use lib.ListN.{getD};
-ghost use Rattle.book.specs.Book.{undef, truth, offset, location, dynamic-at};
+ghost use Rattle.book.specs.Book.{undef, truth, dynamic-at};
 ghost use Rattle.text.specs.Words.{if_then_else_};
 ghost use Rattle.engine.specs.Reader.{read};
 ghost use Rattle.engine.specs.Term.{conjunction, disjunction, plus, minus, less, number, negate, apply, shapes, no-term};
 ghost use Rattle.engine_term.specs.Bindings.{variables-of, value-at, target-at, operator-value};
-ghost use Rattle.book.specs.Image.{low, low-program};
-ghost use Rattle.engine_term.specs.Marks.{mark-one, dynamic-of, Runs};
+ghost use Rattle.book.specs.Image.{low-program};
+ghost use Rattle.engine_term.specs.Marks.{mark-one, dynamic-of, Placed, SumAt, Runs};
 
-// The location of the function at x and y: its first location plus its own number, which is the argument, or x × E + y.
-pub fn locate(f: Function, e: Value, x: Value, y: Value) -> u32
-    ensures { λ r. ⌜ r ≡ low (f .first) + offset e (f .arity) x y ⌝ }
+// A location as the word that an instruction has for it. Those of a checked book fit.
+fn location_word(at: usize) -> u32
+    ensures { λ r. ⌜ r ≡ at % 4294967296 ⌝ }
 {
-    let arity = f.arity;
-    let first = text::low(f.first) as u32;
-    match arity {
-        0 => first,
-        1 => first + x as u32,
-        _ => first + (x as u32 * e as u32 + y as u32),
-    }
-}
-
-// The location of function f of the image at x and y.
-pub fn location(image: &Image, f: u16, x: Value, y: Value) -> u32
-    ensures { λ r. ⌜ r ≡ location (low-program (now (image .entry))) f x y ⌝ }
-{
-    locate(
-        book_image::function_at(image, f as u32),
-        book_image::elements(image),
-        x,
-        y,
-    )
+    (at % 4294967296) as u32
 }
 
 // Location l is dynamic.
-pub fn dynamic_at(image: &Image, l: u32) -> bool
+pub fn dynamic_at(image: &Image, l: usize) -> bool
     ensures { λ r. ⌜ r ≡ dynamic-at (low-program (now (image .entry))) l ⌝ }
 {
-    let owner = book_parts::owner_of(image, l as usize);
+    let owner = book_parts::owner_of(image, l);
     book_parts::is_dynamic(owner.function)
 }
 
-// Function f's location at x and y is dynamic; its kind says so if x and y are elements.
-pub fn dynamic(image: &Image, f: u16, x: Value, y: Value) -> bool
-    ensures { λ r. ⌜ r ≡ dynamic-of (low-program (now (image .entry))) f x y ⌝ }
+// Location `at`, which is f's at x and y, is dynamic; its kind says so if x and y are elements.
+fn is_dynamic_at(image: &Image, f: Function, x: Value, y: Value, at: usize) -> bool
+    ensures { λ r. ⌜ r ≡ dynamic-of (low-program (now (image .entry))) f x y at ⌝ }
 {
-    if book_image::functions(image) <= f {
-        return dynamic_at(image, location(image, f, x, y));
-    }
     let e = book_image::elements(image);
-    if e <= x {
-        return dynamic_at(image, location(image, f, x, y));
+    if (e <= x) | (e <= y) {
+        return dynamic_at(image, at);
     }
-    if e <= y {
-        return dynamic_at(image, location(image, f, x, y));
-    }
-    book_parts::is_dynamic(book_image::function_at(image, f as u32))
+    book_parts::is_dynamic(f)
 }
 
 // Puts the bit into the mark of a location; past the end nothing is put.
@@ -72,24 +48,24 @@ pub fn mark(readers: &mut [u64], bit: u64, at: usize)
     }
 }
 
-// Marks function f's location at x and y, which is `at`, if it is dynamic.
+// Marks location `at`, which is f's at x and y, if it is dynamic.
 fn mark_if_dynamic(
     image: &Image,
     readers: &mut [u64],
     bit: u64,
-    f: u16,
+    f: Function,
     x: Value,
     y: Value,
-    at: u32,
+    at: usize,
 )
-    ensures { λ _. ⌜ now (readers .exit) ≡ (if dynamic-of (low-program (now (image .entry))) f x y then mark-one bit at (now (readers .entry)) else now (readers .entry)) ⌝ }
+    ensures { λ _. ⌜ now (readers .exit) ≡ (if dynamic-of (low-program (now (image .entry))) f x y at then mark-one bit at (now (readers .entry)) else now (readers .entry)) ⌝ }
 {
-    if dynamic(image, f, x, y) {
-        mark(readers, bit, at as usize);
+    if is_dynamic_at(image, f, x, y, at) {
+        mark(readers, bit, at);
     }
 }
 
-// The value of function f at x and y, which is marked as read.
+// The value at the sum of function f at x and y, which is marked as read.
 pub fn read(
     image: &Image,
     contents: &[Value],
@@ -99,11 +75,20 @@ pub fn read(
     x: Value,
     y: Value,
 ) -> Value
-    ensures { λ r. ⌜ Runs (low-program (now (image .entry))) (now (contents .entry)) bit (read (location (low-program (now (image .entry))) f x y)) r (now (readers .entry)) (now (readers .exit)) ⌝ }
+    ensures { λ r. ⌜ ((l : ℕ) → SumAt (low-program (now (image .entry))) f x y l → Runs (low-program (now (image .entry))) (now (contents .entry)) bit (read l) r (now (readers .entry)) (now (readers .exit))) ⌝ }
 {
-    let at = location(image, f, x, y);
-    mark_if_dynamic(image, readers, bit, f, x, y, at);
-    text::fetch(contents, at as usize)
+    let row = book_image::function_at(image, f as u32);
+    let at = book_parts::location(row, x as u32, y as u32);
+    mark_if_dynamic(image, readers, bit, row, x, y, at);
+    text::fetch(contents, at)
+}
+
+// The sum of function f at x and y, as an instruction has it.
+pub fn location(image: &Image, f: u16, x: Value, y: Value) -> u32
+    ensures { λ r. ⌜ ((l : ℕ) → SumAt (low-program (now (image .entry))) f x y l → Placed (low-program (now (image .entry))) → r ≡ l) ⌝ }
+{
+    let row = book_image::function_at(image, f as u32);
+    location_word(book_parts::location(row, x as u32, y as u32))
 }
 
 // A test as a Boolean of the book.
@@ -225,7 +210,8 @@ fn variable(bindings: &[Value; 9], a: u16) -> Value
     if a < 8 { bindings[a as usize] } else { 0 }
 }
 
-// The value of the term at node n, at most `depth` nodes deep; what it reads is marked.
+// The value of the term at node n, at most `depth` nodes deep; what it reads is marked. A unary function's argument is given as the second, since its
+// stride is 1: so no product is made.
 pub fn eval(
     image: &Image,
     contents: &[Value],
@@ -244,29 +230,49 @@ pub fn eval(
     let node = book_parts::node(image, n);
     let k = node.kind;
     match k {
-        1..=13 => match k {
-            1 => node.a,
-            2 => variable(bindings, node.a),
-            3 => bindings[8],
-            4 => read(image, contents, readers, bit, node.a, 0, 0),
-            5 => {
-                let x = eval(image, contents, readers, bit, bindings, less, node.b);
-                read(image, contents, readers, bit, node.a, x, 0)
-            }
-            6 => {
-                let x = eval(image, contents, readers, bit, bindings, less, node.b);
-                let y = eval(image, contents, readers, bit, bindings, less, node.c);
-                read(image, contents, readers, bit, node.a, x, y)
-            }
-            8 => not(eval(image, contents, readers, bit, bindings, less, node.a)),
-            _ => {
-                let x = eval(image, contents, readers, bit, bindings, less, node.a);
-                let y = eval(image, contents, readers, bit, bindings, less, node.b);
-                operate(book_parts::permanent(image), k, x, y)
-            }
-        },
+        1 => node.a,
+        2 => variable(bindings, node.a),
+        3 => bindings[8],
+        4 => read(image, contents, readers, bit, node.a, 0, 0),
+        5 => {
+            let x = eval(image, contents, readers, bit, bindings, less, node.b);
+            read(image, contents, readers, bit, node.a, 0, x)
+        }
+        6 => {
+            let x = argument(image, contents, readers, bit, bindings, less, node.b);
+            let y = argument(image, contents, readers, bit, bindings, less, node.c);
+            read(image, contents, readers, bit, node.a, x, y)
+        }
+        8 => not(eval(image, contents, readers, bit, bindings, less, node.a)),
+        7..=13 => {
+            let x = eval(image, contents, readers, bit, bindings, less, node.a);
+            let y = eval(image, contents, readers, bit, bindings, less, node.b);
+            operate(book_parts::permanent(image), k, x, y)
+        }
         _ => 0,
     }
+}
+
+// The same, with a variable's value looked up without a call: most arguments are variables.
+fn argument(
+    image: &Image,
+    contents: &[Value],
+    readers: &mut [u64],
+    bit: u64,
+    bindings: &[Value; 9],
+    depth: usize,
+    n: u16,
+) -> Value
+    ensures { λ r. ⌜ Runs (low-program (now (image .entry))) (now (contents .entry)) bit (value-at (now (image .entry)) (now (bindings .entry)) depth n) r (now (readers .entry)) (now (readers .exit)) ⌝ }
+{
+    if depth == 0 {
+        return 0;
+    }
+    let node = book_parts::node(image, n);
+    if node.kind == 2 {
+        return variable(bindings, node.a);
+    }
+    eval(image, contents, readers, bit, bindings, depth, n)
 }
 
 // The location that the term at node n names, at most `depth` nodes deep; what its arguments read is marked.
@@ -290,12 +296,12 @@ pub fn target_location(
     match k {
         4 => location(image, node.a, 0, 0),
         5 => {
-            let x = eval(image, contents, readers, bit, bindings, less, node.b);
-            location(image, node.a, x, 0)
+            let x = argument(image, contents, readers, bit, bindings, less, node.b);
+            location(image, node.a, 0, x)
         }
         6 => {
-            let x = eval(image, contents, readers, bit, bindings, less, node.b);
-            let y = eval(image, contents, readers, bit, bindings, less, node.c);
+            let x = argument(image, contents, readers, bit, bindings, less, node.b);
+            let y = argument(image, contents, readers, bit, bindings, less, node.c);
             location(image, node.a, x, y)
         }
         _ => 0,

@@ -54,5 +54,5 @@ module _ (B : Program) (c : List ℕ) (bit me : ℕ) (vs : List ℕ) (a u : ℕ)
   unfolding walk
   runs-for-all ys s l z j m n h e k =
       let xs = value-in c (members B u 0 (B .E)) in
-      runs-bind B c bit (members B u 0 (B .E)) (λ es. each body es (walk-from ys s l)) xs z j m n (record { value = refl; marks = e })
+      runs-bind B c bit (members B u 0 (B .E)) (λ es. each body es (walk-from ys s l)) xs z j m n (record { value = λ p. refl; marks = e })
       (runs-from B c bit (each body xs) ys s l h z m n (sweep-all B c bit u body (reached ys s l) z m n k))

@@ -14,15 +14,15 @@ use Rattle.text.specs.Words.{if_then_else_}
 use Rattle.text.specs.Refusals.{no-label-left, not-in-universe, pick-count}
 use Rattle.text.specs.declared.Found.the-variants.{Nowhere, Here}
 use Rattle.book.specs.declared.Node.{Node}
-use Rattle.book.specs.Book.{Program}
+use Rattle.book.specs.Book.{Program, location}
 use Rattle.engine.specs.Reader.{Reader, done, value-in, _>>=_}
 use Rattle.engine.specs.Term.{term-at, eval}
 use Rattle.engine.specs.Rule.{Rule, skip, block, test, Walk, Walked, walking, refused-at, after, take-pick, refuse-if, universe-at, not-member, import-of, choose-of, walk, rule-from}
 use Rattle.engine.proofs.Steps.{rule-block, rule-test, rule-skip, no-rule-at}
 use Rattle.engine_term.specs.Bindings.{variables-of, agent-of}
-use Rattle.engine_term.specs.Marks.{Runs}
+use Rattle.engine_term.specs.Marks.{Placed, Runs}
 use Rattle.engine.proofs.Picks.{universe-high}
-use Rattle.engine_term.proofs.Marking.{runs-done, runs-bind, runs-as}
+use Rattle.engine_term.proofs.Marking.{runs-done, runs-given, runs-bind, runs-as}
 use Rattle.engine_emit.specs.declared.Progress.{Progress}
 use Rattle.engine_emit.specs.Emit.{walk-from, reached, importing, importing-found, next-pick, picked}
 use Rattle.engine_emit.proofs.Steps.{reached-walking}
@@ -102,10 +102,10 @@ module _ (B : Program) (c : List ℕ) (bit : ℕ) where
 
 -- an import, by the label that its search came to
 pub import-as : (B : Program) (n u x : ℕ) (w : Walk) (body : ℕ → Walk → Reader Walked)
-    → import-of B n u w body (found-below (B .E) x) ≡ after (importing-found B u x n w) (body x)
+    → import-of B n u w body (found-below (B .E) x) ≡ after (importing-found (B .E) (location B u x 0) x n w) (body x)
 import-as B n u x w body = go (ltb x (B .E))
   where
-    go : (b : Bool) → import-of B n u w body (if b then Here x else Nowhere) ≡ after (if b then importing B u x n w else refused-at no-label-left n) (body x)
+    go : (b : Bool) → import-of B n u w body (if b then Here x else Nowhere) ≡ after (if b then importing (location B u x 0) x n w else refused-at no-label-left n) (body x)
     go true = refl
     go false = refl
 
@@ -134,8 +134,8 @@ module _ (B : Program) (c : List ℕ) (bit n u : ℕ) (w : Walk) (body : ℕ →
     unfolding value-in
     choose-high h r t =
         let e : universe-at B u y ≡ universe-at B u (B .E) = universe-high B u y h ∙ sym (universe-high B u (B .E) (omega arith)) in
-        let one : v ≡ 1 = r .value ∙ ap (value-in c) (universe-high B u (B .E) (omega arith)) in
-        let q : Runs B c bit (next v) z m k = refused v one t in
+        let one : Placed B → v ≡ 1 = λ p. r .value p ∙ ap (value-in c) (universe-high B u (B .E) (omega arith)) in
+        let q : Runs B c bit (next v) z m k = runs-given B c bit _ _ _ _ (λ p. refused v (one p) t) in
         runs-bind B c bit (universe-at B u y) next v z j m k (rw e r) q
       where
         refused : (v : ℕ) → v ≡ 1 → Runs B c bit (after (refuse-if (not-member v) not-in-universe n (take-pick ys w)) (body (B .E))) z m k → Runs B c bit (next v) z m k

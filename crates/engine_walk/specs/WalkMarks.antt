@@ -26,7 +26,7 @@ LowerBits bit m = (i : ℕ) → getD m i 0 < bit
 -- The walk of a move with this input came to the outcome o, and the marks m became n.
 pub record WalkMarked (B : Program) (c : List ℕ) (bit : ℕ) (i : Input) (o : Walked) (m n : List ℕ) : Type 0 where
   -- what the walk came to
-  pub outcome : o ≡ walked B c i
+  pub outcome : Placed B → o ≡ walked B c i
   -- not refused: what it reads has the bit
   pub fired : Placed B → (w : Walk) → o ≡ walking w → n ≡ marked bit (walk-reads B c i) m
   -- refused: the marks are as before, if all had lower bits

@@ -14,6 +14,7 @@ ghost use Rattle.text.specs.Words.{if_then_else_};
 ghost use Rattle.engine.specs.Move.{input};
 ghost use Rattle.engine.specs.Rule.{import, after, most-instructions, walk};
 ghost use Rattle.engine_term.specs.Bindings.{variables-of, agent-of};
+ghost use Rattle.engine_term.specs.Marks.{Has};
 ghost use Rattle.book.specs.Image.{low-program};
 ghost use Rattle.engine_emit.specs.Emit.{reached};
 ghost use Rattle.engine_walk.specs.WalkMarks.{bits-cleared, WalkMarked};
@@ -305,13 +306,13 @@ fn walk_forall(
     node: StoredNode,
 ) -> Progress
     requires { ⌜ s .refused ≡ 0 ⌝ }
-    ensures { λ r. ⌜ RuleWalked (frame image contents bit bindings) (forall-rule (now (image .entry)) depth node) (state-before picks used s list readers) (state-after picks used r list readers) ⌝ }
+    ensures { λ r. ⌜ (Has (low-program (now (image .entry))) (node .b) 1 → RuleWalked (frame image contents bit bindings) (forall-rule (now (image .entry)) depth node) (state-before picks used s list readers) (state-after picks used r list readers)) ⌝ }
 {
-    engine_reads::mark_universe(image, readers, bit, node.b);
     let e = book_image::elements(image);
     let f = book_image::function_at(image, node.b as u32);
+    engine_reads::mark_universe(readers, bit, f, e);
     let mut r = s;
-    let mut y = engine_reads::next_member(contents, f, e, 0);
+    let mut y = engine_reads::next_member(contents, f.first, e, 0);
     while y < e {
         r = walk_body(
             image,
@@ -330,7 +331,7 @@ fn walk_forall(
         if r.refused != 0 {
             return r;
         }
-        y = engine_reads::next_member(contents, f, e, y + 1);
+        y = engine_reads::next_member(contents, f.first, e, y + 1);
     }
     r
 }
@@ -351,10 +352,11 @@ fn walk_import(
     node: StoredNode,
 ) -> Progress
     requires { ⌜ s .refused ≡ 0 ⌝ }
-    ensures { λ r. ⌜ RuleWalked (frame image contents bit bindings) (import-rule (now (image .entry)) depth n node) (state-before picks used s list readers) (state-after picks used r list readers) ⌝ }
+    ensures { λ r. ⌜ (Has (low-program (now (image .entry))) (node .b) 1 → RuleWalked (frame image contents bit bindings) (import-rule (now (image .entry)) depth n node) (state-before picks used s list readers) (state-after picks used r list readers)) ⌝ }
 {
     let x = engine_reads::lowest_label(image, contents, readers, bit, s.label);
-    let t = engine_emit::import_label(image, list, s, n, node.b, x);
+    let at = engine_term::location(image, node.b, 0, x);
+    let t = engine_emit::import_label(image, list, s, n, at, x);
     walk_body(
         image,
         contents,
@@ -387,7 +389,7 @@ fn walk_choose(
     node: StoredNode,
 ) -> Progress
     requires { ⌜ s .refused ≡ 0 ⌝ }
-    ensures { λ r. ⌜ RuleWalked (frame image contents bit bindings) (choose-rule (now (image .entry)) depth n node) (state-before picks used s list readers) (state-after picks used r list readers) ⌝ }
+    ensures { λ r. ⌜ (Has (low-program (now (image .entry))) (node .b) 1 → RuleWalked (frame image contents bit bindings) (choose-rule (now (image .entry)) depth n node) (state-before picks used s list readers) (state-after picks used r list readers)) ⌝ }
 {
     let x = engine_emit::next_pick(image, picks, used);
     let v = engine_reads::read_universe(image, contents, readers, bit, node.b, x);

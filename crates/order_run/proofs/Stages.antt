@@ -19,6 +19,7 @@ use Rattle.engine.specs.Rule.{Walked as Outcome}
 use Rattle.engine_instruction.specs.Code.{items}
 use Rattle.engine_walk.specs.Walk.{outcome}
 use Rattle.engine_walk.specs.WalkMarks.{WalkMarked}
+use Rattle.engine_term.proofs.Leaves.{placed}
 use Rattle.engine_fire.specs.declared.Begun.{Begun}
 use Rattle.engine_fire.specs.Effect.{MoveFits, MoveEffect}
 use Rattle.engine_fire.specs.Finish.{MoveFinished}
@@ -158,7 +159,7 @@ module _ (m o : List ℕ) (g : Log) (c : List ℕ) where
         let f : suc (t .at) ≡ t .at + 1 = sym (add-one (t .at)) in
         ap (λ (n : ℕ). lists-from A g c n (t .at)) e
         ∙ lists-on A g c j (t .at) (now .before .going .state) (now .before .going .goes)
-        ∙ ap (λ (is : List Instruction). is ∷ lists-from A g c j (suc (t .at))) (sym (ap (items x) (w .count) ∙ made-of (s .walk) x (w .room) ∙ ap made-by (w .after .readers .outcome ∙ as-listed)))
+        ∙ ap (λ (is : List Instruction). is ∷ lists-from A g c j (suc (t .at))) (sym (ap (items x) (w .count) ∙ made-of (s .walk) x (w .room) ∙ ap made-by (w .after .readers .outcome (placed A (w .after .fit .lawful)) ∙ as-listed)))
         ∙ ap (λ (n : ℕ). items x (s .count) ∷ lists-from A g c j n) f
 
     -- a move gives no more instructions than fit

@@ -1,8 +1,9 @@
 -- Lines put one after the other: what a loop that prints has yet to print, how many lines there are at most, and the whole text.
 use mathlib.Core.Path.{_≡_, refl, sym, ap, _∙_}
-use mathlib.Core.Bool.{Bool, true, false}
+use mathlib.Core.Bool.{Bool, true, false, _||_}
 use mathlib.Core.List.{List, [], _∷_, _++_, append-assoc, append-nil}
-use Prim.Native.Nat.{ℕ, zero, suc, _+_, _-_, _*_, _≤_, _<_}
+use Prim.Native.Nat.{ℕ, zero, suc, _+_, _-_, _*_, _/_, _%_, _≤_, _<_}
+use native.Mathlib.Nat.{div-one, mod-one}
 use native.Mathlib.Numerals.{add-one}
 use native.Mathlib.Omega.{arith}
 use lib.Dec.{eqb}
@@ -14,7 +15,8 @@ use Rattle.text.specs.declared.Answer.{Answer}
 use Rattle.text.specs.Words.{if_then_else_}
 use Rattle.text.specs.Text.{written}
 use Rattle.book.specs.declared.Function.{Function}
-use Rattle.book.specs.Book.{Program, L, total, size, default, function-at, no-function}
+use Rattle.book.specs.Book.{Program, L, total, size, stride, default, arguments, function-at, no-function}
+use Rattle.book.specs.Sum.{Strided}
 use Rattle.book.specs.Image.{program-in}
 use Rattle.book.proofs.Image.{elements-most, size-most}
 use Rattle.order.specs.Run.{LogAnswer}
@@ -75,32 +77,39 @@ module _ (n₀ : ℕ) (all : List Line) (m₀ : List ℕ) where
 
 -- ---- one location
 
-module _ (E : ℕ) (f : Function) (k i v : ℕ) where
-  pub shown-none : v ≡ default f → location-lines E f k i v ≡ []
+-- the arguments of a function's location as its line has them: one that the function has not is 0
+stride-gives : (E arity i : ℕ) → i < size E arity → (getD (arguments E arity i) 0 0 ≡ i / stride E arity) × (getD (arguments E arity i) 1 0 ≡ i % stride E arity)
+stride-gives E arity i h = go (eqb arity 0) (eqb arity 1) h
+  where
+    go : (a b : Bool) → i < (if a then 1 else if b then E else E * E)
+        → (getD (if a then [] else if b then i ∷ [] else (i / E) ∷ (i % E) ∷ []) 0 0 ≡ i / (if a || b then 1 else E))
+        × (getD (if a then [] else if b then i ∷ [] else (i / E) ∷ (i % E) ∷ []) 1 0 ≡ i % (if a || b then 1 else E))
+    go true b h = (rw (div-one i) (omega arith), sym (mod-one i))
+    go false true h = (sym (div-one i), sym (mod-one i))
+    go false false h = (refl, refl)
+
+-- the line of a location of function k is that of the definition
+line-same : (B : Program) → Strided B → (k i v : ℕ) → i < size (B .E) (function-at B k .arity) → line-for (function-at B k) k i v ≡ contents-line B k i v
+line-same B strided k i v h =
+    let e = stride-gives (B .E) (function-at B k .arity) i h in
+    rw (strided k, e .0, e .1)
+
+module _ (f : Function) (k i v : ℕ) where
+  pub shown-none : v ≡ default f → location-lines f k i v ≡ []
   unfolding location-lines
   shown-none e = rw (eq-eqb v (default f) e)
 
-  pub shown-one : (v ≡ default f → ⊥) → location-lines E f k i v ≡ line-for E f k i v ∷ []
+  pub shown-one : (v ≡ default f → ⊥) → location-lines f k i v ≡ line-for f k i v ∷ []
   unfolding location-lines
   shown-one e = rw (ne-eqb v (default f) e)
 
-  pub shown-most : length (location-lines E f k i v) ≤ 1
+  pub shown-most : length (location-lines f k i v) ≤ 1
   unfolding location-lines
   shown-most = go (eqb v (default f))
     where
-      go : (b : Bool) → length (if b then [] else line-for E f k i v ∷ []) ≤ 1
+      go : (b : Bool) → length (if b then [] else line-for f k i v ∷ []) ≤ 1
       go true = omega arith
       go false = omega arith
-
-  -- a function of two arguments has a location only where there are elements
-  pub elements-some : (f .arity ≡ 0 → ⊥) → (f .arity ≡ 1 → ⊥) → i < size E (f .arity) → 0 < E
-  elements-some a b h =
-      let p : i < E * E = rw (ne-eqb (f .arity) 0 a, ne-eqb (f .arity) 1 b) at h in
-      go E p
-    where
-      go : (e : ℕ) → i < e * e → 0 < e
-      go zero h = absurd (omega arith)
-      go (suc e) h = omega arith
 
 put-shown : (n : ℕ) (l : Line) (m : List ℕ) → put-bytes (25 + 25 * n) (written l) m ≡ lines-printed n (l ∷ []) m
 unfolding lines-printed
@@ -125,12 +134,13 @@ size-same e E f g n p q r = rw (← q, ← r) p
 
 module _ (B : Program) (c : List ℕ) where
   part-step :
-      (k n i : ℕ) → i < n →
-      part-lines B c k i (n - i) ≡ location-lines (B .E) (function-at B k) k i (getD c (function-at B k .first + i) 0) ++ part-lines B c k (i + 1) (n - (i + 1))
+      Strided B → (k n i : ℕ) → i < n → n ≡ size (B .E) (function-at B k .arity) →
+      part-lines B c k i (n - i) ≡ location-lines (function-at B k) k i (getD c (function-at B k .first + i) 0) ++ part-lines B c k (i + 1) (n - (i + 1))
   unfolding part-lines location-lines
-  part-step k n i h =
+  part-step strided k n i h s =
       let e : n - i ≡ suc (n - suc i) = omega arith in
-      rw (add-one i, e) (go (eqb (getD c (function-at B k .first + i) 0) (default (function-at B k))) (contents-line B k i (getD c (function-at B k .first + i) 0)) (part-lines B c k (suc i) (n - suc i)))
+      let v = getD c (function-at B k .first + i) 0 in
+      rw (add-one i, e, line-same B strided k i v (omega (arith, h, s))) (go (eqb v (default (function-at B k))) (contents-line B k i v) (part-lines B c k (suc i) (n - suc i)))
     where
       go : (b : Bool) (l : Line) (r : List Line) → (if b then r else l ∷ r) ≡ (if b then [] else l ∷ []) ++ r
       go true l r = refl
@@ -138,9 +148,9 @@ module _ (B : Program) (c : List ℕ) where
 
   -- the lines from location i on, by what the code holds
   pub part-next :
-      (k n i e : ℕ) (f : Function) (v : ℕ) → i < n → e ≡ B .E → f ≡ function-at B k → v ≡ getD c (f .first + i) 0 →
-      part-lines B c k i (n - i) ≡ location-lines e f k i v ++ part-lines B c k (i + 1) (n - (i + 1))
-  part-next k n i e f v h p q r = rw (r, q, p) (part-step k n i h)
+      Strided B → (k n i : ℕ) (f : Function) (v : ℕ) → i < n → n ≡ size (B .E) (function-at B k .arity) → f ≡ function-at B k → v ≡ getD c (f .first + i) 0 →
+      part-lines B c k i (n - i) ≡ location-lines f k i v ++ part-lines B c k (i + 1) (n - (i + 1))
+  part-next strided k n i f v h s q r = rw (r, q) (part-step strided k n i h s)
 
   pub part-end : (k n i : ℕ) → n ≤ i → part-lines B c k i (n - i) ≡ []
   unfolding part-lines

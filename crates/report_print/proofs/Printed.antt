@@ -13,6 +13,7 @@ use Rattle.text.specs.Words.{Checked, good, refused, answer-of}
 use Rattle.text.specs.Text.{written}
 use Rattle.book.specs.declared.Header.{Header}
 use Rattle.book.specs.Book.{Program, Book, L, start}
+use Rattle.book.specs.Sum.{Strided}
 use Rattle.book.specs.Check.{check-header, check-book}
 use Rattle.book.specs.Image.{word, program-in}
 use Rattle.book.proofs.Claims.{accepted-book}
@@ -109,9 +110,10 @@ module _ (book : List ℕ) (b : Book) (g : Log) (r : CheckedCall) (m o : List �
     accepted = all-parts book (p .passed .log) (p .passed .lent) b g (p .passed .checks) .0
 
     -- what is printed of a run that is accepted
-    pub run-shown : (k : ℕ) → Prints (program-in m) (a .answer) (take (min (word m 6) (length c)) c) out k after
+    pub run-shown : (k : ℕ) → (Strided (program-in m) → Prints (program-in m) (a .answer) (take (min (word m 6) (length c)) c) out k after)
         → Shown (print-answer B (run-log b g)) (run-log b g .tally) out (record { bytes = k; tally = a .tally }) after
-    run-shown k s =
+    run-shown k does =
+        let s = does (subst Strided (sym (p .program)) (accepted-book book b accepted .0 .strides)) in
         let left : c ≡ over-first (run-log b g .contents) (t .contents) = ap (λ (y : LogAnswer). y .contents) e in
         let d = run-log b g .contents in
         let l : length d ≡ L B = log-length B g (start b) ∙ accepted-book book b accepted .1 .long in

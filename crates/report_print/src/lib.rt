@@ -11,7 +11,7 @@ use text::Value;
 ghost use mathlib.Core.Path.{_≡_};
 ghost use Prim.Native.Nat.{_+_, _<_, _≤_, min};
 ghost use lib.ListN.{length, take};
-ghost use Rattle.book.specs.Book.{size};
+ghost use Rattle.book.specs.Sum.{Strided};
 ghost use Rattle.book.specs.Image.{program-in, word};
 ghost use Rattle.report.specs.Report.{contents-lines, own-tables, first-line, print-checked, rental, tally-checked, input-tally};
 ghost use Rattle.report_print.specs.Print.{line-for, location-lines, lines-printed, Prints, most-output, FunctionPrinted};
@@ -23,47 +23,27 @@ ghost use Rattle.report_print.specs.Reported.{CallPrinted, blank-tables}
 ghost use Rattle.engine.specs.Tables.{tables, tables-before};
 
 // The line of location i of function k, which is f and holds v there. Arguments are divided out only for locations that are printed.
-fn line_of(e: Value, f: Function, k: u32, i: u32, v: Value) -> Line
-    requires { ⌜ i < size e (f .arity) ⌝ }
-    ensures { λ r. ⌜ r ≡ line-for e f k i v ⌝ }
+fn line_of(f: Function, k: u32, i: u32, v: Value) -> Line
+    ensures { λ r. ⌜ r ≡ line-for f k i v ⌝ }
 {
-    let d = v as u32;
-    if f.arity == 0 {
-        Line {
-            a: k,
-            b: 0,
-            c: 0,
-            d,
-        }
-    } else if f.arity == 1 {
-        Line {
-            a: k,
-            b: i,
-            c: 0,
-            d,
-        }
-    } else {
-        let side = e as u32;
-        let x = i / side;
-        let y = i % side;
-        Line {
-            a: k,
-            b: x,
-            c: y,
-            d,
-        }
+    let x = book_parts::take_apart(f, i as usize);
+    Line {
+        a: k,
+        b: x.first as u32,
+        c: x.second as u32,
+        d: v as u32,
     }
 }
 
 // Prints the line of location i of function k after n others, unless v is the default. Gives how many lines there are then.
-fn print_location(e: Value, f: Function, k: u32, i: u32, v: Value, n: u32, out: &mut [u8]) -> u32
-    requires { ⌜ (i < size e (f .arity)) × (n < 4294967295) ⌝ }
-    ensures { λ r. ⌜ (r ≡ n + length (location-lines e f k i v)) × (now (out .exit) ≡ lines-printed n (location-lines e f k i v) (now (out .entry))) ⌝ }
+fn print_location(f: Function, k: u32, i: u32, v: Value, n: u32, out: &mut [u8]) -> u32
+    requires { ⌜ n < 4294967295 ⌝ }
+    ensures { λ r. ⌜ (r ≡ n + length (location-lines f k i v)) × (now (out .exit) ≡ lines-printed n (location-lines f k i v) (now (out .entry))) ⌝ }
 {
     if v == book_parts::default_of(f) {
         return n;
     }
-    let l = line_of(e, f, k, i, v);
+    let l = line_of(f, k, i, v);
     text_write::write_line(out, text::LINE + text::LINE * n as usize, l);
     n + 1
 }
@@ -74,14 +54,13 @@ fn print_function(image: &Image, contents: &[Value], k: u32, n: u32, out: &mut [
     ensures { λ r. ⌜ FunctionPrinted (program-in (now (image .entry))) (now (contents .entry)) k n (now (out .entry)) r (now (out .exit)) ⌝ }
 {
     let f = book_image::function_at(image, k);
-    let e = book_image::elements(image);
-    let all = book_image::size(e, f.arity);
+    let all = book_image::size(book_image::elements(image), f.arity);
     let first = f.first as usize;
     let mut lines = n;
     let mut i: u32 = 0;
     while i < all {
         let v = text::fetch(contents, first + i as usize);
-        lines = print_location(e, f, k, i, v, lines, out);
+        lines = print_location(f, k, i, v, lines, out);
         i += 1;
     }
     lines
@@ -89,7 +68,7 @@ fn print_function(image: &Image, contents: &[Value], k: u32, n: u32, out: &mut [
 
 // Prints the contents that are not at their default as lines of a book, from byte 25 on, as far as they fit. Gives how many lines there are.
 fn print_contents(image: &Image, contents: &[Value], out: &mut [u8]) -> u32
-    ensures { λ r. ⌜ (r ≡ length (contents-lines (program-in (now (image .entry))) (now (contents .entry)))) × (now (out .exit) ≡ lines-printed 0 (contents-lines (program-in (now (image .entry))) (now (contents .entry))) (now (out .entry))) ⌝ }
+    ensures { λ r. ⌜ (Strided (program-in (now (image .entry))) → (r ≡ length (contents-lines (program-in (now (image .entry))) (now (contents .entry)))) × (now (out .exit) ≡ lines-printed 0 (contents-lines (program-in (now (image .entry))) (now (contents .entry))) (now (out .entry)))) ⌝ }
 {
     let all = book_image::functions(image) as u32;
     let mut lines: u32 = 0;
@@ -103,7 +82,7 @@ fn print_contents(image: &Image, contents: &[Value], out: &mut [u8]) -> u32
 
 // Prints the whole text of an answer: its first line, and when accepted the contents. Gives how many bytes it has; those past it stay.
 pub fn print_answer(image: &Image, contents: &[Value], answer: Answer, out: &mut [u8]) -> usize
-    ensures { λ r. ⌜ Prints (program-in (now (image .entry))) answer (now (contents .entry)) (now (out .entry)) r (now (out .exit)) ⌝ }
+    ensures { λ r. ⌜ (Strided (program-in (now (image .entry))) → Prints (program-in (now (image .entry))) answer (now (contents .entry)) (now (out .entry)) r (now (out .exit))) ⌝ }
 {
     if answer.number == 0 {
         let n = print_contents(image, contents, out);
@@ -175,7 +154,7 @@ fn print_refusal(answer: Answer, tally: Tally, output: &mut [u8]) -> PrintedRun
 
 // Prints an answer with the contents of the image's program, which stand in front of the table.
 fn print_image(image: &Image, contents: &[Value], answer: Answer, output: &mut [u8]) -> usize
-    ensures { λ r. ⌜ Prints (program-in (now (image .entry))) answer (take (min (word (now (image .entry)) 6) (length (now (contents .entry)))) (now (contents .entry))) (now (output .entry)) r (now (output .exit)) ⌝ }
+    ensures { λ r. ⌜ (Strided (program-in (now (image .entry))) → Prints (program-in (now (image .entry))) answer (take (min (word (now (image .entry)) 6) (length (now (contents .entry)))) (now (contents .entry))) (now (output .entry)) r (now (output .exit))) ⌝ }
 {
     let n = text::smaller(book_image::locations(image) as usize, contents.len());
     print_answer(image, &contents[..n], answer, output)

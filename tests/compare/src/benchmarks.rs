@@ -52,6 +52,14 @@ const SLOPES: &[Benchmark] = &[
         let nodes = loads::term_nodes(16) - loads::term_nodes(1);
         slope_row(what, meter, &loads::guards(1), &loads::guards(16), TURNS * nodes)
     }),
+    Benchmark::new("single move: each term node of one argument", |what, meter| {
+        let nodes = loads::CHAINS * 3;
+        slope_row(what, meter, &loads::unary_terms(1), &loads::unary_terms(4), TURNS * nodes)
+    }),
+    Benchmark::new("single move: each term node of two arguments, with a variable", |what, meter| {
+        let nodes = loads::CHAINS * 3;
+        slope_row(what, meter, &loads::binary_terms(1), &loads::binary_terms(4), TURNS * nodes)
+    }),
     Benchmark::new("log: each term node, its reads marked", |what, meter| {
         let nodes = loads::term_nodes(16) - loads::term_nodes(1);
         run_slope_row(what, meter, &loads::guards(1).logged(), &loads::guards(16).logged(), TURNS * nodes)
@@ -84,6 +92,9 @@ const SINGLE_MOVES: &[Benchmark] = &[
     }),
     Benchmark::new("single move: forall of 200 members, a choice and a set each", |what, meter| {
         step_row(what, meter, &loads::two_hundred_picks())
+    }),
+    Benchmark::new("single move: 8 of a table, L 65,536", |what, meter| {
+        step_row(what, meter, &loads::full_table())
     }),
     Benchmark::new("single move: a release, L 65,536", |what, meter| {
         step_row(what, meter, &loads::release())
@@ -142,5 +153,8 @@ const WHOLE_RUNS: &[Benchmark] = &[
     Benchmark::new("rental: the shop's book, 64 moves of 16 agents", |what, meter| {
         let BookAndLog { book, log } = loads::shop_logged();
         report_row(what, meter, &[book, log].concat())
+    }),
+    Benchmark::new("rental: 1,980 contents lines printed", |what, meter| {
+        report_row(what, meter, &loads::printed())
     }),
 ];

@@ -95,7 +95,12 @@ pub const MEMBERS: u32 = 100;
 
 // For all x and y of 100 members: the body; beside it a toggle, so that the move changes something.
 fn turns(body: impl Fn(&mut BookDraft) -> u32) -> Single {
-    let mut book = BookDraft::new(MEMBERS + 20, MEMBERS + 10, &TURNING);
+    Single::from_start(turning(&TURNING, body).text())
+}
+
+// The book of such a move with these functions, of which the first are those of `TURNING`.
+fn turning(functions: &[[u32; 2]], body: impl Fn(&mut BookDraft) -> u32) -> BookDraft {
+    let mut book = BookDraft::new(MEMBERS + 20, MEMBERS + 10, functions);
     let body = body(&mut book);
     let inner = book.for_all(1, UNIVERSE, body);
     let outer = book.for_all(0, UNIVERSE, inner);
@@ -106,7 +111,7 @@ fn turns(body: impl Fn(&mut BookDraft) -> u32) -> Single {
     (0..MEMBERS).for_each(|member| book.holds(COUNTER, member, 3 + member % 50));
     (0..MEMBERS).filter(|member| member % 2 == 0).for_each(|member| book.holds(FLAG, member, 2));
     book.holds(LIMIT, 0, 40);
-    Single::from_start(book.text())
+    book
 }
 
 // How many term nodes `some_terms` writes for so many parts.
@@ -138,6 +143,47 @@ pub fn guards(parts: u32) -> Single {
         let (then, otherwise) = (book.skip(), book.skip());
         book.conditional(guard, then, otherwise)
     })
+}
+
+// How many chains `unary_terms` and `binary_terms` have.
+pub const CHAINS: u32 = 16;
+
+// If each chain from x gives the same as one from y, then skip, otherwise skip. A chain has so many nodes one in the other; `link` writes one of them.
+fn chains(book: &mut BookDraft, depth: u32, link: impl Fn(&mut BookDraft, u32) -> u32) -> u32 {
+    let chain = |book: &mut BookDraft, variable| {
+        let inmost = book.variable(variable);
+        (0..depth).fold(inmost, |inner, _| link(book, inner))
+    };
+    let mut part = |_| {
+        let (one, other) = (chain(book, 0), chain(book, 1));
+        book.equal(one, other)
+    };
+    let parts = (0..CHAINS / 2).map(&mut part).collect();
+    let guard = book.joined(parts, BookDraft::and);
+    let (then, otherwise) = (book.skip(), book.skip());
+    book.conditional(guard, then, otherwise)
+}
+
+// 10,000 turns of chains counter(counter(...)).
+pub fn unary_terms(depth: u32) -> Single {
+    turns(|book| chains(book, depth, |book, inner| book.unary(COUNTER, inner)))
+}
+
+// 10,000 turns of chains square(square(... , y), y). The lent table has a member at every two members.
+pub fn binary_terms(depth: u32) -> Single {
+    const SQUARE: u32 = TURNING.len() as u32 + 1;
+    let functions = [&TURNING[..], &[[2, 2]]].concat();
+    let link = |book: &mut BookDraft, inner| {
+        let second = book.variable(1);
+        book.binary(SQUARE, inner, second)
+    };
+    let book = turning(&functions, |book| chains(book, depth, link));
+    let mut single = Single::from_start(book.text());
+    for (x, y) in (0..MEMBERS).flat_map(|x| (0..MEMBERS).map(move |y| (x, y))) {
+        let location = book.location(&[SQUARE, x, y, 0]).expect("a function of the book");
+        single.contents[location] = (1 + (7 * x + 3 * y) % (MEMBERS - 1)) as u16;
+    }
+    single
 }
 
 // How many rule nodes of `skips` are walked.
@@ -309,6 +355,22 @@ fn large() -> BookDraft {
     BookDraft::new(SIDE, 40, &[[2, 2], [1, 3], [0, 2]])
 }
 
+// Toggles a flag, in contents of which all that may be are not at their default: labels from 200 on are on the roll.
+pub fn full_table() -> Single {
+    const FREE: u32 = 200;
+    const FLAG: u32 = 3;
+    let mut book = BookDraft::new(SIDE, 40, &[[2, 2], [1, 2], [0, 3]]);
+    let root = book.toggle(FLAG);
+    book.agent(root, 3);
+    let mut single = Single::from_start(book.text());
+    (FREE..SIDE).for_each(|label| single.contents[label as usize] = 2);
+    for (x, y) in (0..FREE).flat_map(|x| (0..FREE).map(move |y| (x, y))) {
+        single.contents[(SIDE + x * SIDE + y) as usize] = (1 + (7 * x + 3 * y) % (FREE - 1)) as u16;
+    }
+    (0..FREE).for_each(|x| single.contents[(SIDE + SIDE * SIDE + x) as usize] = (1 + x % 50) as u16);
+    single
+}
+
 // Releases the label that the holder holds; every 97th place of the grid holds a label, some that one.
 pub fn release() -> Single {
     const LABEL: u16 = 100;
@@ -354,6 +416,23 @@ pub fn counts_logged() -> BookAndLog {
     let book = book.text();
     let log = log_of(&book, (0..64).map(|number| number % 16).collect());
     BookAndLog { book, log }
+}
+
+// ---- printing
+
+// A book of 1,980 contents lines, of a function of two arguments, nine of one and 20 of none, which are all at all elements; and a log of no moves.
+pub fn printed() -> Vec<u8> {
+    const ELEMENTS: u32 = 40;
+    let functions = [vec![[2, 2]], vec![[1, 2]; 9], vec![[0, 2]; 20]].concat();
+    let mut book = BookDraft::new(ELEMENTS, ELEMENTS, &functions);
+    let skip = book.skip();
+    book.agent(skip, 3);
+    let value = |x: u32, y: u32| 1 + (7 * x + 3 * y) % (ELEMENTS - 1);
+    let rows = (0..ELEMENTS).flat_map(|x| (0..ELEMENTS).map(move |y| [1, x, y, value(x, y)]));
+    book.contents.extend(rows);
+    (2..11).for_each(|function| (0..ELEMENTS).for_each(|x| book.holds(function, x, value(x, function))));
+    (11..31).for_each(|function| book.holds(function, 0, value(0, function)));
+    [book.text(), LogDraft { agents: Vec::new(), pairs: Vec::new(), picks: Vec::new() }.text()].concat()
 }
 
 // ---- many labels in one move

@@ -1,7 +1,7 @@
 // The benchmarks' books and logs are what their names say, and the independent implementation accepts them. Every move of them changes something, so that a library that still refuses others can be measured too.
 use compare::loads::{self, Single};
 use inputs::{counted_ways, idle_ways, released_ways, BookAndLog, Counted, Released};
-use paper::{check_book, Answer, Tally, INSTRUCTIONS};
+use paper::{check_book, Answer, Tally, INSTRUCTIONS, LINE_BYTES};
 
 // How many instructions the move gives, in the second of two turns.
 fn instructions(single: &Single) -> usize {
@@ -33,6 +33,7 @@ fn sizes() {
     assert_eq!(check_book(&loads::full_contents()).expect("a sound book").start.len(), 65_281);
     let locations = |book: &[u8]| check_book(book).expect("a sound book").locations;
     assert_eq!(locations(&loads::release().book), 65_536);
+    assert_eq!(locations(&loads::full_table().book), 65_536);
     assert_eq!(locations(&loads::counts_logged().book), 65_536);
     assert_eq!(locations(&loads::releases_logged().book), 65_536);
     assert_eq!(locations(&loads::releases_and_counts_logged(10_000).book), 60_000);
@@ -43,6 +44,10 @@ fn sizes() {
 fn single_moves() {
     for parts in [1, 16] {
         assert_eq!(instructions(&loads::guards(parts)), 1);
+    }
+    for depth in [1, 4] {
+        assert_eq!(instructions(&loads::unary_terms(depth)), 1);
+        assert_eq!(instructions(&loads::binary_terms(depth)), 1);
     }
     for parts in [1, 65] {
         assert_eq!(instructions(&loads::skips(parts)), 1);
@@ -56,6 +61,7 @@ fn single_moves() {
     assert_eq!(instructions(&loads::nested()), 100);
     assert_eq!(instructions(&loads::nested_few()), 256);
     assert_eq!(instructions(&loads::two_hundred_picks()), 201);
+    assert_eq!(instructions(&loads::full_table()), 1);
     assert_eq!(instructions(&loads::release()), 1);
 }
 
@@ -69,6 +75,11 @@ fn logs() {
     }
     let refused = refused().run().answer();
     assert_eq!((refused.number, refused.p), (12, 63));
+}
+
+#[test]
+fn printing() {
+    assert_eq!(paper::report(&loads::printed()).len(), (1 + 1_980) * LINE_BYTES);
 }
 
 #[test]

@@ -34,10 +34,10 @@ check-entry-lines-requires-2 : tie.Need-check-entry-lines-requires-2
 check-entry-lines-requires-2 c κs = let m = c .before .before .before .before .before .before .args .image .now in clear (program-in m .E) 10000 (elements-most m)
 
 returns : tie.Need-returns
-returns c = let a = c .before .before .before .before .before .before .before .before .args in c .before .check-entry-lines .ensures ∙ rw (c .before .before .before .before .before .before .first-entry .ensures, c .before .before .before .before .before .entries .ensures) (counted (program-in (a .image .now)) (a .text .now) (first-entry-in (a .image .now)) (entry-count-in (a .image .now)))
+returns c strided = let a = c .before .before .before .before .before .before .before .before .args in c .before .check-entry-lines .ensures strided ∙ rw (c .before .before .before .before .before .before .first-entry .ensures, c .before .before .before .before .before .entries .ensures) (counted (program-in (a .image .now)) (a .text .now) (first-entry-in (a .image .now)) (entry-count-in (a .image .now)))
 
 returns-2 : tie.Need-returns-2
-returns-2 c = let a = c .before .before .before .before .before .before .before .before .args in c .before .check-entry-lines2 .ensures ∙ rw (c .before .before .before .before .before .before .first-entry .ensures, c .before .before .before .before .before .entries .ensures) (counted (program-in (a .image .now)) (a .text .now) (first-entry-in (a .image .now)) (entry-count-in (a .image .now)))
+returns-2 c strided = let a = c .before .before .before .before .before .before .before .before .args in c .before .check-entry-lines2 .ensures strided ∙ rw (c .before .before .before .before .before .before .first-entry .ensures, c .before .before .before .before .before .entries .ensures) (counted (program-in (a .image .now)) (a .text .now) (first-entry-in (a .image .now)) (entry-count-in (a .image .now)))
 
 pub check-entries-spec : {M : Type 1} → statement M
 check-entries-spec =

@@ -30,6 +30,9 @@ row-requires c κs = search needs
 add-store : tie.Need-add-store Inv-loop μ-loop
 add-store c = search needs
 
+stride-requires : tie.Need-stride-requires Inv-loop μ-loop
+stride-requires c κs = search needs
+
 store-requires : tie.Need-store-requires Inv-loop μ-loop
 store-requires c κs = search needs
 
@@ -37,7 +40,7 @@ size-requires : tie.Need-size-requires Inv-loop μ-loop
 size-requires c κs = search needs
 
 add-sum : tie.Need-add-sum Inv-loop μ-loop
-add-sum c = let s = size-most (c .before .before .before .before .before .before .before .args .e) (c .before .before .before .row .result .a) (c .before .before .before .before .before .before .before .pre .0) in omega (arith, c .size .ensures, s, c .before .before .before .before .before .before .loop .inv .2, c .before .before .before .before .before .before .before .pre)
+add-sum c = let s = size-most (c .before .before .before .before .before .before .before .before .args .e) (c .before .before .before .before .row .result .a) (c .before .before .before .before .before .before .before .before .pre .0) in omega (arith, c .size .ensures, s, c .before .before .before .before .before .before .before .loop .inv .2, c .before .before .before .before .before .before .before .before .pre)
 
 add-i : tie.Need-add-i Inv-loop μ-loop
 add-i c = search needs
@@ -46,7 +49,7 @@ loop-less : tie.Need-loop-less Inv-loop μ-loop
 loop-less c = search needs
 
 loop-again : tie.Need-loop-again Inv-loop μ-loop
-loop-again c = let a = c .before .before .before .before .before .before .before .args in let l = c .before .before .before .before .before .before .loop in let at : ℕ → Line = (λ f. image-row (a .image .now) (2 + f)) in let s = size-most (a .e) (c .before .before .before .row .result .a) (c .before .before .before .before .before .before .before .pre .0) in let r : c .before .before .before .row .result ≡ at (l .i) = c .before .before .before .row .ensures ∙ l .inv .3 (l .i) (omega arith) in (search needs, rw (first-step at (a .e) (l .i), c .size .ensures, r, l .inv .1), omega (arith, c .size .ensures, s, l .inv .2), rw (c .before .store .ensures .0) (other-rows _ (l .image) (a .image .now) (l .i) (l .inv .3)), rw (c .before .store .ensures .0, r, l .inv .1) (filled-step (laid-row at (a .e)) 2 (a .n) (l .i) (l .image) (c .before .before .before .before .before .loop-test .taken) ∙ l .inv .4))
+loop-again c = let a = c .before .before .before .before .before .before .before .before .args in let l = c .before .before .before .before .before .before .before .loop in let at : ℕ → Line = (λ f. image-row (a .image .now) (2 + f)) in let s = size-most (a .e) (c .before .before .before .before .row .result .a) (c .before .before .before .before .before .before .before .before .pre .0) in let r : c .before .before .before .before .row .result ≡ at (l .i) = c .before .before .before .before .row .ensures ∙ l .inv .3 (l .i) (omega arith) in (search needs, rw (first-step at (a .e) (l .i), c .size .ensures, r, l .inv .1), omega (arith, c .size .ensures, s, l .inv .2), rw (c .before .store .ensures .0) (other-rows _ (l .image) (a .image .now) (l .i) (l .inv .3)), rw (c .before .store .ensures .0, c .before .before .stride .ensures, r, l .inv .1) (filled-step (laid-row at (a .e)) 2 (a .n) (l .i) (l .image) (c .before .before .before .before .before .before .loop-test .taken) ∙ l .inv .4))
 
 returns : tie.Need-returns Inv-loop μ-loop
 returns c = let a = c .before .before .args in let l = c .before .loop in let e : l .i ≡ a .n = omega arith in (l .inv .1 ∙ rw e, sym (filled-end (laid-row (λ f. image-row (a .image .now) (2 + f)) (a .e)) 2 (a .n) (l .i) (l .image) (c .loop-test .left)) ∙ l .inv .4)
@@ -61,6 +64,7 @@ lay-functions-spec =
     add-row
     row-requires
     add-store
+    stride-requires
     store-requires
     size-requires
     add-sum

@@ -3,7 +3,7 @@ use Prim.Native.Nat.{_-_, _≤_, _<_}
 use native.Mathlib.Omega.{arith}
 use lib.ListN.{length}
 use Rattle.book.specs.Image.{low-program}
-use Rattle.book.proofs.Held.{functions-held}
+use Rattle.book.proofs.Held.{functions-held, function-held}
 use Rattle.book_parts.proofs.Places.{part-fits}
 use Rattle.book_parts.proofs.Parts.{Sought, owner-start, owner-here, owner-next, owner-none}
 use borrow.Author.Needs.{needs}
@@ -56,14 +56,17 @@ loop-again c =
       omega (arith, c .before .before .before .before .loop-test .taken),
     )
 
+cast-function-at : tie.Need-cast-function-at Inv-loop μ-loop
+cast-function-at c = search needs
+
 function-at-requires : tie.Need-function-at-requires Inv-loop μ-loop
 function-at-requires c κs = search needs
 
-cast-t9 : tie.Need-cast-t9 Inv-loop μ-loop
-cast-t9 c = search needs
-
 cast-t10 : tie.Need-cast-t10 Inv-loop μ-loop
 cast-t10 c = search needs
+
+cast-t11 : tie.Need-cast-t11 Inv-loop μ-loop
+cast-t11 c = search needs
 
 returns-2 : tie.Need-returns-2 Inv-loop μ-loop
 returns-2 c =
@@ -71,7 +74,7 @@ returns-2 c =
     let B = low-program (a .image .now) in
     let l = c .before .before .loop in
     let count = functions-held _ _ (c .before .before .before .functions .ensures) .0 in
-    owner-none B (a .l) (l .g) (l .first) _ (l .inv .0) (omega (arith, c .before .loop-test .left, count)) (rw (← count) (c .function-at .ensures))
+    owner-none B (a .l) (l .g) (l .first) _ (l .inv .0) (omega (arith, c .before .loop-test .left, count)) (rw (← count) (function-held _ _ _ (c .function-at .ensures)))
 
 pub owner-of-spec : {M : Type 1} → statement M
 owner-of-spec =
@@ -87,7 +90,8 @@ owner-of-spec =
     add-g
     loop-less
     loop-again
+    cast-function-at
     function-at-requires
-    cast-t9
     cast-t10
+    cast-t11
     returns-2)

@@ -1,5 +1,5 @@
 -- `part_from` meets its contract.
-use Rattle.book.proofs.Held.{elements-held}
+use Rattle.book.proofs.Held.{elements-held, function-held}
 use borrow.Author.Needs.{needs}
 use Rattle.book_parts.proofs.part_from.Statement.{statement}
 use Rattle.book_parts.proofs.part_from.Tie as tie
@@ -13,16 +13,16 @@ elements-requires c κs = search needs
 size-requires : tie.Need-size-requires
 size-requires c κs = search needs
 
-cast-t9 : tie.Need-cast-t9
-cast-t9 c = search needs
+cast-t10 : tie.Need-cast-t10
+cast-t10 c = search needs
 
-add-t10 : tie.Need-add-t10
-add-t10 c = search needs
+add-t11 : tie.Need-add-t11
+add-t11 c = search needs
 
 returns : tie.Need-returns
-returns c = rw (c .size .ensures, elements-held _ _ (c .before .elements .ensures) .0, c .before .before .function-at .ensures)
+returns c = rw (c .size .ensures, elements-held _ _ (c .before .elements .ensures) .0, function-held _ _ _ (c .before .before .function-at .ensures))
 
 pub part-from-spec : {M : Type 1} → statement M
 part-from-spec =
     tie.close
-    (tie.spec function-at-requires elements-requires size-requires cast-t9 add-t10 returns)
+    (tie.spec function-at-requires elements-requires size-requires cast-t10 add-t11 returns)

@@ -1,5 +1,6 @@
 -- `bad_part` meets its contract.
-use Prim.Native.Nat.{_+_, _-_, _≤_}
+use mathlib.Core.Path.{_≡_}
+use Prim.Native.Nat.{ℕ, _+_, _-_, _≤_}
 use native.Mathlib.Omega.{arith}
 use borrow.Author.Needs.{needs}
 use Rattle.book.specs.Book.{Program}
@@ -42,11 +43,12 @@ sub-t12 c = search needs
 
 returns : tie.Need-returns Inv-loop μ-loop
 returns c =
-    λ B k.
     let a = c .before .before .before .before .before .before .before .args in
     let l = c .before .before .before .loop in
-    let j = c .before .is-bad in
-    scan-stop B (a .contents .now) (a .e) (a .p) (a .f) (a .first) (a .end) k (l .l) (l .inv .0) (l .inv .2 B k) (j .result) (c .before .before .loop-test .taken) (j .ensures B (k .elements) (k .permanent)) (c .if1 .taken)
+    let j = c .before .is-bad in (
+      λ B k. scan-stop B (a .contents .now) (a .e) (a .p) (a .f) (a .first) (a .end) k (l .l) (l .inv .0) (l .inv .2 B k) (j .result) (c .before .before .loop-test .taken) (j .ensures B) (c .if1 .taken),
+      λ i q. let s : l .l - a .first ≡ i = cc in omega (arith, s, l .inv .0, c .before .before .loop-test .taken),
+    )
 
 add-skip-value : tie.Need-add-skip-value Inv-loop μ-loop
 add-skip-value c = search needs
@@ -66,15 +68,16 @@ loop-again c =
     let h = c .skip-value2 .ensures in (
       omega (arith, l .inv .0, h .from),
       h .to,
-      λ B k. scan-skip B (a .contents .now) (a .e) (a .p) (a .f) (a .first) (a .end) k (l .l + 1) (omega (arith, l .inv .0)) (scan-pass B (a .contents .now) (a .e) (a .p) (a .f) (a .first) (a .end) k (l .l) (l .inv .0) (l .inv .2 B k) (j .result) (c .before .before .before .loop-test .taken) (j .ensures B (k .elements) (k .permanent)) (c .before .if1 .left)) (v .result) (c .skip-value2 .result) (v .ensures) h,
+      λ B k. scan-skip B (a .contents .now) (a .e) (a .p) (a .f) (a .first) (a .end) k (l .l + 1) (omega (arith, l .inv .0)) (scan-pass B (a .contents .now) (a .e) (a .p) (a .f) (a .first) (a .end) k (l .l) (l .inv .0) (l .inv .2 B k) (j .result) (c .before .before .before .loop-test .taken) (j .ensures B) (c .before .if1 .left)) (v .result) (c .skip-value2 .result) (v .ensures) h,
     )
 
 returns-2 : tie.Need-returns-2 Inv-loop μ-loop
 returns-2 c =
-    λ B k.
     let a = c .before .before .before .before .before .args in
-    let l = c .before .loop in
-    scan-end B (a .contents .now) (a .e) (a .p) (a .f) (a .first) (a .end) k (l .l) (l .inv .0) (l .inv .2 B k) (c .loop-test .left)
+    let l = c .before .loop in (
+      λ B k. scan-end B (a .contents .now) (a .e) (a .p) (a .f) (a .first) (a .end) k (l .l) (l .inv .0) (l .inv .2 B k) (c .loop-test .left),
+      λ i q. let z : _≡_ {A = ℕ} 0 1 = cc in absurd (omega arith),
+    )
 
 pub bad-part-spec : {M : Type 1} → statement M
 bad-part-spec =

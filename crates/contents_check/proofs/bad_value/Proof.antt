@@ -6,19 +6,20 @@ use lib.ListN.{length}
 use Rattle.text.specs.Words.{least-from, least}
 use Rattle.text.proofs.Words.{least-start, least-end}
 use Rattle.book.specs.Book.{L}
+use Rattle.book.specs.Sum.{Strided}
 use Rattle.book.specs.Contents.{bad-value}
 use Rattle.book.specs.Image.{low-program}
 use Rattle.book.proofs.Held.{elements-held, functions-held}
 use Rattle.book_parts.proofs.Places.{From, from-start, from-end, part-ends, part-after, part-fits}
 use borrow.Author.Needs.{needs}
-use Rattle.contents_check.proofs.Places.{own-low, own-stop, own-pass}
+use Rattle.contents_check.proofs.Places.{own-stop, own-pass}
 use Rattle.contents_check.proofs.bad_value.Statement.{statement}
 use Rattle.contents_check.proofs.bad_value.Tie as tie
 
 abbrev Inv-loop : tie.InvT-loop
 Inv-loop image contents e p n first₀ g₀ first g =
     From (low-program image) g first
-    × (least-from (bad-value (low-program image) contents) (L (low-program image) - first) first ≡ least (bad-value (low-program image) contents) (L (low-program image)))
+    × (Strided (low-program image) → least-from (bad-value (low-program image) contents) (L (low-program image) - first) first ≡ least (bad-value (low-program image) contents) (L (low-program image)))
     × (g ≤ n)
 
 abbrev μ-loop : tie.MeasureT-loop
@@ -34,7 +35,7 @@ functions-requires : tie.Need-functions-requires Inv-loop μ-loop
 functions-requires c κs = search needs
 
 loop-holds : tie.Need-loop-holds Inv-loop μ-loop
-loop-holds c = let a = c .before .before .before .before .args in let B = low-program (a .image .now) in (from-start B, least-start (bad-value B (a .contents .now)) (L B), omega arith)
+loop-holds c = let a = c .before .before .before .before .args in let B = low-program (a .image .now) in (from-start B, λ strides. least-start (bad-value B (a .contents .now)) (L B), omega arith)
 
 part-from-requires : tie.Need-part-from-requires Inv-loop μ-loop
 part-from-requires c κs = search needs
@@ -66,7 +67,7 @@ add-t13 c =
     let own = c .before .before .before .before .before .part-from in
     let more : l .g < length (B .functions) = omega (arith, c .before .before .before .before .before .before .loop-test .taken, functions-held _ _ (c .before .before .before .before .before .before .before .before .functions .ensures) .0) in
     let given = c .before .found .given in
-    record { fits = omega (arith, own-low B (a .contents .now) _ _ (l .g) (l .first) (own .result) (c .before .before .before .bad-part .result) (elements-held _ _ (c .before .before .before .before .before .before .before .before .before .before .elements .ensures) .0) (c .before .before .before .before .before .before .before .before .before .permanent .ensures) (own .ensures) (l .inv .0) more (l .inv .1) (c .before .before .before .bad-part .ensures) (given .0 .0) (given .1), part-fits (a .image .now) (l .g) (l .first) (own .result) (own .ensures) (l .inv .0) more) }
+    record { fits = omega (arith, c .before .before .before .bad-part .ensures .1 (given .0 .0) (given .1), part-fits (a .image .now) (l .g) (l .first) (own .result) (own .ensures) (l .inv .0) more) }
 
 returns : tie.Need-returns Inv-loop μ-loop
 returns c =
@@ -76,7 +77,7 @@ returns c =
     let own = c .before .before .before .before .before .part-from in
     let more : l .g < length (B .functions) = omega (arith, c .before .before .before .before .before .before .loop-test .taken, functions-held _ _ (c .before .before .before .before .before .before .before .before .functions .ensures) .0) in
     let given = c .before .found .given in
-    own-stop B (a .contents .now) _ _ (l .g) (l .first) (own .result) (c .before .before .before .bad-part .result) (elements-held _ _ (c .before .before .before .before .before .before .before .before .before .before .elements .ensures) .0) (c .before .before .before .before .before .before .before .before .before .permanent .ensures) (own .ensures) (l .inv .0) more (l .inv .1) (c .before .before .before .bad-part .ensures) (given .0 .0) (given .1)
+    λ strides. own-stop B (a .contents .now) _ _ (l .g) (l .first) (own .result) (c .before .before .before .bad-part .result) (elements-held _ _ (c .before .before .before .before .before .before .before .before .before .before .elements .ensures) .0) (c .before .before .before .before .before .before .before .before .before .permanent .ensures) (own .ensures) strides (l .inv .0) more (l .inv .1 strides) (c .before .before .before .bad-part .ensures .0) (given .0 .0) (given .1)
 
 enum-told : tie.Need-enum-told Inv-loop μ-loop
 enum-told c = search needs
@@ -95,7 +96,7 @@ loop-again c =
     let own = c .before .before .before .before .part-from in
     let more : l .g < length (B .functions) = omega (arith, c .before .before .before .before .before .loop-test .taken, functions-held _ _ (c .before .before .before .before .before .before .before .functions .ensures) .0) in (
       part-after B (l .g) (l .first) (own .result) (own .ensures) (l .inv .0) more,
-      own-pass B (a .contents .now) _ _ (l .g) (l .first) (own .result) (c .before .before .bad-part .result) (elements-held _ _ (c .before .before .before .before .before .before .before .before .before .elements .ensures) .0) (c .before .before .before .before .before .before .before .before .permanent .ensures) (own .ensures) (l .inv .0) more (l .inv .1) (c .before .before .bad-part .ensures) (c .enum-told .given .1),
+      λ strides. own-pass B (a .contents .now) _ _ (l .g) (l .first) (own .result) (c .before .before .bad-part .result) (elements-held _ _ (c .before .before .before .before .before .before .before .before .before .elements .ensures) .0) (c .before .before .before .before .before .before .before .before .permanent .ensures) (own .ensures) strides (l .inv .0) more (l .inv .1 strides) (c .before .before .bad-part .ensures .0) (c .enum-told .given .1),
       omega (arith, c .before .before .before .before .before .loop-test .taken),
     )
 
@@ -104,7 +105,7 @@ returns-2 c =
     let a = c .before .before .before .before .before .before .args in
     let B = low-program (a .image .now) in
     let l = c .before .loop in
-    least-end (bad-value B (a .contents .now)) (L B) (l .first) (omega (arith, from-end B (l .g) (l .first) (l .inv .0) (omega (arith, c .loop-test .left, functions-held _ _ (c .before .before .functions .ensures) .0)))) (l .inv .1)
+    λ strides. least-end (bad-value B (a .contents .now)) (L B) (l .first) (omega (arith, from-end B (l .g) (l .first) (l .inv .0) (omega (arith, c .loop-test .left, functions-held _ _ (c .before .before .functions .ensures) .0)))) (l .inv .1 strides)
 
 pub bad-value-spec : {M : Type 1} → statement M
 bad-value-spec =

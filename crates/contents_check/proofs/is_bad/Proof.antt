@@ -1,18 +1,15 @@
 -- `is_bad` meets its contract.
-use Rattle.contents_check.proofs.Faults.{own-cell, far-cell}
-use Rattle.contents_check.proofs.Laws.{arguments-are}
-use Rattle.book.specs.Book.{arguments}
-use Rattle.contents_check.specs.Part.{arguments-by}
 use mathlib.Core.Path.{_≡_, _∙_}
+use Rattle.book.specs.Book.{arguments}
+use Rattle.book.specs.Sum.{arguments-by}
+use Rattle.contents_check.proofs.Laws.{arguments-are}
+use Rattle.contents_check.proofs.Faults.{own-cell, far-cell}
 use borrow.Author.Needs.{needs}
 use Rattle.contents_check.proofs.is_bad.Statement.{statement}
 use Rattle.contents_check.proofs.is_bad.Tie as tie
 
-row-at-requires : tie.Need-row-at-requires
-row-at-requires c κs = search needs
-
-column-at-requires : tie.Need-column-at-requires
-column-at-requires c κs = search needs
+take-apart-requires : tie.Need-take-apart-requires
+take-apart-requires c κs = search needs
 
 fetch-requires : tie.Need-fetch-requires
 fetch-requires c κs = search needs
@@ -28,16 +25,15 @@ is-static-fine-requires c κs = search needs
 
 returns : tie.Need-returns
 returns c =
-    λ B e p q.
-    let a = c .before .before .before .before .before .before .before .before .args in
-    let row = c .before .before .before .before .before .before .row-at in
-    let col = c .before .before .before .before .before .column-at in
+    λ B h.
+    let a = c .before .before .before .before .before .before .before .args in
+    let apart = c .before .before .before .before .before .take-apart in
     let v = c .before .before .before .before .fetch in
     let rel = c .before .before .before .is-relation in
     let bool = c .before .before .is-boolean in
     let fine = c .before .is-static-fine in
-    let args : arguments-by (a .f .arity) (a .i) (row .result) (col .result) ≡ arguments (a .e) (a .f .arity) (a .i) = arguments-are (a .e) (a .f .arity) (a .i) (row .result) (col .result) (row .ensures) (col .ensures) in
-    rw (← e, ← p) (own-cell B (a .contents .now) (a .f) (a .l) (a .i) (v .result) (rel .result) (bool .result) (fine .result) q (v .ensures) (rel .ensures) (bool .ensures) (fine .ensures ∙ rw (p, e, args)) (rw e (c .if1 .taken)))
+    let args : arguments-by (a .f .arity) (apart .result .first) (apart .result .second) ≡ arguments (a .e) (a .f .arity) (a .i) = arguments-are (a .e) (a .f) (a .i) (apart .result .first) (apart .result .second) (h .strided) (apart .ensures) in
+    rw (← h .elements, ← h .permanent) (own-cell B (a .contents .now) (a .f) (a .l) (a .i) (v .result) (rel .result) (bool .result) (fine .result) (h .here) (v .ensures) (rel .ensures) (bool .ensures) (fine .ensures ∙ rw (h .permanent, h .elements, args)) (rw (h .elements) (c .if1 .taken)))
 
 cast-on-roll : tie.Need-cast-on-roll
 cast-on-roll c = search needs
@@ -53,23 +49,21 @@ some-on-roll-requires c κs = search needs
 
 returns-2 : tie.Need-returns-2
 returns-2 c =
-    λ B e p q.
-    let a = c .before .before .before .before .before .before .before .before .before .before .before .args in
-    let row = c .before .before .before .before .before .before .before .before .before .row-at in
-    let col = c .before .before .before .before .before .before .before .before .column-at in
+    λ B h.
+    let a = c .before .before .before .before .before .before .before .before .before .before .args in
+    let apart = c .before .before .before .before .before .before .before .before .take-apart in
     let v = c .before .before .before .before .before .before .before .fetch in
     let rel = c .before .before .before .before .before .before .is-relation in
     let bool = c .before .before .before .before .before .is-boolean in
     let fine = c .before .before .before .before .is-static-fine in
-    let args : arguments-by (a .f .arity) (a .i) (row .result) (col .result) ≡ arguments (a .e) (a .f .arity) (a .i) = arguments-are (a .e) (a .f .arity) (a .i) (row .result) (col .result) (row .ensures) (col .ensures) in
-    rw (← e) (far-cell B (a .contents .now) (a .f) (a .l) (a .i) (v .result) (rel .result) (bool .result) (fine .result) q (v .ensures) (rel .ensures) (bool .ensures) (fine .ensures ∙ rw (p, e, args)) (c .before .default-of .result) (c .before .before .on-roll .result) (c .some-on-roll .result) (c .before .default-of .ensures) (c .before .before .on-roll .ensures ∙ rw e) (c .some-on-roll .ensures B e ∙ rw (e, args)) (rw e (c .before .before .before .if1 .left)))
+    let args : arguments-by (a .f .arity) (apart .result .first) (apart .result .second) ≡ arguments (a .e) (a .f .arity) (a .i) = arguments-are (a .e) (a .f) (a .i) (apart .result .first) (apart .result .second) (h .strided) (apart .ensures) in
+    rw (← h .elements) (far-cell B (a .contents .now) (a .f) (a .l) (a .i) (v .result) (rel .result) (bool .result) (fine .result) (h .here) (v .ensures) (rel .ensures) (bool .ensures) (fine .ensures ∙ rw (h .permanent, h .elements, args)) (c .before .default-of .result) (c .before .before .on-roll .result) (c .some-on-roll .result) (c .before .default-of .ensures) (c .before .before .on-roll .ensures ∙ rw (h .elements)) (c .some-on-roll .ensures B (h .elements) ∙ rw (h .elements, args)) (rw (h .elements) (c .before .before .before .if1 .left)))
 
 pub is-bad-spec : {M : Type 1} → statement M
 is-bad-spec =
     tie.close
     (tie.spec
-    row-at-requires
-    column-at-requires
+    take-apart-requires
     fetch-requires
     is-relation-requires
     is-boolean-requires

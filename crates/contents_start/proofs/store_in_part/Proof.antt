@@ -1,4 +1,7 @@
 -- `store_in_part` meets its contract.
+use Prim.Native.Nat.{_+_, _-_}
+use mathlib.Core.Path.{_≡_}
+use native.Mathlib.Omega.{arith}
 use Rattle.book_parts.proofs.Parts.{put-back}
 use borrow.Author.Needs.{needs}
 use Rattle.contents_start.proofs.store_in_part.Statement.{statement}
@@ -22,6 +25,9 @@ part-store-value-start c = search needs
 part-store-value-end : tie.Need-part-store-value-end
 part-store-value-end c = search needs
 
+sub-store-value-2 : tie.Need-sub-store-value-2
+sub-store-value-2 c = search needs
+
 store-value-requires : tie.Need-store-value-requires
 store-value-requires c κs = search needs
 
@@ -32,7 +38,9 @@ returns : tie.Need-returns
 returns c =
     let s = c .before .before .before .before .before .before .before in
     let a = s .args in
-    put-back (a .first) (a .end) (a .i) (a .v) (a .contents .now) (s .pre) (c .before .before .before .before .before .smaller .result) (c .before .before .before .before .smaller2 .result) (c .before .before .before .before .before .smaller .ensures) (c .before .before .before .before .smaller2 .ensures) (c .before .before .store-value .last .0) (c .before .before .store-value .ensures)
+    let e : a .first + (a .l - a .first) ≡ a .l = omega (arith, s .pre .1) in
+    rw e at
+    (put-back (a .first) (a .end) (a .l - a .first) (a .v) (a .contents .now) (s .pre .0) (c .before .before .before .before .before .smaller .result) (c .before .before .before .before .smaller2 .result) (c .before .before .before .before .before .smaller .ensures) (c .before .before .before .before .smaller2 .ensures) (c .before .before .store-value .last .0) (c .before .before .store-value .ensures))
 
 pub store-in-part-spec : {M : Type 1} → statement M
 store-in-part-spec =
@@ -44,6 +52,7 @@ store-in-part-spec =
     sub-store-value
     part-store-value-start
     part-store-value-end
+    sub-store-value-2
     store-value-requires
     same-length
     returns)

@@ -1,8 +1,8 @@
 -- `gives_other` meets its contract.
-use borrow.Author.Tests.{eq-eqb, ne-eqb}
-use mathlib.Core.Bool.{or-false}
-use Rattle.engine.specs.Move.{other}
 use Rattle.engine_clash.specs.LeastClash.{values-given}
+use Rattle.engine.specs.Move.{other}
+use mathlib.Core.Bool.{or-false}
+use borrow.Author.Tests.{eq-eqb, ne-eqb}
 use borrow.Author.Needs.{needs}
 use Rattle.engine_clash.proofs.gives_other.Statement.{statement}
 use Rattle.engine_clash.proofs.gives_other.Tie as tie

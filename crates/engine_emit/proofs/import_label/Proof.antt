@@ -23,13 +23,13 @@ returns : tie.Need-returns
 returns c =
     let a = c .before .before .before .before .args in
     let h : a .x < low-program (a .image .now) .E = omega (arith, elements-held _ _ (c .before .before .before .elements .ensures) .0, c .before .before .if1 .taken) in
-    λ ys. c .emit-import .ensures ys ∙ sym (enrolling-in (low-program (a .image .now)) (a .u) (a .x) (a .n) h (reached ys (a .s) (a .list .now)))
+    λ ys. c .emit-import .ensures ys ∙ sym (enrolling-in (low-program (a .image .now) .E) (a .at) (a .x) (a .n) h (reached ys (a .s) (a .list .now)))
 
 returns-2 : tie.Need-returns-2
 returns-2 c =
     let a = c .before .before .before .args in
     let h : low-program (a .image .now) .E ≤ a .x = omega (arith, elements-held _ _ (c .before .before .elements .ensures) .0, c .before .if1 .left) in
-    λ ys. c .refuse-at .ensures ys (a .list .now) ∙ sym (enrolling-none (low-program (a .image .now)) (a .u) (a .x) (a .n) h (reached ys (a .s) (a .list .now)))
+    λ ys. c .refuse-at .ensures ys (a .list .now) ∙ sym (enrolling-none (low-program (a .image .now) .E) (a .at) (a .x) (a .n) h (reached ys (a .s) (a .list .now)))
 
 pub import-label-spec : {M : Type 1} → statement M
 import-label-spec =

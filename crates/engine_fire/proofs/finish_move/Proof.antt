@@ -23,6 +23,7 @@ refused-answer-requires c κs = search needs
 returns : tie.Need-returns
 unfolding settle
 returns c =
+    λ strides.
     let a = c .before .before .before .before .before .before .before .before .args in
     let t = tables (a .contents .now) (a .readers .now) (a .writers .now) in
     let r : c .refused-answer .result ≡ refused-answer (a .s .refused) (a .at) (a .s .node) = c .refused-answer .ensures in
@@ -47,12 +48,13 @@ same-length-3 c = search needs
 
 returns-2 : tie.Need-returns-2
 returns-2 c =
+    λ strides.
     let a = c .before .before .before .before .before .before .before .before .before .before .before .before .before .before .before .before .args in
     let f = c .before .before .before .before .before .before .settle-listed in
     subst
     (λ (w : Walked). MoveFinished (low-program (a .image .now)) (a .bit) (a .at) w (tables (a .contents .now) (a .readers .now) (a .writers .now)) (f .result) (tables (f .last .1 .0) (f .last .1 .1 .0) (f .last .1 .1 .1 .0)))
     (sym (reached-walking [] (a .s) (a .list .now) (c .before .before .before .before .before .before .before .before .before .before .before .if1 .left)))
-    (f .ensures (a .s .label))
+    (f .ensures (a .s .label) strides)
 
 pub finish-move-spec : {M : Type 1} → statement M
 finish-move-spec =

@@ -39,13 +39,13 @@ returns c =
     let r = c .before .before .before .before .before .before .put-values in (
       r .ensures .0 ∙ ap (put-tally B is) (k .ensures .0),
       (
-        (λ free. r .ensures .1 .0 ∙ ap (puts (L B) is) (k .ensures .0) ∙ fired-is B is (a .contents .now) free),
+        (λ strides free. r .ensures .1 .0 ∙ ap (puts (L B) is) (k .ensures .0) ∙ fired-is B is (a .contents .now) strides free),
         (
           marked-on (a .bit) (all-reads B is (a .contents .now)) (put-reads (B .P) (L B) is (all-cleared B is (a .contents .now))) (a .readers .now) (k .last .1 .1 .0) (r .last .1 .1 .0)
               (k .ensures .1 .1)
               (r .ensures .1 .1 .0 ∙ ap (λ (C : List ℕ). marked (a .bit) (put-reads (B .P) (L B) is C) (k .last .1 .1 .0)) (k .ensures .0)),
-          r .ensures .1 .1 .1 ∙ ap₂ (λ (C W : List ℕ). put-marked (a .bit) (min (L B) (length C)) is W) (k .ensures .0) (k .ensures .1 .0)
-              ∙ marked-is B is (a .contents .now) (a .bit) (a .writers .now),
+          λ strides. r .ensures .1 .1 .1 ∙ ap₂ (λ (C W : List ℕ). put-marked (a .bit) (min (L B) (length C)) is W) (k .ensures .0) (k .ensures .1 .0)
+              ∙ marked-is B is (a .contents .now) strides (a .bit) (a .writers .now),
         ),
       ),
     )

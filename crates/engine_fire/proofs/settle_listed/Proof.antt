@@ -29,10 +29,10 @@ unfolding settle
 returns c =
     let s = c .before .before .before .before .before .before .before .before .before .before .settle in
     let e = c .before .before .answer-move .ensures in
-    λ next.
+    λ next strides.
     let a = c .before .before .before .before .before .before .before .before .before .before .before .before .before .before .before .before .before .before .args in
     let f = move-by (a .image .now) (a .contents .now) (a .list .now) (a .len) in
-    let t = s .ensures in
+    let t = s .ensures strides in
     record {
       answer = λ ls. ap (λ (r : TalliedAnswer). r .answer) (e .0 (f ls)) ∙ ap (move-answer (a .at)) (sym (t .outcome ls));
       tally = λ ls. ap (λ (r : TalliedAnswer). r .tally) (e .0 (f ls)) ∙ t .tally ls;

@@ -4,7 +4,6 @@ use mathlib.Core.Bool.{Bool, true, false}
 use Prim.Native.Nat.{ℕ, _-_, _≤_}
 use native.Mathlib.Omega.{arith}
 use borrow.Author.Tests.{eq-eqb, ne-eqb}
-use Rattle.book.specs.Image.{low-function}
 use Rattle.engine_reads.specs.Marking.{member, next-passing}
 use Rattle.engine_reads.proofs.Members.{next-here, next-pass, next-end}
 use borrow.Author.Needs.{needs}
@@ -12,31 +11,31 @@ use Rattle.engine_reads.proofs.next_member.Statement.{statement}
 use Rattle.engine_reads.proofs.next_member.Tie as tie
 
 abbrev Inv-loop : tie.InvT-loop
-Inv-loop contents f e from y₀ y =
-    (from ≤ y) × (next-passing (member contents (low-function f) e) from (e - from) ≡ next-passing (member contents (low-function f) e) y (e - y))
+Inv-loop contents first e from y₀ y =
+    (from ≤ y) × (next-passing (member contents first) from (e - from) ≡ next-passing (member contents first) y (e - y))
 
 abbrev μ-loop : tie.MeasureT-loop
-μ-loop contents f e from y₀ y = e - y
+μ-loop contents first e from y₀ y = e - y
 
 loop-holds : tie.Need-loop-holds Inv-loop μ-loop
 loop-holds c = (omega arith, refl)
 
-locate-requires : tie.Need-locate-requires Inv-loop μ-loop
-locate-requires c κs = search needs
-
 cast-fetch : tie.Need-cast-fetch Inv-loop μ-loop
 cast-fetch c = search needs
+
+add-fetch : tie.Need-add-fetch Inv-loop μ-loop
+add-fetch c = search needs
 
 fetch-requires : tie.Need-fetch-requires Inv-loop μ-loop
 fetch-requires c κs = search needs
 
 returns : tie.Need-returns Inv-loop μ-loop
 returns c =
-    let a = c .before .before .before .before .before .before .args in
-    let l = c .before .before .before .before .loop in
-    let t : ℕ → Bool = member (a .contents .now) (low-function (a .f)) (a .e) in
-    let g : t (l .y) ≡ true = rw (← c .before .before .locate .ensures, ← c .before .fetch .ensures) (eq-eqb (c .before .fetch .result) 2 (c .if1 .taken)) in
-    (omega arith, sym (l .inv .1 ∙ next-here t (a .e) (l .y) (c .before .before .before .loop-test .taken) g))
+    let a = c .before .before .before .before .before .args in
+    let l = c .before .before .before .loop in
+    let t : ℕ → Bool = member (a .contents .now) (a .first) in
+    let g : t (l .y) ≡ true = rw (← c .before .fetch .ensures) (eq-eqb (c .before .fetch .result) 2 (c .if1 .taken)) in
+    (omega arith, sym (l .inv .1 ∙ next-here t (a .e) (l .y) (c .before .before .loop-test .taken) g))
 
 add-y : tie.Need-add-y Inv-loop μ-loop
 add-y c = search needs
@@ -46,17 +45,17 @@ loop-less c = search needs
 
 loop-again : tie.Need-loop-again Inv-loop μ-loop
 loop-again c =
-    let a = c .before .before .before .before .before .before .args in
-    let l = c .before .before .before .before .loop in
-    let t : ℕ → Bool = member (a .contents .now) (low-function (a .f)) (a .e) in
-    let g : t (l .y) ≡ false = rw (← c .before .before .locate .ensures, ← c .before .fetch .ensures) (ne-eqb (c .before .fetch .result) 2 (c .if1 .left)) in
-    (omega arith, l .inv .1 ∙ next-pass t (a .e) (l .y) (c .before .before .before .loop-test .taken) g)
+    let a = c .before .before .before .before .before .args in
+    let l = c .before .before .before .loop in
+    let t : ℕ → Bool = member (a .contents .now) (a .first) in
+    let g : t (l .y) ≡ false = rw (← c .before .fetch .ensures) (ne-eqb (c .before .fetch .result) 2 (c .if1 .left)) in
+    (omega arith, l .inv .1 ∙ next-pass t (a .e) (l .y) (c .before .before .loop-test .taken) g)
 
 returns-2 : tie.Need-returns-2 Inv-loop μ-loop
 returns-2 c =
     let a = c .before .before .before .args in
     let l = c .before .loop in
-    (omega arith, sym (l .inv .1 ∙ next-end (member (a .contents .now) (low-function (a .f)) (a .e)) (a .e) (l .y) (c .loop-test .left)))
+    (omega arith, sym (l .inv .1 ∙ next-end (member (a .contents .now) (a .first)) (a .e) (l .y) (c .loop-test .left)))
 
 pub next-member-spec : {M : Type 1} → statement M
 next-member-spec =
@@ -65,8 +64,8 @@ next-member-spec =
     Inv-loop
     μ-loop
     loop-holds
-    locate-requires
     cast-fetch
+    add-fetch
     fetch-requires
     returns
     add-y

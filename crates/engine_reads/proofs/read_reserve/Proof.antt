@@ -15,7 +15,7 @@ same-length : tie.Need-same-length
 same-length c = search needs
 
 returns : tie.Need-returns
-returns c = let a = c .before .before .before .before .before .before .before .args in runs-read (low-program (a .image .now)) (a .contents .now) (a .bit) (a .x) (c .fetch .result) _ _ (c .fetch .ensures) (c .before .before .before .mark-reserve .ensures)
+returns c = let a = c .before .before .before .before .before .before .before .args in runs-read (low-program (a .image .now)) (a .contents .now) (a .bit) (a .x) (c .fetch .result) _ _ (λ p. c .fetch .ensures) (c .before .before .before .mark-reserve .ensures)
 
 pub read-reserve-spec : {M : Type 1} → statement M
 read-reserve-spec = tie.close (tie.spec mark-reserve-requires fetch-requires same-length returns)

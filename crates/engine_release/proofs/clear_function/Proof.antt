@@ -69,10 +69,10 @@ returns c =
     let start = c .before .before .before .before .before .before .before .before .before .before .before .smaller3 in
     let stop = c .before .before .before .before .before .before .before .before .before .before .smaller4 in
     let part = c .before .before .before .before .before .before .clear-part in (
-      run-contents (r .elements) (r .function) (r .label) (r .bit) (r .first) (a .end) (a .contents .now) (a .writers .now) (s .pre) (first .result) (end .result) (first .ensures) (end .ensures) (part .last .0) (part .ensures .0),
+      run-contents (r .function) (r .label) (r .bit) (r .first) (a .end) (a .contents .now) (a .writers .now) (s .pre) (first .result) (end .result) (first .ensures) (end .ensures) (part .last .0) (part .ensures .0),
       (
-        run-marks (r .elements) (r .function) (r .label) (r .bit) (r .first) (a .end) (a .contents .now) (a .writers .now) (s .pre) (first .result) (end .result) (first .ensures) (end .ensures) (start .result) (stop .result) (part .last .1 .1 .0) (start .ensures) (stop .ensures) (part .ensures .1 .0),
-        part .ensures .1 .1 ∙ ap (λ (s : List ℕ). marked (r .bit) s (a .readers .now)) (run-read (r .elements) (r .function) (r .label) (r .bit) (r .first) (a .end) (a .contents .now) (a .writers .now) (s .pre) (first .result) (end .result) (first .ensures) (end .ensures) (r .permanent)),
+        run-marks (r .function) (r .label) (r .bit) (r .first) (a .end) (a .contents .now) (a .writers .now) (s .pre) (first .result) (end .result) (first .ensures) (end .ensures) (start .result) (stop .result) (part .last .1 .1 .0) (start .ensures) (stop .ensures) (part .ensures .1 .0),
+        part .ensures .1 .1 ∙ ap (λ (s : List ℕ). marked (r .bit) s (a .readers .now)) (run-read (r .function) (r .label) (r .bit) (r .first) (a .end) (a .contents .now) (a .writers .now) (s .pre) (first .result) (end .result) (first .ensures) (end .ensures) (r .permanent)),
       ),
     )
 

@@ -1,57 +1,26 @@
 -- `pass_arguments` meets its contract.
+use Rattle.engine_release.proofs.Arguments.{none-by}
 use native.Mathlib.Omega.{arith}
+use Rattle.book.specs.Sum.{first-argument, second-argument}
 use borrow.Author.Needs.{needs}
-use borrow.Author.Tests.{eq-eqb, ne-eqb}
 use Rattle.engine_release.proofs.pass_arguments.Statement.{statement}
 use Rattle.engine_release.proofs.pass_arguments.Tie as tie
 
 returns : tie.Need-returns
-returns c = let a = c .before .args in (omega (arith, c .before .pre .0), omega arith, λ k h m. rw (eq-eqb (a .arity) 0 (c .if1 .taken)))
+returns c = (omega arith, omega (arith, c .before .before .pre .0), λ k h m. absurd (omega arith))
+
+next-first-requires : tie.Need-next-first-requires
+next-first-requires c κs = search needs
+
+next-second-requires : tie.Need-next-second-requires
+next-second-requires c κs = search needs
 
 returns-2 : tie.Need-returns-2
-returns-2 c =
-    let a = c .before .before .before .args in (
-      omega (arith, c .before .before .before .pre .0),
-      omega arith,
-      λ k h m. rw (ne-eqb (a .arity) 0 (c .before .before .if1 .left), eq-eqb (a .arity) 1 (c .before .if2 .taken), ne-eqb k (a .x) (λ q. omega (arith, c .if3 .taken))),
-    )
-
-smaller-requires : tie.Need-smaller-requires
-smaller-requires c κs = search needs
-
-returns-3 : tie.Need-returns-3
-returns-3 c =
-    let a = c .before .before .before .before .args in
-    let s = c .smaller .ensures in (
-      omega (arith, c .before .before .before .before .pre .0, s, c .before .if3 .left),
-      omega (arith, s),
-      λ k h m. rw (ne-eqb (a .arity) 0 (c .before .before .before .if1 .left), eq-eqb (a .arity) 1 (c .before .before .if2 .taken), ne-eqb k (a .x) (λ q. omega (arith, s))),
-    )
-
-pass-row-requires : tie.Need-pass-row-requires
-pass-row-requires c κs = search needs
-
-smaller-requires-2 : tie.Need-smaller-requires-2
-smaller-requires-2 c κs = search needs
-
-returns-4 : tie.Need-returns-4
-returns-4 c =
-    let a = c .before .before .before .before .args in
-    let p = c .before .pass-row .ensures in
-    let s = c .smaller2 .ensures in (
-      omega (arith, c .before .before .before .before .pre .0, s, p .0),
-      omega (arith, s),
-      λ k h m. rw (ne-eqb (a .arity) 0 (c .before .before .before .if1 .left), ne-eqb (a .arity) 1 (c .before .before .if2 .left)) (p .1 k h (omega (arith, s))),
-    )
+returns-2 c = let a = c .before .before .before .before .args in
+    let p = c .before .next-first .ensures in
+    let q = c .next-second .ensures in
+    (q .0, omega (arith, p .1, q .1), λ k h m. none-by (a .f .arity) (first-argument (a .f) k) (second-argument (a .f) k) (a .x) (p .2 k h (omega (arith, q .1))) (q .2 k h m))
 
 pub pass-arguments-spec : {M : Type 1} → statement M
 pass-arguments-spec =
-    tie.close
-    (tie.spec
-    returns
-    returns-2
-    smaller-requires
-    returns-3
-    pass-row-requires
-    smaller-requires-2
-    returns-4)
+    tie.close (tie.spec returns next-first-requires next-second-requires returns-2)

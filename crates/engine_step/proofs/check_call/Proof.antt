@@ -11,6 +11,7 @@ check-agent-requires c κs = search needs
 
 returns : tie.Need-returns
 returns c =
+    λ strides.
     let a = c .before .before .before .before .before .args in
     let nine = c .before .before .check-agent in
     agent-refuses (low-program (a .image .now)) (word (a .image .now) 6) (a .contents .now) (input (a .agent) (a .picks .now)) (a .lent) (nine .result) (nine .ensures) (c .if1 .taken)
@@ -20,6 +21,7 @@ check-picks-requires c κs = search needs
 
 returns-2 : tie.Need-returns-2
 returns-2 c =
+    λ strides.
     let a = c .before .before .before .before .before .before .before .before .args in
     let nine = c .before .before .before .before .before .check-agent in
     let other = c .before .before .check-picks in
@@ -31,6 +33,7 @@ check-lent-requires c κs = search needs
 
 returns-3 : tie.Need-returns-3
 returns-3 c =
+    λ strides.
     let a = c .before .before .before .before .before .before .before .before .before .before .before .args in
     let nine = c .before .before .before .before .before .before .before .before .check-agent in
     let other = c .before .before .before .before .before .check-picks in
@@ -43,12 +46,13 @@ check-contents-requires c κs = search needs
 
 returns-4 : tie.Need-returns-4
 returns-4 c =
+    λ strides.
     let a = c .before .before .before .before .before .before .before .before .before .before .before .before .args in
     let nine = c .before .before .before .before .before .before .before .before .before .check-agent in
     let other = c .before .before .before .before .before .before .check-picks in
     let two = c .before .before .before .check-lent in
     eight-last (low-program (a .image .now)) (word (a .image .now) 6) (a .contents .now) (input (a .agent) (a .picks .now)) (a .lent) (nine .result) (nine .ensures) (c .before .before .before .before .before .before .before .if1 .left)
-    (other .result) (other .ensures) (c .before .before .before .before .if2 .left) (two .result) (two .ensures) (c .before .if3 .left) (c .check-contents .result) (c .check-contents .ensures)
+    (other .result) (other .ensures) (c .before .before .before .before .if2 .left) (two .result) (two .ensures) (c .before .if3 .left) (c .check-contents .result) (c .check-contents .ensures strides)
 
 pub check-call-spec : {M : Type 1} → statement M
 check-call-spec =

@@ -41,18 +41,18 @@ answer-at-requires-2 : tie.Need-answer-at-requires-2
 answer-at-requires-2 c κs = search needs
 
 returns : tie.Need-returns
-returns c = let a = c .before .before .before .before .before .before .before .before .before .args in
+returns c = λ strides. let a = c .before .before .before .before .before .before .before .before .before .args in
     let B = low-program (a .image .now) in
     let n = c .before .before .before .before .before .before .smaller .result in
     let e : n ≡ min (word (a .image .now) 6) (length (a .contents .now)) = omega (arith, c .before .before .before .before .before .before .smaller .ensures, c .before .before .before .before .before .before .before .locations .ensures) in
-    c .answer-at .ensures ∙ value-bad B (take n (a .contents .now)) _ (sym (c .before .before .before .before .bad-value .ensures) ∙ c .before .before .found .given .1) ∙ ap (λ (x : List ℕ). answer-of (check-contents B x)) (taken _ n (a .contents .now) e)
+    c .answer-at .ensures ∙ value-bad B (take n (a .contents .now)) _ (sym (c .before .before .before .before .bad-value .ensures strides) ∙ c .before .before .found .given .1) ∙ ap (λ (x : List ℕ). answer-of (check-contents B x)) (taken _ n (a .contents .now) e)
 
 returns-2 : tie.Need-returns-2
-returns-2 c = let a = c .before .before .before .before .before .before .before .before .args in
+returns-2 c = λ strides. let a = c .before .before .before .before .before .before .before .before .args in
     let B = low-program (a .image .now) in
     let n = c .before .before .before .before .before .smaller .result in
     let e : n ≡ min (word (a .image .now) 6) (length (a .contents .now)) = omega (arith, c .before .before .before .before .before .smaller .ensures, c .before .before .before .before .before .before .locations .ensures) in
-    c .answer-at2 .ensures ∙ values-fine B (take n (a .contents .now)) (sym (c .before .before .before .bad-value .ensures) ∙ c .before .enum-told .given .1) ∙ ap (λ (x : List ℕ). answer-of (check-contents B x)) (taken _ n (a .contents .now) e)
+    c .answer-at2 .ensures ∙ values-fine B (take n (a .contents .now)) (sym (c .before .before .before .bad-value .ensures strides) ∙ c .before .enum-told .given .1) ∙ ap (λ (x : List ℕ). answer-of (check-contents B x)) (taken _ n (a .contents .now) e)
 
 pub check-contents-spec : {M : Type 1} → statement M
 check-contents-spec =

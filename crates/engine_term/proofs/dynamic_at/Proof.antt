@@ -3,6 +3,8 @@ use mathlib.Core.Path.{_∙_}
 use borrow.Author.Needs.{needs}
 use Rattle.engine_term.proofs.dynamic_at.Statement.{statement}
 use Rattle.engine_term.proofs.dynamic_at.Tie as tie
+use Rattle.book_parts.proofs.is_dynamic.Reads as is-dynamic-reads
+use Rattle.book_parts.proofs.owner_of.Reads as owner-of-reads
 
 owner-of-requires : tie.Need-owner-of-requires
 owner-of-requires c κs = search needs

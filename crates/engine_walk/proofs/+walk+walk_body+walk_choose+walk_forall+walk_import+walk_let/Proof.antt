@@ -5,15 +5,16 @@ use mathlib.Core.List.{List}
 use Prim.Native.Nat.{ℕ, _+_, _*_, _-_, _<_, _≤_}
 use native.Mathlib.Omega.{arith}
 use lib.ListN.{length, set}
-use Rattle.book.specs.Book.{node-at}
+use Rattle.book.specs.Book.{node-at, location}
 use Rattle.engine.specs.Reader.{Reader}
 use Rattle.engine.specs.Rule.{Walk, Walked, after, lowest, import-of, each as for-each, walk as walked, rule-from}
 use Rattle.engine.proofs.Steps.{rule-last, rule-assign, rule-bind, rule-for-all, rule-import, rule-release, rule-choose, no-rule-at}
 use Rattle.engine_term.specs.Bindings.{variables-of, agent-of, value-at}
 use Rattle.book_parts.specs.StoredNodes.{stored-node}
-use Rattle.book.specs.Image.{low-function, low-program}
-use Rattle.engine_term.specs.Marks.{Runs}
-use Rattle.engine_term.proofs.Marking.{runs-bind, runs-as}
+use Rattle.book.specs.Image.{low-program}
+use Rattle.engine_term.specs.Marks.{Has, Placed, Runs}
+use Rattle.engine_term.proofs.Marking.{runs-given, runs-bind, runs-as}
+use Rattle.engine_term.proofs.Leaves.{at-one, named-universe}
 use Rattle.engine_emit.specs.Emit.{picks-left, walk-from, reached, importing-found, next-pick, picked}
 use Rattle.engine_emit.proofs.Steps.{reached-walking, reached-refused}
 use Rattle.engine_reads.specs.Marking.{found-below, members-from, first-and-rest}
@@ -52,6 +53,7 @@ use Rattle.engine_reads.proofs.read_universe.Reads as read-universe-reads
 use Rattle.engine_reads.proofs.mark_universe.Reads as mark-universe-reads
 use Rattle.book_image.proofs.elements.Reads as elements-reads
 use Rattle.engine_term.proofs.eval.Reads as eval-reads
+use Rattle.engine_term.proofs.location.Reads as location-reads
 use Rattle.book_image.proofs.function_at.Reads as function-at-reads
 use Rattle.book_parts.proofs.node.Reads as node-reads
 use Rattle.engine_walk.proofs.walk_assign.Reads as walk-assign-reads
@@ -119,10 +121,10 @@ abbrev claims-walk-choose : ℕ → walk-choose-lts.Claims
 claims-walk-choose t = (next-pick-reads.Asked, next-pick-reads.Learnt, read-universe-reads.Asked, read-universe-reads.Learnt, take-pick-reads.Asked, take-pick-reads.Learnt, walk-body-below t, walk-body.Post)
 
 abbrev claims-walk-forall : ℕ → walk-forall-lts.Claims
-claims-walk-forall t = (mark-universe-reads.Asked, mark-universe-reads.Learnt, elements-reads.Asked, elements-reads.Learnt, function-at-reads.Asked, function-at-reads.Learnt, next-member-reads.Asked, next-member-reads.Learnt, walk-body-below t, walk-body.Post)
+claims-walk-forall t = (elements-reads.Asked, elements-reads.Learnt, function-at-reads.Asked, function-at-reads.Learnt, mark-universe-reads.Asked, mark-universe-reads.Learnt, next-member-reads.Asked, next-member-reads.Learnt, walk-body-below t, walk-body.Post)
 
 abbrev claims-walk-import : ℕ → walk-import-lts.Claims
-claims-walk-import t = (lowest-label-reads.Asked, lowest-label-reads.Learnt, import-label-reads.Asked, import-label-reads.Learnt, walk-body-below t, walk-body.Post)
+claims-walk-import t = (lowest-label-reads.Asked, lowest-label-reads.Learnt, location-reads.Asked, location-reads.Learnt, import-label-reads.Asked, import-label-reads.Learnt, walk-body-below t, walk-body.Post)
 
 abbrev claims-walk-let : ℕ → walk-let-lts.Claims
 claims-walk-let t = (eval-reads.Asked, eval-reads.Learnt, walk-body-below t, walk-body.Post)
@@ -163,11 +165,11 @@ walk-choose-returns t c =
     let v = c .before .before .before .before .before .before .before .before .before .before .read-universe in
     let is : y .result ≡ next-pick (B .E) ys = y .ensures in
     let took : reached (picks-left (a .picks .now) (p .last .1 .0)) (p .result) (a .list .now) ≡ picked (v .result) (a .n) w ys = p .ensures (a .list .now) ∙ rw (reached-walking ys (a .s) (a .list .now) (c .before .before .before .before .before .before .before .before .before .before .before .before .before .before .before .before .before .pre .1)) in
-    runs-choose B (a .contents .now) (a .bit) (a .n) (x .b) w body (v .result) _ _ _ _ ys (rw is at (v .ensures)) (rw (took, is) at (c .before .before .walk-body .ensures))
+    λ has. runs-choose B (a .contents .now) (a .bit) (a .n) (x .b) w body (v .result) _ _ _ _ ys (rw is at (v .ensures has)) (rw (took, is) at (c .before .before .walk-body .ensures))
 
 abbrev each-Inv-loop : walk-forall-lts.InvT-loop
 each-Inv-loop image contents readers₀ bit list₀ picks used₀ bindings depth row e f r₀ y₀ readers list used r y =
-    (length readers ≡ length readers₀) × ((z : Walked) (n : List ℕ)
+    (length readers ≡ length readers₀) × (Has (low-program image) (row .b) 1 → (z : Walked) (n : List ℕ)
     → Runs (low-program image) contents bit (after (reached (picks-left picks used) r list) (for-each (body-at image bindings depth (row .c) (row .a)) (first-and-rest (low-program image) contents (row .b) y))) z readers n
     → Runs (low-program image) contents bit (after (reached (picks-left picks used₀) r₀ list₀) (for-each (body-at image bindings depth (row .c) (row .a)) (members-from (low-program image) contents (row .b) 0))) z readers₀ n)
 
@@ -195,7 +197,8 @@ walk-forall-loop-holds t c =
     let B = low-program (a .image .now) in
     let f : ℕ → Walk → Reader Walked = body-at (a .image .now) (a .bindings .now) (a .depth) (a .node .c) (a .node .a) in (
       refl,
-      λ z n h. sweep-as B (a .contents .now) (a .bit) (a .node .b) f _ _ (reached (picks-left (a .picks .now) (a .used .now)) (a .s) (a .list .now)) z _ n (members-next B (a .contents .now) (a .node .b) (low-function (c .before .function-at .result)) (c .before .before .before .elements .result) 0 (c .next-member .result) (function-held _ _ _ (c .before .function-at .ensures)) (elements-held _ _ (c .before .before .before .elements .ensures) .0) (c .next-member .ensures .1)) h,
+      λ has z n h. runs-given B (a .contents .now) (a .bit) _ _ _ _ (λ p.
+          sweep-as B (a .contents .now) (a .bit) (a .node .b) f _ _ (reached (picks-left (a .picks .now) (a .used .now)) (a .s) (a .list .now)) z _ n (members-next B p (a .contents .now) (a .node .b) has (c .before .before .before .before .before .function-at .result) (c .before .before .before .before .before .before .before .elements .result) 0 (c .next-member .result) (function-held _ _ _ (c .before .before .before .before .before .function-at .ensures)) (elements-held _ _ (c .before .before .before .before .before .before .before .elements .ensures) .0) (c .next-member .ensures .1)) h),
     )
 
 walk-forall-within-requires : (t : ℕ) → walk-forall-lts.Need-walk-body-requires (claims-walk-forall t) (walk-forall-at t) walk-forall.Post each-Inv-loop each-μ-loop
@@ -211,9 +214,9 @@ walk-forall-returns t c =
     let f : ℕ → Walk → Reader Walked = body-at (a .image .now) (a .bindings .now) (a .depth) (a .node .c) (a .node .a) in
     let l = c .before .before .before .before .before .before .before .before .before .loop in
     let k = c .before .before .before .before .walk-body in
-    let h : l .y < B .E = rw (← elements-held _ _ (c .before .before .before .before .before .before .before .before .before .before .before .before .before .elements .ensures) .0) (c .before .before .before .before .before .before .before .before .loop-test .taken) in
-    runs-for-all B (a .contents .now) (a .bit) (agent-of (a .bindings .now)) (variables-of (a .bindings .now)) (a .node .a) (a .node .b) (rule-from (node-at B) (a .depth) (a .node .c)) (picks-left (a .picks .now) (a .used .now)) (a .s) (a .list .now) _ _ _ _ (c .before .before .before .before .before .before .before .before .before .before .before .before .before .before .before .before .before .before .before .before .before .pre .1) (λ p. c .before .before .before .before .before .before .before .before .before .before .before .before .before .before .before .before .mark-universe .ensures ∙ universe-placed B p (a .contents .now) (a .node .b) (a .bit) (a .readers .now))
-    (l .inv .1 _ _
+    let h : l .y < B .E = rw (← elements-held _ _ (c .before .before .before .before .before .before .before .before .before .before .before .before .before .before .before .before .before .elements .ensures) .0) (c .before .before .before .before .before .before .before .before .loop-test .taken) in
+    λ has. runs-for-all B (a .contents .now) (a .bit) (agent-of (a .bindings .now)) (variables-of (a .bindings .now)) (a .node .a) (a .node .b) (rule-from (node-at B) (a .depth) (a .node .c)) (picks-left (a .picks .now) (a .used .now)) (a .s) (a .list .now) _ _ _ _ (c .before .before .before .before .before .before .before .before .before .before .before .before .before .before .before .before .before .before .before .before .before .pre .1) (λ p. c .before .before .before .before .before .before .before .before .before .before .before .before .before .mark-universe .ensures ∙ rw (function-held _ _ _ (c .before .before .before .before .before .before .before .before .before .before .before .before .before .before .before .function-at .ensures), elements-held _ _ (c .before .before .before .before .before .before .before .before .before .before .before .before .before .before .before .before .before .elements .ensures) .0) (universe-placed B p (a .node .b) has (a .contents .now) (a .bit) (a .readers .now)))
+    (l .inv .1 has _ _
     (sweep-more B (a .contents .now) (a .bit) (a .node .b) f (l .y) (reached (picks-left (a .picks .now) (l .used)) (l .r) (l .list)) _ _ _ _ _ h (k .ensures)
     (runs-refused B (a .contents .now) (a .bit) _ _ _ _ _ (reached-refused _ (k .result) _ (c .if1 .taken)))))
 
@@ -233,11 +236,12 @@ walk-forall-loop-again t c =
     let f : ℕ → Walk → Reader Walked = body-at (a .image .now) (a .bindings .now) (a .depth) (a .node .c) (a .node .a) in
     let l = c .before .before .before .before .before .before .before .before .before .before .loop in
     let k = c .before .before .before .before .before .walk-body in
-    let h : l .y < B .E = rw (← elements-held _ _ (c .before .before .before .before .before .before .before .before .before .before .before .before .before .before .elements .ensures) .0) (c .before .before .before .before .before .before .before .before .before .loop-test .taken) in (
+    let h : l .y < B .E = rw (← elements-held _ _ (c .before .before .before .before .before .before .before .before .before .before .before .before .before .before .before .before .before .before .elements .ensures) .0) (c .before .before .before .before .before .before .before .before .before .loop-test .taken) in (
       k .kept .1 .1 .0 ∙ l .inv .0,
-      λ z n t. l .inv .1 z n
+      λ has z n t. l .inv .1 has z n
           (sweep-more B (a .contents .now) (a .bit) (a .node .b) f (l .y) (reached (picks-left (a .picks .now) (l .used)) (l .r) (l .list)) _ z _ _ n h (k .ensures)
-          (sweep-as B (a .contents .now) (a .bit) (a .node .b) f _ _ (reached (picks-left (a .picks .now) (k .last .1 .1 .1 .1 .1 .1 .0)) (k .result) (k .last .1 .1 .1 .1 .0)) z _ n (members-next B (a .contents .now) (a .node .b) (low-function (c .before .before .before .before .before .before .before .before .before .before .before .before .function-at .result)) (c .before .before .before .before .before .before .before .before .before .before .before .before .before .before .elements .result) (l .y + 1) (c .next-member2 .result) (function-held _ _ _ (c .before .before .before .before .before .before .before .before .before .before .before .before .function-at .ensures)) (elements-held _ _ (c .before .before .before .before .before .before .before .before .before .before .before .before .before .before .elements .ensures) .0) (c .next-member2 .ensures .1)) t)),
+          (runs-given B (a .contents .now) (a .bit) _ _ _ _ (λ p.
+          sweep-as B (a .contents .now) (a .bit) (a .node .b) f _ _ (reached (picks-left (a .picks .now) (k .last .1 .1 .1 .1 .1 .1 .0)) (k .result) (k .last .1 .1 .1 .1 .0)) z _ n (members-next B p (a .contents .now) (a .node .b) has (c .before .before .before .before .before .before .before .before .before .before .before .before .before .before .before .before .function-at .result) (c .before .before .before .before .before .before .before .before .before .before .before .before .before .before .before .before .before .before .elements .result) (l .y + 1) (c .next-member2 .result) (function-held _ _ _ (c .before .before .before .before .before .before .before .before .before .before .before .before .before .before .before .before .function-at .ensures)) (elements-held _ _ (c .before .before .before .before .before .before .before .before .before .before .before .before .before .before .before .before .before .before .elements .ensures) .0) (c .next-member2 .ensures .1)) t))),
     )
 
 walk-forall-same-length-2 : (t : ℕ) → walk-forall-lts.Need-same-length-2 (claims-walk-forall t) (walk-forall-at t) walk-forall.Post each-Inv-loop each-μ-loop
@@ -249,12 +253,15 @@ walk-forall-returns-2 t c =
     let B = low-program (a .image .now) in
     let f : ℕ → Walk → Reader Walked = body-at (a .image .now) (a .bindings .now) (a .depth) (a .node .c) (a .node .a) in
     let l = c .before .loop in
-    let h : B .E ≤ l .y = rw (← elements-held _ _ (c .before .before .before .before .before .elements .ensures) .0) (c .loop-test .left) in
-    runs-for-all B (a .contents .now) (a .bit) (agent-of (a .bindings .now)) (variables-of (a .bindings .now)) (a .node .a) (a .node .b) (rule-from (node-at B) (a .depth) (a .node .c)) (picks-left (a .picks .now) (a .used .now)) (a .s) (a .list .now) _ _ _ _ (c .before .before .before .before .before .before .before .before .before .before .before .before .before .pre .1) (λ p. c .before .before .before .before .before .before .before .before .mark-universe .ensures ∙ universe-placed B p (a .contents .now) (a .node .b) (a .bit) (a .readers .now))
-    (l .inv .1 _ _ (sweep-end B (a .contents .now) (a .bit) (a .node .b) f (l .y) (reached (picks-left (a .picks .now) (l .used)) (l .r) (l .list)) (l .readers) h))
+    let h : B .E ≤ l .y = rw (← elements-held _ _ (c .before .before .before .before .before .before .before .before .before .elements .ensures) .0) (c .loop-test .left) in
+    λ has. runs-for-all B (a .contents .now) (a .bit) (agent-of (a .bindings .now)) (variables-of (a .bindings .now)) (a .node .a) (a .node .b) (rule-from (node-at B) (a .depth) (a .node .c)) (picks-left (a .picks .now) (a .used .now)) (a .s) (a .list .now) _ _ _ _ (c .before .before .before .before .before .before .before .before .before .before .before .before .before .pre .1) (λ p. c .before .before .before .before .before .mark-universe .ensures ∙ rw (function-held _ _ _ (c .before .before .before .before .before .before .before .function-at .ensures), elements-held _ _ (c .before .before .before .before .before .before .before .before .before .elements .ensures) .0) (universe-placed B p (a .node .b) has (a .contents .now) (a .bit) (a .readers .now)))
+    (l .inv .1 has _ _ (sweep-end B (a .contents .now) (a .bit) (a .node .b) f (l .y) (reached (picks-left (a .picks .now) (l .used)) (l .r) (l .list)) (l .readers) h))
 
 walk-import-lowest-requires : (t : ℕ) → walk-import-lts.Need-lowest-label-requires (claims-walk-import t) (walk-import-at t) walk-import.Post
 walk-import-lowest-requires t c κs = search needs
+
+walk-import-location-requires : (t : ℕ) → walk-import-lts.Need-location-requires (claims-walk-import t) (walk-import-at t) walk-import.Post
+walk-import-location-requires t c κs = search needs
 
 walk-import-enroll-requires : (t : ℕ) → walk-import-lts.Need-import-label-requires (claims-walk-import t) (walk-import-at t) walk-import.Post
 walk-import-enroll-requires t c κs = search needs
@@ -268,17 +275,22 @@ walk-import-same-length t c = search needs
 walk-import-returns : (t : ℕ) → walk-import-lts.Need-returns (claims-walk-import t) (walk-import-at t) walk-import.Post
 unfolding walked
 walk-import-returns t c =
-    let a = c .before .before .before .before .before .before .before .before .before .before .before .before .before .before .before .args in
+    let a = c .before .before .before .before .before .before .before .before .before .before .before .before .before .before .before .before .args in
     let m = a .image .now in
     let B = low-program m in
     let x = a .node in
-    let w = walk-from (picks-left (a .picks .now) (a .used .now)) (a .s) (a .list .now) in
+    let ys = picks-left (a .picks .now) (a .used .now) in
+    let w = walk-from ys (a .s) (a .list .now) in
     let body : ℕ → Walk → Reader Walked = body-at m (a .bindings .now) (a .depth) (x .c) (x .a) in
-    let y = c .before .before .before .before .before .before .before .before .before .before .lowest-label .result in
-    let enrolled : reached (picks-left (a .picks .now) (a .used .now)) (c .before .before .before .before .before .before .import-label .result) (c .before .before .before .before .before .before .import-label .last .1 .0) ≡ importing-found B (x .b) y (a .n) w = c .before .before .before .before .before .before .import-label .ensures (picks-left (a .picks .now) (a .used .now)) ∙ rw (reached-walking (picks-left (a .picks .now) (a .used .now)) (a .s) (a .list .now) (c .before .before .before .before .before .before .before .before .before .before .before .before .before .before .before .pre .1)) in
-    runs-bind B (a .contents .now) (a .bit) (lowest (a .s .label) (B .E - a .s .label)) (λ o. import-of B (a .n) (x .b) w body o) (found-below (B .E) y) _ _ _ _ (c .before .before .before .before .before .before .before .before .before .before .lowest-label .ensures)
-    (runs-as B (a .contents .now) (a .bit) _ _ _ _ _ (import-as B (a .n) (x .b) y w body)
-    (rw (← enrolled) (c .before .before .walk-body .ensures)))
+    let y = c .before .before .before .before .before .before .before .before .before .before .before .lowest-label .result in
+    let taken = c .before .before .before .before .before .before .import-label in
+    λ has.
+    let enrolled : Placed B → reached ys (taken .result) (taken .last .1 .0) ≡ importing-found (B .E) (location B (x .b) y 0) y (a .n) w = λ p.
+    taken .ensures ys ∙ rw (reached-walking ys (a .s) (a .list .now) (c .before .before .before .before .before .before .before .before .before .before .before .before .before .before .before .before .pre .1), c .before .before .before .before .before .before .before .before .location .ensures _ (at-one B (x .b) y has) p) in
+    runs-bind B (a .contents .now) (a .bit) (lowest (a .s .label) (B .E - a .s .label)) (λ o. import-of B (a .n) (x .b) w body o) (found-below (B .E) y) _ _ _ _ (c .before .before .before .before .before .before .before .before .before .before .before .lowest-label .ensures)
+    (runs-given B (a .contents .now) (a .bit) _ _ _ _ (λ p.
+    runs-as B (a .contents .now) (a .bit) _ _ _ _ _ (import-as B (a .n) (x .b) y w body)
+    (rw (← enrolled p) (c .before .before .walk-body .ensures))))
 
 walk-let-eval-requires : (t : ℕ) → walk-let-lts.Need-eval-requires (claims-walk-let t) (walk-let-at t) walk-let.Post
 walk-let-eval-requires t c κs = search needs
@@ -382,7 +394,7 @@ walk-returns-4 t c =
     l .inv .2 _ _
     (runs-rule B (a .contents .now) (a .bit) (agent-of (a .bindings .now)) (variables-of (a .bindings .now)) (rule-from (node-at B) (l .left) (l .at)) _ (picks-left (a .picks .now) (l .used)) (l .r) (l .list) _ _ _ (c .before .before .before .before .before .before .before .before .before .before .if1 .left)
     (rule-for-all (node-at B) (l .left) (l .at) (stored-node (c .before .before .before .before .before .before .before .before .before .node .result)) (c .before .before .before .before .before .before .before .before .before .before .before .before .loop-test .taken) (c .before .before .before .before .before .before .before .before .before .node .ensures) (c .before .before .before .before .before .before .match .keys5))
-    (c .before .before .walk-forall .ensures))
+    (runs-given B (a .contents .now) (a .bit) _ _ _ _ (λ p. c .before .before .walk-forall .ensures (named-universe B p (l .at) (stored-node (c .before .before .before .before .before .before .before .before .before .node .result)) (c .before .before .before .before .before .before .before .before .before .node .ensures) (inl (c .before .before .before .before .before .before .match .keys5))))))
 
 walk-import-requires : (t : ℕ) → walk-lts.Need-walk-import-requires (claims-walk t) (walk-at t) walk.Post walk-Inv-loop walk-μ-loop
 walk-import-requires t c κs = search needs
@@ -398,7 +410,7 @@ walk-returns-5 t c =
     l .inv .2 _ _
     (runs-rule B (a .contents .now) (a .bit) (agent-of (a .bindings .now)) (variables-of (a .bindings .now)) (rule-from (node-at B) (l .left) (l .at)) _ (picks-left (a .picks .now) (l .used)) (l .r) (l .list) _ _ _ (c .before .before .before .before .before .before .before .before .before .before .if1 .left)
     (rule-import (node-at B) (l .left) (l .at) (stored-node (c .before .before .before .before .before .before .before .before .before .node .result)) (c .before .before .before .before .before .before .before .before .before .before .before .before .loop-test .taken) (c .before .before .before .before .before .before .before .before .before .node .ensures) (c .before .before .before .before .before .before .match .keys6))
-    (c .before .before .walk-import .ensures))
+    (runs-given B (a .contents .now) (a .bit) _ _ _ _ (λ p. c .before .before .walk-import .ensures (named-universe B p (l .at) (stored-node (c .before .before .before .before .before .before .before .before .before .node .result)) (c .before .before .before .before .before .before .before .before .before .node .ensures) (inr (inl (c .before .before .before .before .before .before .match .keys6)))))))
 
 walk-release-requires : (t : ℕ) → walk-lts.Need-walk-release-requires (claims-walk t) (walk-at t) walk.Post walk-Inv-loop walk-μ-loop
 walk-release-requires t c κs = search needs
@@ -430,7 +442,7 @@ walk-returns-7 t c =
     l .inv .2 _ _
     (runs-rule B (a .contents .now) (a .bit) (agent-of (a .bindings .now)) (variables-of (a .bindings .now)) (rule-from (node-at B) (l .left) (l .at)) _ (picks-left (a .picks .now) (l .used)) (l .r) (l .list) _ _ _ (c .before .before .before .before .before .before .before .before .before .before .if1 .left)
     (rule-choose (node-at B) (l .left) (l .at) (stored-node (c .before .before .before .before .before .before .before .before .before .node .result)) (c .before .before .before .before .before .before .before .before .before .before .before .before .loop-test .taken) (c .before .before .before .before .before .before .before .before .before .node .ensures) (c .before .before .before .before .before .before .match .keys8))
-    (c .before .before .walk-choose .ensures))
+    (runs-given B (a .contents .now) (a .bit) _ _ _ _ (λ p. c .before .before .walk-choose .ensures (named-universe B p (l .at) (stored-node (c .before .before .before .before .before .before .before .before .before .node .result)) (c .before .before .before .before .before .before .before .before .before .node .ensures) (inr (inr (c .before .before .before .before .before .before .match .keys8)))))))
 
 walk-same-length-8 : (t : ℕ) → walk-lts.Need-same-length-8 (claims-walk t) (walk-at t) walk.Post walk-Inv-loop walk-μ-loop
 walk-same-length-8 t c = search needs
@@ -591,10 +603,10 @@ pub +walk+walk-body+walk-choose+walk-forall+walk-import+walk-let-spec : {M : Typ
     walk-forall.Post
     each-Inv-loop
     each-μ-loop
-    (walk-forall-universe-requires t)
     (walk-forall-elements-requires t)
     (walk-forall-cast-function-at t)
     (walk-forall-function-at-requires t)
+    (walk-forall-universe-requires t)
     (walk-forall-next-member-requires t)
     (walk-forall-loop-holds t)
     (walk-forall-within-requires t)
@@ -610,6 +622,7 @@ pub +walk+walk-body+walk-choose+walk-forall+walk-import+walk-let-spec : {M : Typ
     (walk-import-at t)
     walk-import.Post
     (walk-import-lowest-requires t)
+    (walk-import-location-requires t)
     (walk-import-enroll-requires t)
     (walk-import-within-requires t)
     (walk-import-same-length t)

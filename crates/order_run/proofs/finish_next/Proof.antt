@@ -32,7 +32,7 @@ returns c =
           let l = low (a .image .now) (a .order .now) g s (a .t) (w .old .contents) (w .old .readers) (w .old .writers) (w .next) in
           rw (c .run-over .ensures)
           (finish-off (a .image .now) (a .order .now) g s (a .t) (a .s) (a .list .now) (a .contents .now) (a .readers .now) (a .writers .now) w (f .result)
-          (f .last .1 .0) (f .last .1 .1 .0) (f .last .1 .1 .1 .0) (b .result) (b .ensures l) (f .ensures) (c .before .if1 .taken))),
+          (f .last .1 .0) (f .last .1 .1 .0) (f .last .1 .1 .1 .0) (b .result) (b .ensures l) (f .ensures (w .next .before .runs .lawful .strides)) (c .before .if1 .taken))),
       rw (c .run-over .ensures) (omega arith),
     )
 
@@ -64,7 +64,7 @@ returns-2 c =
       (λ g s w.
           let l = low (a .image .now) (a .order .now) g s (a .t) (w .old .contents) (w .old .readers) (w .old .writers) (w .next) in
           finish-on (a .image .now) (a .order .now) g s (a .t) (a .s) (a .list .now) (a .contents .now) (a .readers .now) (a .writers .now) w (f .result)
-          (f .last .1 .0) (f .last .1 .1 .0) (f .last .1 .1 .1 .0) (b .result) (b .ensures l) (f .ensures) (c .before .before .before .before .before .if1 .left) (c .next-move .result) (n .result)
+          (f .last .1 .0) (f .last .1 .1 .0) (f .last .1 .1 .1 .0) (b .result) (b .ensures l) (f .ensures (w .next .before .runs .lawful .strides)) (c .before .before .before .before .before .if1 .left) (c .next-move .result) (n .result)
           (n .ensures .0 l) (t .result) (t .ensures .0) (t .ensures .1) (c .next-move .ensures .0 (a .image .now) s (f .last .1 .0) g)),
       omega (arith, c .next-move .ensures .1, n .ensures .1),
     )

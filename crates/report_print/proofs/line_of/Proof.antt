@@ -1,24 +1,21 @@
 -- `line_of` meets its contract.
+use native.Mathlib.Nat.{div-le-self, mod-le}
+use native.Mathlib.Omega.{arith}
 use borrow.Author.Needs.{needs}
-use borrow.Author.Tests.{eq-eqb, ne-eqb}
-use Rattle.report_print.proofs.Lines.{elements-some}
 use Rattle.report_print.proofs.line_of.Statement.{statement}
 use Rattle.report_print.proofs.line_of.Tie as tie
 
-div-x : tie.Need-div-x
-div-x c = let a = c .before .before .before .before .args in let h = elements-some (a .e) (a .f) (a .k) (a .i) (a .v) (c .before .before .if1 .left) (c .if2 .left) (c .before .before .before .before .pre) in search needs
+take-apart-requires : tie.Need-take-apart-requires
+take-apart-requires c κs = search needs
 
-rem-y : tie.Need-rem-y
-rem-y c = let a = c .before .before .before .before .args in let h = elements-some (a .e) (a .f) (a .k) (a .i) (a .v) (c .before .before .if1 .left) (c .if2 .left) (c .before .before .before .before .pre) in search needs
+cast-t7 : tie.Need-cast-t7
+cast-t7 c = let a = c .before .before .args in record { fits = omega (arith, c .before .take-apart .ensures .0, div-le-self (a .i) (a .f .stride), c .before .before .fits .i .fits) }
+
+cast-t8 : tie.Need-cast-t8
+cast-t8 c = let a = c .before .before .before .args in record { fits = omega (arith, c .before .before .take-apart .ensures .1, mod-le (a .i) (a .f .stride), c .before .before .before .fits .i .fits) }
 
 returns : tie.Need-returns
-returns c = simp (eq-eqb _ _ (c .if1 .taken))
-
-returns-2 : tie.Need-returns-2
-returns-2 c = simp (ne-eqb _ _ (c .before .before .if1 .left), eq-eqb _ _ (c .if2 .taken))
-
-returns-3 : tie.Need-returns-3
-returns-3 c = simp (ne-eqb _ _ (c .before .before .if1 .left), ne-eqb _ _ (c .if2 .left))
+returns c = rw (c .before .before .take-apart .ensures .0, c .before .before .take-apart .ensures .1)
 
 pub line-of-spec : {M : Type 1} → statement M
-line-of-spec = tie.close (tie.spec div-x rem-y returns returns-2 returns-3)
+line-of-spec = tie.close (tie.spec take-apart-requires cast-t7 cast-t8 returns)

@@ -27,13 +27,13 @@ same-length : tie.Need-same-length
 same-length c = search needs
 
 returns : tie.Need-returns
-returns c = let a = c .before .before .before .before .before .before .before .before .before .before .before .before .args in let p = c .before .before .before .before .before .before .print-contents in let w = c .before .before .write-line in prints-accepted (program-in (a .image .now)) (a .answer) (a .contents .now) (a .out .now) (p .last .1 .1 .0) (w .last .0) (p .result) (c .before .before .before .before .before .before .before .before .if1 .taken) (p .ensures .0) (p .ensures .1) (w .ensures)
+returns c strided = let a = c .before .before .before .before .before .before .before .before .before .before .before .before .args in let p = c .before .before .before .before .before .before .print-contents in let w = c .before .before .write-line in prints-accepted (program-in (a .image .now)) (a .answer) (a .contents .now) (a .out .now) (p .last .1 .1 .0) (w .last .0) (p .result) (c .before .before .before .before .before .before .before .before .if1 .taken) (p .ensures strided .0) (p .ensures strided .1) (w .ensures)
 
 same-length-2 : tie.Need-same-length-2
 same-length-2 c = search needs
 
 returns-2 : tie.Need-returns-2
-returns-2 c = let a = c .before .before .before .before .before .before .before .before .args in let w = c .before .before .write-line2 in prints-refused (program-in (a .image .now)) (a .answer) (a .contents .now) (a .out .now) (w .last .0) (c .before .before .before .before .if1 .left) (w .ensures)
+returns-2 c strided = let a = c .before .before .before .before .before .before .before .before .args in let w = c .before .before .write-line2 in prints-refused (program-in (a .image .now)) (a .answer) (a .contents .now) (a .out .now) (w .last .0) (c .before .before .before .before .if1 .left) (w .ensures)
 
 pub print-answer-spec : {M : Type 1} → statement M
 print-answer-spec =

@@ -25,7 +25,7 @@ same-length : tie.Need-same-length
 same-length c = search needs
 
 returns : tie.Need-returns
-returns c = rw (← (c .before .before .before .before .before .before .locations .ensures), ← (c .before .before .before .before .before .smaller .ensures)) (c .before .before .print-answer .ensures)
+returns c strided = rw (← (c .before .before .before .before .before .before .locations .ensures), ← (c .before .before .before .before .before .smaller .ensures)) (c .before .before .print-answer .ensures strided)
 
 pub print-image-spec : {M : Type 1} → statement M
 print-image-spec =

@@ -10,7 +10,7 @@ default-of-requires : tie.Need-default-of-requires
 default-of-requires c κs = search needs
 
 returns : tie.Need-returns
-returns c = let a = c .before .before .before .args in put-nothing (a .n) (location-lines (a .e) (a .f) (a .k) (a .i) (a .v)) (a .out .now) (shown-none (a .e) (a .f) (a .k) (a .i) (a .v) (c .if1 .taken ∙ c .before .default-of .ensures))
+returns c = let a = c .before .before .before .args in put-nothing (a .n) (location-lines (a .f) (a .k) (a .i) (a .v)) (a .out .now) (shown-none (a .f) (a .k) (a .i) (a .v) (c .if1 .taken ∙ c .before .default-of .ensures))
 
 line-of-requires : tie.Need-line-of-requires
 line-of-requires c κs = search needs
@@ -31,7 +31,7 @@ same-length : tie.Need-same-length
 same-length c = search needs
 
 returns-2 : tie.Need-returns-2
-returns-2 c = let a = c .before .before .before .before .before .before .before .before .args in let s = shown-one (a .e) (a .f) (a .k) (a .i) (a .v) (λ q. c .before .before .before .before .before .if1 .left (q ∙ sym (c .before .before .before .before .before .before .default-of .ensures))) in let p = put-single (a .n) (location-lines (a .e) (a .f) (a .k) (a .i) (a .v)) (line-for (a .e) (a .f) (a .k) (a .i) (a .v)) (a .out .now) s in (p .0, rw (c .before .before .write-line .ensures, c .before .before .before .before .line-of .ensures) (p .1))
+returns-2 c = let a = c .before .before .before .before .before .before .before .before .args in let s = shown-one (a .f) (a .k) (a .i) (a .v) (λ q. c .before .before .before .before .before .if1 .left (q ∙ sym (c .before .before .before .before .before .before .default-of .ensures))) in let p = put-single (a .n) (location-lines (a .f) (a .k) (a .i) (a .v)) (line-for (a .f) (a .k) (a .i) (a .v)) (a .out .now) s in (p .0, rw (c .before .before .write-line .ensures, c .before .before .before .before .line-of .ensures) (p .1))
 
 pub print-location-spec : {M : Type 1} → statement M
 print-location-spec =
