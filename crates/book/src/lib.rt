@@ -1,4 +1,5 @@
 // The rule book: the bounds of its counts, and what its lines say.
+#![tactic(auto)]
 
 // The greatest counts of a book (SPECIFICATION 11.1).
 pub const MOST_ELEMENTS: u32 = 10000;

@@ -1,5 +1,7 @@
 // The whole check of a book, refusals 1 and 3 to 8 in the order of SPECIFICATION 3. Each line is read once; from a contents line at
 // fault on, the form is read again.
+#![tactic(auto)]
+
 ghost use Rattle.std.specs.Prelude.{◌≡◌, List, ℕ, ◌≤◌, length};
 ghost use Rattle.text.specs.declared.Found.TheVariants.{Nowhere};
 ghost use Rattle.text.specs.Words.{least, answer_of};

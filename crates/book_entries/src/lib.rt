@@ -1,4 +1,6 @@
 // Refusals 1 and 8 on the contents lines of a book, in one pass over its text and the image of its program.
+#![tactic(auto)]
+
 ghost use Rattle.std.specs.Prelude.{◌≡◌, ◌&&◌, ◌||◌, not, ◌+◌, ◌-◌, ◌<◌, ◌≤◌, eqb, ltb, leb};
 ghost use Rattle.text.specs.declared.Found.TheVariants.{Here};
 ghost use Rattle.text.specs.Words.{least_from};

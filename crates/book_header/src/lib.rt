@@ -1,4 +1,6 @@
 // Refusals 3 and 4: the fields of a book's header, and the rows of its functions' lines, checked.
+#![tactic(auto)]
+
 ghost use Rattle.std.specs.Prelude.{◌≡◌, ◌+◌, length};
 ghost use Rattle.text.specs.Words.{least};
 ghost use Rattle.book.specs.Lines.{first_function, bad_field, bad_function};

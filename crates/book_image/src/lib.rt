@@ -1,4 +1,6 @@
 // The image of a program, and the one way to read it: its counts, its functions, nodes and agents, and how many locations it has.
+#![tactic(auto)]
+
 ghost use Rattle.std.specs.Prelude.{◌≡◌, ◌+◌, ◌≤◌, length};
 ghost use Rattle.book.specs.Book.{size, stride, no_function, no_node, function_at, node_at, agent_at};
 ghost use Rattle.book.specs.Image.{image_length, word, image_row, capped, program_in, first_entry_in, entry_count_in, FitsImage, capped_header, stored, node_stored};

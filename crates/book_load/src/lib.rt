@@ -1,4 +1,6 @@
 // The rows and nodes of an image, loaded from the text of a book: each line is read once, its form and its numbers together.
+#![tactic(auto)]
+
 ghost use Rattle.std.specs.Prelude.{◌≡◌, ◌+◌, ◌-◌, ◌<◌, ◌≤◌, length};
 ghost use Rattle.book.specs.Lines.{first_entry, node_of};
 ghost use Rattle.book.specs.Image.{image_length, image_row, FitsImage, capped_header, filled, first_location, laid_row};

@@ -1,4 +1,6 @@
 // Refusals 5 and 7: node lines and agent lines, checked over the image of a book.
+#![tactic(auto)]
+
 ghost use Rattle.std.specs.Prelude.{◌≡◌, ◌≢◌, ◌+◌, ◌-◌, ◌≤◌, length};
 ghost use Rattle.text.specs.Words.{least};
 ghost use Rattle.book.specs.Kinds.{sort_table, is_term, is_rule};

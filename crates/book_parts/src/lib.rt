@@ -1,4 +1,6 @@
 // A program as the engine holds it, its locations found and taken apart, and each function's part of the contents table.
+#![tactic(auto)]
+
 ghost use Rattle.std.specs.Prelude.{◌≡◌};
 ghost use Rattle.book.specs.Book.{boolean, relation, dynamic, default, node_at};
 ghost use Rattle.book.specs.Sum.{sum, first_argument, second_argument};

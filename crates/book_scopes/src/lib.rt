@@ -1,4 +1,6 @@
 // Refusal 6: the use of nodes, and what stands around them, checked over the image of a book.
+#![tactic(auto)]
+
 ghost use Rattle.std.specs.Prelude.{◌≡◌, not, eqb, length, get_or};
 ghost use Rattle.text.specs.Words.{least};
 ghost use Rattle.book.specs.Kinds.{sort_table, is_binder};

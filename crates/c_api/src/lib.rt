@@ -1,4 +1,6 @@
 // What C can call; include/rental.h declares it. An answer comes in one number.
+#![tactic(auto)]
+
 ghost use Rattle.std.specs.Prelude.{◌≡◌, ◌≤◌, length};
 ghost use Rattle.engine.specs.Move.{input};
 ghost use Rattle.c_api.specs.Packed.{packed_answer, tally_words, CheckPacked, MovePacked, RunPacked, InputPrinted};

@@ -1,4 +1,6 @@
 // Refusal 8 of a lent contents table: the least location at fault (SPECIFICATION 3.9).
+#![tactic(auto)]
+
 ghost use Rattle.std.specs.Prelude.{◌≡◌, ◌&&◌, ◌||◌, ℕ, ◌+◌, ◌<◌, ◌≤◌, eqb, ltb, get_or};
 ghost use Rattle.text.specs.Words.{least};
 ghost use Rattle.text.specs.declared.Found.TheVariants.{Here};

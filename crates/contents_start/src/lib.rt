@@ -1,4 +1,6 @@
 // The start of a run, written into a contents table: each location's default, then the book's entries.
+#![tactic(auto)]
+
 ghost use Rattle.std.specs.Prelude.{◌≡◌, ◌≤◌, length, set, replicate};
 ghost use Rattle.book.specs.Image.{low_program};
 ghost use Rattle.book_parts.specs.Part.{put_in};

@@ -1,5 +1,7 @@
 // One move of an agent: the instructions that its rule gives, the picks that it is made with, the labels that it issues and returns, and the records that a
 // caller lends.
+#![tactic(auto)]
+
 use text::{Answer, Value};
 
 // How many instructions a move may give, and how many records of them have to be lent.

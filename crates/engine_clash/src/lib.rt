@@ -1,4 +1,6 @@
 // Refusal 15, the least location that clashes: each instruction compared with all, and a shorter search for updates alone.
+#![tactic(auto)]
+
 ghost use Rattle.std.specs.Prelude.{◌≡◌, [], ◌<◌, ◌≤◌, length};
 ghost use Rattle.text.specs.Words.{if◌then◌else◌, has};
 ghost use Rattle.book.specs.Image.{low_program};

@@ -1,4 +1,6 @@
 // The state of a walk, and its steps: an instruction given, a pick taken, a refusal.
+#![tactic(auto)]
+
 ghost use Rattle.std.specs.Prelude.{◌≡◌, List, [], ℕ, suc, ◌<◌, length, get_or};
 ghost use Rattle.book.specs.Book.{node_at};
 ghost use Rattle.engine.specs.Term.{term_at, function_of};

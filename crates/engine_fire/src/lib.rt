@@ -1,5 +1,7 @@
 // One move: begun, which is its walk, and finished: fired and marked, or refused. Firing finds whether it clashes, the contents and the marks after it, and
 // its label tally.
+#![tactic(auto)]
+
 ghost use Rattle.std.specs.Prelude.{◌≡◌, [], ◌+◌, ◌≤◌, ◌<◌, min, ℕ, ltb, length, get_or, set};
 ghost use Rattle.std.specs.Int.Bits.{bit_or};
 ghost use Rattle.text.specs.Words.{if◌then◌else◌, one_if};

@@ -1,4 +1,6 @@
 // A move's instructions as the code holds them, each one number; and what one gives: its own location and value, and whether it clears a location.
+#![tactic(auto)]
+
 ghost use Rattle.std.specs.Prelude.{◌≡◌};
 ghost use Rattle.engine_instruction.specs.Code.{decode_of};
 ghost use Rattle.text.specs.Words.{has};

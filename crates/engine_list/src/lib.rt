@@ -1,4 +1,6 @@
 // The instruction list that a caller lends: written from the numbers that a walk gives, and read into numbers again.
+#![tactic(auto)]
+
 ghost use Rattle.std.specs.Prelude.{◌≡◌, map, min, take};
 ghost use Rattle.engine.specs.declared.Instruction.TheVariants.{Release};
 ghost use Rattle.engine_instruction.specs.Code.{decode_of, items};

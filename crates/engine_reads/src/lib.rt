@@ -1,4 +1,6 @@
 // What rules read beside their terms: Reserve and universes; each read marks its location.
+#![tactic(auto)]
+
 ghost use Rattle.std.specs.Prelude.{◌≡◌, map, ◌-◌, ◌≤◌};
 ghost use Rattle.std.specs.Int.Bits.{bit_or, bit_and};
 ghost use Rattle.text.specs.Words.{table_from};

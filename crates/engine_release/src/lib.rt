@@ -1,5 +1,7 @@
 // Released labels cleared, from a function's part of the contents and from all: every location that a release clears gets its default, and what that
 // reads and writes is marked.
+#![tactic(auto)]
+
 ghost use Rattle.std.specs.Prelude.{◌≡◌, false, ℕ, ◌+◌, ◌≤◌, ◌<◌, eqb, length, get_or, set};
 ghost use Rattle.text.specs.Words.{has};
 ghost use Rattle.book.specs.Book.{default};

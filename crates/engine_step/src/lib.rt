@@ -1,5 +1,7 @@
 // A single move: the checks of its call after those of the book (refusal 9 for the agent and the picks, then 2, then 8); the call in stages; and the entry,
 // through an instruction list that the caller lends or with one of its own.
+#![tactic(auto)]
+
 ghost use Rattle.std.specs.Prelude.{◌≡◌, take};
 ghost use Rattle.text.specs.Words.{answer_of};
 ghost use Rattle.book.specs.Sum.{Strided};

@@ -1,4 +1,6 @@
 // Terms: their values in the program that an image holds, and the marks of what they read.
+#![tactic(auto)]
+
 ghost use Rattle.std.specs.Prelude.{◌≡◌, ℕ, ◌%◌, get_or};
 ghost use Rattle.book.specs.Book.{undef, truth, dynamic_at};
 ghost use Rattle.text.specs.Words.{if◌then◌else◌};

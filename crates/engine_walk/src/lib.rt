@@ -1,4 +1,6 @@
 // The walk of a rule: its instructions or its refusal, and the marks of what it reads.
+#![tactic(auto)]
+
 ghost use Rattle.std.specs.Prelude.{◌≡◌, List, [], ℕ, eqb, length, set};
 ghost use Rattle.text.specs.Words.{if◌then◌else◌};
 ghost use Rattle.engine.specs.Move.{input};

@@ -1,4 +1,5 @@
 // A log of moves: its bounds, and the types of the table that holds its order and picks and of the lengths of lent tables.
+#![tactic(auto)]
 
 // Bounds of a log: moves, pairs and picks.
 pub const MOST_MOVES: u32 = 64;

@@ -1,5 +1,7 @@
 // A log's run through an instruction list that the caller lends: the log entry, and the moves from any state of a run. Both also with a list of their own,
 // for callers that have no records.
+#![tactic(auto)]
+
 ghost use Rattle.order_entry.specs.LogRun.{LogRun, LogRunOwn};
 ghost use Rattle.engine.specs.Tables.{tables, tables_before, tables_after};
 ghost use Rattle.order_entry.specs.Promised.{MadeOn, RunToEnd, RunToEndOwn};

@@ -1,4 +1,6 @@
 // The lines of a log checked: the least that is ill-formed, and the least at fault; and its choice lines.
+#![tactic(auto)]
+
 ghost use Rattle.std.specs.Prelude.{◌≡◌, false, ◌<◌, ◌≤◌, min};
 ghost use Rattle.text.specs.Words.{if◌then◌else◌};
 ghost use Rattle.order.specs.Log.{bad_choice};

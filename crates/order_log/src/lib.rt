@@ -1,4 +1,6 @@
 // The log: its text read once into the table of its order and picks, with refusals 1 and 9; and refusal 10 by sets of moves.
+#![tactic(auto)]
+
 ghost use Rattle.std.specs.Prelude.{◌≡◌, true, false, ◌-◌, ◌%◌, ◌^◌, ◌<◌, ◌≤◌, length, get_or, take, drop};
 ghost use Rattle.text.specs.Words.{if◌then◌else◌, answer_of};
 ghost use Rattle.order.specs.Log.{log_header_ok, bad_move, bad_pair};

@@ -1,4 +1,6 @@
 // A log's run in stages: the checks, the start, each move begun and finished, and refusal 17 after the last.
+#![tactic(auto)]
+
 ghost use Rattle.std.specs.Prelude.{◌≡◌, ◌+◌, ◌-◌, ◌%◌, ◌^◌, ◌<◌, ◌≤◌, min, false, length, take, drop, replicate};
 ghost use Rattle.text.specs.Words.{answer_of};
 ghost use Rattle.order.specs.Pairs.{least_pair};

@@ -1,4 +1,6 @@
 // The order check, refusal 17: the least pair of unordered moves that touch, from the marks alone.
+#![tactic(auto)]
+
 ghost use Rattle.std.specs.Prelude.{◌≡◌, ◌&&◌, not, ℕ, ◌<◌, ◌≤◌, length, get_or};
 ghost use Rattle.order.specs.Sets.{bit};
 ghost use Rattle.order.specs.Pairs.{ordered_by, least_pair};

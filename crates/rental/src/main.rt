@@ -1,4 +1,6 @@
 // The program `rental`: reads a book and then a log, and prints what the log's run answers.
+#![tactic(auto)]
+
 ghost use Rattle.std.specs.Prelude.{◌≤◌, length};
 ghost use Rattle.io.specs.Counts.{IsPrefixLen};
 

@@ -1,4 +1,6 @@
 // The program `rental_cases`: prints what `rental` prints for the cases (b) to (l) of SPECIFICATION 10.4, each after its letter.
+#![tactic(auto)]
+
 use libc::STDOUT_FILENO;
 
 // The specification's book.

@@ -1,4 +1,6 @@
 // What the program `rental` prints for any input: where the book of an input ends, the printed answer of a log, and the whole.
+#![tactic(auto)]
+
 ghost use Rattle.std.specs.Prelude.{◌≡◌, ◌+◌, ◌<◌, ◌≤◌, min, length, take};
 ghost use Rattle.book.specs.Sum.{Strided};
 ghost use Rattle.book.specs.Image.{program_in, word};

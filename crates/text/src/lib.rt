@@ -1,4 +1,6 @@
 // The text of books and logs: its lines read and checked; and small functions over lists that many crates use.
+#![tactic(auto)]
+
 ghost use Rattle.std.specs.Prelude.{◌≡◌, true, ◌&&◌, not, [], ◌∷◌, ◌+◌, ◌-◌, ◌*◌, ◌<◌, ◌≤◌, ◌%◌, min, eqb, length, take, drop, get_or, set};
 ghost use Rattle.text.specs.Words.{least, least_from, none_at, must, answer_of};
 ghost use Rattle.text.specs.Text.{unread, zero_digit, digit, field_ok, value_of, well_formed, line_bytes, line, bad_line, parsed};
