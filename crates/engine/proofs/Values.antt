@@ -32,6 +32,7 @@ Releases x (Release y ∷ is) = (y ≡ x) ⊎ Releases x is
 
 pub releases_has : (is : List Instruction) (x : ℕ) → Releases x is → has (released is) x ≡ true
 unfolding released
+releases_has [] x f = elim f [ ]
 releases_has (Update k w ∷ is) x f = releases_has is x f
 releases_has (Release y ∷ is) x (inl e) = rw (eq-eqb y x e)
 releases_has (Release y ∷ is) x (inr f) = rw (releases_has is x f) (or-true (eqb y x))
@@ -49,6 +50,7 @@ has_releases (Release y ∷ is) x h = go (or_cases (eqb y x) (has (released is) 
 -- if no update sets l to a label of xs, a value that an update sets l to is none of them
 pub set_to_none : (xs : List ℕ) (is : List Instruction) (l v : ℕ) → set_to_label xs l is ≡ false → Sets l v is → has xs v ≡ false
 unfolding set_to_label
+set_to_none xs [] l v e s = elim s [ ]
 set_to_none xs (Update k w ∷ is) l v e (inl (a, b)) = rw (← b) (rw (eq-eqb k l a) at (or_no (eqb k l && has xs w) (set_to_label xs l is) e).0)
 set_to_none xs (Update k w ∷ is) l v e (inr s) = set_to_none xs is l v (or_no (eqb k l && has xs w) (set_to_label xs l is) e).1 s
 set_to_none xs (Release x ∷ is) l v e s = set_to_none xs is l v e s
@@ -80,11 +82,13 @@ module _ (B : Program) (c : List ℕ) where
 
   pub sets_values : (is : List Instruction) (l v : ℕ) → Sets l v is → has (values B c l is) v ≡ true
   unfolding given
+  sets_values [] l v s = elim s [ ]
   sets_values (Update k w ∷ is) l v (inl (a, b)) = has_now (Update k w) is l v (rw (eq-eqb k l a, eq-eqb w v b))
   sets_values (Update k w ∷ is) l v (inr s) = has_later (Update k w) is l v (sets_values is l v s)
   sets_values (Release x ∷ is) l v s = has_later (Release x) is l v (sets_values is l v s)
 
   pub releases_values : (is : List Instruction) (x l v : ℕ) → Releases x is → Cleared x l v → has (values B c l is) v ≡ true
+  releases_values [] x l v f h = elim f [ ]
   releases_values (Update k w ∷ is) x l v f h = has_later (Update k w) is l v (releases_values is x l v f h)
   releases_values (Release y ∷ is) x l v (inl q) h = has_now (Release y) is l v (cleared_given y l v (rw q h))
   releases_values (Release y ∷ is) x l v (inr f) h = has_later (Release y) is l v (releases_values is x l v f h)

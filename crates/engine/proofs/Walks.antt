@@ -65,11 +65,13 @@ module _ (B : Program) (c : List ℕ) where
     pub many : issued B w.made ≡ count_below (in_reserve c) w.next
 
   pub sets_fine : (n : ℕ) (is : List Instruction) (l v : ℕ) → All n is → Sets l v is → Fine n (Update l v)
+  sets_fine n [] l v a s = elim s [ ]
   sets_fine n (Update k w ∷ is) l v a (inl e) = rw (e.0, e.1) at a.0
   sets_fine n (Update k w ∷ is) l v a (inr s) = sets_fine n is l v a.1 s
   sets_fine n (Release x ∷ is) l v a s = sets_fine n is l v a.1 s
 
   pub releases_fine : (n : ℕ) (is : List Instruction) (x : ℕ) → All n is → Releases x is → Fine n (Release x)
+  releases_fine n [] x a f = elim f [ ]
   releases_fine n (Update k w ∷ is) x a f = releases_fine n is x a.1 f
   releases_fine n (Release y ∷ is) x a (inl e) = rw e at a.0
   releases_fine n (Release y ∷ is) x a (inr f) = releases_fine n is x a.1 f
@@ -104,6 +106,7 @@ module _ (B : Program) (c : List ℕ) where
   all_snoc n (j ∷ is) i a f = (a.0, all_snoc n is i a.1 f)
 
   sets_snoc : (l v : ℕ) (is : List Instruction) (i : Instruction) → Sets l v is → Sets l v (is ++ (i ∷ []))
+  sets_snoc l v [] i s = elim s [ ]
   sets_snoc l v (Update k w ∷ is) i (inl e) = inl e
   sets_snoc l v (Update k w ∷ is) i (inr s) = inr (sets_snoc l v is i s)
   sets_snoc l v (Release x ∷ is) i s = sets_snoc l v is i s
