@@ -18,7 +18,7 @@ pub const MOST_LOCATIONS: u32 = 65536;
 pub type Image = [u32; 2248];
 
 // The header's numbers: E, P, F, N, A and C.
-#[derive(Drop)]
+#[derive(Clone, Copy)]
 pub struct Header {
     pub elements: u32,
     pub permanent: u32,
@@ -29,7 +29,7 @@ pub struct Header {
 }
 
 // A function: its first location, its arity, its kind, and its stride: how far apart its locations are whose first arguments are neighbours.
-#[derive(Drop)]
+#[derive(Clone, Copy)]
 pub struct Function {
     pub first: u32,
     pub arity: u32,
@@ -38,7 +38,7 @@ pub struct Function {
 }
 
 // A node of a rule: its kind and its three fields.
-#[derive(Drop)]
+#[derive(Clone, Copy)]
 pub struct Node {
     pub kind: u32,
     pub a: u32,
@@ -47,14 +47,14 @@ pub struct Node {
 }
 
 // An agent: the node of its rule, and its element.
-#[derive(Drop)]
+#[derive(Clone, Copy)]
 pub struct Agent {
     pub root: u32,
     pub element: u32,
 }
 
 // A contents line: a location, as function and arguments, and its value at the start.
-#[derive(Drop)]
+#[derive(Clone, Copy)]
 pub struct Entry {
     pub function: u32,
     pub arg1: u32,

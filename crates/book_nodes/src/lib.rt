@@ -47,7 +47,7 @@ pub const SORTS: [u8; 87] = [
 ];
 
 // What the three operands of a node have to be.
-#[derive(Drop)]
+#[derive(Clone, Copy)]
 pub struct OperandSorts {
     pub a: u8,
     pub b: u8,

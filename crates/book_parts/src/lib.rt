@@ -21,7 +21,7 @@ pub fn permanent(image: &Image) -> Value
 }
 
 // A node, its numbers in sixteen bits.
-#[derive(Drop)]
+#[derive(Clone, Copy)]
 pub struct StoredNode {
     pub kind: u16,
     pub a: u16,
@@ -83,7 +83,7 @@ pub fn location(f: Function, x: u32, y: u32) -> usize
 }
 
 // The two arguments of a location; one that its function has not is 0.
-#[derive(Drop)]
+#[derive(Clone, Copy)]
 pub struct Arguments {
     pub first: usize,
     pub second: usize,
@@ -115,14 +115,14 @@ pub fn take_apart(f: Function, i: usize) -> Arguments
 // ---- parts
 
 // A run of the contents table, from location `first` up to `end`.
-#[derive(Drop)]
+#[derive(Clone, Copy)]
 pub struct Part {
     pub first: usize,
     pub end: usize,
 }
 
 // A function and its part of the contents table, from location `first` up to `end`.
-#[derive(Drop)]
+#[derive(Clone, Copy)]
 pub struct Owner {
     pub function: Function,
     pub first: usize,

@@ -8,7 +8,7 @@ use text::{Answer, Value};
 pub const MOST_INSTRUCTIONS: usize = 256;
 
 // An instruction: a location gets a value, or a label goes back to the roll.
-#[derive(Drop)]
+#[derive(Clone, Copy)]
 pub enum Instruction {
     Update { location: u32, value: Value },
     Release { label: Value },
@@ -21,21 +21,21 @@ pub type Work = [u64; MOST_INSTRUCTIONS];
 pub type Pick = u64;
 
 // A record of the instruction list that a caller lends.
-#[derive(Drop)]
+#[derive(Clone, Copy)]
 pub struct Record {
     pub what: Instruction,
 }
 
 // The label tally of some moves: how many labels they issued, one for each import, and how many they returned, each label once in a
 // move.
-#[derive(Drop)]
+#[derive(Clone, Copy)]
 pub struct Tally {
     pub issued: u64,
     pub returned: u64,
 }
 
 // An answer, and the tally of the moves that have fired.
-#[derive(Drop)]
+#[derive(Clone, Copy)]
 pub struct TalliedAnswer {
     pub answer: Answer,
     pub tally: Tally,

@@ -16,7 +16,7 @@ use text::Value;
 
 // A location, its function, its arguments, and what it holds, which also stands in place of an argument that the function has not: a release clears the
 // location if its label is one of the three. They are found once, since a location is held against every instruction of a move.
-#[derive(Drop)]
+#[derive(Clone, Copy)]
 struct HeldPlace {
     location: u32,
     function: Function,

@@ -15,7 +15,7 @@ use text::Value;
 // How far a walk is: how many instructions it has given, the label from which the next import searches,
 // its refusal (0 for none) and the refusal's node. Eight bytes go from node to node in a register; how many picks it has used stands in a
 // cell that is lent beside it.
-#[derive(Drop)]
+#[derive(Clone, Copy)]
 pub struct Progress {
     pub len: u16,
     pub label: Value,

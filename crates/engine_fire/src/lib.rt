@@ -31,7 +31,7 @@ use engine_emit::Progress;
 use text::Value;
 
 // What becomes of a move whose walk met no refusal: it fires, with its label tally, or clashes at a location.
-#[derive(Drop)]
+#[derive(Clone, Copy)]
 pub enum Outcome {
     Fired { tally: Tally },
     Clash { location: u32 },
@@ -239,7 +239,7 @@ pub fn settle(
 // ---- a move begun and finished
 
 // A move that is begun: how its walk ended, and how many instructions it gave.
-#[derive(Drop)]
+#[derive(Clone, Copy)]
 pub struct Begun {
     pub walk: Progress,
     pub count: usize,

@@ -19,7 +19,7 @@ use engine::Instruction;
 use text::Value;
 
 // A label that a move releases, and what clearing it from a function's part needs: P, the function with its first location, the move's bit.
-#[derive(Drop)]
+#[derive(Clone, Copy)]
 pub struct Released {
     pub label: Value,
     pub permanent: Value,

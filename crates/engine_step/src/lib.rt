@@ -110,7 +110,7 @@ pub fn check_call(
 // ---- the call in stages: the checks and the move begun, then the move finished; in between its instructions may go through a lent list
 
 // A call up to the lent list: the answer of its checks, and its move begun if they pass.
-#[derive(Drop)]
+#[derive(Clone, Copy)]
 pub struct BegunCall {
     pub answer: Answer,
     pub begun: Begun,

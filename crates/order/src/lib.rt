@@ -25,7 +25,7 @@ pub const PICK_ENDS: usize = 192;
 pub const PICKS: usize = 256;
 
 // How many records of each table are lent.
-#[derive(Drop)]
+#[derive(Clone, Copy)]
 pub struct Lengths {
     pub contents: usize,
     pub readers: usize,

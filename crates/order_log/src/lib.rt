@@ -12,7 +12,7 @@ use order::OrderTable;
 use text::{Answer, Found, Line, LineFaults, Parsed};
 
 // What reading a log gives: its answer, and when accepted how many moves it has.
-#[derive(Drop)]
+#[derive(Clone, Copy)]
 pub struct LogRead {
     pub answer: Answer,
     pub moves: u32,
@@ -247,7 +247,7 @@ pub fn agent_of_move(order: &OrderTable, i: u32) -> u32
 }
 
 // The part of the table that has a move's picks, from `first` up to `end`.
-#[derive(Drop)]
+#[derive(Clone, Copy)]
 pub struct PickPart {
     pub first: usize,
     pub end: usize,

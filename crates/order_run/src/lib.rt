@@ -89,7 +89,7 @@ pub fn check_order(readers: &[u64], writers: &[u64], order: &OrderTable, moves: 
 // ---- how far a run is
 
 // How far a run is: move `at` of so many is next, or the run is over, with its answer; and the tally of the moves that have fired.
-#[derive(Drop)]
+#[derive(Clone, Copy)]
 pub struct RunState {
     pub more: bool,
     pub at: u32,
@@ -98,7 +98,7 @@ pub struct RunState {
 }
 
 // The answer of the checks before the first move; when they pass, how many moves and locations there are.
-#[derive(Drop)]
+#[derive(Clone, Copy)]
 pub struct CheckedCall {
     pub answer: Answer,
     pub moves: u32,

@@ -12,7 +12,7 @@ use order::{MoveSets, OrderTable};
 const BLOCK: usize = 64;
 
 // A pair of moves, if one is found; otherwise both numbers are 0.
-#[derive(Drop)]
+#[derive(Clone, Copy)]
 pub struct MovePair {
     pub found: bool,
     pub first: u32,

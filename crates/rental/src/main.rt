@@ -26,7 +26,7 @@ fn write_output(output: &[u8; 51225], n: usize) {
 }
 
 // How many bytes of a buffer are filled, and whether the last read failed.
-#[derive(Drop)]
+#[derive(Clone, Copy)]
 struct Input {
     len: usize,
     broken: bool,

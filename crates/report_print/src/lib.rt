@@ -126,7 +126,7 @@ pub fn book_bytes(input: &[u8]) -> usize
 // ---- the whole answer to an input
 
 // How many bytes are printed, and the label tally of the run, which is not printed.
-#[derive(Drop)]
+#[derive(Clone, Copy)]
 pub struct PrintedRun {
     pub bytes: usize,
     pub tally: Tally,

@@ -69,7 +69,7 @@ pub const FIELD: usize = 6;
 const NO_NUMBER: u32 = 4294967295;
 
 // A line's four numbers.
-#[derive(Drop)]
+#[derive(Clone, Copy)]
 pub struct Line {
     pub a: u32,
     pub b: u32,
@@ -78,28 +78,28 @@ pub struct Line {
 }
 
 // A line that has been read: whether it is in form, and its numbers if it is.
-#[derive(Drop)]
+#[derive(Clone, Copy)]
 pub struct Parsed {
     pub ok: bool,
     pub line: Line,
 }
 
 // The result of a search: the place found, if there is one.
-#[derive(Drop)]
+#[derive(Clone, Copy)]
 pub enum Found {
     Nowhere,
     Here(u32),
 }
 
 // What is found in lines of one kind: the least that is ill-formed, and the least at fault.
-#[derive(Drop)]
+#[derive(Clone, Copy)]
 pub struct LineFaults {
     pub ill: Found,
     pub fault: Found,
 }
 
 // An answer: a refusal's number and its place (p, q); 0 0 0 when accepted.
-#[derive(Drop)]
+#[derive(Clone, Copy)]
 pub struct Answer {
     pub number: u32,
     pub p: u32,
@@ -143,7 +143,7 @@ pub fn must(test: bool, number: u32, p: u32, q: u32) -> Answer
 }
 
 // The state of the columns of a field that have been read: blanks, a single 0, a number, or not readable.
-#[derive(Drop)]
+#[derive(Clone, Copy)]
 pub enum Scan {
     Blank,
     Zero,

@@ -1,0 +1,6 @@
+-- `fits_node` meets its contract.
+use borrow.Author.Rules.{rules}
+use Rattle.book_nodes.proofs.fits_node.Goals as goal
+
+pub returns : goal.returns
+returns c = rw (c.is_rule.ensures, c.is_term.ensures)
