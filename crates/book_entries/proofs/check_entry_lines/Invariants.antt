@@ -1,0 +1,44 @@
+-- `check_entry_lines` meets its contract.
+-- the entry of the line that the loop reads
+-- what the tests of the entry say
+-- ---- an entry that passed its tests
+
+-- it is in bounds, and fits its function
+-- one can be added to its location
+use native.Mathlib.Omega.{arith}
+use borrow.Author.Rules.{rules}
+use Rattle.book_entries.proofs.Pass.{entry_line, ill_formed, at_fault_from, all_sound}
+use Rattle.book_entries.proofs.Roll.{bounded, tests_passed, bad_tests, roll_none, roll_step, low_none, low_step}
+use Rattle.book_entries.specs.Pass.{bad_at}
+use Rattle.book_entries.specs.Roll.{entries_from, roll_with, roll_of}
+use Rattle.book.proofs.Image.{elements_most}
+use native.Mathlib.Nat.{mul-le-mul_right}
+use Rattle.book.specs.Sum.{Strided}
+use Rattle.book.specs.Image.{program_in}
+use Rattle.book.specs.Contents.{entry_fits, bad_entry, least_location}
+use Rattle.book.specs.Lines.{entry_of}
+use Rattle.book.specs.Book.{function_at, entry_at}
+use Rattle.book.specs.declared.Entry.{Entry}
+use Rattle.text.proofs.Fields.{parsed_ok, parsed_line}
+use Rattle.text.proofs.Words.{least_pass, least_stop, least_end}
+use Rattle.text.specs.Text.{bad_line}
+use Rattle.text.specs.Words.{least_from}
+use borrow.Author.Tests.{not-false}
+use lib.ListN.{length}
+use lib.Dec.{leb}
+use Prim.Native.Nat.{◌≤◌, ◌<◌, ◌-◌, ◌+◌, ◌*◌}
+use mathlib.Core.List.{List}
+use mathlib.Core.Bool.{true, not, ◌&&◌}
+use mathlib.Core.Path.{◌≡◌, refl, sym, ap, ◌∙◌}
+use Rattle.book_entries.proofs.check_entry_lines.Given as goal
+
+abbrev pub invariant-loop-i : goal.invariant-loop-i
+invariant-loop-i l = (l.first ≤ l.i)
+    × (least_from (bad_line l.text) (l.end - l.i) l.i ≡ least_from (bad_line l.text) (l.end - l.first) l.first)
+    × (Strided (program_in l.image) → least_from (bad_at (program_in l.image) l.text l.first (l.end - l.first)) (l.end - l.i) l.i ≡ least_from (bad_at (program_in l.image) l.text l.first (l.end - l.first)) (l.end - l.first) l.first)
+    × (l.roll ≡ roll_of (entries_from l.text l.first (l.end - l.first)) (l.i - l.first) l.initial.roll)
+    × (Strided (program_in l.image) → l.low ≡ least_location (program_in l.image) (entries_from l.text l.first (l.end - l.first)) (l.i - l.first))
+    × (length l.roll ≡ length l.initial.roll)
+
+abbrev pub decreases-loop-i : goal.decreases-loop-i
+decreases-loop-i l = l.end - l.i

@@ -1,0 +1,6 @@
+-- `no_trace` meets its contract.
+use borrow.Author.Rules.{rules}
+use Rattle.book_entries.proofs.no_trace.Goals as goal
+
+pub returns : goal.returns
+returns c = cc

@@ -1,0 +1,7 @@
+-- `misplaced_at` meets its contract.
+use mathlib.Core.Path.{◌∙◌}
+use borrow.Author.Rules.{rules}
+use Rattle.book_scopes.proofs.misplaced_at.Goals as goal
+
+pub returns : goal.returns
+returns c = c.is_misplaced.ensures ∙ rw (c.half_at-v.ensures, c.node_at-y.ensures)

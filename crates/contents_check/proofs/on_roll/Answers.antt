@@ -1,0 +1,6 @@
+-- `on_roll` meets its contract.
+use borrow.Author.Rules.{rules}
+use Rattle.contents_check.proofs.on_roll.Goals as goal
+
+pub returns : goal.returns
+returns c = rw c.fetch.ensures

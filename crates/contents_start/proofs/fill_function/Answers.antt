@@ -1,0 +1,9 @@
+-- `fill_function` meets its contract.
+use Rattle.contents_start.proofs.Defaults.{run_is}
+use borrow.Author.Rules.{rules}
+use Rattle.contents_start.proofs.fill_function.Goals as goal
+
+pub returns : goal.returns
+returns c =
+    let a = c.args in
+    run_is a.first a.end a.v c.smaller-a.result c.smaller-b.result a.contents.now _ c.requires c.smaller-a.ensures c.smaller-b.ensures c.fill_part.ensures

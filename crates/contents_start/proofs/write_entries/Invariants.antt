@@ -1,0 +1,21 @@
+-- `write_entries` meets its contract.
+use mathlib.Core.Path.{◌≡◌, refl, sym, ap, ◌∙◌}
+use Prim.Native.Nat.{◌+◌, ◌-◌}
+use borrow.Author.Rules.{rules}
+use lib.ListN.{length}
+use Rattle.text.specs.declared.Line.{Line}
+use Rattle.text.specs.Words.{table_from}
+use Rattle.text.specs.Text.{line}
+use Rattle.book.specs.Image.{first_entry_in, entry_count_in, low_program}
+use Rattle.contents_start.specs.Written.{entry_put, entries_put, entry_lines}
+use Rattle.contents_start.proofs.Entries.{lines_first, lines_next, lines_last}
+use Rattle.contents_start.proofs.write_entries.Given as goal
+
+abbrev pub invariant-loop-i : goal.invariant-loop-i
+invariant-loop-i l =
+    (length l.contents ≡ length l.initial.contents)
+    × (entries_put (low_program l.image) (table_from (λ k. line l.book (first_entry_in l.image + k)) l.i (l.count - l.i)) l.contents
+    ≡ entries_put (low_program l.image) (entry_lines l.image l.book) l.initial.contents)
+
+abbrev pub decreases-loop-i : goal.decreases-loop-i
+decreases-loop-i l = l.count - l.i

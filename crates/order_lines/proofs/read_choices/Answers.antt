@@ -1,0 +1,6 @@
+-- `read_choices` meets its contract.
+use borrow.Author.Rules.{rules}
+use Rattle.order_lines.proofs.read_choices.Goals as goal
+
+pub returns : goal.returns
+returns c = rw (← c.smaller-moves.ensures, ← c.smaller-after.ensures, ← c.smaller-lines.ensures) c.read_bounded.ensures

@@ -1,0 +1,23 @@
+-- `least_pair` meets its contract.
+use Rattle.order.proofs.Best.{Best, best_start, best_new, best_old}
+use Rattle.order_touch.proofs.Best.{pair_found, pair_none}
+use Rattle.order.specs.Pairs.{ordered_by}
+use Rattle.order.specs.Sets.{bit}
+use lib.ListN.{get_or}
+use borrow.Author.Rules.{rules}
+use native.Mathlib.Omega.{arith}
+use Prim.Native.Nat.{ℕ, ◌-◌, ◌<◌, ◌≤◌}
+use mathlib.Core.List.{List}
+use mathlib.Core.Bool.{Bool, not, ◌&&◌}
+use mathlib.Core.Path.{◌≡◌}
+use Rattle.order_touch.proofs.least_pair.Given as goal
+
+-- moves i < j are unordered, and i is among those that touch j
+abbrev pub pairs : List ℕ → List ℕ → ℕ → ℕ → Bool
+pairs order touching i j = not (ordered_by order i j) && bit (get_or touching j 0) i
+
+abbrev pub invariant-loop-j : goal.invariant-loop-j
+invariant-loop-j l = (l.j ≤ l.m) × (l.second ≤ 64) × Best (pairs l.order l.touching) l.j l.first l.second
+
+abbrev pub decreases-loop-j : goal.decreases-loop-j
+decreases-loop-j l = l.m - l.j
