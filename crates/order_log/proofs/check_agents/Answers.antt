@@ -1,0 +1,42 @@
+-- `check_agents` meets its contract.
+use mathlib.Core.Path.{◌≡◌}
+use mathlib.Core.Logic.{⊎_elim}
+use Prim.Native.Nat.{◌-◌, ◌≤◌, ◌<◌}
+use Rattle.order.proofs.Best.{Best, best_start, best_new, best_old}
+use Rattle.order_log.specs.Agents.{one_agent_unordered_in}
+use Rattle.order_log.proofs.Agents.{Own, own_start, own_turn, own_hit, own_low, ten}
+use native.Mathlib.Omega.{arith}
+use borrow.Author.Rules.{rules}
+use Rattle.order_log.proofs.check_agents.Goals as goal
+
+pub loop-j-init : goal.loop-j-init
+loop-j-init c = (search rules, search rules, own_start _, best_start _)
+
+pub bounds-order-j : goal.bounds-order-j
+bounds-order-j c = omega (arith, c.smaller-m.ensures)
+
+pub bounds-order-j-in-loop-j : goal.bounds-order-j-in-loop-j
+bounds-order-j-in-loop-j c = omega (arith, c.smaller-m.ensures)
+
+pub overflow_shl-own : goal.overflow_shl-own
+overflow_shl-own c = omega (arith, c.smaller-m.ensures)
+
+pub loop-j-preserved : goal.loop-j-preserved
+loop-j-preserved c =
+    let o = c.args.order.now in
+    let l = c.loop-j in
+    let n = c.least_unordered-i in
+    let lim : l.j < 64 = omega (arith, c.smaller-m.ensures) in
+    let hit = own_hit o l.j l.own lim l.invariant.2 n.result n.ensures in
+    let low = own_low o l.j l.own lim l.invariant.2 n.result n.ensures in
+    ⊎_elim
+    (λ y. rw (y.1, y.2) (omega arith, omega arith, own_turn o l.j l.own lim l.invariant.2, best_new (one_agent_unordered_in o) l.j l.first l.second n.result lim l.invariant.3 hit low y.0.taken))
+    (λ y. rw (y.1, y.2) (omega arith, omega arith, own_turn o l.j l.own lim l.invariant.2, best_old (one_agent_unordered_in o) l.j l.first l.second n.result lim l.invariant.3 hit low y.0.left))
+    c.if-i-first.branch
+
+pub returns : goal.returns
+returns c =
+    let a = c.args in
+    let l = c.loop-j in
+    let e : l.j ≡ c.smaller-m.result = omega arith in
+    ten a.order.now c.smaller-m.result l.first l.second a.moves c.must.result c.smaller-m.ensures (rw e at l.invariant.3) c.must.ensures
