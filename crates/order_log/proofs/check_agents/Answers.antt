@@ -1,6 +1,5 @@
 -- `check_agents` meets its contract.
 use mathlib.Core.Path.{◌≡◌}
-use mathlib.Core.Logic.{⊎_elim}
 use Prim.Native.Nat.{◌-◌, ◌≤◌, ◌<◌}
 use Rattle.order.proofs.Best.{Best, best_start, best_new, best_old}
 use Rattle.order_log.specs.Agents.{one_agent_unordered_in}
@@ -8,6 +7,7 @@ use Rattle.order_log.proofs.Agents.{Own, own_start, own_turn, own_hit, own_low, 
 use native.Mathlib.Omega.{arith}
 use borrow.Author.Rules.{rules}
 use Rattle.order_log.proofs.check_agents.Goals as goal
+use Rattle.order_log.proofs.check_agents.Goals.{then-i-first, else-i-first}
 
 pub loop-j-init : goal.loop-j-init
 loop-j-init c = (search rules, search rules, own_start _, best_start _)
@@ -29,10 +29,10 @@ loop-j-preserved c =
     let lim : l.j < 64 = omega (arith, c.smaller-m.ensures) in
     let hit = own_hit o l.j l.own lim l.invariant.2 n.result n.ensures in
     let low = own_low o l.j l.own lim l.invariant.2 n.result n.ensures in
-    ⊎_elim
-    (λ y. rw (y.1, y.2) (omega arith, omega arith, own_turn o l.j l.own lim l.invariant.2, best_new (one_agent_unordered_in o) l.j l.first l.second n.result lim l.invariant.3 hit low y.0.taken))
-    (λ y. rw (y.1, y.2) (omega arith, omega arith, own_turn o l.j l.own lim l.invariant.2, best_old (one_agent_unordered_in o) l.j l.first l.second n.result lim l.invariant.3 hit low y.0.left))
-    c.if-i-first.branch
+    elim c.if-i-first.branch [
+      | then-i-first y ↦ rw (y.first-is, y.second-is) (omega arith, omega arith, own_turn o l.j l.own lim l.invariant.2, best_new (one_agent_unordered_in o) l.j l.first l.second n.result lim l.invariant.3 hit low y.if-i-first.true)
+      | else-i-first y ↦ rw (y.first-is, y.second-is) (omega arith, omega arith, own_turn o l.j l.own lim l.invariant.2, best_old (one_agent_unordered_in o) l.j l.first l.second n.result lim l.invariant.3 hit low y.if-i-first.false)
+    ]
 
 pub returns : goal.returns
 returns c =

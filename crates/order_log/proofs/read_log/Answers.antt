@@ -34,4 +34,4 @@ returns c =
     let formed = sym (parsed_ok text 0 p.result p.ensures) ∙ (header_ok text p.result p.ensures head.result head.ensures passed).0 in
     let past = past_header text p.result p.ensures head.result head.ensures a.agents a.elements passed in
     let lines = c.read_lines-found in
-    lines_read a.agents a.elements text p.result.line formed past lines.new.1.1.1.1.0 lines.result lines.ensures c.check_lines-answer.result c.check_lines-answer.ensures
+    lines_read a.agents a.elements text p.result.line formed past lines.new.order lines.result lines.ensures c.check_lines-answer.result c.check_lines-answer.ensures
