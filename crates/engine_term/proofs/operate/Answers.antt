@@ -30,4 +30,4 @@ unfolding apply
 returns-in-13 c = c.less.ensures ∙ rw c.in-13.is
 
 pub returns-in_default : goal.returns-in_default
-returns-in_default c = let r = c.in_default.rest in let a = c.args in no_join a.p a.k a.x a.y r.0.0.0.0.0.1 r.0.0.0.0.1 r.0.0.0.1 r.0.0.1 r.0.1 r.1
+returns-in_default c = let r = c.in_default.in_default-own.rest in let a = c.args in no_join a.p a.k a.x a.y r.0.0.0.0.0.1 r.0.0.0.0.1 r.0.0.0.1 r.0.0.1 r.0.1 r.1

@@ -58,6 +58,6 @@ returns-in-6 c =
 pub returns-in_default : goal.returns-in_default
 returns-in_default c =
     let a = c.args in
-    let r = c.in_default.rest in
+    let r = c.in_default.in_default-own.rest in
     rw (no_target (low_program a.image.now) (agent_of a.bindings.now) (variables_of a.bindings.now) (node_at (low_program a.image.now)) a.depth a.n (stored_node c.node-node.result) c.node-node.ensures r.0.0.1 r.0.1 r.1)
     (runs_done (low_program a.image.now) a.contents.now a.bit 0 a.readers.now)

@@ -1,0 +1,6 @@
+-- `clears` meets its contract.
+use borrow.Author.Rules.{rules}
+use Rattle.engine_clash.proofs.clears.Goals as goal
+
+pub returns : goal.returns
+returns c = rw c.is_dynamic.ensures

@@ -1,0 +1,43 @@
+-- `least_clash` meets its contract.
+use Prim.Native.Nat.{◌-◌}
+use native.Mathlib.Omega.{arith}
+use borrow.Author.Rules.{rules}
+use Rattle.book.specs.Image.{low_program}
+use Rattle.engine_instruction.proofs.Laws.{take_min}
+use Rattle.engine_clash.proofs.Rivals.{Looked, looked_start, looked_next, looked_best, Tables, tables_start, tables_chain, tables_held, tables_next}
+use Rattle.engine_clash.proofs.least_clash.Goals as goal
+
+pub returns-then-n-le-FEW : goal.returns-then-n-le-FEW
+returns-then-n-le-FEW c =
+    let a = c.args in
+    rw (← take_min a.list.now c.smaller-n.result a.len c.smaller-n.ensures) c.least_of_few.ensures
+
+pub returns-then-n-gt-MOST_INSTRUCTIONS : goal.returns-then-n-gt-MOST_INSTRUCTIONS
+returns-then-n-gt-MOST_INSTRUCTIONS c = c.least_of_all.ensures
+
+pub loop-j-init : goal.loop-j-init
+loop-j-init c =
+    let a = c.args in
+    (looked_start a.list.now c.smaller-n.result a.most, tables_start a.list.now)
+
+pub returns-then-code-ge-RELEASES : goal.returns-then-code-ge-RELEASES
+returns-then-code-ge-RELEASES c = c.least_of_all-then-code-ge-RELEASES.ensures
+
+pub last_at_slot-requires : goal.last_at_slot-requires
+last_at_slot-requires c = tables_chain c.loop-j.invariant.1 c.slot-s.ensures.0 (omega arith) (omega arith)
+
+pub least_with_update-least-requires : goal.least_with_update-least-requires
+least_with_update-least-requires c = let k = tables_held c.loop-j.invariant.1 c.slot-s.ensures.0 c.last_at_slot.ensures in omega arith
+
+pub loop-j-preserved : goal.loop-j-preserved
+loop-j-preserved c =
+    let l = c.loop-j.invariant in
+    let s = c.slot-s.ensures.0 in
+    let k = tables_held l.1 s c.last_at_slot.ensures in
+    (rw c.least_with_update-least.ensures (looked_next _ _ l.0 c.loop-j-test.true k c.if-code-ge-RELEASES.false), tables_next l.1 s (omega arith))
+
+pub returns : goal.returns
+returns c =
+    let a = c.args in
+    let n = c.smaller-n in
+    rw (← take_min a.list.now n.result a.len n.ensures) (looked_best (low_program a.image.now) a.contents.now (omega (arith, n.ensures)) c.loop-j-test.false c.loop-j.invariant.0)
