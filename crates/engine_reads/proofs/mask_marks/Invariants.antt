@@ -1,0 +1,18 @@
+-- `mask_marks` meets its contract.
+use mathlib.Core.Path.{◌≡◌, refl, sym, ◌∙◌}
+use mathlib.Core.List.{map}
+use Prim.Native.Nat.{◌-◌, ◌≤◌}
+use native.Mathlib.Omega.{arith}
+use borrow.Author.Rules.{rules}
+use lib.Bits.{bit_and}
+use lib.ListN.{length, take, drop, length-set}
+use lib.Seq.{take_all}
+use Rattle.engine_reads.proofs.InPlace.{done_next, left_next}
+use Rattle.engine_reads.proofs.mask_marks.Given as goal
+
+abbrev pub invariant-loop-i : goal.invariant-loop-i
+invariant-loop-i l =
+    (length l.readers ≡ length l.initial.readers) × (l.i ≤ length l.initial.readers) × (take l.i l.readers ≡ map (λ v. bit_and v l.mask) (take l.i l.initial.readers)) × (drop l.i l.readers ≡ drop l.i l.initial.readers)
+
+abbrev pub decreases-loop-i : goal.decreases-loop-i
+decreases-loop-i l = length l.initial.readers - l.i

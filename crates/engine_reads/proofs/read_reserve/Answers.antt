@@ -1,0 +1,8 @@
+-- `read_reserve` meets its contract.
+use Rattle.book.specs.Image.{low_program}
+use Rattle.engine_term.proofs.Marking.{runs_read}
+use borrow.Author.Rules.{rules}
+use Rattle.engine_reads.proofs.read_reserve.Goals as goal
+
+pub returns : goal.returns
+returns c = let a = c.args in runs_read (low_program a.image.now) a.contents.now a.bit a.x c.fetch.result _ _ (λ p. c.fetch.ensures) c.mark_reserve.ensures
