@@ -53,4 +53,4 @@ returns c =
     let a = c.args in
     let l = c.loop-i in
     let e = upto_end a.r a.part.now a.readers.now a.writers.now l.i l.part l.readers l.writers l.invariant (omega (arith, c.loop-i-test.false)) in
-    record { part_after = e.0; writers_after = e.1; readers_after = e.2 }
+    record { part_after = e.0; writers_after = e.1.0; readers_after = e.1.1 }
