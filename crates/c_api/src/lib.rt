@@ -4,7 +4,7 @@
 ghost use Rattle.std.specs.Prelude.{◌≡◌, ◌≤◌, length};
 ghost use Rattle.engine.specs.Move.{input};
 ghost use Rattle.c_api.specs.Packed.{packed_answer, tally_words, CheckPacked, MovePacked, RunPacked, InputPrinted};
-ghost use Rattle.engine.specs.Tables.{tables_before, tables_after};
+ghost use Rattle.engine.specs.Tables.{tables};
 
 use engine::{Pick, Tally};
 use text::{Answer, Value};
@@ -61,7 +61,7 @@ pub extern "C" fn rental_run_log(
     lent: usize,
     tally: &mut [u64; 2],
 ) -> u64
-    ensures { RunPacked book.now log.now (tables_before contents readers writers) lent result (tables_after contents readers writers) tally.new }
+    ensures { RunPacked book.now log.now (tables contents.old readers.old writers.old) lent result (tables contents.new readers.new writers.new) tally.new }
 {
     let ended = order_entry::run_own_list(book, log, contents, readers, writers, lent);
     give_tally(ended.tally, tally);

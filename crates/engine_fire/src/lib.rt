@@ -22,7 +22,7 @@ ghost use Rattle.engine_walk.specs.Walk.{outcome};
 ghost use Rattle.engine_fire.specs.Effect.{move_answer, Begins};
 ghost use Rattle.engine_fire.specs.Finish.{refused_answer, readers_kept, Finishes};
 ghost use Rattle.engine_fire.specs.Count.{instructions_given};
-ghost use Rattle.engine.specs.Tables.{tables_before, tables_after};
+ghost use Rattle.engine.specs.Tables.{tables};
 
 use book::Image;
 use book_parts::Part;
@@ -226,7 +226,7 @@ pub fn settle(
     len: usize,
     bit: u64,
 ) -> Outcome
-    ensures { Strided (low_program image.now) → Settled image.now list.now len bit (tables_before contents readers writers) result (tables_after contents readers writers) }
+    ensures { Strided (low_program image.now) → Settled image.now list.now len bit (tables contents.old readers.old writers.old) result (tables contents.new readers.new writers.new) }
 {
     let at = engine_clash::least_clash(image, contents, list, len, NO_LOCATION);
     if is_location(image, at) {
@@ -325,7 +325,7 @@ fn settle_listed(
     len: usize,
     at: u32,
 ) -> TalliedAnswer
-    ensures { (next : ℕ) → Finishes image.now bit at (walking (record { made = items list.now len; next = next; left = [] })) (tables_before contents readers writers) result (tables_after contents readers writers) }
+    ensures { (next : ℕ) → Finishes image.now bit at (walking (record { made = items list.now len; next = next; left = [] })) (tables contents.old readers.old writers.old) result (tables contents.new readers.new writers.new) }
 {
     let what = settle(image, contents, readers, writers, list, len, bit);
     answer_move(readers, bit, at, what)
@@ -342,7 +342,7 @@ pub fn finish_move(
     s: Progress,
     at: u32,
 ) -> TalliedAnswer
-    ensures { Finishes image.now bit at (outcome s list.now) (tables_before contents readers writers) result (tables_after contents readers writers) }
+    ensures { Finishes image.now bit at (outcome s list.now) (tables contents.old readers.old writers.old) result (tables contents.new readers.new writers.new) }
 {
     if s.refused != 0 {
         return refused_answer(s.refused as u32, at, s.node as u32);

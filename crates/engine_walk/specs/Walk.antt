@@ -1,7 +1,6 @@
 -- What a walk came to, the walk of the rule at a node, and what the functions of the walk promise, in one frame.
 use Rattle.std.specs.Prelude.{List, [], ℕ, eqb, set}
 use Rattle.text.specs.Words.{if◌then◌else◌}
-use Rattle.text.specs.Lent.{Lent, at_entry, at_exit}
 use Rattle.book.specs.Book.{node_at}
 use Rattle.engine.specs.Reader.{Reader}
 use Rattle.engine.specs.Term.{term_at}
@@ -57,8 +56,8 @@ pub record Frame : Type 0 where
   pub bit : ℕ
   pub bindings : List ℕ
 
-abbrev pub frame : Lent ℕ → Lent ℕ → ℕ → Lent ℕ → Frame
-frame image contents bit bindings = record { image = at_entry image; contents = at_entry contents; bit = bit; bindings = at_entry bindings }
+abbrev pub frame : List ℕ → List ℕ → ℕ → List ℕ → Frame
+frame image contents bit bindings = record { image = image; contents = contents; bit = bit; bindings = bindings }
 
 -- how far a walk is: the picks left, its progress, the list with its instructions, and the reader marks
 pub record WalkState : Type 0 where
@@ -67,20 +66,12 @@ pub record WalkState : Type 0 where
   pub list : List ℕ
   pub readers : List ℕ
 
-abbrev pub state_before : Lent ℕ → Lent ℕ → Progress → Lent ℕ → Lent ℕ → WalkState
-state_before picks used s list readers =
-    record { picks = picks_left (at_entry picks) (at_entry used); progress = s; list = at_entry list; readers = at_entry readers }
-
-abbrev pub state_after : Lent ℕ → Lent ℕ → Progress → Lent ℕ → Lent ℕ → WalkState
-state_after picks used s list readers =
-    record { picks = picks_left (at_entry picks) (at_exit used); progress = s; list = at_exit list; readers = at_exit readers }
+abbrev pub state : List ℕ → List ℕ → Progress → List ℕ → List ℕ → WalkState
+state picks used s list readers = record { picks = picks_left picks used; progress = s; list = list; readers = readers }
 
 -- a rule that takes no pick is walked with any picks left
-abbrev pub state_before_with : List ℕ → Progress → Lent ℕ → Lent ℕ → WalkState
-state_before_with ys s list readers = record { picks = ys; progress = s; list = at_entry list; readers = at_entry readers }
-
-abbrev pub state_after_with : List ℕ → Progress → Lent ℕ → Lent ℕ → WalkState
-state_after_with ys s list readers = record { picks = ys; progress = s; list = at_exit list; readers = at_exit readers }
+abbrev pub state_with : List ℕ → Progress → List ℕ → List ℕ → WalkState
+state_with ys s list readers = record { picks = ys; progress = s; list = list; readers = readers }
 
 -- this computation leads from x to y
 abbrev pub Leads : Frame → Reader Walked → WalkState → WalkState → Type 0

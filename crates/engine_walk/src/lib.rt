@@ -10,7 +10,7 @@ ghost use Rattle.engine_term.specs.Marks.{Has};
 ghost use Rattle.book.specs.Image.{low_program};
 ghost use Rattle.engine_emit.specs.Emit.{reached};
 ghost use Rattle.engine_walk.specs.WalkMarks.{bits_cleared, WalkMarked};
-ghost use Rattle.engine_walk.specs.Walk.{outcome, assign_rule, let_rule, forall_rule, import_rule, release_rule, choose_rule, frame, state_before, state_after, state_before_with, state_after_with, RuleWalked, NodeWalked, BodyWalked};
+ghost use Rattle.engine_walk.specs.Walk.{outcome, assign_rule, let_rule, forall_rule, import_rule, release_rule, choose_rule, frame, state, state_with, RuleWalked, NodeWalked, BodyWalked};
 
 use book::Image;
 use book_parts::StoredNode;
@@ -48,7 +48,7 @@ fn walk_assign(
     node: StoredNode,
 ) -> Progress
     requires { s.refused ≡ 0 }
-    ensures { (ys : List ℕ) → RuleWalked (frame image contents bit bindings) (assign_rule image.now depth n node) (state_before_with ys s list readers) (state_after_with ys result list readers) }
+    ensures { (ys : List ℕ) → RuleWalked (frame image.now contents.now bit bindings.now) (assign_rule image.now depth n node) (state_with ys s list.old readers.old) (state_with ys result list.new readers.new) }
 {
     let at = engine_term::target_location(image, contents, readers, bit, bindings, depth, node.a);
     let x = engine_term::eval(image, contents, readers, bit, bindings, depth, node.b);
@@ -70,7 +70,7 @@ fn walk_release(
     node: StoredNode,
 ) -> Progress
     requires { s.refused ≡ 0 }
-    ensures { (ys : List ℕ) → RuleWalked (frame image contents bit bindings) (release_rule image.now depth n node) (state_before_with ys s list readers) (state_after_with ys result list readers) }
+    ensures { (ys : List ℕ) → RuleWalked (frame image.now contents.now bit bindings.now) (release_rule image.now depth n node) (state_with ys s list.old readers.old) (state_with ys result list.new readers.new) }
 {
     let x = engine_term::eval(image, contents, readers, bit, bindings, depth, node.a);
     let v = engine_reads::read_reserve(image, contents, readers, bit, x);
@@ -93,7 +93,7 @@ fn walk(
     s: Progress,
     n: u16,
 ) -> Progress
-    ensures { NodeWalked (frame image contents bit bindings) depth n (state_before picks used s list readers) (state_after picks used result list readers) }
+    ensures { NodeWalked (frame image.now contents.now bit bindings.now) depth n (state picks.now used.old s list.old readers.old) (state picks.now used.new result list.new readers.new) }
 {
     let mut left = depth;
     let mut at = n;
@@ -162,7 +162,7 @@ fn walk_body(
     node: StoredNode,
     x: Value,
 ) -> Progress
-    ensures { BodyWalked (frame image contents bit bindings) depth node x (state_before picks used s list readers) (state_after picks used result list readers) }
+    ensures { BodyWalked (frame image.now contents.now bit bindings.now) depth node x (state picks.now used.old s list.old readers.old) (state picks.now used.new result list.new readers.new) }
 {
     let mut inner = *bindings;
     bind_variable(&mut inner, node.a, x);
@@ -187,7 +187,7 @@ fn walk_let(
     node: StoredNode,
 ) -> Progress
     requires { s.refused ≡ 0 }
-    ensures { RuleWalked (frame image contents bit bindings) (let_rule image.now depth node) (state_before picks used s list readers) (state_after picks used result list readers) }
+    ensures { RuleWalked (frame image.now contents.now bit bindings.now) (let_rule image.now depth node) (state picks.now used.old s list.old readers.old) (state picks.now used.new result list.new readers.new) }
 {
     let x = engine_term::eval(image, contents, readers, bit, bindings, depth, node.b);
     walk_body(
@@ -211,7 +211,7 @@ fn walk_forall(
     node: StoredNode,
 ) -> Progress
     requires { s.refused ≡ 0 }
-    ensures { Has (low_program image.now) node.b 1 → RuleWalked (frame image contents bit bindings) (forall_rule image.now depth node) (state_before picks used s list readers) (state_after picks used result list readers) }
+    ensures { Has (low_program image.now) node.b 1 → RuleWalked (frame image.now contents.now bit bindings.now) (forall_rule image.now depth node) (state picks.now used.old s list.old readers.old) (state picks.now used.new result list.new readers.new) }
 {
     let e = book_image::elements(image);
     let f = book_image::function_at(image, node.b as u32);
@@ -247,7 +247,7 @@ fn walk_import(
     node: StoredNode,
 ) -> Progress
     requires { s.refused ≡ 0 }
-    ensures { Has (low_program image.now) node.b 1 → RuleWalked (frame image contents bit bindings) (import_rule image.now depth n node) (state_before picks used s list readers) (state_after picks used result list readers) }
+    ensures { Has (low_program image.now) node.b 1 → RuleWalked (frame image.now contents.now bit bindings.now) (import_rule image.now depth n node) (state picks.now used.old s list.old readers.old) (state picks.now used.new result list.new readers.new) }
 {
     let x = engine_reads::lowest_label(image, contents, readers, bit, s.label);
     let at = engine_term::location(image, node.b, 0, x);
@@ -274,7 +274,7 @@ fn walk_choose(
     node: StoredNode,
 ) -> Progress
     requires { s.refused ≡ 0 }
-    ensures { Has (low_program image.now) node.b 1 → RuleWalked (frame image contents bit bindings) (choose_rule image.now depth n node) (state_before picks used s list readers) (state_after picks used result list readers) }
+    ensures { Has (low_program image.now) node.b 1 → RuleWalked (frame image.now contents.now bit bindings.now) (choose_rule image.now depth n node) (state picks.now used.old s list.old readers.old) (state picks.now used.new result list.new readers.new) }
 {
     let x = engine_emit::next_pick(image, picks, used);
     let v = engine_reads::read_universe(image, contents, readers, bit, node.b, x);

@@ -3,7 +3,7 @@
 #![tactic(auto)]
 
 ghost use Rattle.order_entry.specs.LogRun.{LogRun, LogRunOwn};
-ghost use Rattle.engine.specs.Tables.{tables, tables_before, tables_after};
+ghost use Rattle.engine.specs.Tables.{tables};
 ghost use Rattle.order_entry.specs.Promised.{MadeOn, RunToEnd, RunToEndOwn};
 
 use book::Image;
@@ -23,7 +23,7 @@ fn make_moves(
     order: &OrderTable,
     first: RunState,
 ) -> TalliedAnswer
-    ensures { MadeOn image.now order.now first (tables_before contents readers writers) instructions.old result (tables_after contents readers writers) instructions.new }
+    ensures { MadeOn image.now order.now first (tables contents.old readers.old writers.old) instructions.old result (tables contents.new readers.new writers.new) instructions.new }
 {
     let mut work = [0u64; engine::MOST_INSTRUCTIONS];
     let mut t = first;
@@ -46,7 +46,7 @@ pub fn run_from(
     order: &OrderTable,
     first: RunState,
 ) -> TalliedAnswer
-    ensures { RunToEnd image.now order.now first (tables_before contents readers writers) instructions.old result (tables_after contents readers writers) instructions.new }
+    ensures { RunToEnd image.now order.now first (tables contents.old readers.old writers.old) instructions.old result (tables contents.new readers.new writers.new) instructions.new }
 {
     let n = order_run::records_used(image, contents.len(), readers.len(), writers.len());
     make_moves(
@@ -69,7 +69,7 @@ pub fn run(
     writers: &mut [u64],
     instructions: &mut [Record],
 ) -> TalliedAnswer
-    ensures { LogRun book.now log.now (tables_before contents readers writers) instructions.old result (tables_after contents readers writers) instructions.new }
+    ensures { LogRun book.now log.now (tables contents.old readers.old writers.old) instructions.old result (tables contents.new readers.new writers.new) instructions.new }
 {
     let lent = instructions.len();
     let mut image = [0u32; 2248];
@@ -91,7 +91,7 @@ pub fn run_own_list(
     writers: &mut [u64],
     lent: usize,
 ) -> TalliedAnswer
-    ensures { LogRunOwn book.now log.now (tables_before contents readers writers) lent result (tables_after contents readers writers) }
+    ensures { LogRunOwn book.now log.now (tables contents.old readers.old writers.old) lent result (tables contents.new readers.new writers.new) }
 {
     let none = engine_list::blank();
     let mut list = [none; engine::MOST_INSTRUCTIONS];
@@ -109,7 +109,7 @@ pub fn run_from_own_list(
     order: &OrderTable,
     first: RunState,
 ) -> TalliedAnswer
-    ensures { RunToEndOwn image.now order.now first (tables_before contents readers writers) lent result (tables_after contents readers writers) }
+    ensures { RunToEndOwn image.now order.now first (tables contents.old readers.old writers.old) lent result (tables contents.new readers.new writers.new) }
 {
     let none = engine_list::blank();
     let mut list = [none; engine::MOST_INSTRUCTIONS];

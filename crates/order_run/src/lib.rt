@@ -16,7 +16,7 @@ ghost use Rattle.engine_walk.specs.WalkMarks.{WalkMarked};
 ghost use Rattle.engine_fire.specs.Count.{instructions_given};
 ghost use Rattle.order_run.specs.Stages.{moves_left};
 ghost use Rattle.order_run.specs.Checked.{CallChecked};
-ghost use Rattle.engine.specs.Tables.{tables_before, tables_after};
+ghost use Rattle.engine.specs.Tables.{tables};
 ghost use Rattle.order_run.specs.Promised.{NextMove, StartedOn, NextBegun, NextFinished, CallStarted, CallPrepared};
 
 use book::Image;
@@ -241,7 +241,7 @@ fn start_on_part(
     writers: &mut [u64],
     moves: u32,
 ) -> RunState
-    ensures { StartedOn book.now image.now order.now moves (tables_before contents readers writers) (tables_after contents readers writers) result }
+    ensures { StartedOn book.now image.now order.now moves (tables contents.old readers.old writers.old) (tables contents.new readers.new writers.new) result }
 {
     start_tables(book, image, contents, readers, writers);
     next_move(readers, writers, order, moves, 0, engine_fire::no_labels())
@@ -305,7 +305,7 @@ pub fn finish_next(
     t: RunState,
     s: Begun,
 ) -> RunState
-    ensures { NextFinished image.now order.now list.now t s (tables_before contents readers writers) (tables_after contents readers writers) result }
+    ensures { NextFinished image.now order.now list.now t s (tables contents.old readers.old writers.old) (tables contents.new readers.new writers.new) result }
 {
     let i = t.at;
     let bit = move_bit(i);
@@ -342,7 +342,7 @@ pub fn start_run(
     order: &OrderTable,
     checked: CheckedCall,
 ) -> RunState
-    ensures { CallStarted book.now image.now order.now checked (tables_before contents readers writers) (tables_after contents readers writers) result }
+    ensures { CallStarted book.now image.now order.now checked (tables contents.old readers.old writers.old) (tables contents.new readers.new writers.new) result }
 {
     let n = records_used(image, contents.len(), readers.len(), writers.len());
     start_on_part(
@@ -367,7 +367,7 @@ pub fn prepare(
     image: &mut Image,
     order: &mut OrderTable,
 ) -> RunState
-    ensures { CallPrepared book.now log.now lent (tables_before contents readers writers) (tables_after contents readers writers) image.new order.new result }
+    ensures { CallPrepared book.now log.now lent (tables contents.old readers.old writers.old) (tables contents.new readers.new writers.new) image.new order.new result }
 {
     let lengths = Lengths {
         contents: contents.len(),

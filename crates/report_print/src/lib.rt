@@ -11,7 +11,7 @@ ghost use Rattle.text.specs.Text.{written};
 ghost use Rattle.order.specs.Call.{check_all};
 ghost use Rattle.report_print.specs.Shown.{Shown, fitting, fitting_tally};
 ghost use Rattle.report_print.specs.Reported.{CallPrinted, blank_tables};
-ghost use Rattle.engine.specs.Tables.{tables, tables_before};
+ghost use Rattle.engine.specs.Tables.{tables};
 
 use book::{Function, Image};
 use engine::Tally;
@@ -170,7 +170,7 @@ fn report_on(
     output: &mut [u8],
 ) -> PrintedRun
     requires { most_output ≤ length output.old }
-    ensures { CallPrinted book.now checked image.now order.now (tables_before contents readers writers) output.old result output.new }
+    ensures { CallPrinted book.now checked image.now order.now (tables contents.old readers.old writers.old) output.old result output.new }
 {
     let t = order_run::start_run(book, contents, readers, writers, image, order, checked);
     let ended = order_entry::run_from_own_list(

@@ -3,4 +3,3 @@ pub mod Refusals
 pub mod Text
 pub mod Quoted
 pub mod Scan
-pub mod Lent
