@@ -1,0 +1,32 @@
+-- `finish_move` meets its contract.
+use mathlib.Core.Path.{◌≡◌, refl, sym, subst}
+use mathlib.Core.List.{[]}
+use borrow.Author.Rules.{rules}
+use Rattle.book.specs.Image.{low_program}
+use Rattle.engine.specs.Rule.{Walked}
+use Rattle.engine.specs.Move.{settle}
+use Rattle.engine_emit.proofs.Steps.{reached_walking, reached_refused}
+use Rattle.engine_fire.specs.Finish.{refused_answer, MoveFinished}
+use Rattle.engine.specs.Tables.{tables}
+use Rattle.engine_fire.proofs.finish_move.Goals as goal
+
+pub returns-then-s-ne0 : goal.returns-then-s-ne0
+unfolding settle
+returns-then-s-ne0 c =
+    λ strides.
+    let a = c.args in
+    let t = tables a.contents.now a.readers.now a.writers.now in
+    let r : c.refused_answer.result ≡ refused_answer a.s.refused a.at a.s.node = c.refused_answer.ensures in
+    rw r (subst (λ (w : Walked). MoveFinished (low_program a.image.now) a.bit a.at w t (refused_answer a.s.refused a.at a.s.node) t)
+    (sym (reached_refused [] a.s a.list.now c.if-s-ne0.true))
+    (record { answer = λ ls. refl; tally = λ ls. refl; contents = λ ls. refl; readers = λ ls. refl; writers = λ ls. refl }))
+
+pub returns : goal.returns
+returns c =
+    λ strides.
+    let a = c.args in
+    let f = c.settle_listed in
+    subst
+    (λ (w : Walked). MoveFinished (low_program a.image.now) a.bit a.at w (tables a.contents.now a.readers.now a.writers.now) f.result (tables f.new.contents f.new.readers f.new.writers))
+    (sym (reached_walking [] a.s a.list.now c.if-s-ne0.false))
+    (f.ensures a.s.label strides)
