@@ -169,7 +169,7 @@ fn add_tallies(s: Tally, t: Tally) -> Tally
 
 // A run that is over, with its answer and its tally.
 fn run_over(answer: Answer, tally: Tally) -> RunState
-    ensures* { λ r. ⌜ r ≡ record { more = false; at = 0; moves = 0; result = record { answer = answer; tally = tally } } ⌝ }
+    ensures { result ≡ record { more = false; at = 0; moves = 0; result = record { answer = answer; tally = tally } } }
 {
     let result = TalliedAnswer {
         answer: answer,

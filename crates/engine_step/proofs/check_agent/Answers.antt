@@ -1,0 +1,14 @@
+-- `check_agent` meets its contract.
+use Rattle.engine_step.proofs.Checks.{agent_there, agent_missing}
+use Rattle.book.specs.Image.{low_program}
+use native.Mathlib.Omega.{arith}
+use mathlib.Core.Path.{◌∙◌}
+use Rattle.book.proofs.Held.{agents_held}
+use borrow.Author.Rules.{rules}
+use Rattle.engine_step.proofs.check_agent.Goals as goal
+
+pub returns-then-agent-agents : goal.returns-then-agent-agents
+returns-then-agent-agents c = let a = c.args in c.answer_at.ensures ∙ agent_there (low_program a.image.now) a.agent (omega (arith, c.if-agent-agents.true, (agents_held _ _ c.agents.ensures).0))
+
+pub returns-else-agent-agents : goal.returns-else-agent-agents
+returns-else-agent-agents c = let a = c.args in c.answer_at-else-agent-agents.ensures ∙ agent_missing (low_program a.image.now) a.agent (omega (arith, c.if-agent-agents.false, (agents_held _ _ c.agents.ensures).0))
