@@ -1,1 +1,2 @@
 pub mod Longer
+pub mod Moves

@@ -1,0 +1,11 @@
+-- The run is so far; and the moves that are left fall.
+use Rattle.std.proofs.Common.{◌≡◌, length}
+use Rattle.order_run.specs.Stages.{moves_left}
+use Rattle.order_entry.proofs.Moves.{SoFar}
+use Rattle.order_entry.proofs.make_moves.Given as goal
+
+abbrev pub invariant-loop-t : goal.invariant-loop-t
+invariant-loop-t l = SoFar l.image l.order l.fn.first l.initial.contents l.initial.readers l.initial.writers l.initial.instructions l.t l.contents l.readers l.writers l.instructions
+
+abbrev pub decreases-loop-t : goal.decreases-loop-t
+decreases-loop-t l = moves_left l.t
