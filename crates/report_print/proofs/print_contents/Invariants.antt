@@ -1,0 +1,22 @@
+-- `print_contents` meets its contract.
+use mathlib.Core.Path.{◌≡◌, refl, ◌∙◌}
+use Prim.Native.Nat.{◌≤◌, ◌-◌, ◌+◌, ◌*◌}
+use lib.ListN.{length}
+use native.Mathlib.Nat.{zero-add}
+use native.Mathlib.Omega.{arith}
+use borrow.Author.Rules.{rules}
+use Rattle.book.proofs.Image.{functions_most}
+use Rattle.book.specs.Image.{program_in}
+use Rattle.book.specs.Book.{size, function_at}
+use Rattle.book.specs.Sum.{Strided}
+use Rattle.report.specs.Report.{part_lines, lines_from}
+use Rattle.report_print.proofs.Lines.{Left, left_all, left_step, left_none, lines_step, lines_end}
+use Rattle.report_print.proofs.print_contents.Given as goal
+
+abbrev pub invariant-loop-k : goal.invariant-loop-k
+invariant-loop-k l =
+    (l.k ≤ l.all) × (length l.out ≡ length l.initial.out) × (l.lines ≤ l.k * 100000000)
+    × (Strided (program_in l.image) → Left 0 (lines_from (program_in l.image) l.contents 0 l.all) l.initial.out l.lines (lines_from (program_in l.image) l.contents l.k (l.all - l.k)) l.out)
+
+abbrev pub decreases-loop-k : goal.decreases-loop-k
+decreases-loop-k l = l.all - l.k
