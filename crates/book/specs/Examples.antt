@@ -1,5 +1,5 @@
 -- Books and what their check answers, as a table under the lemma of Quoted: the order of the refusals, and examples of each (SPECIFICATION 3).
-use Rattle.std.specs.Prelude.{◌≡◌, refl, true, List, [], ◌∷◌, ◌++◌, ℕ, ◌<◌, length, get_or}
+use Rattle.std.specs.Prelude.{◌≡◌, refl, true, List, [], ◌∷◌, ℕ, ◌<◌, length, get_or}
 use Rattle.text.specs.declared.Answer.{Answer}
 use Rattle.text.specs.Words.{answer_of}
 use Rattle.text.specs.Quoted.{padded, Case, case, all_right, each_right}

@@ -1,8 +1,8 @@
 -- Refusals 3, 4, 5 and 7: the header, function, node and agent lines, each a test of one line; and the book that the lines say
 -- (SPECIFICATION 2.6, 3.2, 3.4, 3.5, 3.8).
-use Rattle.std.specs.Prelude.{Bool, ◌&&◌, ◌||◌, not, List, [], ◌∷◌, ℕ, ◌+◌, ◌-◌, ◌*◌, eqb, ltb, leb, length}
+use Rattle.std.specs.Prelude.{Bool, ◌&&◌, ◌||◌, not, List, [], ◌∷◌, ℕ, ◌+◌, ◌-◌, eqb, ltb, leb, length}
 use Rattle.text.specs.declared.Line.{Line}
-use Rattle.text.specs.Words.{if◌then◌else◌, within, table}
+use Rattle.text.specs.Words.{within, table}
 use Rattle.text.specs.Text.{line}
 use Rattle.book.specs.declared.Header.{Header}
 use Rattle.book.specs.declared.Function.{Function}

@@ -1,5 +1,5 @@
 -- Refusal 6, use: each node is used exactly once, as a root or as an operand (SPECIFICATION 2.8, 3.6).
-use Rattle.std.specs.Prelude.{Bool, ◌&&◌, ◌||◌, not, ℕ, zero, suc, ◌+◌, eqb, length}
+use Rattle.std.specs.Prelude.{Bool, ◌&&◌, not, ℕ, zero, suc, ◌+◌, eqb, length}
 use Rattle.text.specs.Words.{one_if, some_below}
 use Rattle.book.specs.declared.Node.{Node}
 use Rattle.book.specs.Book.{Program, node_at, agent_at}

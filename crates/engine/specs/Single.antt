@@ -1,5 +1,5 @@
 -- The single-move entry: a book, a contents table, an agent and its picks (SPECIFICATION 9.2).
-use Rattle.std.specs.Prelude.{Bool, not, List, [], ◌∷◌, ◌++◌, ℕ, suc, min, ltb, leb, length, get_or, take, drop}
+use Rattle.std.specs.Prelude.{Bool, not, List, [], ◌++◌, ℕ, suc, min, ltb, leb, length, get_or, take, drop}
 use Rattle.text.specs.declared.Answer.{Answer}
 use Rattle.text.specs.declared.Found.{Found}
 use Rattle.text.specs.declared.Found.TheVariants.{Nowhere, Here}

@@ -1,5 +1,5 @@
 -- The updates of a list of instructions and their least clash (SPECIFICATION 4.7, 4.8).
-use Rattle.std.specs.Prelude.{List, [], ℕ, length}
+use Rattle.std.specs.Prelude.{List, ℕ, length}
 use Rattle.text.specs.Words.{least}
 use Rattle.text.specs.declared.Found.{Found}
 use Rattle.book.specs.Image.{low_program}

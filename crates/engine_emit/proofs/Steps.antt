@@ -12,7 +12,7 @@ use lib.Seq.{take-suc-set}
 use borrow.Author.Tests.{eq-eqb, ne_eqb, lt-ltb, le-ltb}
 use Rattle.text.specs.Words.{if◌then◌else◌}
 use Rattle.text.specs.Refusals.{non_boolean, not_releasable, no_label_left, list_full, not_in_universe, pick_count}
-use Rattle.book.specs.Book.{true_element, false_element, boolean, relation, Program, function_at, location, reserve}
+use Rattle.book.specs.Book.{true_element, false_element, boolean, relation, Program, function_at, reserve}
 use Rattle.engine.specs.declared.Instruction.{Instruction}
 use Rattle.engine.specs.declared.Instruction.TheVariants.{Update, Release}
 use Rattle.engine.specs.Rule.{Walked, walking, refused_at, ◌then◌, most_instructions, emit, unreleasable, all_taken}

@@ -1,5 +1,5 @@
 -- What the code evaluates a term in: the program of an image, and the bindings: the values of the eight variables, and then the agent's element.
-use Rattle.std.specs.Prelude.{List, [], ℕ, get_or, take}
+use Rattle.std.specs.Prelude.{List, ℕ, get_or, take}
 use Rattle.book.specs.Book.{undef, node_at}
 use Rattle.book.specs.Image.{low_program}
 use Rattle.engine.specs.Reader.{Reader}

@@ -9,7 +9,7 @@ use native.Mathlib.Decide.{dec_lt}
 use lib.Dec.{eqb, ltb}
 use lib.ListN.{set, take, length-take}
 use lib.Seq.{take-set-lt, set_out, get_or-set_other}
-use borrow.Author.Tests.{eq-eqb, ne_eqb, lt-ltb, le-ltb}
+use borrow.Author.Tests.{lt-ltb, le-ltb}
 use Rattle.text.specs.Words.{if◌then◌else◌}
 use Rattle.text.specs.Refusals.{no_label_left, not_in_universe, pick_count}
 use Rattle.text.specs.declared.Found.TheVariants.{Nowhere, Here}

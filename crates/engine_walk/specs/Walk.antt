@@ -1,11 +1,9 @@
 -- What a walk came to, the walk of the rule at a node, and what the functions of the walk promise, in one frame.
-use Rattle.std.specs.Prelude.{List, [], ℕ, eqb, set}
-use Rattle.text.specs.Words.{if◌then◌else◌}
+use Rattle.std.specs.Prelude.{List, [], ℕ, set}
 use Rattle.book.specs.Book.{node_at}
 use Rattle.engine.specs.Reader.{Reader}
 use Rattle.engine.specs.Term.{term_at}
-use Rattle.engine.specs.Rule.{Rule, assign, bind, for_all, import, release, choose, Walk, Walked, walking, refused_at, walk, after, rule_from}
-use Rattle.engine_instruction.specs.Code.{items}
+use Rattle.engine.specs.Rule.{Rule, assign, bind, for_all, import, release, choose, Walk, Walked, walk, after, rule_from}
 use Rattle.engine_term.specs.Bindings.{variables_of, agent_of}
 use Rattle.book.specs.Image.{low_program}
 use Rattle.book_parts.specs.declared.StoredNode.{StoredNode}

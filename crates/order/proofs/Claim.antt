@@ -12,7 +12,7 @@ use Rattle.book.specs.Book.{Program, Book, L, start}
 use Rattle.book.specs.Check.{check_book}
 use Rattle.book.specs.Sound.{Lawful, Sound}
 use Rattle.book.proofs.Claims.{accepted_book}
-use Rattle.engine.specs.Move.{Fired, fires, move}
+use Rattle.engine.specs.Move.{Fired, move}
 use Rattle.engine.specs.Single.{over_first}
 use Rattle.engine.proofs.Moves.{fired_length}
 use Rattle.order.specs.Pairs.{predecessors, ordered_by, PairFound, no_pair, a_pair, least_pair}

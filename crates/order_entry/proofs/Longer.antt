@@ -1,7 +1,7 @@
 -- An instruction list longer than 256 records makes no difference.
-use mathlib.Core.Path.{◌≡◌, ◌∙◌, ap, fun_ext}
+use mathlib.Core.Path.{◌≡◌, ap, fun_ext}
 use mathlib.Core.List.{List}
-use Prim.Native.Nat.{ℕ, ◌≤◌, min}
+use Prim.Native.Nat.{ℕ, min}
 use native.Mathlib.Omega.{arith}
 use Rattle.engine_step.proofs.Longer.{enough}
 use Rattle.text.specs.Words.{Checked, good, ◌>>◌, ◌>>=◌}

@@ -1,6 +1,6 @@
 -- What `rental` prints: one example and more for each refusal but 16, which is never given, for moves that change nothing, choices and retirements, and the
 -- limits (SPECIFICATION 4.6, 4.10, 5.2, 8.1, 11.1), as tables under the lemma of Quoted.
-use Rattle.std.specs.Prelude.{◌≡◌, refl, true, List, [], ◌∷◌, ◌++◌, ℕ, suc, ◌+◌, ◌*◌, ◌<◌, ◌/◌, ◌%◌, length, get_or, take, drop, replicate}
+use Rattle.std.specs.Prelude.{◌≡◌, refl, true, List, [], ◌∷◌, ◌++◌, ℕ, suc, ◌*◌, ◌<◌, ◌/◌, ◌%◌, length, get_or, take, drop, replicate}
 use Prim.Native.String.{String}
 use Rattle.text.specs.declared.Line.{Line}
 use Rattle.text.specs.Words.{table}

@@ -14,7 +14,6 @@ use Rattle.text.specs.Words.{least, must, answer_of}
 use Rattle.text.specs.declared.Found.TheVariants.{Nowhere}
 use mathlib.Core.Bool.{Bool, true}
 use mathlib.Core.Path.{◌≡◌, sym, ap, ◌∙◌}
-use borrow.Author.Rules.{rules}
 use Rattle.book_check.proofs.check_into.Goals as goal
 use Rattle.book_check.proofs.check_into.Goals.{After-bad_header, After-header_of, After-must-first, After-must-second, After-none_at-bounds, After-parse-l}
 

@@ -12,7 +12,6 @@ use Rattle.text.specs.Words.{answer_of}
 use Prim.Native.Nat.{ℕ}
 use mathlib.Core.List.{List}
 use mathlib.Core.Path.{◌≡◌, ap, ◌∙◌}
-use borrow.Author.Rules.{rules}
 use Rattle.book_check.proofs.check_program.Goals as goal
 use Rattle.book_check.proofs.check_program.Goals.{After-lay_out, After-must-locations, After-none_at, After-none_at-around, After-none_at-functions, After-none_at-nodes, After-none_at-uses}
 

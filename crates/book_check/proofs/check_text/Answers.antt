@@ -15,7 +15,6 @@ use Rattle.book.specs.Image.{HoldsText}
 use Rattle.text.specs.Words.{none_at, answer_of}
 use Rattle.text.specs.declared.Answer.{Answer}
 use mathlib.Core.Path.{◌≡◌, sym, ap, ◌∙◌}
-use borrow.Author.Rules.{rules}
 use Rattle.book_check.proofs.check_text.Goals as goal
 use Rattle.book_check.proofs.check_text.Goals.{After-must-surplus, After-none_at-form}
 

@@ -1,6 +1,5 @@
 -- `add_to_roll` meets its contract.
 use borrow.Author.Tests.{eq-eqb, ne_eqb}
-use borrow.Author.Rules.{rules}
 use Rattle.book_entries.proofs.add_to_roll.Goals as goal
 
 pub returns-then-x-eq0 : goal.returns-then-x-eq0

@@ -14,7 +14,6 @@ use native.Mathlib.Omega.{arith}
 use lib.Dec.{eqb, leb}
 use mir.Val.{bool_byte}
 use borrow.Author.Tests.{ne_eqb, le-leb}
-use borrow.Author.Rules.{rules}
 use Rattle.book_entries.proofs.arguments_fit.Goals as goal
 
 kept : (b : Bool) (x : ℕ) → x * bool_byte b ≤ x

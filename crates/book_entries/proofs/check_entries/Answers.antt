@@ -5,7 +5,6 @@ use Rattle.book.specs.Image.{word, program_in, first_entry_in, entry_count_in}
 use Rattle.book.proofs.Image.{capped_most, elements_most, functions_most, nodes_most, agents_most}
 use Rattle.book_entries.proofs.Pass.{counted}
 use Rattle.book_entries.proofs.Roll.{clear}
-use borrow.Author.Rules.{rules}
 use Rattle.book_entries.proofs.check_entries.Goals as goal
 
 pub overflow_add-end : goal.overflow_add-end

@@ -5,31 +5,16 @@
 
 -- it is in bounds, and fits its function
 -- one can be added to its location
-use native.Mathlib.Omega.{arith}
-use borrow.Author.Rules.{rules}
-use Rattle.book_entries.proofs.Pass.{entry_line, ill_formed, at_fault_from, all_sound}
-use Rattle.book_entries.proofs.Roll.{bounded, tests_passed, bad_tests, roll_none, roll_step, low_none, low_step}
 use Rattle.book_entries.specs.Pass.{bad_at}
-use Rattle.book_entries.specs.Roll.{entries_from, roll_with, roll_of}
-use Rattle.book.proofs.Image.{elements_most}
-use native.Mathlib.Nat.{mul-le-mul_right}
+use Rattle.book_entries.specs.Roll.{entries_from, roll_of}
 use Rattle.book.specs.Sum.{Strided}
 use Rattle.book.specs.Image.{program_in}
-use Rattle.book.specs.Contents.{entry_fits, bad_entry, least_location}
-use Rattle.book.specs.Lines.{entry_of}
-use Rattle.book.specs.Book.{function_at, entry_at}
-use Rattle.book.specs.declared.Entry.{Entry}
-use Rattle.text.proofs.Fields.{parsed_ok, parsed_line}
-use Rattle.text.proofs.Words.{least_pass, least_stop, least_end}
+use Rattle.book.specs.Contents.{least_location}
 use Rattle.text.specs.Text.{bad_line}
 use Rattle.text.specs.Words.{least_from}
-use borrow.Author.Tests.{not-false}
 use lib.ListN.{length}
-use lib.Dec.{leb}
-use Prim.Native.Nat.{◌≤◌, ◌<◌, ◌-◌, ◌+◌, ◌*◌}
-use mathlib.Core.List.{List}
-use mathlib.Core.Bool.{true, not, ◌&&◌}
-use mathlib.Core.Path.{◌≡◌, refl, sym, ap, ◌∙◌}
+use Prim.Native.Nat.{◌≤◌, ◌-◌}
+use mathlib.Core.Path.{◌≡◌}
 use Rattle.book_entries.proofs.check_entry_lines.Given as goal
 
 abbrev pub invariant-loop-i : goal.invariant-loop-i

@@ -1,6 +1,5 @@
 -- `entry_fits` meets its contract.
 use Rattle.book.specs.Contents.{entry_fits}
-use borrow.Author.Rules.{rules}
 use Rattle.book_entries.proofs.entry_fits.Goals as goal
 
 pub returns : goal.returns

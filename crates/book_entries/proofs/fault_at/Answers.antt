@@ -1,7 +1,6 @@
 -- `fault_at` meets its contract.
 use Rattle.book_entries.proofs.Pass.{ill, at_fault}
 use mathlib.Core.Path.{refl, sym, ◌∙◌}
-use borrow.Author.Rules.{rules}
 use Rattle.book_entries.proofs.fault_at.Goals as goal
 
 pub returns-in-Nowhere : goal.returns-in-Nowhere

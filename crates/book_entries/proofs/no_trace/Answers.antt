@@ -1,5 +1,4 @@
 -- `no_trace` meets its contract.
-use borrow.Author.Rules.{rules}
 use Rattle.book_entries.proofs.no_trace.Goals as goal
 
 pub returns : goal.returns

@@ -5,9 +5,9 @@ use Rattle.book.proofs.Image.{functions_most}
 use Rattle.book.specs.Image.{image_row}
 use Rattle.book.specs.Lines.{bad_function}
 use Rattle.text.proofs.Words.{least_start, least_pass, least_stop, least_end}
-use Rattle.text.specs.Words.{least_from, least}
-use Prim.Native.Nat.{◌≤◌, ◌-◌, ◌+◌}
-use mathlib.Core.Path.{◌≡◌, ap, ◌∙◌}
+use Rattle.text.specs.Words.{least}
+use Prim.Native.Nat.{◌+◌}
+use mathlib.Core.Path.{ap, ◌∙◌}
 use Rattle.book_header.proofs.bad_functions.Goals as goal
 
 pub loop-i-init : goal.loop-i-init

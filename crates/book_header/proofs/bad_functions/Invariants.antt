@@ -1,13 +1,9 @@
 -- `bad_functions` meets its contract.
-use native.Mathlib.Omega.{arith}
-use borrow.Author.Rules.{rules}
-use Rattle.book.proofs.Image.{functions_most}
 use Rattle.book.specs.Image.{image_row}
 use Rattle.book.specs.Lines.{bad_function}
-use Rattle.text.proofs.Words.{least_start, least_pass, least_stop, least_end}
 use Rattle.text.specs.Words.{least_from, least}
 use Prim.Native.Nat.{◌≤◌, ◌-◌, ◌+◌}
-use mathlib.Core.Path.{◌≡◌, ap, ◌∙◌}
+use mathlib.Core.Path.{◌≡◌}
 use Rattle.book_header.proofs.bad_functions.Given as goal
 
 abbrev pub invariant-loop-i : goal.invariant-loop-i

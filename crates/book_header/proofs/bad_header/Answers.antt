@@ -1,8 +1,5 @@
 -- `bad_header` meets its contract.
 use Rattle.text.proofs.Words.{least_start, least_pass, least_stop, least_end}
-use Rattle.text.specs.Words.{least_from, least}
-use mathlib.Core.Path.{◌≡◌}
-use Prim.Native.Nat.{◌≤◌, ◌-◌}
 use borrow.Author.Rules.{rules}
 use Rattle.book.specs.Lines.{bad_field}
 use Rattle.book_header.proofs.bad_header.Goals as goal

@@ -1,7 +1,6 @@
 -- `agent_at` meets its contract.
 use mathlib.Core.Path.{sym}
 use Rattle.book.proofs.Image.{agent_inside, agent_past}
-use borrow.Author.Rules.{rules}
 use Rattle.book_image.proofs.agent_at.Goals as goal
 
 pub returns-then-i-cap : goal.returns-then-i-cap

@@ -1,7 +1,6 @@
 -- `agents` meets its contract.
 use mathlib.Core.Path.{sym, ◌∙◌}
 use Rattle.book.proofs.Image.{agents_long}
-use borrow.Author.Rules.{rules}
 use Rattle.book_image.proofs.agents.Goals as goal
 
 pub returns : goal.returns

@@ -1,5 +1,4 @@
 -- `capped` meets its contract.
-use borrow.Author.Rules.{rules}
 use Rattle.book_image.proofs.capped.Goals as goal
 
 pub returns : goal.returns

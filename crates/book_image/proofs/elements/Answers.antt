@@ -1,6 +1,5 @@
 -- `elements` meets its contract.
 use Rattle.book.specs.Image.{program_in}
-use borrow.Author.Rules.{rules}
 use Rattle.book_image.proofs.elements.Goals as goal
 
 pub returns : goal.returns

@@ -4,7 +4,6 @@ use Rattle.book.proofs.Image.{function_inside, function_past}
 use Rattle.book.specs.Image.{word}
 use mathlib.Core.Logic.{inl, inr}
 use mathlib.Core.Path.{sym, ◌∙◌}
-use borrow.Author.Rules.{rules}
 use Rattle.book_image.proofs.function_at.Goals as goal
 
 pub returns-then-image-f : goal.returns-then-image-f

@@ -1,7 +1,6 @@
 -- `functions` meets its contract.
 use mathlib.Core.Path.{sym, ◌∙◌}
 use Rattle.book.proofs.Image.{functions_long}
-use borrow.Author.Rules.{rules}
 use Rattle.book_image.proofs.functions.Goals as goal
 
 pub returns : goal.returns

@@ -4,7 +4,6 @@ use mathlib.Core.Logic.{inl, inr}
 use Rattle.book.specs.Image.{word}
 use Rattle.book.proofs.Image.{node_inside, node_past}
 use Rattle.book_image.proofs.Bounds.{capped_above, capped_reached}
-use borrow.Author.Rules.{rules}
 use Rattle.book_image.proofs.node_at.Goals as goal
 
 pub returns-then-image-n : goal.returns-then-image-n

@@ -1,7 +1,6 @@
 -- `nodes` meets its contract.
 use mathlib.Core.Path.{sym, ◌∙◌}
 use Rattle.book.proofs.Image.{nodes_long}
-use borrow.Author.Rules.{rules}
 use Rattle.book_image.proofs.nodes.Goals as goal
 
 pub returns : goal.returns

@@ -1,6 +1,5 @@
 -- `store_node` meets its contract.
 use Rattle.book.specs.Image.{node_stored}
-use borrow.Author.Rules.{rules}
 use Rattle.book_image.proofs.store_node.Goals as goal
 
 pub returns : goal.returns

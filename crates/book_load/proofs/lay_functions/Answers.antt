@@ -3,9 +3,9 @@ use native.Mathlib.Omega.{arith}
 use borrow.Author.Rules.{rules}
 use Rattle.book_load.proofs.Loaded.{other_rows}
 use Rattle.book.proofs.Image.{first_none, first_step, filled_start, filled_step, filled_end, size_most}
-use Rattle.book.specs.Image.{image_row, filled, first_location, laid_row}
+use Rattle.book.specs.Image.{image_row, laid_row}
 use Rattle.text.specs.declared.Line.{Line}
-use Prim.Native.Nat.{ℕ, ◌≤◌, ◌-◌, ◌+◌, ◌*◌}
+use Prim.Native.Nat.{ℕ, ◌+◌}
 use mathlib.Core.Path.{◌≡◌, refl, sym, ◌∙◌}
 use Rattle.book_load.proofs.lay_functions.Goals as goal
 

@@ -1,12 +1,7 @@
 -- `lay_functions` meets its contract.
-use native.Mathlib.Omega.{arith}
-use borrow.Author.Rules.{rules}
-use Rattle.book_load.proofs.Loaded.{other_rows}
-use Rattle.book.proofs.Image.{first_none, first_step, filled_start, filled_step, filled_end, size_most}
 use Rattle.book.specs.Image.{image_row, filled, first_location, laid_row}
-use Rattle.text.specs.declared.Line.{Line}
 use Prim.Native.Nat.{ℕ, ◌≤◌, ◌-◌, ◌+◌, ◌*◌}
-use mathlib.Core.Path.{◌≡◌, refl, sym, ◌∙◌}
+use mathlib.Core.Path.{◌≡◌}
 use Rattle.book_load.proofs.lay_functions.Given as goal
 
 abbrev pub invariant-loop-i : goal.invariant-loop-i

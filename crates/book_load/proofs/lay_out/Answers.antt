@@ -5,7 +5,6 @@ use Rattle.book.specs.Image.{program_in}
 use mathlib.Core.Path.{sym, ap, ◌∙◌}
 use lib.ListN.{length}
 use native.Mathlib.Omega.{arith}
-use borrow.Author.Rules.{rules}
 use Rattle.book_load.proofs.lay_out.Goals as goal
 
 pub lay_functions-all-requires : goal.lay_functions-all-requires

@@ -1,6 +1,5 @@
 -- `load` meets its contract.
 use mathlib.Core.Path.{◌∙◌}
-use borrow.Author.Rules.{rules}
 use Rattle.book_load.proofs.load.Goals as goal
 
 pub returns : goal.returns

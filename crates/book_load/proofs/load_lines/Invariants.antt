@@ -1,17 +1,9 @@
 -- `load_lines` meets its contract.
-use borrow.Author.Tests.{not-false}
-use native.Mathlib.Omega.{arith}
-use borrow.Author.Rules.{rules}
-use Rattle.book_load.proofs.Loaded.{taken_none, taken_step}
 use Rattle.book_load.specs.Loaded.{lines_loaded}
-use Rattle.book.specs.Lines.{first_entry}
-use Rattle.text.proofs.Fields.{parsed_ok, parsed_line}
-use Rattle.text.proofs.Words.{least_pass, least_stop, least_end}
 use Rattle.text.specs.Text.{bad_line}
 use Rattle.text.specs.Words.{least_from}
 use Prim.Native.Nat.{◌≤◌, ◌-◌}
-use mathlib.Core.Bool.{not}
-use mathlib.Core.Path.{◌≡◌, refl, sym, ap, ◌∙◌}
+use mathlib.Core.Path.{◌≡◌}
 use Rattle.book_load.proofs.load_lines.Given as goal
 
 abbrev pub invariant-loop-i : goal.invariant-loop-i

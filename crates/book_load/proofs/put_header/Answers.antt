@@ -1,6 +1,5 @@
 -- `put_header` meets its contract.
 use Rattle.book_load.specs.Loaded.{header_loaded}
-use borrow.Author.Rules.{rules}
 use Rattle.book_load.proofs.put_header.Goals as goal
 
 pub returns : goal.returns

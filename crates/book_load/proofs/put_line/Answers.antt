@@ -1,7 +1,6 @@
 -- `put_line` meets its contract.
 use mathlib.Core.Path.{◌∙◌}
 use borrow.Author.Tests.{lt-ltb, le-ltb}
-use borrow.Author.Rules.{rules}
 use Rattle.book_load.proofs.put_line.Goals as goal
 
 pub returns-then-i-nodes : goal.returns-then-i-nodes

@@ -1,6 +1,5 @@
 -- `bad_agent` meets its contract.
 use Rattle.book.specs.Lines.{bad_agent}
-use borrow.Author.Rules.{rules}
 use Rattle.book_nodes.proofs.bad_agent.Goals as goal
 
 pub returns : goal.returns

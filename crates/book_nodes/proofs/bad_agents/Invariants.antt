@@ -1,13 +1,9 @@
 -- `bad_agents` meets its contract.
-use native.Mathlib.Omega.{arith}
-use borrow.Author.Rules.{rules}
-use Rattle.book.proofs.Image.{agents_most}
 use Rattle.book.specs.Image.{image_row, program_in}
 use Rattle.book.specs.Lines.{bad_agent}
-use Rattle.text.proofs.Words.{least_start, least_pass, least_stop, least_end}
 use Rattle.text.specs.Words.{least_from, least}
 use Prim.Native.Nat.{◌≤◌, ◌-◌, ◌+◌}
-use mathlib.Core.Path.{◌≡◌, ap, ◌∙◌}
+use mathlib.Core.Path.{◌≡◌}
 use Rattle.book_nodes.proofs.bad_agents.Given as goal
 
 abbrev pub invariant-loop-i : goal.invariant-loop-i

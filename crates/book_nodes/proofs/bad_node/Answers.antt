@@ -1,7 +1,6 @@
 -- `bad_node` meets its contract.
 use Rattle.book_nodes.proofs.Classes.{lent_sorts}
 use Rattle.book.specs.Lines.{bad_node}
-use borrow.Author.Rules.{rules}
 use Rattle.book_nodes.proofs.bad_node.Goals as goal
 
 pub returns : goal.returns

@@ -3,9 +3,8 @@ use borrow.Author.Rules.{rules}
 use Rattle.book.specs.Image.{program_in}
 use Rattle.book.specs.Lines.{bad_node}
 use Rattle.text.proofs.Words.{least_start, least_pass, least_stop, least_end}
-use Rattle.text.specs.Words.{least_from, least}
-use Prim.Native.Nat.{◌≤◌, ◌-◌}
-use mathlib.Core.Path.{◌≡◌, ap, ◌∙◌}
+use Rattle.text.specs.Words.{least}
+use mathlib.Core.Path.{ap, ◌∙◌}
 use Rattle.book_nodes.proofs.bad_nodes.Goals as goal
 
 pub loop-i-init : goal.loop-i-init

@@ -1,11 +1,9 @@
 -- `bad_nodes` meets its contract.
-use borrow.Author.Rules.{rules}
 use Rattle.book.specs.Image.{program_in}
 use Rattle.book.specs.Lines.{bad_node}
-use Rattle.text.proofs.Words.{least_start, least_pass, least_stop, least_end}
 use Rattle.text.specs.Words.{least_from, least}
 use Prim.Native.Nat.{◌≤◌, ◌-◌}
-use mathlib.Core.Path.{◌≡◌, ap, ◌∙◌}
+use mathlib.Core.Path.{◌≡◌}
 use Rattle.book_nodes.proofs.bad_nodes.Given as goal
 
 abbrev pub invariant-loop-i : goal.invariant-loop-i

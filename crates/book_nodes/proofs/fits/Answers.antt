@@ -3,7 +3,6 @@ use mathlib.Core.Path.{◌∙◌, sym}
 use native.Mathlib.Omega.{arith}
 use Rattle.book.specs.Image.{program_in}
 use Rattle.book_nodes.proofs.Classes as classes
-use borrow.Author.Rules.{rules}
 use Rattle.book_nodes.proofs.fits.Goals as goal
 
 pub returns-then-s-eq1 : goal.returns-then-s-eq1

@@ -1,5 +1,4 @@
 -- `fits_node` meets its contract.
-use borrow.Author.Rules.{rules}
 use Rattle.book_nodes.proofs.fits_node.Goals as goal
 
 pub returns : goal.returns

@@ -1,6 +1,5 @@
 -- `sorts_of` meets its contract.
 use borrow.Author.Tests.{lt-ltb, le-ltb}
-use borrow.Author.Rules.{rules}
 use Rattle.book_nodes.proofs.sorts_of.Goals as goal
 
 pub returns-then-kind-lt29 : goal.returns-then-kind-lt29

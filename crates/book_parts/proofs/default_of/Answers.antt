@@ -1,5 +1,4 @@
 -- `default_of` meets its contract.
-use borrow.Author.Rules.{rules}
 use Rattle.book_parts.proofs.default_of.Goals as goal
 
 pub returns-then-is_relation : goal.returns-then-is_relation

@@ -2,7 +2,6 @@
 use Rattle.book.proofs.Sum.{product}
 use Rattle.book.proofs.Image.{below}
 use native.Mathlib.Omega.{arith}
-use borrow.Author.Rules.{rules}
 use Rattle.book_parts.proofs.location.Goals as goal
 
 pub overflow_mul-result : goal.overflow_mul-result

@@ -1,7 +1,6 @@
 -- `node` meets its contract.
 use mathlib.Core.Path.{sym}
 use Rattle.book.proofs.Held.{held_node}
-use borrow.Author.Rules.{rules}
 use Rattle.book_parts.proofs.node.Goals as goal
 
 pub returns : goal.returns

@@ -1,12 +1,11 @@
 -- `owner_of` meets its contract.
-use Prim.Native.Nat.{◌-◌, ◌≤◌, ◌<◌}
+use Prim.Native.Nat.{◌<◌}
 use native.Mathlib.Omega.{arith}
 use lib.ListN.{length}
 use Rattle.book.specs.Image.{low_program}
 use Rattle.book.proofs.Held.{functions_held, function_held}
 use Rattle.book_parts.proofs.Places.{part_fits}
-use Rattle.book_parts.proofs.Parts.{Sought, owner_start, owner_here, owner_next, owner_none}
-use borrow.Author.Rules.{rules}
+use Rattle.book_parts.proofs.Parts.{owner_start, owner_here, owner_next, owner_none}
 use Rattle.book_parts.proofs.owner_of.Goals as goal
 
 pub loop-g-init : goal.loop-g-init

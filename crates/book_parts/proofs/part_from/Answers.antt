@@ -1,6 +1,5 @@
 -- `part_from` meets its contract.
 use Rattle.book.proofs.Held.{elements_held, function_held}
-use borrow.Author.Rules.{rules}
 use Rattle.book_parts.proofs.part_from.Goals as goal
 
 pub returns : goal.returns

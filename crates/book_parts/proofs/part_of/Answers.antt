@@ -1,5 +1,4 @@
 -- `part_of` meets its contract.
-use borrow.Author.Rules.{rules}
 use Rattle.book_parts.proofs.part_of.Goals as goal
 
 pub returns : goal.returns

@@ -1,7 +1,6 @@
 -- `permanent` meets its contract.
 use mathlib.Core.Path.{sym, ◌∙◌}
 use Rattle.book.proofs.Held.{held_permanent}
-use borrow.Author.Rules.{rules}
 use Rattle.book_parts.proofs.permanent.Goals as goal
 
 pub returns : goal.returns

@@ -1,7 +1,6 @@
 -- `take_apart` meets its contract.
 use native.Mathlib.Nat.{div-one, mod-one, div-zero, mod-zero}
 use mathlib.Core.Path.{sym}
-use borrow.Author.Rules.{rules}
 use Rattle.book_parts.proofs.take_apart.Goals as goal
 
 pub returns-then-s-eq1 : goal.returns-then-s-eq1

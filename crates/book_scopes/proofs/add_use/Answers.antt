@@ -1,6 +1,5 @@
 -- `add_use` meets its contract.
 use mathlib.Core.Path.{◌∙◌}
-use borrow.Author.Rules.{rules}
 use Rattle.book_scopes.proofs.add_use.Goals as goal
 
 pub returns-then-on : goal.returns-then-on

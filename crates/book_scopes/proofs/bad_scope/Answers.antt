@@ -6,7 +6,6 @@ use Rattle.book.specs.Scopes.{bad_scope}
 use Rattle.book.specs.Image.{program_in}
 use Rattle.book.proofs.Image.{nodes_most}
 use Rattle.book_scopes.proofs.Tables.{misplaced_same}
-use borrow.Author.Rules.{rules}
 use Rattle.book_scopes.proofs.bad_scope.Goals as goal
 
 pub returns : goal.returns

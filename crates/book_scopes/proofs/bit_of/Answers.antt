@@ -4,7 +4,6 @@ use native.Mathlib.Omega.{arith}
 use lib.ListN.{get_or-eq_default}
 use Rattle.book.specs.Scopes.{bit_of, bits}
 use Rattle.book_scopes.proofs.Tables.{bit_shift}
-use borrow.Author.Rules.{rules}
 use Rattle.book_scopes.proofs.bit_of.Goals as goal
 
 pub returns-then-v-lt8 : goal.returns-then-v-lt8

@@ -1,6 +1,5 @@
 -- `count_operands` meets its contract.
 use Rattle.book_nodes.proofs.Classes.{lent_sorts}
-use borrow.Author.Rules.{rules}
 use Rattle.book_scopes.proofs.count_operands.Goals as goal
 
 pub returns : goal.returns

@@ -1,11 +1,8 @@
 -- `count_uses` meets its contract.
 use Rattle.book_scopes.proofs.Tables.{tally_step, tally_none}
-use Rattle.book_scopes.specs.Tables.{uses_counted}
 use Rattle.book.specs.Image.{program_in}
 use borrow.Author.Rules.{rules}
 use native.Mathlib.Omega.{arith}
-use lib.ListN.{length}
-use Prim.Native.Nat.{◌≤◌, ◌-◌}
 use mathlib.Core.Path.{◌≡◌, refl, ◌∙◌}
 use Rattle.book_scopes.proofs.count_uses.Goals as goal
 

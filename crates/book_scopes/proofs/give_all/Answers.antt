@@ -1,12 +1,9 @@
 -- `give_all` meets its contract.
 use Rattle.book_scopes.proofs.Tables.{all_given_step, all_given_none}
 use Rattle.book_scopes.specs.Tables.{to_ab, to_c}
-use Rattle.book.specs.Scopes.{all_given}
 use Rattle.book.specs.Image.{program_in}
 use borrow.Author.Rules.{rules}
 use native.Mathlib.Omega.{arith}
-use lib.ListN.{length}
-use Prim.Native.Nat.{◌≤◌, ◌-◌}
 use mathlib.Core.Path.{◌≡◌, refl, ◌∙◌}
 use Rattle.book_scopes.proofs.give_all.Goals as goal
 

@@ -1,7 +1,6 @@
 -- `give_operands` meets its contract.
 use Rattle.book_nodes.proofs.Classes.{lent_sorts}
 use Rattle.book.specs.Scopes.{operands_given}
-use borrow.Author.Rules.{rules}
 use Rattle.book_scopes.proofs.give_operands.Goals as goal
 
 pub returns : goal.returns

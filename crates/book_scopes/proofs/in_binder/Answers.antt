@@ -1,6 +1,5 @@
 -- `in_binder` meets its contract.
 use mathlib.Core.Path.{sym, ◌∙◌}
-use borrow.Author.Rules.{rules}
 use Rattle.book_scopes.proofs.in_binder.Goals as goal
 
 pub returns-then-is_binder : goal.returns-then-is_binder

@@ -1,6 +1,5 @@
 -- `in_forall` meets its contract.
 use borrow.Author.Tests.{lt-ltb, le-ltb, eq-eqb, ne_eqb}
-use borrow.Author.Rules.{rules}
 use Rattle.book_scopes.proofs.in_forall.Goals as goal
 
 pub returns-then-v-lt2 : goal.returns-then-v-lt2

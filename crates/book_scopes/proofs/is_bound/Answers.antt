@@ -1,5 +1,4 @@
 -- `is_bound` meets its contract.
-use borrow.Author.Rules.{rules}
 use Rattle.book_scopes.proofs.is_bound.Goals as goal
 
 pub returns : goal.returns

@@ -6,7 +6,6 @@ use Prim.Native.Nat.{ℕ}
 use native.Mathlib.Omega.{arith}
 use lib.Dec.{eqb}
 use borrow.Author.Tests.{eq-eqb, ne_eqb, lt-leb}
-use borrow.Author.Rules.{rules}
 use Rattle.book.specs.Kinds.{is_binder}
 use Rattle.book.specs.Scopes.{misplaced}
 use Rattle.book_scopes.proofs.is_misplaced.Goals as goal

@@ -1,6 +1,5 @@
 -- `misplaced_at` meets its contract.
 use mathlib.Core.Path.{◌∙◌}
-use borrow.Author.Rules.{rules}
 use Rattle.book_scopes.proofs.misplaced_at.Goals as goal
 
 pub returns : goal.returns

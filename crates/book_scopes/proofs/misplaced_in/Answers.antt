@@ -1,10 +1,7 @@
 -- `misplaced_in` meets its contract.
 use Rattle.text.proofs.Words.{least_start, least_pass, least_stop, least_end}
-use Rattle.text.specs.Words.{least_from, least}
 use Rattle.book_scopes.specs.Tables.{misplaced_at}
 use Rattle.book.specs.Image.{program_in}
-use mathlib.Core.Path.{◌≡◌}
-use Prim.Native.Nat.{◌≤◌, ◌-◌}
 use borrow.Author.Rules.{rules}
 use Rattle.book_scopes.proofs.misplaced_in.Goals as goal
 

@@ -1,8 +1,5 @@
 -- `not_once` meets its contract.
 use Rattle.text.proofs.Words.{least_start, least_pass, least_stop, least_end}
-use Rattle.text.specs.Words.{least_from, least}
-use mathlib.Core.Path.{◌≡◌}
-use Prim.Native.Nat.{◌≤◌, ◌-◌}
 use borrow.Author.Rules.{rules}
 use mathlib.Core.Bool.{not}
 use lib.Dec.{eqb}

@@ -1,6 +1,5 @@
 -- `one_more` meets its contract.
 use borrow.Author.Tests.{lt-ltb, le-ltb}
-use borrow.Author.Rules.{rules}
 use Rattle.book_scopes.proofs.one_more.Goals as goal
 
 pub returns-then-k-lt2 : goal.returns-then-k-lt2

@@ -1,5 +1,4 @@
 -- `put_if` meets its contract.
-use borrow.Author.Rules.{rules}
 use Rattle.book_scopes.proofs.put_if.Goals as goal
 
 pub returns-then-on : goal.returns-then-on

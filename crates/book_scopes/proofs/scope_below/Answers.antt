@@ -1,6 +1,5 @@
 -- `scope_below` meets its contract.
 use borrow.Author.Tests.{lt-ltb, le-ltb}
-use borrow.Author.Rules.{rules}
 use Rattle.book_scopes.proofs.scope_below.Goals as goal
 
 pub returns-then-v-lt32 : goal.returns-then-v-lt32

@@ -1,11 +1,8 @@
 -- `bad_part` meets its contract.
 use mathlib.Core.Path.{◌≡◌}
-use Prim.Native.Nat.{ℕ, ◌+◌, ◌-◌, ◌≤◌}
+use Prim.Native.Nat.{ℕ, ◌+◌, ◌-◌}
 use native.Mathlib.Omega.{arith}
-use borrow.Author.Rules.{rules}
-use Rattle.book.specs.Book.{Program}
-use Rattle.contents_check.specs.Part.{Part}
-use Rattle.contents_check.proofs.Scan.{Passed, scan_start, scan_skip, scan_pass, scan_stop, scan_end}
+use Rattle.contents_check.proofs.Scan.{scan_start, scan_skip, scan_pass, scan_stop, scan_end}
 use Rattle.contents_check.proofs.bad_part.Goals as goal
 
 pub loop-l-init : goal.loop-l-init

@@ -1,17 +1,13 @@
 -- `bad_value` meets its contract.
-use mathlib.Core.Path.{◌≡◌}
-use Prim.Native.Nat.{◌-◌, ◌≤◌, ◌<◌}
+use Prim.Native.Nat.{◌<◌}
 use native.Mathlib.Omega.{arith}
 use lib.ListN.{length}
-use Rattle.text.specs.Words.{least_from, least}
 use Rattle.text.proofs.Words.{least_start, least_end}
 use Rattle.book.specs.Book.{L}
-use Rattle.book.specs.Sum.{Strided}
 use Rattle.book.specs.Contents.{bad_value}
 use Rattle.book.specs.Image.{low_program}
 use Rattle.book.proofs.Held.{elements_held, functions_held}
-use Rattle.book_parts.proofs.Places.{From, from_start, from_end, part_ends, part_after, part_fits}
-use borrow.Author.Rules.{rules}
+use Rattle.book_parts.proofs.Places.{from_start, from_end, part_ends, part_after, part_fits}
 use Rattle.contents_check.proofs.Places.{own_stop, own_pass}
 use Rattle.contents_check.proofs.bad_value.Goals as goal
 

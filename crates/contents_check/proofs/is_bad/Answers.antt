@@ -4,7 +4,6 @@ use Rattle.book.specs.Book.{arguments}
 use Rattle.book.specs.Sum.{arguments_by}
 use Rattle.contents_check.proofs.Laws.{arguments_are}
 use Rattle.contents_check.proofs.Faults.{own_cell, far_cell}
-use borrow.Author.Rules.{rules}
 use Rattle.contents_check.proofs.is_bad.Goals as goal
 
 pub returns-then-l-e : goal.returns-then-l-e

@@ -1,5 +1,4 @@
 -- `is_static_fine` meets its contract.
-use borrow.Author.Rules.{rules}
 use Rattle.contents_check.proofs.is_static_fine.Goals as goal
 
 pub returns-then-is_dynamic : goal.returns-then-is_dynamic

@@ -1,5 +1,4 @@
 -- `on_roll` meets its contract.
-use borrow.Author.Rules.{rules}
 use Rattle.contents_check.proofs.on_roll.Goals as goal
 
 pub returns : goal.returns

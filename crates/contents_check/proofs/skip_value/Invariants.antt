@@ -1,10 +1,5 @@
 -- `skip_value` meets its contract.
-use mathlib.Core.Path.{◌≡◌}
-use mathlib.Core.Logic.{dite}
 use Prim.Native.Nat.{◌-◌}
-use native.Mathlib.Omega.{arith}
-use native.Mathlib.Decide.{ℕ_discrete}
-use borrow.Author.Rules.{rules}
 use Rattle.contents_check.specs.Part.{SkippedTo}
 use Rattle.contents_check.proofs.skip_value.Given as goal
 

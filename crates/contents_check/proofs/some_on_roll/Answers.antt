@@ -1,5 +1,4 @@
 -- `some_on_roll` meets its contract.
-use borrow.Author.Rules.{rules}
 use Rattle.contents_check.proofs.Laws.{roll_by}
 use Rattle.contents_check.proofs.some_on_roll.Goals as goal
 

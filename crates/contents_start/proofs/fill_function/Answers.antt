@@ -1,6 +1,5 @@
 -- `fill_function` meets its contract.
 use Rattle.contents_start.proofs.Defaults.{run_is}
-use borrow.Author.Rules.{rules}
 use Rattle.contents_start.proofs.fill_function.Goals as goal
 
 pub returns : goal.returns

@@ -1,9 +1,7 @@
 -- `fill_part` meets its contract.
-use mathlib.Core.Path.{◌≡◌, refl, ◌∙◌}
-use Prim.Native.Nat.{◌-◌, ◌≤◌}
+use mathlib.Core.Path.{refl, ◌∙◌}
 use native.Mathlib.Omega.{arith}
-use borrow.Author.Rules.{rules}
-use lib.ListN.{length, take, replicate, length-set}
+use lib.ListN.{length, length-set}
 use Rattle.contents_start.proofs.Defaults.{fill_next, fill_end}
 use Rattle.contents_start.proofs.fill_part.Goals as goal
 

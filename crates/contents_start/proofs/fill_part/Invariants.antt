@@ -1,10 +1,7 @@
 -- `fill_part` meets its contract.
-use mathlib.Core.Path.{◌≡◌, refl, ◌∙◌}
+use mathlib.Core.Path.{◌≡◌}
 use Prim.Native.Nat.{◌-◌, ◌≤◌}
-use native.Mathlib.Omega.{arith}
-use borrow.Author.Rules.{rules}
-use lib.ListN.{length, take, replicate, length-set}
-use Rattle.contents_start.proofs.Defaults.{fill_next, fill_end}
+use lib.ListN.{length, take, replicate}
 use Rattle.contents_start.proofs.fill_part.Given as goal
 
 abbrev pub invariant-loop-i : goal.invariant-loop-i

@@ -3,7 +3,6 @@ use Prim.Native.Nat.{◌+◌, ◌-◌}
 use mathlib.Core.Path.{◌≡◌}
 use native.Mathlib.Omega.{arith}
 use Rattle.book_parts.proofs.Parts.{put_back}
-use borrow.Author.Rules.{rules}
 use Rattle.contents_start.proofs.store_in_part.Goals as goal
 
 pub returns : goal.returns

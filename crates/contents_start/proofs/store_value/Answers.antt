@@ -1,7 +1,6 @@
 -- `store_value` meets its contract.
 use mathlib.Core.Path.{sym}
 use lib.Seq.{set_out}
-use borrow.Author.Rules.{rules}
 use Rattle.contents_start.proofs.store_value.Goals as goal
 
 pub returns-else-i-part : goal.returns-else-i-part

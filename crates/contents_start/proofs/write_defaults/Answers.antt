@@ -1,13 +1,12 @@
 -- `write_defaults` meets its contract.
 use mathlib.Core.Path.{◌∙◌}
-use Prim.Native.Nat.{◌-◌, ◌<◌, ◌≤◌}
+use Prim.Native.Nat.{◌<◌}
 use native.Mathlib.Omega.{arith}
 use Rattle.book.proofs.Held.{functions_held}
-use borrow.Author.Rules.{rules}
 use lib.ListN.{length}
 use Rattle.book.specs.Image.{low_program}
 use Rattle.book_parts.proofs.Places.{part_ordered, part_fits}
-use Rattle.contents_start.proofs.Defaults.{Filled, filled_none, filled_function, filled_all}
+use Rattle.contents_start.proofs.Defaults.{filled_none, filled_function, filled_all}
 use Rattle.contents_start.proofs.write_defaults.Goals as goal
 
 pub loop-f-init : goal.loop-f-init

@@ -1,13 +1,10 @@
 -- `write_entries` meets its contract.
 use mathlib.Core.Path.{◌≡◌, refl, sym, ap, ◌∙◌}
-use Prim.Native.Nat.{◌+◌, ◌-◌}
-use borrow.Author.Rules.{rules}
-use lib.ListN.{length}
+use Prim.Native.Nat.{◌+◌}
 use Rattle.text.specs.declared.Line.{Line}
-use Rattle.text.specs.Words.{table_from}
 use Rattle.text.specs.Text.{line}
 use Rattle.book.specs.Image.{first_entry_in, entry_count_in, low_program}
-use Rattle.contents_start.specs.Written.{entry_put, entries_put, entry_lines}
+use Rattle.contents_start.specs.Written.{entry_put}
 use Rattle.contents_start.proofs.Entries.{lines_first, lines_next, lines_last}
 use Rattle.contents_start.proofs.write_entries.Goals as goal
 

@@ -1,14 +1,11 @@
 -- `write_entries` meets its contract.
-use mathlib.Core.Path.{◌≡◌, refl, sym, ap, ◌∙◌}
+use mathlib.Core.Path.{◌≡◌}
 use Prim.Native.Nat.{◌+◌, ◌-◌}
-use borrow.Author.Rules.{rules}
 use lib.ListN.{length}
-use Rattle.text.specs.declared.Line.{Line}
 use Rattle.text.specs.Words.{table_from}
 use Rattle.text.specs.Text.{line}
-use Rattle.book.specs.Image.{first_entry_in, entry_count_in, low_program}
-use Rattle.contents_start.specs.Written.{entry_put, entries_put, entry_lines}
-use Rattle.contents_start.proofs.Entries.{lines_first, lines_next, lines_last}
+use Rattle.book.specs.Image.{first_entry_in, low_program}
+use Rattle.contents_start.specs.Written.{entries_put, entry_lines}
 use Rattle.contents_start.proofs.write_entries.Given as goal
 
 abbrev pub invariant-loop-i : goal.invariant-loop-i

@@ -5,7 +5,6 @@ use Rattle.book.specs.Image.{low_program}
 use Rattle.book.proofs.Held.{function_held}
 use Rattle.book_parts.specs.declared.Owner.{Owner}
 use Rattle.book_parts.proofs.Places.{part_ordered}
-use borrow.Author.Rules.{rules}
 use Rattle.contents_start.proofs.write_entry.Goals as goal
 
 pub store_in_part-requires : goal.store_in_part-requires

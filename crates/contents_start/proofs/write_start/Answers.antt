@@ -4,7 +4,6 @@ use Rattle.book.specs.Image.{low_program}
 use mathlib.Core.Path.{ap, ◌∙◌}
 use Prim.Native.Nat.{ℕ}
 use mathlib.Core.List.{List}
-use borrow.Author.Rules.{rules}
 use Rattle.contents_start.proofs.write_start.Goals as goal
 
 pub returns : goal.returns

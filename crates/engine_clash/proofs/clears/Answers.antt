@@ -1,5 +1,4 @@
 -- `clears` meets its contract.
-use borrow.Author.Rules.{rules}
 use Rattle.engine_clash.proofs.clears.Goals as goal
 
 pub returns : goal.returns

@@ -3,7 +3,6 @@ use Rattle.engine_clash.specs.LeastClash.{values_given}
 use Rattle.engine.specs.Move.{other}
 use mathlib.Core.Bool.{or-false}
 use borrow.Author.Tests.{eq-eqb, ne_eqb}
-use borrow.Author.Rules.{rules}
 use Rattle.engine_clash.proofs.gives_other.Goals as goal
 
 pub returns-then-location-s : goal.returns-then-location-s

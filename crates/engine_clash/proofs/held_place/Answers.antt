@@ -8,7 +8,6 @@ use Rattle.book.specs.Book.{place}
 use borrow.Author.Tests.{lt-ltb, le-ltb}
 use native.Mathlib.Omega.{arith}
 use mathlib.Core.Path.{◌≡◌, sym, ap, ◌∙◌}
-use borrow.Author.Rules.{rules}
 use Rattle.engine_clash.proofs.held_place.Goals as goal
 use Rattle.engine_clash.proofs.held_place.Goals.{then-at-owner, else-at-owner}
 

@@ -1,17 +1,12 @@
 -- `is_released` meets its contract.
-use mathlib.Core.Path.{◌≡◌, refl, sym, ap, ◌∙◌}
-use mathlib.Core.Bool.{Bool}
+use mathlib.Core.Path.{◌≡◌}
 use mathlib.Core.List.{[]}
 use Prim.Native.Nat.{◌-◌}
-use borrow.Author.Rules.{rules}
 use lib.ListN.{drop}
-use Rattle.engine.specs.declared.Instruction.{Instruction}
 use Rattle.engine_instruction.specs.Code.{items}
 use Rattle.engine_instruction.specs.Given.{any}
-use Rattle.engine_instruction.proofs.Laws.{next, found, ended}
 use Rattle.engine.specs.Move.{label_of}
 use Rattle.text.specs.Words.{has}
-use Rattle.engine_clash.proofs.Laws.{has_any}
 use Rattle.engine_clash.proofs.is_released.Given as goal
 
 abbrev pub invariant-loop-j : goal.invariant-loop-j

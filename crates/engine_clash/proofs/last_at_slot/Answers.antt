@@ -1,11 +1,6 @@
 -- `last_at_slot` meets its contract.
-use mathlib.Core.Path.{◌≡◌}
-use Prim.Native.Nat.{◌-◌, ◌<◌}
 use native.Mathlib.Omega.{arith}
-use borrow.Author.Rules.{rules}
-use lib.ListN.{get_or}
-use Rattle.engine_clash.specs.Steps.{slot_of}
-use Rattle.engine_clash.proofs.Rivals.{Down, down_start, down_here, down_end, link_less, link_same, link_down}
+use Rattle.engine_clash.proofs.Rivals.{down_start, down_here, down_end, link_less, link_same, link_down}
 use Rattle.engine_clash.proofs.last_at_slot.Goals as goal
 
 pub loop-i-init : goal.loop-i-init

@@ -1,6 +1,5 @@
 -- `last_before` meets its contract.
-use borrow.Author.Rules.{rules}
-use Rattle.engine_clash.proofs.Rivals.{Down, down_start, down_here, down_one, down_end}
+use Rattle.engine_clash.proofs.Rivals.{Down}
 use Rattle.engine_clash.proofs.last_before.Given as goal
 
 abbrev pub invariant-loop-i : goal.invariant-loop-i

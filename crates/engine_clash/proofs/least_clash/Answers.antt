@@ -1,10 +1,8 @@
 -- `least_clash` meets its contract.
-use Prim.Native.Nat.{◌-◌}
 use native.Mathlib.Omega.{arith}
-use borrow.Author.Rules.{rules}
 use Rattle.book.specs.Image.{low_program}
 use Rattle.engine_instruction.proofs.Laws.{take_min}
-use Rattle.engine_clash.proofs.Rivals.{Looked, looked_start, looked_next, looked_best, Tables, tables_start, tables_chain, tables_held, tables_next}
+use Rattle.engine_clash.proofs.Rivals.{looked_start, looked_next, looked_best, tables_start, tables_chain, tables_held, tables_next}
 use Rattle.engine_clash.proofs.least_clash.Goals as goal
 
 pub returns-then-n-le-FEW : goal.returns-then-n-le-FEW

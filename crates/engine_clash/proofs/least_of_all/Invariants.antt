@@ -1,14 +1,10 @@
 -- `least_of_all` meets its contract.
-use mathlib.Core.Path.{◌≡◌, refl, sym, ap, ◌∙◌}
-use mathlib.Core.List.{List}
-use Prim.Native.Nat.{◌+◌, ◌-◌}
-use borrow.Author.Rules.{rules}
-use lib.ListN.{get_or, drop}
+use mathlib.Core.Path.{◌≡◌}
+use Prim.Native.Nat.{◌-◌}
+use lib.ListN.{drop}
 use Rattle.book.specs.Image.{low_program}
-use Rattle.engine.specs.declared.Instruction.{Instruction}
-use Rattle.engine_instruction.specs.Code.{decode_of, items}
-use Rattle.engine_clash.specs.LeastClash.{least_with, least_clash}
-use Rattle.engine_instruction.proofs.Laws.{items_cons, items_end}
+use Rattle.engine_instruction.specs.Code.{items}
+use Rattle.engine_clash.specs.LeastClash.{least_clash}
 use Rattle.engine_clash.proofs.least_of_all.Given as goal
 
 abbrev pub invariant-loop-j : goal.invariant-loop-j

@@ -1,8 +1,6 @@
 -- `least_of_few` meets its contract.
-use Prim.Native.Nat.{◌-◌}
-use borrow.Author.Rules.{rules}
 use Rattle.book.specs.Image.{low_program}
-use Rattle.engine_clash.proofs.Rivals.{Looked, looked_start, looked_next, looked_best}
+use Rattle.engine_clash.proofs.Rivals.{looked_start, looked_next, looked_best}
 use Rattle.engine_clash.proofs.least_of_few.Goals as goal
 
 pub loop-j-init : goal.loop-j-init

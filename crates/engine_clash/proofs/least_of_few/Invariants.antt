@@ -1,8 +1,6 @@
 -- `least_of_few` meets its contract.
 use Prim.Native.Nat.{◌-◌}
-use borrow.Author.Rules.{rules}
-use Rattle.book.specs.Image.{low_program}
-use Rattle.engine_clash.proofs.Rivals.{Looked, looked_start, looked_next, looked_best}
+use Rattle.engine_clash.proofs.Rivals.{Looked}
 use Rattle.engine_clash.proofs.least_of_few.Given as goal
 
 abbrev pub invariant-loop-j : goal.invariant-loop-j

@@ -9,7 +9,6 @@ use borrow.Author.Tests.{le-ltb, lt-ltb}
 use native.Mathlib.Omega.{arith}
 use Prim.Native.Nat.{◌≤◌, ◌<◌}
 use mathlib.Core.Path.{◌≡◌, sym, ◌∙◌}
-use borrow.Author.Rules.{rules}
 use Rattle.engine_clash.proofs.least_with.Goals as goal
 
 pub returns-then-best-at : goal.returns-then-best-at

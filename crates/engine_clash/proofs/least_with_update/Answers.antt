@@ -1,6 +1,5 @@
 -- `least_with_update` meets its contract.
 use borrow.Author.Tests.{eq-eqb, ne_eqb}
-use borrow.Author.Rules.{rules}
 use Rattle.engine_clash.proofs.least_with_update.Goals as goal
 
 pub returns-then-i-eq0 : goal.returns-then-i-eq0

@@ -1,6 +1,5 @@
 -- `releases` meets its contract.
 use mathlib.Core.Bool.{or-false}
-use borrow.Author.Rules.{rules}
 use Rattle.engine_clash.proofs.releases.Goals as goal
 
 pub returns-in-Update : goal.returns-in-Update

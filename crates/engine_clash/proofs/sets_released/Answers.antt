@@ -1,6 +1,5 @@
 -- `sets_released` meets its contract.
 use mathlib.Core.Path.{◌∙◌}
-use borrow.Author.Rules.{rules}
 use Rattle.engine_clash.proofs.sets_released.Goals as goal
 
 pub returns-in-Update : goal.returns-in-Update

@@ -1,12 +1,7 @@
 -- `some_gives_other` meets its contract.
-use mathlib.Core.Path.{◌≡◌, refl, sym, ap, ◌∙◌}
+use mathlib.Core.Path.{refl, sym, ap, ◌∙◌}
 use mathlib.Core.Bool.{Bool}
-use Prim.Native.Nat.{◌-◌}
-use borrow.Author.Rules.{rules}
-use lib.ListN.{drop}
 use Rattle.engine.specs.declared.Instruction.{Instruction}
-use Rattle.engine_instruction.specs.Code.{items}
-use Rattle.engine_instruction.specs.Given.{any}
 use Rattle.engine_instruction.proofs.Laws.{next, found, ended}
 use Rattle.engine.specs.Move.{other}
 use Rattle.engine_clash.specs.LeastClash.{values_given}

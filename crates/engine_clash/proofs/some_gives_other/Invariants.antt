@@ -1,13 +1,9 @@
 -- `some_gives_other` meets its contract.
-use mathlib.Core.Path.{◌≡◌, refl, sym, ap, ◌∙◌}
-use mathlib.Core.Bool.{Bool}
+use mathlib.Core.Path.{◌≡◌}
 use Prim.Native.Nat.{◌-◌}
-use borrow.Author.Rules.{rules}
 use lib.ListN.{drop}
-use Rattle.engine.specs.declared.Instruction.{Instruction}
 use Rattle.engine_instruction.specs.Code.{items}
 use Rattle.engine_instruction.specs.Given.{any}
-use Rattle.engine_instruction.proofs.Laws.{next, found, ended}
 use Rattle.engine.specs.Move.{other}
 use Rattle.engine_clash.specs.LeastClash.{values_given}
 use Rattle.engine_clash.proofs.some_gives_other.Given as goal

@@ -3,7 +3,6 @@ use mathlib.Core.Path.{◌∙◌}
 use mathlib.Core.List.{[]}
 use lib.ListN.{get_or}
 use Rattle.engine_emit.proofs.Steps.{taken_all, taken_some}
-use borrow.Author.Rules.{rules}
 use Rattle.engine_emit.proofs.all_used.Goals as goal
 
 pub returns-then-used-picks : goal.returns-then-used-picks

@@ -3,7 +3,6 @@ use Prim.Native.Nat.{◌+◌}
 use mathlib.Core.Path.{refl, ◌∙◌}
 use lib.ListN.{set}
 use Rattle.engine_emit.proofs.Steps.{reached_walking, reached_refused, give_room, give_full}
-use borrow.Author.Rules.{rules}
 use Rattle.engine_emit.proofs.emit.Goals as goal
 
 pub returns-then-s-ne0 : goal.returns-then-s-ne0

@@ -1,7 +1,6 @@
 -- `emit_import` meets its contract.
 use mathlib.Core.Path.{◌∙◌}
 use Rattle.engine_emit.proofs.Steps.{taking_from}
-use borrow.Author.Rules.{rules}
 use Rattle.engine_emit.proofs.emit_import.Goals as goal
 
 pub returns : goal.returns

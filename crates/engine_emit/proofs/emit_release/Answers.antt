@@ -6,7 +6,6 @@ use Rattle.engine.specs.Rule.{unreleasable}
 use Rattle.book.specs.Image.{low_program}
 use Rattle.engine_emit.specs.Emit.{reached}
 use Rattle.engine_emit.proofs.Steps.{freeing_ok, freeing_bad}
-use borrow.Author.Rules.{rules}
 use Rattle.engine_emit.proofs.emit_release.Goals as goal
 
 pub returns-then-x-permanent : goal.returns-then-x-permanent

@@ -6,7 +6,6 @@ use Rattle.book.specs.Image.{low_program}
 use Rattle.engine_emit.specs.Emit.{reached}
 use Rattle.engine_emit.proofs.Steps.{setting_ok, setting_bad}
 use Rattle.book.proofs.Held.{function_held}
-use borrow.Author.Rules.{rules}
 use Rattle.engine_emit.proofs.emit_update.Goals as goal
 
 pub returns-then-is_boolean : goal.returns-then-is_boolean

@@ -6,7 +6,6 @@ use Rattle.book.specs.Image.{low_program}
 use Rattle.engine_emit.specs.Emit.{reached}
 use Rattle.engine_emit.proofs.Steps.{enrolling_in, enrolling_none}
 use Rattle.book.proofs.Held.{elements_held}
-use borrow.Author.Rules.{rules}
 use Rattle.engine_emit.proofs.import_label.Goals as goal
 
 pub returns-then-x-elements : goal.returns-then-x-elements

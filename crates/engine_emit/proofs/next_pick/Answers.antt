@@ -6,7 +6,6 @@ use lib.ListN.{get_or}
 use Rattle.book.specs.Image.{low_program}
 use Rattle.book.proofs.Held.{elements_held}
 use Rattle.engine_emit.proofs.Steps.{next_low, next_high, next_none}
-use borrow.Author.Rules.{rules}
 use Rattle.engine_emit.proofs.next_pick.Goals as goal
 
 pub returns-then-y-e : goal.returns-then-y-e

@@ -2,7 +2,6 @@
 use mathlib.Core.Path.{◌≡◌, ◌∙◌}
 use native.Mathlib.Omega.{arith}
 use Rattle.engine_emit.proofs.Steps.{reached_walking, reached_refused}
-use borrow.Author.Rules.{rules}
 use Rattle.engine_emit.proofs.refuse_at.Goals as goal
 
 pub returns-then-s-ne0 : goal.returns-then-s-ne0

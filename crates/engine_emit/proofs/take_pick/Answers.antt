@@ -3,7 +3,6 @@ use mathlib.Core.Path.{◌∙◌}
 use lib.ListN.{get_or}
 use Rattle.engine_emit.specs.Emit.{picks_left}
 use Rattle.engine_emit.proofs.Steps.{picking_none, picking_some, picking_other}
-use borrow.Author.Rules.{rules}
 use Rattle.engine_emit.proofs.take_pick.Goals as goal
 
 pub returns-then-picks-i : goal.returns-then-picks-i

@@ -6,7 +6,6 @@ use Rattle.engine.specs.Term.{function_of}
 use Rattle.engine.proofs.Steps.{term_zero, function_none, function_one, function_two, no_function_of}
 use Rattle.book_parts.specs.StoredNodes.{stored_node}
 use Rattle.book.specs.Image.{low_program}
-use borrow.Author.Rules.{rules}
 use Rattle.engine_emit.proofs.target_function.Goals as goal
 
 pub returns-then-depth-eq0 : goal.returns-then-depth-eq0

@@ -4,7 +4,6 @@ use Prim.Native.Nat.{◌+◌}
 use native.Mathlib.Numerals.{add-one}
 use lib.ListN.{get_or}
 use lib.Seq.{get_or-set_same}
-use borrow.Author.Rules.{rules}
 use Rattle.engine_emit.proofs.use_pick.Goals as goal
 
 pub returns : goal.returns

@@ -1,6 +1,5 @@
 -- `answer_move` meets its contract.
 use mathlib.Core.Path.{◌∙◌}
-use borrow.Author.Rules.{rules}
 use Rattle.engine_fire.proofs.answer_move.Goals as goal
 
 pub returns-in-Fired : goal.returns-in-Fired

@@ -1,6 +1,5 @@
 -- `begin_move` meets its contract.
 use native.Mathlib.Omega.{arith}
-use borrow.Author.Rules.{rules}
 use Rattle.engine_fire.proofs.begin_move.Goals as goal
 
 pub returns : goal.returns

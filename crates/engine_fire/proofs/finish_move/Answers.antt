@@ -1,7 +1,6 @@
 -- `finish_move` meets its contract.
 use mathlib.Core.Path.{◌≡◌, refl, sym, subst}
 use mathlib.Core.List.{[]}
-use borrow.Author.Rules.{rules}
 use Rattle.book.specs.Image.{low_program}
 use Rattle.engine.specs.Rule.{Walked}
 use Rattle.engine.specs.Move.{settle}

@@ -11,7 +11,6 @@ use Rattle.engine_term.proofs.Marking.{marked_on}
 use Rattle.engine_release.specs.Steps.{all_cleared, all_reads}
 use Rattle.engine_fire.specs.Steps.{puts, put_marked, put_reads, put_tally}
 use Rattle.engine_fire.proofs.Fires.{fired_is, marked_is}
-use borrow.Author.Rules.{rules}
 use Rattle.engine_fire.proofs.fire.Goals as goal
 
 pub returns : goal.returns

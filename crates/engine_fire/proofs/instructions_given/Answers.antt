@@ -1,6 +1,5 @@
 -- `instructions_given` meets its contract.
 use native.Mathlib.Omega.{arith}
-use borrow.Author.Rules.{rules}
 use Rattle.engine_fire.proofs.Count.{given_none, given_some}
 use Rattle.engine_fire.proofs.instructions_given.Goals as goal
 

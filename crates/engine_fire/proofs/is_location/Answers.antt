@@ -2,7 +2,6 @@
 use mathlib.Core.Path.{sym, ap, ◌∙◌}
 use native.Mathlib.Omega.{arith}
 use borrow.Author.Tests.{le-ltb}
-use borrow.Author.Rules.{rules}
 use lib.Dec.{ltb}
 use Rattle.book.specs.Book.{L}
 use Rattle.book.specs.Image.{low_program}

@@ -5,7 +5,6 @@ use lib.Bits.{bit_or}
 use lib.ListN.{get_or}
 use lib.Seq.{set_out}
 use Rattle.engine_fire.proofs.Own.{put_inside, held_inside, put_outside}
-use borrow.Author.Rules.{rules}
 use Rattle.engine_fire.proofs.mark_in.Goals as goal
 
 pub returns-then-at-e : goal.returns-then-at-e

@@ -5,7 +5,6 @@ use native.Mathlib.Omega.{arith}
 use borrow.Author.Tests.{lt-ltb, le-ltb}
 use lib.ListN.{length}
 use Rattle.engine_term.specs.Marks.{marked}
-use borrow.Author.Rules.{rules}
 use Rattle.engine_fire.proofs.mark_put.Goals as goal
 
 pub returns-then-at-e : goal.returns-then-at-e

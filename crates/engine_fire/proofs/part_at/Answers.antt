@@ -1,6 +1,5 @@
 -- `part_at` meets its contract.
 use mathlib.Core.Path.{◌∙◌}
-use borrow.Author.Rules.{rules}
 use Rattle.engine_fire.proofs.part_at.Goals as goal
 
 pub returns-then-last-at : goal.returns-then-last-at

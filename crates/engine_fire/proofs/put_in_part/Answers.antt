@@ -7,7 +7,6 @@ use lib.Dec.{ltb}
 use lib.ListN.{length, get_or}
 use lib.Seq.{set_out, set-get_or}
 use Rattle.engine_fire.proofs.Own.{put_inside, put_outside}
-use borrow.Author.Rules.{rules}
 use Rattle.engine_term.specs.Marks.{mark}
 use Rattle.engine_fire.proofs.put_in_part.Goals as goal
 

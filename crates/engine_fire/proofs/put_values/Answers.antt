@@ -1,9 +1,8 @@
 -- `put_values` meets its contract.
 use mathlib.Core.Path.{◌≡◌, refl, sym, ap, ap₂, ◌∙◌}
 use mathlib.Core.List.{List, []}
-use Prim.Native.Nat.{ℕ, ◌+◌, ◌-◌, ◌≤◌, min}
+use Prim.Native.Nat.{ℕ, ◌+◌, min}
 use native.Mathlib.Omega.{arith}
-use borrow.Author.Rules.{rules}
 use lib.Dec.{ltb}
 use lib.ListN.{length, get_or, drop, set}
 use Rattle.text.specs.Words.{if◌then◌else◌, one_if}
@@ -22,7 +21,7 @@ use Rattle.engine_instruction.specs.Code.{decode_of, items}
 use Rattle.engine_instruction.specs.Given.{own, gets}
 use Rattle.engine_fire.specs.Steps.{puts, put_marked, put_reads, issues_at, returns_at, put_issued, put_returned}
 use Rattle.engine_instruction.proofs.Laws.{items_cons, items_end}
-use Rattle.engine_fire.proofs.Own.{Whole, none_held, next_held, own_part, part_min, put_value, put_mark}
+use Rattle.engine_fire.proofs.Own.{none_held, next_held, own_part, part_min, put_value, put_mark}
 use Rattle.engine_fire.proofs.put_values.Goals as goal
 
 pub loop-j-init : goal.loop-j-init

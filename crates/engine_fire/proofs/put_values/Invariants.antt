@@ -1,28 +1,13 @@
 -- `put_values` meets its contract.
-use mathlib.Core.Path.{◌≡◌, refl, sym, ap, ap₂, ◌∙◌}
-use mathlib.Core.List.{List, []}
-use Prim.Native.Nat.{ℕ, ◌+◌, ◌-◌, ◌≤◌, min}
-use native.Mathlib.Omega.{arith}
-use borrow.Author.Rules.{rules}
-use lib.Dec.{ltb}
-use lib.ListN.{length, get_or, drop, set}
-use Rattle.text.specs.Words.{if◌then◌else◌, one_if}
+use mathlib.Core.Path.{◌≡◌}
+use Prim.Native.Nat.{◌+◌, ◌-◌, ◌≤◌, min}
+use lib.ListN.{length, drop}
 use Rattle.book.specs.Book.{L}
 use Rattle.book.specs.Image.{low_program}
-use Rattle.book.proofs.Held.{elements_held}
-use Rattle.book_parts.specs.Part.{part_of}
-use Rattle.book_parts.proofs.Parts.{part_starts}
-use Rattle.engine.specs.declared.Instruction.{Instruction}
-use Rattle.engine.specs.Labels.{tally_of}
-use Rattle.engine.proofs.Counts.{one_few}
-use Rattle.engine.specs.Move.{taken_reads}
-use Rattle.engine_term.specs.Marks.{marked, mark}
-use Rattle.engine_term.proofs.Marking.{marked_append}
-use Rattle.engine_instruction.specs.Code.{decode_of, items}
-use Rattle.engine_instruction.specs.Given.{own, gets}
-use Rattle.engine_fire.specs.Steps.{puts, put_marked, put_reads, issues_at, returns_at, put_issued, put_returned}
-use Rattle.engine_instruction.proofs.Laws.{items_cons, items_end}
-use Rattle.engine_fire.proofs.Own.{Whole, none_held, next_held, own_part, part_min, put_value, put_mark}
+use Rattle.engine_term.specs.Marks.{marked}
+use Rattle.engine_instruction.specs.Code.{items}
+use Rattle.engine_fire.specs.Steps.{puts, put_marked, put_reads, put_issued, put_returned}
+use Rattle.engine_fire.proofs.Own.{Whole}
 use Rattle.engine_fire.proofs.put_values.Given as goal
 
 abbrev pub invariant-loop-j : goal.invariant-loop-j

@@ -1,5 +1,4 @@
 -- `refused_answer` meets its contract.
-use borrow.Author.Rules.{rules}
 use Rattle.engine_fire.proofs.refused_answer.Goals as goal
 
 pub returns : goal.returns

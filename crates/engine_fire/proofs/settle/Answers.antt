@@ -3,7 +3,6 @@ use mathlib.Core.Path.{sym, ◌∙◌}
 use Prim.Native.Nat.{◌≤◌}
 use native.Mathlib.Omega.{arith}
 use borrow.Author.Tests.{ltb-true, ltb-false}
-use borrow.Author.Rules.{rules}
 use Rattle.book.specs.Book.{L}
 use Rattle.book.specs.Image.{low_program}
 use Rattle.book_parts.proofs.Places.{locations_fit}

@@ -1,6 +1,5 @@
 -- `settle_listed` meets its contract.
 use mathlib.Core.Path.{sym, ap, ap₂, ◌∙◌}
-use borrow.Author.Rules.{rules}
 use Rattle.engine.specs.declared.TalliedAnswer.{TalliedAnswer}
 use Rattle.engine.specs.Move.{settle}
 use Rattle.engine_fire.specs.Outcome.{move_by}

@@ -1,5 +1,4 @@
 -- `clears_at` meets its contract.
-use borrow.Author.Rules.{rules}
 use Rattle.engine_instruction.proofs.clears_at.Goals as goal
 
 pub returns : goal.returns

@@ -2,7 +2,6 @@
 use mathlib.Core.Path.{sym, ◌∙◌}
 use native.Mathlib.Omega.{arith}
 use Rattle.engine_instruction.proofs.Coding.{decode_update, decode_release}
-use borrow.Author.Rules.{rules}
 use Rattle.engine_instruction.proofs.code.Goals as goal
 
 pub returns-in-Update : goal.returns-in-Update

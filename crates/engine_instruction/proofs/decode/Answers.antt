@@ -1,7 +1,6 @@
 -- `decode` meets its contract.
 use borrow.Author.Tests.{lt-ltb, le-ltb}
 use Rattle.engine_instruction.specs.Code.{decode_of}
-use borrow.Author.Rules.{rules}
 use Rattle.engine_instruction.proofs.decode.Goals as goal
 
 pub returns-then-c-lt-RELEASES : goal.returns-then-c-lt-RELEASES

@@ -2,7 +2,7 @@
 use Rattle.std.proofs.Common.{◌≡◌, ◌∙◌, ap, arith, List, take, length, map}
 use Rattle.engine.specs.declared.Record.{Record}
 use Rattle.engine_list.specs.Written.{what_of, through}
-use Rattle.engine_list.proofs.Laws.{length_written, through_back}
+use Rattle.engine_list.proofs.Laws.{through_back}
 use Rattle.engine_list.proofs.pass.Goals as goal
 
 pub returns : goal.returns

@@ -1,5 +1,5 @@
 -- `read_records` meets its contract.
-use Rattle.std.proofs.Common.{◌≡◌, ◌∙◌, refl, arith, length, add-one}
+use Rattle.std.proofs.Common.{◌≡◌, refl, arith, add-one}
 use Rattle.engine_list.specs.Written.{through}
 use Rattle.engine_list.proofs.Laws.{one_read}
 use Rattle.engine_list.proofs.read_records.Goals as goal

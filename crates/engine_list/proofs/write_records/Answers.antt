@@ -1,5 +1,5 @@
 -- `write_records` meets its contract.
-use Rattle.std.proofs.Common.{◌≡◌, ◌∙◌, arith, add-one, sym}
+use Rattle.std.proofs.Common.{◌∙◌, arith, add-one, sym}
 use Rattle.engine_list.proofs.Laws.{none_written, one_written, all_written}
 use Rattle.engine_list.proofs.write_records.Goals as goal
 

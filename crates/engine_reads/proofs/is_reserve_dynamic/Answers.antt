@@ -3,7 +3,6 @@ use mathlib.Core.Path.{sym}
 use Prim.Native.Nat.{◌<◌}
 use Rattle.book.specs.Image.{low_program}
 use Rattle.book.proofs.Held.{elements_held}
-use borrow.Author.Rules.{rules}
 use Rattle.engine_reads.proofs.is_reserve_dynamic.Goals as goal
 
 pub returns-then-x-elements : goal.returns-then-x-elements

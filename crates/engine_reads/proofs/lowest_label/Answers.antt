@@ -1,15 +1,11 @@
 -- `lowest_label` meets its contract.
 use mathlib.Core.Path.{◌≡◌, refl, sym, ◌∙◌}
-use Prim.Native.Nat.{◌-◌}
-use lib.ListN.{length, get_or, length-set}
+use lib.ListN.{get_or, length-set}
 use borrow.Author.Tests.{lt-ltb, le-ltb}
-use Rattle.engine.specs.Reader.{value_in, locations_read}
-use Rattle.engine.specs.Rule.{lowest}
 use Rattle.book.specs.Image.{low_program}
 use Rattle.engine_term.specs.Marks.{marked}
 use Rattle.engine_reads.proofs.Labels.{lowest_stop, lowest_pass, lowest_end, runs_lowest}
 use Rattle.book.proofs.Held.{elements_held}
-use borrow.Author.Rules.{rules}
 use Rattle.engine_reads.proofs.lowest_label.Goals as goal
 
 pub loop-x-init : goal.loop-x-init

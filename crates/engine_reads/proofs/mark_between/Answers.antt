@@ -1,6 +1,5 @@
 -- `mark_between` meets its contract.
 use Rattle.engine_reads.proofs.Parts.{part_marked}
-use borrow.Author.Rules.{rules}
 use Rattle.engine_reads.proofs.mark_between.Goals as goal
 
 pub returns : goal.returns

@@ -1,13 +1,9 @@
 -- `mark_part` meets its contract.
-use mathlib.Core.Path.{◌≡◌, refl, sym, ◌∙◌}
+use mathlib.Core.Path.{◌≡◌}
 use mathlib.Core.List.{map}
 use Prim.Native.Nat.{◌-◌, ◌≤◌}
-use native.Mathlib.Omega.{arith}
-use borrow.Author.Rules.{rules}
 use lib.Bits.{bit_or}
-use lib.ListN.{length, take, drop, length-set}
-use lib.Seq.{take_all}
-use Rattle.engine_reads.proofs.InPlace.{done_next, left_next}
+use lib.ListN.{length, take, drop}
 use Rattle.engine_reads.proofs.mark_part.Given as goal
 
 abbrev pub invariant-loop-i : goal.invariant-loop-i

@@ -1,6 +1,5 @@
 -- `mark_reserve` meets its contract.
 use mathlib.Core.Path.{sym, ◌∙◌}
-use borrow.Author.Rules.{rules}
 use Rattle.engine_reads.proofs.mark_reserve.Goals as goal
 
 pub returns-then-is_reserve_dynamic : goal.returns-then-is_reserve_dynamic

@@ -2,7 +2,6 @@
 use native.Mathlib.Omega.{arith}
 use Prim.Native.Nat.{◌+◌, ◌-◌}
 use mathlib.Core.Path.{◌≡◌, sym, ◌∙◌}
-use borrow.Author.Rules.{rules}
 use Rattle.engine_reads.proofs.mark_universe.Goals as goal
 
 pub returns-then-is_dynamic : goal.returns-then-is_dynamic

@@ -1,12 +1,11 @@
 -- `next_member` meets its contract. None of the elements passed is a member.
 use mathlib.Core.Path.{◌≡◌, refl, sym, ◌∙◌}
 use mathlib.Core.Bool.{Bool, true, false}
-use Prim.Native.Nat.{ℕ, ◌-◌, ◌≤◌}
+use Prim.Native.Nat.{ℕ}
 use native.Mathlib.Omega.{arith}
 use borrow.Author.Tests.{eq-eqb, ne_eqb}
-use Rattle.engine_reads.specs.Marking.{member, next_passing}
+use Rattle.engine_reads.specs.Marking.{member}
 use Rattle.engine_reads.proofs.Members.{next_here, next_pass, next_end}
-use borrow.Author.Rules.{rules}
 use Rattle.engine_reads.proofs.next_member.Goals as goal
 
 pub loop-y-init : goal.loop-y-init

@@ -1,12 +1,7 @@
 -- `next_member` meets its contract. None of the elements passed is a member.
-use mathlib.Core.Path.{◌≡◌, refl, sym, ◌∙◌}
-use mathlib.Core.Bool.{Bool, true, false}
-use Prim.Native.Nat.{ℕ, ◌-◌, ◌≤◌}
-use native.Mathlib.Omega.{arith}
-use borrow.Author.Tests.{eq-eqb, ne_eqb}
+use mathlib.Core.Path.{◌≡◌}
+use Prim.Native.Nat.{◌-◌, ◌≤◌}
 use Rattle.engine_reads.specs.Marking.{member, next_passing}
-use Rattle.engine_reads.proofs.Members.{next_here, next_pass, next_end}
-use borrow.Author.Rules.{rules}
 use Rattle.engine_reads.proofs.next_member.Given as goal
 
 abbrev pub invariant-loop-y : goal.invariant-loop-y

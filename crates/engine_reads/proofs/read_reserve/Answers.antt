@@ -1,7 +1,6 @@
 -- `read_reserve` meets its contract.
 use Rattle.book.specs.Image.{low_program}
 use Rattle.engine_term.proofs.Marking.{runs_read}
-use borrow.Author.Rules.{rules}
 use Rattle.engine_reads.proofs.read_reserve.Goals as goal
 
 pub returns : goal.returns

@@ -6,7 +6,6 @@ use Rattle.book.proofs.Held.{elements_held}
 use Rattle.engine_term.proofs.Leaves.{at_one}
 use Rattle.engine_term.proofs.Marking.{runs_as, runs_done}
 use Rattle.engine.proofs.Picks.{universe_low, universe_high}
-use borrow.Author.Rules.{rules}
 use Rattle.engine_reads.proofs.read_universe.Goals as goal
 
 pub returns-then-x-elements : goal.returns-then-x-elements

@@ -2,7 +2,6 @@
 use mathlib.Core.Path.{ap, ◌∙◌}
 use mathlib.Core.List.{List}
 use Prim.Native.Nat.{ℕ}
-use borrow.Author.Rules.{rules}
 use Rattle.engine_term.specs.Marks.{marked}
 use Rattle.engine_release.proofs.Runs.{run_contents, run_marks, run_read}
 use Rattle.engine_release.proofs.clear_function.Goals as goal

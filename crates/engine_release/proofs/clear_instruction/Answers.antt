@@ -1,6 +1,5 @@
 -- `clear_instruction` meets its contract.
 use mathlib.Core.Path.{◌∙◌}
-use borrow.Author.Rules.{rules}
 use Rattle.engine_term.specs.Marks.{marked}
 use Rattle.engine_release.proofs.clear_instruction.Goals as goal
 

@@ -1,14 +1,13 @@
 -- `clear_label` meets its contract.
 use mathlib.Core.Path.{ap, ◌∙◌}
-use Prim.Native.Nat.{◌-◌, ◌≤◌, ◌<◌}
+use Prim.Native.Nat.{◌<◌}
 use native.Mathlib.Omega.{arith}
 use Rattle.book.proofs.Held.{functions_held}
-use borrow.Author.Rules.{rules}
 use lib.ListN.{length}
 use Rattle.book.specs.Image.{low_program}
 use Rattle.engine_term.proofs.Marking.{length_marked}
 use Rattle.book_parts.proofs.Places.{part_ends, part_fits}
-use Rattle.engine_release.proofs.Runs.{Upto, upto_start, upto_next, upto_end}
+use Rattle.engine_release.proofs.Runs.{upto_start, upto_next, upto_end}
 use Rattle.engine_release.proofs.clear_label.Goals as goal
 
 pub loop-g-init : goal.loop-g-init

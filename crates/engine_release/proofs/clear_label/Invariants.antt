@@ -1,14 +1,7 @@
 -- `clear_label` meets its contract.
-use mathlib.Core.Path.{ap, ◌∙◌}
-use Prim.Native.Nat.{◌-◌, ◌≤◌, ◌<◌}
-use native.Mathlib.Omega.{arith}
-use Rattle.book.proofs.Held.{functions_held}
-use borrow.Author.Rules.{rules}
-use lib.ListN.{length}
+use Prim.Native.Nat.{◌-◌, ◌≤◌}
 use Rattle.book.specs.Image.{low_program}
-use Rattle.engine_term.proofs.Marking.{length_marked}
-use Rattle.book_parts.proofs.Places.{part_ends, part_fits}
-use Rattle.engine_release.proofs.Runs.{Upto, upto_start, upto_next, upto_end}
+use Rattle.engine_release.proofs.Runs.{Upto}
 use Rattle.engine_release.proofs.clear_label.Given as goal
 
 abbrev pub invariant-loop-g : goal.invariant-loop-g

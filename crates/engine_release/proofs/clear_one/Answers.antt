@@ -5,7 +5,6 @@ use lib.Seq.{set-get_or}
 use lib.ListN.{get_or}
 use mathlib.Core.Bool.{true, false}
 use mathlib.Core.Path.{◌≡◌, sym, ◌∙◌}
-use borrow.Author.Rules.{rules}
 use Rattle.engine_release.proofs.clear_one.Goals as goal
 
 pub returns-then-clears_at : goal.returns-then-clears_at

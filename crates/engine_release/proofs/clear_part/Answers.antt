@@ -1,11 +1,10 @@
 -- `clear_part` meets its contract.
 use mathlib.Core.Path.{ap, ◌∙◌}
-use Prim.Native.Nat.{◌+◌, ◌-◌}
+use Prim.Native.Nat.{◌+◌}
 use native.Mathlib.Omega.{arith}
-use borrow.Author.Rules.{rules}
 use lib.ListN.{length}
 use Rattle.engine_term.proofs.Marking.{length_marked}
-use Rattle.engine_release.proofs.Upto.{Upto, upto_start, upto_pass, upto_one, upto_end}
+use Rattle.engine_release.proofs.Upto.{upto_start, upto_pass, upto_one, upto_end}
 use Rattle.engine_release.proofs.clear_part.Goals as goal
 
 pub pass_over-i-requires : goal.pass_over-i-requires

@@ -1,9 +1,8 @@
 -- `clear_released` meets its contract.
 use mathlib.Core.Path.{◌≡◌, refl, sym, ap, ap₂, ◌∙◌}
 use mathlib.Core.List.{List}
-use Prim.Native.Nat.{ℕ, ◌+◌, ◌-◌}
-use borrow.Author.Rules.{rules}
-use lib.ListN.{length, get_or, drop}
+use Prim.Native.Nat.{ℕ, ◌+◌}
+use lib.ListN.{get_or, drop}
 use Rattle.book.specs.Image.{low_program}
 use Rattle.engine.specs.declared.Instruction.{Instruction}
 use Rattle.engine_term.specs.Marks.{marked}

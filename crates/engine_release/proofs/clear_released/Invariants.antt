@@ -1,16 +1,11 @@
 -- `clear_released` meets its contract.
-use mathlib.Core.Path.{◌≡◌, refl, sym, ap, ap₂, ◌∙◌}
-use mathlib.Core.List.{List}
-use Prim.Native.Nat.{ℕ, ◌+◌, ◌-◌}
-use borrow.Author.Rules.{rules}
-use lib.ListN.{length, get_or, drop}
+use mathlib.Core.Path.{◌≡◌}
+use Prim.Native.Nat.{◌-◌}
+use lib.ListN.{length, drop}
 use Rattle.book.specs.Image.{low_program}
-use Rattle.engine.specs.declared.Instruction.{Instruction}
 use Rattle.engine_term.specs.Marks.{marked}
-use Rattle.engine_term.proofs.Marking.{marked_append}
-use Rattle.engine_instruction.specs.Code.{decode_of, items}
-use Rattle.engine_release.specs.Steps.{instruction_cleared, instruction_marked, instruction_reads, all_cleared, all_marked, all_reads}
-use Rattle.engine_instruction.proofs.Laws.{items_cons, items_end}
+use Rattle.engine_instruction.specs.Code.{items}
+use Rattle.engine_release.specs.Steps.{all_cleared, all_marked, all_reads}
 use Rattle.engine_release.proofs.clear_released.Given as goal
 
 abbrev pub invariant-loop-j : goal.invariant-loop-j

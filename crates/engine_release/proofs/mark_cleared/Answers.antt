@@ -1,6 +1,5 @@
 -- `mark_cleared` meets its contract.
 use mathlib.Core.Path.{◌∙◌}
-use borrow.Author.Rules.{rules}
 use Rattle.engine_term.specs.Marks.{marked}
 use Rattle.engine_release.proofs.mark_cleared.Goals as goal
 

@@ -2,7 +2,6 @@
 use Rattle.engine_release.proofs.Arguments.{first_from}
 use Rattle.book.proofs.Sum.{product}
 use native.Mathlib.Omega.{arith}
-use borrow.Author.Rules.{rules}
 use Rattle.engine_release.proofs.next_first.Goals as goal
 
 pub overflow_mul-from : goal.overflow_mul-from

@@ -2,8 +2,6 @@
 use Rattle.engine_release.proofs.Arguments.{before_second, before_next}
 use native.Mathlib.Omega.{arith}
 use native.Mathlib.Nat.{mod-lt}
-use mathlib.Core.Path.{◌≡◌}
-use borrow.Author.Rules.{rules}
 use Rattle.engine_release.proofs.next_second.Goals as goal
 
 pub returns-then-s-y : goal.returns-then-s-y

@@ -2,7 +2,6 @@
 use Rattle.engine_release.proofs.Arguments.{none_by}
 use native.Mathlib.Omega.{arith}
 use Rattle.book.specs.Sum.{first_argument, second_argument}
-use borrow.Author.Rules.{rules}
 use Rattle.engine_release.proofs.pass_arguments.Goals as goal
 
 pub returns-then-f-eq0 : goal.returns-then-f-eq0

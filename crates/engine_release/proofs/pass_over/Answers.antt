@@ -3,7 +3,6 @@ use Rattle.engine_instruction.proofs.Laws.{and_none}
 use Rattle.book.specs.Book.{dynamic}
 use native.Mathlib.Omega.{arith}
 use mathlib.Core.Path.{sym, ◌∙◌}
-use borrow.Author.Rules.{rules}
 use Rattle.engine_release.proofs.pass_over.Goals as goal
 
 pub returns-then-is_dynamic : goal.returns-then-is_dynamic

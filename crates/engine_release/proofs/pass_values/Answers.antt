@@ -1,13 +1,9 @@
 -- `pass_values` meets its contract.
 use mathlib.Core.Path.{◌≡◌}
 use mathlib.Core.Logic.{dite}
-use mathlib.Core.Bool.{false}
-use Prim.Native.Nat.{ℕ, ◌-◌, ◌≤◌, ◌<◌}
 use native.Mathlib.Omega.{arith}
 use native.Mathlib.Decide.{ℕ_discrete}
-use borrow.Author.Rules.{rules}
 use borrow.Author.Tests.{ne_eqb}
-use lib.Dec.{eqb}
 use lib.ListN.{get_or}
 use Rattle.engine_release.proofs.pass_values.Goals as goal
 

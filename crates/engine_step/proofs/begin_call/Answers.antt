@@ -5,7 +5,6 @@ use Rattle.engine.specs.Move.{input}
 use Rattle.book.proofs.Held.{held_agents_most}
 use mathlib.Core.Path.{◌≡◌}
 use native.Mathlib.Omega.{arith}
-use borrow.Author.Rules.{rules}
 use Rattle.engine_step.proofs.begin_call.Goals as goal
 
 pub returns-then-opened-ne0 : goal.returns-then-opened-ne0

@@ -4,7 +4,6 @@ use Rattle.book.specs.Image.{low_program}
 use native.Mathlib.Omega.{arith}
 use mathlib.Core.Path.{◌∙◌}
 use Rattle.book.proofs.Held.{agents_held}
-use borrow.Author.Rules.{rules}
 use Rattle.engine_step.proofs.check_agent.Goals as goal
 
 pub returns-then-agent-agents : goal.returns-then-agent-agents

@@ -1,5 +1,4 @@
 -- `check_call` meets its contract.
-use borrow.Author.Rules.{rules}
 use Rattle.book.specs.Image.{word, low_program}
 use Rattle.engine.specs.Move.{input}
 use Rattle.engine_step.proofs.Checks.{agent_refuses, picks_refuse, two_refuses, eight_last}

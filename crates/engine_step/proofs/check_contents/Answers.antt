@@ -1,7 +1,7 @@
 -- `check_contents` meets its contract.
 use mathlib.Core.Path.{◌≡◌, ◌∙◌, ap, sym}
 use mathlib.Core.List.{List}
-use Prim.Native.Nat.{ℕ, ◌≤◌, min}
+use Prim.Native.Nat.{ℕ, min}
 use native.Mathlib.Omega.{arith}
 use lib.ListN.{length, take}
 use lib.Seq.{length-take-le}
@@ -9,7 +9,6 @@ use Rattle.text.specs.Words.{answer_of}
 use Rattle.book.specs.Image.{word, low_program}
 use Rattle.engine.specs.Single.{check_contents}
 use Rattle.engine_step.proofs.Checks.{value_bad, values_fine, taken}
-use borrow.Author.Rules.{rules}
 use Rattle.engine_step.proofs.check_contents.Goals as goal
 
 pub slice_bounds-bad_value-end : goal.slice_bounds-bad_value-end

@@ -4,7 +4,6 @@ use Rattle.book.specs.Image.{word}
 use native.Mathlib.Omega.{arith}
 use Prim.Native.Nat.{ℕ}
 use mathlib.Core.Path.{◌∙◌, ap}
-use borrow.Author.Rules.{rules}
 use Rattle.engine_step.proofs.check_lent.Goals as goal
 
 pub returns-then-contents-locations : goal.returns-then-contents-locations

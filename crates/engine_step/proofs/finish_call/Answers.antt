@@ -5,7 +5,6 @@ use Prim.Native.Nat.{ℕ, min}
 use lib.ListN.{length}
 use lib.Seq.{length-take-le}
 use native.Mathlib.Omega.{arith}
-use borrow.Author.Rules.{rules}
 use Rattle.engine_step.proofs.finish_call.Goals as goal
 
 pub returns-then-answer-ne0 : goal.returns-then-answer-ne0

@@ -2,7 +2,7 @@
 use Rattle.std.proofs.Common.{◌≡◌, ◌∙◌, ap, arith, ℕ, List, length, min, length-take}
 use Rattle.text.specs.declared.Answer.{Answer}
 use Rattle.engine.specs.declared.Record.{Record}
-use Rattle.engine.specs.Move.{Input, input}
+use Rattle.engine.specs.Move.{Input}
 use Rattle.engine.specs.Single.{Stepped, step_call}
 use Rattle.engine_step.specs.Entry.{StepMade, StepMadeOwn}
 use Rattle.engine_step.proofs.Longer.{step_longer}

@@ -7,7 +7,6 @@ use lib.ListN.{length}
 use native.Mathlib.Omega.{arith}
 use Prim.Native.Nat.{ℕ, min}
 use mathlib.Core.Path.{sym, ap, ◌∙◌}
-use borrow.Author.Rules.{rules}
 use Rattle.engine_step.proofs.walk_call.Goals as goal
 
 pub slice_bounds-begin_move-end : goal.slice_bounds-begin_move-end

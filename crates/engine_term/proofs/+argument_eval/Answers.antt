@@ -1,6 +1,6 @@
 use mathlib.Core.Path.{◌≡◌, refl, ◌∙◌}
-use mathlib.Core.Logic.{◌⊎◌, inl, inr}
-use Prim.Native.Nat.{ℕ, ◌+◌, ◌*◌, ◌-◌, ◌<◌, ◌≤◌}
+use mathlib.Core.Logic.{inl, inr}
+use Prim.Native.Nat.{◌-◌, ◌<◌, ◌≤◌}
 use native.Mathlib.Omega.{arith}
 use Rattle.book.specs.Book.{node_at, location}
 use Rattle.engine.specs.Reader.{read, done, ◌>>=◌}
@@ -12,7 +12,6 @@ use Rattle.book.specs.Image.{low_program}
 use Rattle.engine_term.proofs.Values.{join_kind}
 use Rattle.engine_term.proofs.Marking.{runs_done, runs_given, runs_value, runs_bind}
 use Rattle.engine_term.proofs.Leaves.{named_none, named_one, named_two, at_none, at_one, at_two}
-use borrow.Author.Rules.{rules}
 use Rattle.engine_term.proofs.+argument_eval.Goals as goal
 use Rattle.engine_term.proofs.+argument_eval.Goals.{eval-in-7-1, eval-in_default+else-k-lt1+then-k-lt14}
 

@@ -1,5 +1,5 @@
 -- The measures of `eval` and `argument`: the depth falls, and `argument` stands above `eval` at one depth.
-use Rattle.std.proofs.Common.{ℕ, ◌+◌, ◌*◌}
+use Rattle.std.proofs.Common.{◌+◌, ◌*◌}
 use Rattle.engine_term.proofs.+argument_eval.Given as goal
 
 abbrev pub decreases-argument : goal.decreases-argument

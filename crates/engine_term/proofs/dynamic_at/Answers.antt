@@ -1,6 +1,5 @@
 -- `dynamic_at` meets its contract.
 use mathlib.Core.Path.{◌∙◌}
-use borrow.Author.Rules.{rules}
 use Rattle.engine_term.proofs.dynamic_at.Goals as goal
 
 pub returns : goal.returns

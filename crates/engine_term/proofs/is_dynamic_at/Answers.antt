@@ -3,7 +3,6 @@ use Rattle.book.proofs.Held.{elements_held}
 use Rattle.book.specs.Image.{low_program}
 use mathlib.Core.Path.{◌∙◌}
 use Rattle.engine_term.proofs.Leaves.{past_elements, within_elements}
-use borrow.Author.Rules.{rules}
 use Rattle.engine_term.proofs.is_dynamic_at.Goals as goal
 
 pub returns-then-e-x : goal.returns-then-e-x

@@ -1,7 +1,6 @@
 -- `less` meets its contract.
 use mathlib.Core.Path.{sym, ◌∙◌}
 use Rattle.engine.specs.Term.{apply}
-use borrow.Author.Rules.{rules}
 use Rattle.engine_term.proofs.less.Goals as goal
 
 pub returns-then-is_number-2 : goal.returns-then-is_number-2

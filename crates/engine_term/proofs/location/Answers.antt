@@ -2,7 +2,6 @@
 use Rattle.book.proofs.Held.{function_held}
 use native.Mathlib.Nat.{mod-eq_of_lt}
 use mathlib.Core.Path.{◌∙◌}
-use borrow.Author.Rules.{rules}
 use Rattle.engine_term.proofs.location.Goals as goal
 
 pub returns : goal.returns

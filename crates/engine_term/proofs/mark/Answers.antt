@@ -3,7 +3,6 @@ use mathlib.Core.Path.{sym}
 use lib.Bits.{bit_or}
 use lib.ListN.{get_or}
 use lib.Seq.{set_out}
-use borrow.Author.Rules.{rules}
 use Rattle.engine_term.proofs.mark.Goals as goal
 
 pub returns-else-at-readers : goal.returns-else-at-readers

@@ -1,6 +1,5 @@
 -- `mark_if_dynamic` meets its contract.
 use mathlib.Core.Path.{sym, ◌∙◌}
-use borrow.Author.Rules.{rules}
 use Rattle.engine_term.proofs.mark_if_dynamic.Goals as goal
 
 pub returns-then-is_dynamic_at : goal.returns-then-is_dynamic_at

@@ -4,7 +4,6 @@ use native.Mathlib.Omega.{arith}
 use borrow.Author.Tests.{le-leb, lt-leb}
 use Rattle.engine.specs.Term.{apply}
 use Rattle.engine_term.proofs.Values.{number_least}
-use borrow.Author.Rules.{rules}
 use Rattle.engine_term.proofs.minus.Goals as goal
 
 pub overflow_add-result : goal.overflow_add-result

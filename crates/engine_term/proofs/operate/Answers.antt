@@ -2,7 +2,6 @@
 use mathlib.Core.Path.{◌∙◌}
 use Rattle.engine.specs.Term.{apply}
 use Rattle.engine_term.proofs.Values.{no_join}
-use borrow.Author.Rules.{rules}
 use Rattle.engine_term.proofs.operate.Goals as goal
 
 pub returns-in-7 : goal.returns-in-7

@@ -3,7 +3,6 @@ use mathlib.Core.Path.{sym, ◌∙◌}
 use borrow.Author.Tests.{eq-eqb, ne_eqb}
 use Rattle.engine.specs.Term.{apply}
 use Rattle.engine_term.proofs.Values.{truth_boolean}
-use borrow.Author.Rules.{rules}
 use Rattle.engine_term.proofs.or.Goals as goal
 
 pub returns-then-x-eq2 : goal.returns-then-x-eq2

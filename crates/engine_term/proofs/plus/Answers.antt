@@ -4,7 +4,6 @@ use native.Mathlib.Omega.{arith}
 use borrow.Author.Tests.{lt-ltb, le-ltb}
 use Rattle.engine.specs.Term.{apply}
 use Rattle.engine_term.proofs.Values.{number_least}
-use borrow.Author.Rules.{rules}
 use Rattle.engine_term.proofs.plus.Goals as goal
 
 pub overflow_sub-sum : goal.overflow_sub-sum

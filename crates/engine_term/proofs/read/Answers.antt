@@ -5,7 +5,6 @@ use Rattle.book.proofs.Held.{function_held}
 use Rattle.engine_term.specs.Marks.{Placed}
 use Rattle.book.specs.Image.{low_program}
 use mathlib.Core.Path.{◌≡◌, ◌∙◌}
-use borrow.Author.Rules.{rules}
 use Rattle.engine_term.proofs.read.Goals as goal
 
 pub returns : goal.returns

@@ -9,7 +9,6 @@ use Rattle.book_parts.specs.StoredNodes.{stored_node}
 use Rattle.book.specs.Image.{low_program}
 use Rattle.engine_term.proofs.Marking.{runs_done, runs_given, runs_value, runs_bind}
 use Rattle.engine_term.proofs.Leaves.{named_none, named_one, named_two, at_none, at_one, at_two}
-use borrow.Author.Rules.{rules}
 use Rattle.engine_term.proofs.target_location.Goals as goal
 
 pub returns-then-depth-eq0 : goal.returns-then-depth-eq0

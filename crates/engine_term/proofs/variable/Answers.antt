@@ -1,6 +1,5 @@
 -- `variable` meets its contract.
 use Rattle.engine_term.proofs.Leaves.{variable_in, variable_past}
-use borrow.Author.Rules.{rules}
 use Rattle.engine_term.proofs.variable.Goals as goal
 
 pub returns-then-a-lt8 : goal.returns-then-a-lt8

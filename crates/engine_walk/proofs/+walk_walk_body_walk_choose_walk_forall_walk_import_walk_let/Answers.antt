@@ -1,28 +1,26 @@
 use mathlib.Core.Logic.{inl, inr}
 use mathlib.Core.Path.{◌≡◌, refl, ◌∙◌}
-use mathlib.Core.List.{List}
-use Prim.Native.Nat.{ℕ, ◌+◌, ◌*◌, ◌-◌, ◌<◌, ◌≤◌}
+use Prim.Native.Nat.{ℕ, ◌+◌, ◌-◌, ◌<◌, ◌≤◌}
 use native.Mathlib.Omega.{arith}
-use lib.ListN.{length, set}
+use lib.ListN.{set}
 use Rattle.book.specs.Book.{node_at, location}
 use Rattle.engine.specs.Reader.{Reader}
-use Rattle.engine.specs.Rule.{Walk, Walked, after, lowest, import_of, each as for_each, walk as walked, rule_from}
+use Rattle.engine.specs.Rule.{Walk, Walked, lowest, import_of, walk as walked, rule_from}
 use Rattle.engine.proofs.Steps.{rule_last, rule_assign, rule_bind, rule_for_all, rule_import, rule_release, rule_choose, no_rule_at}
 use Rattle.engine_term.specs.Bindings.{variables_of, agent_of, value_at}
 use Rattle.book_parts.specs.StoredNodes.{stored_node}
 use Rattle.book.specs.Image.{low_program}
-use Rattle.engine_term.specs.Marks.{Has, Placed, Runs}
+use Rattle.engine_term.specs.Marks.{Placed}
 use Rattle.engine_term.proofs.Marking.{runs_given, runs_bind, runs_as}
 use Rattle.engine_term.proofs.Leaves.{at_one, named_universe}
 use Rattle.engine_emit.specs.Emit.{picks_left, walk_from, reached, importing_found, next_pick, picked}
 use Rattle.engine_emit.proofs.Steps.{reached_walking, reached_refused}
-use Rattle.engine_reads.specs.Marking.{found_below, members_from, first_and_rest}
+use Rattle.engine_reads.specs.Marking.{found_below}
 use Rattle.engine_reads.proofs.Members.{universe_placed, members_next}
-use Rattle.engine_walk.specs.Walk.{body_at, walk_at as node_walk}
+use Rattle.engine_walk.specs.Walk.{body_at}
 use Rattle.engine_walk.proofs.Steps.{runs_bindings, runs_from, runs_refused, runs_rule, runs_skip, runs_block, runs_test, import_as, runs_choose, rule_none}
 use Rattle.engine_walk.proofs.Forall.{sweep_as, sweep_more, sweep_end, runs_for_all}
 use Rattle.book.proofs.Held.{elements_held, function_held}
-use borrow.Author.Rules.{rules}
 use Rattle.engine_walk.proofs.+walk_walk_body_walk_choose_walk_forall_walk_import_walk_let.Goals as goal
 
 pub walk-loop-left-init : goal.walk-loop-left-init

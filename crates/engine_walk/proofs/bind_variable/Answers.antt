@@ -1,7 +1,6 @@
 -- `bind_variable` meets its contract.
 use mathlib.Core.Path.{refl}
 use Rattle.engine_walk.proofs.Steps.{bind_in, bind_past, bind_agent}
-use borrow.Author.Rules.{rules}
 use Rattle.engine_walk.proofs.bind_variable.Goals as goal
 
 pub returns-then-a-lt8 : goal.returns-then-a-lt8

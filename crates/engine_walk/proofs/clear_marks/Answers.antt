@@ -1,7 +1,6 @@
 -- `clear_marks` meets its contract.
 use mathlib.Core.Path.{◌∙◌}
 use borrow.Author.Tests.{eq-eqb, ne_eqb}
-use borrow.Author.Rules.{rules}
 use Rattle.engine_walk.proofs.clear_marks.Goals as goal
 
 pub returns-then-bit-ne0 : goal.returns-then-bit-ne0

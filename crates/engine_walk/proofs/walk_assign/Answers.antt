@@ -11,7 +11,6 @@ use Rattle.book.specs.Image.{low_program}
 use Rattle.engine_term.proofs.Marking.{runs_bind, runs_value}
 use Rattle.engine_emit.specs.Emit.{walk_from}
 use Rattle.engine_emit.proofs.Steps.{reached_walking}
-use borrow.Author.Rules.{rules}
 use Rattle.engine_walk.proofs.walk_assign.Goals as goal
 
 pub returns : goal.returns

@@ -11,7 +11,6 @@ use Rattle.engine_emit.proofs.Steps.{reached_walking, reached_refused}
 use Rattle.engine_walk.specs.Walk.{walk_at}
 use Rattle.engine_walk.proofs.Steps.{runs_from}
 use Rattle.engine_walk.proofs.Kept.{runs_agent, gathered, walk_marked_back}
-use borrow.Author.Rules.{rules}
 use Rattle.engine_walk.proofs.walk_move.Goals as goal
 
 pub returns-then-r-eq0 : goal.returns-then-r-eq0

@@ -1,5 +1,5 @@
 -- `make_moves` meets its contract.
-use Rattle.std.proofs.Common.{◌≡◌, ◌∙◌, arith, length}
+use Rattle.std.proofs.Common.{arith}
 use Rattle.order_entry.proofs.Moves.{so_far, next_so_far, ends_so_far}
 use Rattle.order_entry.proofs.make_moves.Goals as goal
 

@@ -1,5 +1,4 @@
 -- The run is so far; and the moves that are left fall.
-use Rattle.std.proofs.Common.{◌≡◌, length}
 use Rattle.order_run.specs.Stages.{moves_left}
 use Rattle.order_entry.proofs.Moves.{SoFar}
 use Rattle.order_entry.proofs.make_moves.Given as goal

@@ -1,5 +1,5 @@
 -- `run_from_own_list` meets its contract: a list of more than 256 records makes no difference.
-use Rattle.std.proofs.Common.{◌≡◌, ◌∙◌, sym, subst, arith, ℕ, List, length, min, length-take}
+use Rattle.std.proofs.Common.{◌≡◌, sym, subst, arith, ℕ, List, length, min, length-take}
 use Rattle.engine.specs.declared.Record.{Record}
 use Rattle.engine.specs.declared.TalliedAnswer.{TalliedAnswer}
 use Rattle.engine.specs.Tables.{Tables}

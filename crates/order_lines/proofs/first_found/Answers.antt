@@ -1,5 +1,4 @@
 -- `first_found` meets its contract.
-use borrow.Author.Rules.{rules}
 use Rattle.order_lines.proofs.first_found.Goals as goal
 
 pub returns-in-Here : goal.returns-in-Here

@@ -1,5 +1,4 @@
 -- `or_here` meets its contract.
-use borrow.Author.Rules.{rules}
 use Rattle.order_lines.proofs.or_here.Goals as goal
 
 pub returns-then-bad : goal.returns-then-bad

@@ -1,11 +1,9 @@
 -- `put_pick` meets its contract.
-use mathlib.Core.Bool.{false}
 use Rattle.order_lines.proofs.Loops.{begun_first, begun_later}
 use native.Mathlib.Omega.{arith}
 use Rattle.order_lines.specs.Lines.{first_pick_put}
 use mathlib.Core.Path.{◌≡◌, ◌∙◌}
 use borrow.Author.Tests.{not-true, not-false}
-use borrow.Author.Rules.{rules}
 use Rattle.order_lines.proofs.put_pick.Goals as goal
 use Rattle.order_lines.proofs.put_pick.Goals.{then-order-a-eq0, else-order-a-eq0}
 

@@ -1,11 +1,10 @@
 -- `read_bounded` meets its contract.
-use Rattle.order_lines.proofs.Loops.{Turned, turned_start, turned_stop, turned_turn, turned_end, choice_within, left, left_all, left_turn, left_end}
+use Rattle.order_lines.proofs.Loops.{turned_start, turned_stop, turned_turn, turned_end, choice_within, left, left_all, left_turn, left_end}
 use Rattle.order.specs.Log.{choice_at}
 use Rattle.order_lines.specs.Lines.{pick_put}
 use Rattle.order.specs.Log.{bad_choice}
 use borrow.Author.Rules.{rules}
 use native.Mathlib.Omega.{arith}
-use Prim.Native.Nat.{◌-◌, ◌≤◌}
 use mathlib.Core.Path.{refl}
 use borrow.Author.Tests.{not-true, not-false}
 use Rattle.order_lines.proofs.read_bounded.Goals as goal

@@ -1,5 +1,4 @@
 -- `read_choices` meets its contract.
-use borrow.Author.Rules.{rules}
 use Rattle.order_lines.proofs.read_choices.Goals as goal
 
 pub returns : goal.returns

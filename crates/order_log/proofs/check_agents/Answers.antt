@@ -1,9 +1,9 @@
 -- `check_agents` meets its contract.
 use mathlib.Core.Path.{◌≡◌}
-use Prim.Native.Nat.{◌-◌, ◌≤◌, ◌<◌}
-use Rattle.order.proofs.Best.{Best, best_start, best_new, best_old}
+use Prim.Native.Nat.{◌<◌}
+use Rattle.order.proofs.Best.{best_start, best_new, best_old}
 use Rattle.order_log.specs.Agents.{one_agent_unordered_in}
-use Rattle.order_log.proofs.Agents.{Own, own_start, own_turn, own_hit, own_low, ten}
+use Rattle.order_log.proofs.Agents.{own_start, own_turn, own_hit, own_low, ten}
 use native.Mathlib.Omega.{arith}
 use borrow.Author.Rules.{rules}
 use Rattle.order_log.proofs.check_agents.Goals as goal

@@ -6,7 +6,6 @@ use native.Mathlib.Omega.{arith}
 use Rattle.order_log.proofs.Answers.{stops, goes}
 use Rattle.text.proofs.Checks.{must_numbered}
 use Rattle.order_log.specs.Read.{header_checked}
-use borrow.Author.Rules.{rules}
 use Rattle.order_log.proofs.check_header.Goals as goal
 
 pub returns-then-form-ne0 : goal.returns-then-form-ne0

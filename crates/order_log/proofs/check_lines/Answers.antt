@@ -6,7 +6,6 @@ use Rattle.text.proofs.Checks.{none_numbered, must_numbered}
 use Rattle.order_log.specs.Read.{lines_checked}
 use lib.Dec.{leb}
 use native.Mathlib.Omega.{arith}
-use borrow.Author.Rules.{rules}
 use Rattle.order_log.proofs.check_lines.Goals as goal
 
 pub returns-then-form-ne0 : goal.returns-then-form-ne0

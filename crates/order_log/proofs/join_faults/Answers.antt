@@ -1,5 +1,4 @@
 -- `join_faults` meets its contract.
-use borrow.Author.Rules.{rules}
 use Rattle.order_log.proofs.join_faults.Goals as goal
 
 pub returns : goal.returns

@@ -4,7 +4,6 @@ use Prim.Native.Nat.{min}
 use native.Mathlib.Omega.{arith}
 use Rattle.order.specs.Table.{first_in, end_in}
 use Rattle.order_log.proofs.Picks.{part_some, part_none}
-use borrow.Author.Rules.{rules}
 use Rattle.order_log.proofs.picks_of_move.Goals as goal
 
 pub returns-then-first-end : goal.returns-then-first-end

@@ -2,7 +2,6 @@
 use Rattle.order_log.proofs.Parts.{joined}
 use borrow.Author.Tests.{not-true, not-false}
 use native.Mathlib.Omega.{arith}
-use borrow.Author.Rules.{rules}
 use Rattle.order_log.proofs.put_pair.Goals as goal
 
 pub bounds-order-a : goal.bounds-order-a

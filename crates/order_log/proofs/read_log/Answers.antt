@@ -4,7 +4,6 @@ use native.Mathlib.Omega.{arith}
 use Rattle.text.proofs.Fields.{parsed_ok}
 use Rattle.order_log.proofs.Lines.{header_small}
 use Rattle.order_log.proofs.Answers.{header_ok, header_refused, past_header, lines_read}
-use borrow.Author.Rules.{rules}
 use Rattle.order_log.proofs.read_log.Goals as goal
 
 pub returns-then-first-ne0 : goal.returns-then-first-ne0

@@ -1,9 +1,8 @@
 -- `read_moves` meets its contract.
 use borrow.Author.Tests.{not-true, not-false}
 use mathlib.Core.Path.{sym, ◌∙◌}
-use Prim.Native.Nat.{◌-◌, ◌≤◌}
 use lib.ListN.{length-set}
-use Rattle.order_log.proofs.Loops.{Moved, moved_start, moved_stop, moved_turn, moved_end}
+use Rattle.order_log.proofs.Loops.{moved_start, moved_stop, moved_turn, moved_end}
 use native.Mathlib.Omega.{arith}
 use borrow.Author.Rules.{rules}
 use Rattle.order_log.proofs.read_moves.Goals as goal

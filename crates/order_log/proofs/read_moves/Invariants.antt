@@ -1,11 +1,6 @@
 -- `read_moves` meets its contract.
-use borrow.Author.Tests.{not-true, not-false}
-use mathlib.Core.Path.{sym, ◌∙◌}
 use Prim.Native.Nat.{◌-◌, ◌≤◌}
-use lib.ListN.{length-set}
-use Rattle.order_log.proofs.Loops.{Moved, moved_start, moved_stop, moved_turn, moved_end}
-use native.Mathlib.Omega.{arith}
-use borrow.Author.Rules.{rules}
+use Rattle.order_log.proofs.Loops.{Moved}
 use Rattle.order_log.proofs.read_moves.Given as goal
 
 abbrev pub invariant-loop-i : goal.invariant-loop-i

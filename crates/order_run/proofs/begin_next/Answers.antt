@@ -1,5 +1,5 @@
 -- `begin_next` meets its contract.
-use Rattle.std.proofs.Common.{arith, rules}
+use Rattle.std.proofs.Common.{arith}
 use Rattle.book.proofs.Held.{held_agents_most}
 use Rattle.order_run.proofs.Stages.{low, agent_low, begins}
 use Rattle.order_run.proofs.begin_next.Goals as goal

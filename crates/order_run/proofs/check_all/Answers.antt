@@ -1,7 +1,6 @@
 -- `check_all` meets its contract.
 use Rattle.order_run.proofs.Checks.{off_book, off_log, off_agents, opened_last}
 use Rattle.book.proofs.Held.{agents_held, elements_held}
-use Rattle.std.proofs.Common.{rules}
 use Rattle.order_run.proofs.check_all.Goals as goal
 
 pub returns-then-opened-ne0 : goal.returns-then-opened-ne0

@@ -1,5 +1,5 @@
 -- `check_lent` meets its contract.
-use Rattle.std.proofs.Common.{◌∙◌, rules}
+use Rattle.std.proofs.Common.{◌∙◌}
 use Rattle.order_run.proofs.RunTables.{lent_0, lent_1, lent_2, lent_3, lent_all}
 use Rattle.order_run.proofs.check_lent.Goals as goal
 

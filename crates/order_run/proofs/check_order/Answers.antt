@@ -1,5 +1,5 @@
 -- `check_order` meets its contract.
-use Rattle.std.proofs.Common.{length, ◌∙◌, rules}
+use Rattle.std.proofs.Common.{length, ◌∙◌}
 use borrow.Author.Tests.{not-true, not-false}
 use Rattle.order_run.proofs.RunTables.{answer_none, answer_some}
 use Rattle.order.specs.Pairs.{least_pair}

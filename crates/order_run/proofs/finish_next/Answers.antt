@@ -1,5 +1,5 @@
 -- `finish_next` meets its contract.
-use Rattle.std.proofs.Common.{arith, rules}
+use Rattle.std.proofs.Common.{arith}
 use Rattle.order_run.proofs.Stages.{low, finish_on, finish_off}
 use Rattle.order_run.proofs.finish_next.Goals as goal
 

@@ -1,6 +1,5 @@
 -- `move_bit` meets its contract.
 use Rattle.order.proofs.Masks.{shl_one}
-use Rattle.std.proofs.Common.{rules}
 use Rattle.order_run.proofs.move_bit.Goals as goal
 
 pub returns-then-i-lt-MOST_MOVES : goal.returns-then-i-lt-MOST_MOVES

@@ -1,6 +1,6 @@
 -- `next_move` meets its contract.
 use Rattle.order_run.proofs.Stages.{turn_on, turn_over}
-use Rattle.std.proofs.Common.{arith, rules}
+use Rattle.std.proofs.Common.{arith}
 use Rattle.order_run.proofs.next_move.Goals as goal
 
 pub returns-then-i-smaller : goal.returns-then-i-smaller

@@ -1,5 +1,5 @@
 -- `no_marks` meets its contract. The invariant: the marks passed are 0, and the others as they were.
-use Rattle.std.proofs.Common.{◌≡◌, ◌-◌, ◌≤◌, ◌++◌, length, drop, replicate, refl, ◌∙◌, arith, length-set, rules}
+use Rattle.std.proofs.Common.{refl, ◌∙◌, arith, length-set}
 use borrow.Author.Fill.{fill_more}
 use Rattle.order_run.proofs.RunTables.{cleared}
 use Rattle.order_run.proofs.no_marks.Goals as goal

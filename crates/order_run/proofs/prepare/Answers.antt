@@ -1,5 +1,5 @@
 -- `prepare` meets its contract.
-use Rattle.std.proofs.Common.{ap, ◌∙◌, rules}
+use Rattle.std.proofs.Common.{ap, ◌∙◌}
 use Rattle.engine.specs.declared.Tally.{Tally}
 use Rattle.order_run.proofs.Stages.{over_with}
 use Rattle.order_run.proofs.Opens.{off, opens}

@@ -1,5 +1,5 @@
 -- `start_on_part` meets its contract.
-use Rattle.std.proofs.Common.{ap, ◌∙◌, rules}
+use Rattle.std.proofs.Common.{ap, ◌∙◌}
 use Rattle.book.specs.Book.{L, start}
 use Rattle.order_run.proofs.RunTables.{only_start}
 use Rattle.order_run.proofs.Stages.{starts_run, from_none}

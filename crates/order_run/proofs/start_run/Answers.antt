@@ -1,5 +1,5 @@
 -- `start_run` meets its contract.
-use Rattle.std.proofs.Common.{sym, arith, length-take-le, rules}
+use Rattle.std.proofs.Common.{sym, arith, length-take-le}
 use Rattle.order_run.proofs.Opens.{starts}
 use Rattle.engine.specs.Tables.{tables}
 use Rattle.order_run.proofs.start_run.Goals as goal

@@ -1,5 +1,4 @@
 -- `start_tables` meets its contract.
-use Rattle.std.proofs.Common.{rules}
 use Rattle.order_run.proofs.start_tables.Goals as goal
 
 pub shape_of-contents : goal.shape_of-contents

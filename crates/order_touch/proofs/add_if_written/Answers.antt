@@ -1,6 +1,5 @@
 -- `add_if_written` meets its contract.
 use Rattle.order_touch.proofs.Sets.{touching_unwritten}
-use borrow.Author.Rules.{rules}
 use Rattle.order_touch.proofs.add_if_written.Goals as goal
 
 pub returns-else-writers-ne0 : goal.returns-else-writers-ne0

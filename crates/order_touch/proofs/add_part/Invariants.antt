@@ -1,10 +1,6 @@
 -- `add_part` meets its contract.
-use Rattle.order_touch.proofs.Sets.{all_turn}
 use Rattle.order_touch.specs.Marked.{TouchSets}
-use borrow.Author.Rules.{rules}
-use native.Mathlib.Omega.{arith}
 use Prim.Native.Nat.{◌-◌, ◌≤◌}
-use mathlib.Core.Path.{◌≡◌}
 use Rattle.order_touch.proofs.add_part.Given as goal
 
 abbrev pub invariant-loop-l : goal.invariant-loop-l

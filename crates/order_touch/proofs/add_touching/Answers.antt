@@ -1,10 +1,8 @@
 -- `add_touching` meets its contract.
-use Rattle.order_touch.proofs.Sets.{others, others_all, others_writers, Sofar, sofar_start, left_some, left_lt, rest_ones, rest_fit, sofar_turn, sofar_end}
+use Rattle.order_touch.proofs.Sets.{others, others_all, others_writers, sofar_start, left_some, left_lt, rest_ones, rest_fit, sofar_turn, sofar_end}
 use lib.Bits.{or_lt}
-use lib.Count.{count_trailing_zeros, trailing_le, ones}
-use borrow.Author.Rules.{rules}
+use lib.Count.{count_trailing_zeros, trailing_le}
 use native.Mathlib.Omega.{arith}
-use Prim.Native.Nat.{◌-◌, ◌^◌, ◌<◌}
 use mathlib.Core.Logic.{◌≢◌}
 use mathlib.Core.Path.{◌≡◌, refl, ◌∙◌}
 use Rattle.order_touch.proofs.add_touching.Goals as goal

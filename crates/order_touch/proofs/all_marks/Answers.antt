@@ -1,10 +1,9 @@
 -- `all_marks` meets its contract: where all marks in one are 0, each mark that was passed is 0.
-use mathlib.Core.Path.{◌≡◌}
 use mathlib.Core.Logic.{dite}
-use Prim.Native.Nat.{ℕ, ◌-◌, ◌≤◌, ◌<◌}
+use Prim.Native.Nat.{◌<◌}
 use native.Mathlib.Omega.{arith}
 use native.Mathlib.Decide.{dec_lt}
-use lib.ListN.{length, get_or, get_or-eq_default}
+use lib.ListN.{get_or, get_or-eq_default}
 use borrow.Author.Count.{below_more}
 use borrow.Author.Rules.{rules}
 use Rattle.order_touch.proofs.Sets.{join_none}

@@ -1,15 +1,10 @@
 -- `least_pair` meets its contract.
 -- moves i < j are unordered, and i is among those that touch j
-use Rattle.order.proofs.Best.{Best, best_start, best_new, best_old}
+use Rattle.order.proofs.Best.{best_start, best_new, best_old}
 use Rattle.order_touch.proofs.Best.{pair_found, pair_none}
-use Rattle.order.specs.Pairs.{ordered_by}
-use Rattle.order.specs.Sets.{bit}
-use lib.ListN.{get_or}
 use borrow.Author.Rules.{rules}
 use native.Mathlib.Omega.{arith}
-use Prim.Native.Nat.{ℕ, ◌-◌, ◌<◌, ◌≤◌}
-use mathlib.Core.List.{List}
-use mathlib.Core.Bool.{Bool, not, ◌&&◌}
+use Prim.Native.Nat.{◌<◌}
 use mathlib.Core.Path.{◌≡◌}
 use Rattle.order_touch.proofs.least_pair.Invariants.{pairs}
 use Rattle.order_touch.proofs.least_pair.Goals as goal

@@ -1,15 +1,11 @@
 -- `least_pair` meets its contract.
-use Rattle.order.proofs.Best.{Best, best_start, best_new, best_old}
-use Rattle.order_touch.proofs.Best.{pair_found, pair_none}
+use Rattle.order.proofs.Best.{Best}
 use Rattle.order.specs.Pairs.{ordered_by}
 use Rattle.order.specs.Sets.{bit}
 use lib.ListN.{get_or}
-use borrow.Author.Rules.{rules}
-use native.Mathlib.Omega.{arith}
-use Prim.Native.Nat.{ℕ, ◌-◌, ◌<◌, ◌≤◌}
+use Prim.Native.Nat.{ℕ, ◌-◌, ◌≤◌}
 use mathlib.Core.List.{List}
 use mathlib.Core.Bool.{Bool, not, ◌&&◌}
-use mathlib.Core.Path.{◌≡◌}
 use Rattle.order_touch.proofs.least_pair.Given as goal
 
 -- moves i < j are unordered, and i is among those that touch j

@@ -1,7 +1,6 @@
 -- `least_touching` meets its contract.
 use Rattle.order_touch.proofs.Best.{shifted_pos, near_is}
 use native.Mathlib.Omega.{arith}
-use borrow.Author.Rules.{rules}
 use Rattle.order_touch.proofs.least_touching.Goals as goal
 
 pub overflow_sub-earlier : goal.overflow_sub-earlier

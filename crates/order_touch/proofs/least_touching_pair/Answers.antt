@@ -2,7 +2,6 @@
 use Rattle.order_touch.proofs.Best.{all_found}
 use Prim.Native.Nat.{ℕ, min}
 use mathlib.Core.Path.{ap, ◌∙◌}
-use borrow.Author.Rules.{rules}
 use Rattle.order_touch.proofs.least_touching_pair.Goals as goal
 
 pub returns : goal.returns

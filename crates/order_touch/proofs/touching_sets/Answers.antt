@@ -1,9 +1,7 @@
 -- `touching_sets` meets its contract: what touches in a block is added, or no move writes in it.
 use Rattle.order_touch.proofs.Sets.{all_start, all_unwritten, unwritten}
-use Rattle.order_touch.specs.Marked.{TouchSets}
 use borrow.Author.Rules.{rules}
 use native.Mathlib.Omega.{arith}
-use Prim.Native.Nat.{◌-◌, ◌≤◌}
 use mathlib.Core.Path.{◌≡◌}
 use Rattle.order_touch.proofs.touching_sets.Goals as goal
 

@@ -4,7 +4,6 @@ use borrow.Author.Tests.{not-true, not-false}
 use Rattle.text.specs.declared.Found.{Found}
 use Rattle.text.specs.Words.{none_at, answer_of}
 use Rattle.report_print.proofs.Split.{length_formless, length_unbounded, length_bounded}
-use borrow.Author.Rules.{rules}
 use Rattle.report_print.proofs.book_bytes.Goals as goal
 
 pub returns-then-not-first-second : goal.returns-then-not-first-second

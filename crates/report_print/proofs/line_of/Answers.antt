@@ -1,7 +1,6 @@
 -- `line_of` meets its contract.
 use native.Mathlib.Nat.{div-le_self, mod-le}
 use native.Mathlib.Omega.{arith}
-use borrow.Author.Rules.{rules}
 use Rattle.report_print.proofs.line_of.Goals as goal
 
 pub overflow_cast-result : goal.overflow_cast-result

@@ -1,7 +1,6 @@
 -- `print_answer` meets its contract.
 use Rattle.book.specs.Image.{program_in}
 use Rattle.report_print.proofs.Lines.{prints_accepted, prints_refused}
-use borrow.Author.Rules.{rules}
 use Rattle.report_print.proofs.print_answer.Goals as goal
 
 pub returns-then-answer-eq0 : goal.returns-then-answer-eq0

@@ -1,16 +1,11 @@
 -- `print_contents` meets its contract.
-use mathlib.Core.Path.{◌≡◌, refl, ◌∙◌}
-use Prim.Native.Nat.{◌≤◌, ◌-◌, ◌+◌, ◌*◌}
+use mathlib.Core.Path.{◌≡◌}
+use Prim.Native.Nat.{◌≤◌, ◌-◌, ◌*◌}
 use lib.ListN.{length}
-use native.Mathlib.Nat.{zero-add}
-use native.Mathlib.Omega.{arith}
-use borrow.Author.Rules.{rules}
-use Rattle.book.proofs.Image.{functions_most}
 use Rattle.book.specs.Image.{program_in}
-use Rattle.book.specs.Book.{size, function_at}
 use Rattle.book.specs.Sum.{Strided}
-use Rattle.report.specs.Report.{part_lines, lines_from}
-use Rattle.report_print.proofs.Lines.{Left, left_all, left_step, left_none, lines_step, lines_end}
+use Rattle.report.specs.Report.{lines_from}
+use Rattle.report_print.proofs.Lines.{Left}
 use Rattle.report_print.proofs.print_contents.Given as goal
 
 abbrev pub invariant-loop-k : goal.invariant-loop-k

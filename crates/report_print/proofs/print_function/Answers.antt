@@ -1,15 +1,13 @@
 -- `print_function` meets its contract.
 use mathlib.Core.Path.{◌≡◌, refl, ◌∙◌}
-use Prim.Native.Nat.{◌≤◌, ◌-◌, ◌+◌}
-use lib.ListN.{length}
+use Prim.Native.Nat.{◌-◌, ◌+◌}
 use native.Mathlib.Omega.{arith}
 use borrow.Author.Rules.{rules}
 use Rattle.book.specs.Image.{program_in}
 use Rattle.book.specs.Book.{function_at}
-use Rattle.book.specs.Sum.{Strided}
 use Rattle.report.specs.Report.{part_lines}
 use Rattle.report_print.specs.Print.{location_lines}
-use Rattle.report_print.proofs.Lines.{Left, left_all, left_step, left_none, shown_most, size_few, size_same, part_next, part_end}
+use Rattle.report_print.proofs.Lines.{left_all, left_step, left_none, shown_most, size_few, size_same, part_next, part_end}
 use Rattle.report_print.proofs.print_function.Goals as goal
 
 pub loop-i-init : goal.loop-i-init

@@ -2,7 +2,6 @@
 use native.Mathlib.Omega.{arith}
 use lib.Seq.{length-take-le}
 use mathlib.Core.Path.{sym}
-use borrow.Author.Rules.{rules}
 use Rattle.report_print.proofs.print_image.Goals as goal
 
 pub slice_bounds-print_answer-end : goal.slice_bounds-print_answer-end

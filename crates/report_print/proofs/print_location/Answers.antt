@@ -2,7 +2,6 @@
 use mathlib.Core.Path.{sym, ◌∙◌}
 use Rattle.report_print.specs.Print.{line_for, location_lines}
 use Rattle.report_print.proofs.Lines.{shown_none, shown_one, put_nothing, put_single}
-use borrow.Author.Rules.{rules}
 use Rattle.report_print.proofs.print_location.Goals as goal
 
 pub returns-then-v-default_of : goal.returns-then-v-default_of

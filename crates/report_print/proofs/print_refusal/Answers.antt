@@ -1,6 +1,5 @@
 -- `print_refusal` meets its contract.
 use Rattle.report_print.proofs.Printed.{refusal_shown}
-use borrow.Author.Rules.{rules}
 use Rattle.report_print.proofs.print_refusal.Goals as goal
 
 pub returns : goal.returns

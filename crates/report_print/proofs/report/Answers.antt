@@ -1,8 +1,7 @@
 -- `report` meets its contract.
-use mathlib.Core.Path.{◌≡◌, refl}
+use mathlib.Core.Path.{refl}
 use borrow.Author.Tests.{lt-ltb, le-ltb}
 use Rattle.report_print.specs.Print.{most_output}
-use borrow.Author.Rules.{rules}
 use Rattle.report_print.proofs.report.Goals as goal
 
 pub returns-then-output-lt51225 : goal.returns-then-output-lt51225

@@ -3,7 +3,6 @@ use mathlib.Core.Path.{sym}
 use native.Mathlib.Omega.{arith}
 use lib.Seq.{length-take-le}
 use Rattle.report_print.proofs.Printed.{book_within, long_shown, split_shown}
-use borrow.Author.Rules.{rules}
 use Rattle.report_print.proofs.report_input.Goals as goal
 
 pub returns-then-input-gt-MOST_INPUT : goal.returns-then-input-gt-MOST_INPUT

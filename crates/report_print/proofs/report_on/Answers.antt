@@ -1,6 +1,5 @@
 -- `report_on` meets its contract.
 use Rattle.report_print.proofs.Printed.{run_shown, halt_shown}
-use borrow.Author.Rules.{rules}
 use Rattle.report_print.proofs.report_on.Goals as goal
 
 pub returns-then-answer-eq0 : goal.returns-then-answer-eq0

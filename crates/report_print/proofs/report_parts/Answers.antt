@@ -1,6 +1,5 @@
 -- `report_parts` meets its contract.
 use Rattle.report_print.proofs.Printed.{parts_refused, parts_passed, parts_few}
-use borrow.Author.Rules.{rules}
 use Rattle.report_print.proofs.report_parts.Goals as goal
 
 pub returns-then-answer-ne0 : goal.returns-then-answer-ne0

@@ -1,9 +1,6 @@
 -- `bad_line_from` meets its contract.
 use Rattle.text.proofs.Words.{least_pass, least_stop, least_end}
-use Rattle.text.specs.Words.{least_from}
-use mathlib.Core.Path.{◌≡◌, refl}
-use Prim.Native.Nat.{◌-◌}
-use borrow.Author.Rules.{rules}
+use mathlib.Core.Path.{refl}
 use Rattle.text.specs.Text.{bad_line}
 use Rattle.text.proofs.bad_line_from.Goals as goal
 

@@ -1,9 +1,7 @@
 -- `bad_line_from` meets its contract.
-use Rattle.text.proofs.Words.{least_pass, least_stop, least_end}
 use Rattle.text.specs.Words.{least_from}
-use mathlib.Core.Path.{◌≡◌, refl}
+use mathlib.Core.Path.{◌≡◌}
 use Prim.Native.Nat.{◌-◌}
-use borrow.Author.Rules.{rules}
 use Rattle.text.specs.Text.{bad_line}
 use Rattle.text.proofs.bad_line_from.Given as goal
 

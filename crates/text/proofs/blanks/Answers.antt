@@ -1,8 +1,7 @@
 -- `blanks` meets its contract.
 use native.Mathlib.Omega.{arith}
-use mathlib.Core.Path.{◌≡◌, ◌∙◌}
+use mathlib.Core.Path.{◌∙◌}
 use Rattle.text.proofs.Fields.{four}
-use borrow.Author.Rules.{rules}
 use Rattle.text.proofs.blanks.Goals as goal
 
 pub returns : goal.returns

@@ -1,6 +1,5 @@
 -- `field` meets its contract.
 use Rattle.text.proofs.Fields.{four_before, three_before}
-use borrow.Author.Rules.{rules}
 use Rattle.text.proofs.field.Goals as goal
 
 pub returns-then-blanks : goal.returns-then-blanks

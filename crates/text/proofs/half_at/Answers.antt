@@ -1,7 +1,6 @@
 -- `half_at` meets its contract.
 use mathlib.Core.Path.{sym}
 use lib.ListN.{get_or-eq_default}
-use borrow.Author.Rules.{rules}
 use Rattle.text.proofs.half_at.Goals as goal
 
 pub returns-else-i-s : goal.returns-else-i-s

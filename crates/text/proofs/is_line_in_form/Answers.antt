@@ -1,6 +1,5 @@
 -- `is_line_in_form` meets its contract.
 use Rattle.text.proofs.Fields.{parsed_ok}
-use borrow.Author.Rules.{rules}
 use Rattle.text.proofs.is_line_in_form.Goals as goal
 
 pub returns : goal.returns

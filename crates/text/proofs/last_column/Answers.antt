@@ -2,7 +2,6 @@
 use Rattle.text.proofs.Fields.{digit_bounds, one_digit, no_digit}
 use mathlib.Core.Path.{sym, ◌∙◌}
 use native.Mathlib.Omega.{arith}
-use borrow.Author.Rules.{rules}
 use Rattle.text.proofs.last_column.Goals as goal
 
 pub overflow_sub-result : goal.overflow_sub-result

@@ -3,9 +3,7 @@ use Rattle.text.proofs.Words.{and_cases}
 use Rattle.text.proofs.Fields.{led, digit_bounds}
 use Rattle.text.proofs.Fields.{after_blank, three_digits, no_three}
 use borrow.Author.Tests.{ne_eqb}
-use mathlib.Core.Path.{◌∙◌}
 use native.Mathlib.Omega.{arith}
-use borrow.Author.Rules.{rules}
 use Rattle.text.proofs.last_three.Goals as goal
 
 pub overflow_sub-result : goal.overflow_sub-result

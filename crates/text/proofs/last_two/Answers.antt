@@ -2,9 +2,7 @@
 use Rattle.text.proofs.Fields.{led}
 use Rattle.text.proofs.Fields.{after_blank, two_digits, no_digits}
 use borrow.Author.Tests.{ne_eqb}
-use mathlib.Core.Path.{◌∙◌}
 use native.Mathlib.Omega.{arith}
-use borrow.Author.Rules.{rules}
 use Rattle.text.proofs.last_two.Goals as goal
 
 pub overflow_sub-result : goal.overflow_sub-result

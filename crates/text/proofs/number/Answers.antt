@@ -1,6 +1,5 @@
 -- `number` meets its contract.
 use Rattle.text.proofs.Fields.{two_value}
-use borrow.Author.Rules.{rules}
 use Rattle.text.proofs.number.Goals as goal
 
 pub returns-then-short : goal.returns-then-short

@@ -1,7 +1,6 @@
 -- `parse` meets its contract.
 use Rattle.text.proofs.Fields.{line_read, line_unread, cut_line}
 use mathlib.Core.Path.{◌∙◌}
-use borrow.Author.Rules.{rules}
 use Rattle.text.proofs.parse.Goals as goal
 
 pub returns-then-a-b : goal.returns-then-a-b

@@ -2,10 +2,7 @@
 use mathlib.Core.Path.{sym, ◌∙◌}
 use Rattle.text.proofs.Fields.{pushed, ended}
 use borrow.Author.Tests.{eq-eqb, ne_eqb}
-use Prim.Native.Nat.{◌*◌, ◌+◌, ◌-◌}
-use mathlib.Core.Path.{◌≡◌}
 use native.Mathlib.Omega.{arith}
-use borrow.Author.Rules.{rules}
 use Rattle.text.proofs.push.Goals as goal
 
 pub overflow_cast-result : goal.overflow_cast-result

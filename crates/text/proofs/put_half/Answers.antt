@@ -1,7 +1,6 @@
 -- `put_half` meets its contract.
 use mathlib.Core.Path.{sym}
 use lib.Seq.{set_out}
-use borrow.Author.Rules.{rules}
 use Rattle.text.proofs.put_half.Goals as goal
 
 pub returns-else-i-s : goal.returns-else-i-s

@@ -1,7 +1,6 @@
 -- `read_line` meets its contract.
 use Prim.Native.Nat.{◌+◌}
 use Rattle.text.proofs.Fields.{line_of}
-use borrow.Author.Rules.{rules}
 use Rattle.text.proofs.read_line.Goals as goal
 
 pub returns : goal.returns

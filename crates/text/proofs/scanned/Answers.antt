@@ -1,12 +1,11 @@
 -- `scanned` meets its contract.
 use Rattle.text.proofs.Fields.{scan_end}
 use Rattle.text.proofs.Fields.{scan_field, scan_step}
-use Rattle.text.specs.Scan.{scan, ends_well}
-use Rattle.text.specs.declared.Scan.TheVariants.{Blank}
+use Rattle.text.specs.Scan.{ends_well}
 use borrow.Author.Rules.{rules}
 use lib.ListN.{take, drop}
 use mathlib.Core.Path.{◌≡◌, sym, ◌∙◌, ap}
-use Prim.Native.Nat.{◌≤◌, ◌-◌, ◌+◌}
+use Prim.Native.Nat.{◌+◌}
 use native.Mathlib.Omega.{arith}
 use Rattle.text.proofs.scanned.Goals as goal
 

@@ -1,13 +1,9 @@
 -- `scanned` meets its contract.
-use Rattle.text.proofs.Fields.{scan_end}
-use Rattle.text.proofs.Fields.{scan_field, scan_step}
-use Rattle.text.specs.Scan.{scan, ends_well}
+use Rattle.text.specs.Scan.{scan}
 use Rattle.text.specs.declared.Scan.TheVariants.{Blank}
-use borrow.Author.Rules.{rules}
 use lib.ListN.{take, drop}
-use mathlib.Core.Path.{◌≡◌, sym, ◌∙◌, ap}
+use mathlib.Core.Path.{◌≡◌}
 use Prim.Native.Nat.{◌≤◌, ◌-◌, ◌+◌}
-use native.Mathlib.Omega.{arith}
 use Rattle.text.proofs.scanned.Given as goal
 
 abbrev pub invariant-loop-k : goal.invariant-loop-k

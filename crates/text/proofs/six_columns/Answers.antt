@@ -2,7 +2,6 @@
 use Rattle.text.proofs.Fields.{scanned_pushed, out_of_form}
 use mathlib.Core.Path.{sym, ◌∙◌}
 use native.Mathlib.Omega.{arith}
-use borrow.Author.Rules.{rules}
 use Rattle.text.proofs.six_columns.Goals as goal
 
 pub returns-then-scanned : goal.returns-then-scanned

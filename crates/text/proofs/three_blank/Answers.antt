@@ -3,7 +3,6 @@ use borrow.Author.Tests.{eqb-true}
 use Prim.Native.Nat.{◌+◌, ◌*◌}
 use mathlib.Core.Path.{◌≡◌}
 use native.Mathlib.Omega.{arith}
-use borrow.Author.Rules.{rules}
 use Rattle.text.proofs.three_blank.Goals as goal
 
 pub returns : goal.returns

@@ -1,7 +1,6 @@
 -- `write_field` meets its contract.
 use Rattle.text.specs.Text.{column_byte}
 use Rattle.text_write.proofs.Bytes.{put_six}
-use borrow.Author.Rules.{rules}
 use Rattle.text_write.proofs.write_field.Goals as goal
 
 pub returns : goal.returns

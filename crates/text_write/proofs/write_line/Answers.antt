@@ -1,6 +1,5 @@
 -- `write_line` meets its contract.
 use Rattle.text_write.proofs.Bytes.{put_line}
-use borrow.Author.Rules.{rules}
 use Rattle.text_write.proofs.write_line.Goals as goal
 
 pub returns : goal.returns
