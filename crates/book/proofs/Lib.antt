@@ -10,3 +10,5 @@ pub mod Claims
 pub mod Image
 pub mod Held
 pub mod Kept
+pub mod Examples
+pub mod Numbers

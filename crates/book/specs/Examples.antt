@@ -1,10 +1,10 @@
 -- Books and what their check answers, as a table under the lemma of Quoted: the order of the refusals, and examples of each (SPECIFICATION 3).
-use Rattle.std.specs.Prelude.{◌≡◌, refl, true, List, [], ◌∷◌, ℕ, ◌<◌, length, get_or}
+-- proofs/Examples shows by computation that the table is right.
+use Rattle.std.specs.Prelude.{List, [], ◌∷◌, ℕ}
 use Rattle.text.specs.declared.Answer.{Answer}
 use Rattle.text.specs.Words.{answer_of}
-use Rattle.text.specs.Quoted.{padded, Case, case, all_right, each_right}
+use Rattle.text.specs.Quoted.{padded, Case, case}
 use Rattle.book.specs.Check.{check_book}
-use Rattle.book.specs.Open.{open_book}
 
 -- an answer as its three numbers
 abbrev pub triple : Answer → List ℕ
@@ -58,12 +58,3 @@ examples =
     -- Refusal 5: there is no kind 29
     ∷ case (padded "8 6 2 2 / 1 0 0 0 / 1 3 0 0 / 1 3 0 0 / 20 0 0 0 / 29 0 1 0 / 1 4 0 0") (5 ∷ 1 ∷ 0 ∷ [])
     ∷ []
-
--- by computation
-examples_right : all_right asked examples ≡ true
-unfolding examples open_book
-examples_right = refl
-
--- the check of book i answers as the table says
-pub answered : (i : ℕ) → i < length examples → asked (get_or examples i (case [] [])).question ≡ (get_or examples i (case [] [])).answer
-answered i h = each_right asked examples (case [] []) i examples_right h

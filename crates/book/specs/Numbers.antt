@@ -1,13 +1,11 @@
 -- Locations of one book with their numbers, counted by hand, as two tables under the lemma of Quoted: the number of a function's location, and a number taken
--- apart. Both have the first and the last location of each function (SPECIFICATION 2.3).
-use Rattle.std.specs.Prelude.{◌≡◌, refl, true, List, [], ◌∷◌, ℕ, ◌<◌, length, get_or}
+-- apart. Both have the first and the last location of each function (SPECIFICATION 2.3). proofs/Numbers shows by computation that the tables are right.
+use Rattle.std.specs.Prelude.{List, [], ◌∷◌, ℕ}
 use Rattle.text.specs.Text.{line}
-use Rattle.text.specs.Quoted.{padded, Case, case, all_right, each_right}
+use Rattle.text.specs.Quoted.{padded, Case, case}
 use Rattle.book.specs.Book.{Program, function_at, location}
 use Rattle.book.specs.Lines.{header_of, program_of}
-use Rattle.book.specs.Sum.{sum, number_in, Apart, apart}
-use Rattle.book.specs.Examples.{asked}
-use Rattle.book.specs.Open.{open_book}
+use Rattle.book.specs.Sum.{sum, Apart, apart}
 
 -- a book of five elements, with two functions of each arity: Reserve has the locations 0 to 4, function 1 (nullary) 5, function 2 (binary) 6 to 30, function 3
 -- (unary) 31 to 35, function 4 (nullary) 36, function 5 (binary) 37 to 61
@@ -17,11 +15,6 @@ numbered_book = padded "5 4 6 1 / 1 0 0 0 / 1 3 0 0 / 0 2 0 0 / 2 3 0 0 / 1 2 0 
 -- its program
 abbrev pub numbered_program : Program
 numbered_program = program_of (header_of (line numbered_book 0) (line numbered_book 1)) numbered_book
-
--- the book is accepted, by computation
-pub numbered_accepted : asked numbered_book ≡ 0 ∷ 0 ∷ 0 ∷ []
-unfolding numbered_book open_book
-numbered_accepted = refl
 
 -- ---- the number of a location
 
@@ -54,16 +47,6 @@ location_numbers =
     ∷ has_number 5 4 4 61
     ∷ []
 
--- by computation
-location_numbers_right : all_right number_both_ways location_numbers ≡ true
-unfolding location_numbers numbered_book open_book
-location_numbers_right = refl
-
--- location i of the table has the number that the table says
-pub location_numbers_are : (i : ℕ) → i < length location_numbers
-    → number_both_ways (get_or location_numbers i (has_number 0 0 0 0)).question ≡ (get_or location_numbers i (has_number 0 0 0 0)).answer
-location_numbers_are i h = each_right number_both_ways location_numbers (has_number 0 0 0 0) i location_numbers_right h
-
 -- ---- a number taken apart
 
 -- a number of the book taken apart: function, first and second argument
@@ -87,12 +70,3 @@ number_parts =
     ∷ case 50 (5 ∷ 2 ∷ 3 ∷ [])
     ∷ case 61 (5 ∷ 4 ∷ 4 ∷ [])
     ∷ []
-
--- by computation
-number_parts_right : all_right parts_of number_parts ≡ true
-unfolding number_parts numbered_book number_in open_book
-number_parts_right = refl
-
--- number i of the table taken apart gives what the table says
-pub number_parts_are : (i : ℕ) → i < length number_parts → parts_of (get_or number_parts i (case 0 [])).question ≡ (get_or number_parts i (case 0 [])).answer
-number_parts_are i h = each_right parts_of number_parts (case 0 []) i number_parts_right h

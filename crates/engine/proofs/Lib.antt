@@ -18,3 +18,5 @@ pub mod Fuel
 pub mod Steps
 pub mod Labels
 pub mod Claims
+pub mod Examples
+pub mod Operators

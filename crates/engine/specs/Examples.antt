@@ -1,14 +1,13 @@
 -- Single moves and what they leave and read, as a table under the lemma of Quoted: what is easily misread (SPECIFICATION 5.8), and refusals 11 to 15, 18
--- and 19.
-use Rattle.std.specs.Prelude.{◌≡◌, refl, true, List, [], ◌∷◌, ◌++◌, ℕ, ◌<◌, length, get_or, replicate}
+-- and 19. proofs/Examples shows by computation that the table is right.
+use Rattle.std.specs.Prelude.{List, [], ◌∷◌, ◌++◌, ℕ, length, replicate}
 use Rattle.text.specs.Words.{if◌then◌else◌, table, Checked, good, refused}
-use Rattle.text.specs.Quoted.{padded, Case, case, all_right, each_right}
+use Rattle.text.specs.Quoted.{padded, Case, case}
 use Rattle.book.specs.Book.{Book}
 use Rattle.book.specs.Check.{check_book}
 use Rattle.book.specs.Examples.{triple}
 use Rattle.engine.specs.Move.{values_at, idle, Input, input, Moved, fires, move_refused, move, reads}
 use Rattle.engine.specs.Single.{Stepped, step_call}
-use Rattle.engine.specs.Open.{open_engine}
 
 -- A question is about a book, contents, and agent 0 with no picks or another input: what the single-move entry answers and leaves; what the move reads;
 -- whether it is idle, and how many values it gives each location
@@ -178,15 +177,6 @@ examples =
     ∷ case (leaves_by (input 0 (3 ∷ [])) guard_book (none ++ (3 ∷ 0 ∷ []))) (19 ∷ 0 ∷ 7 ∷ none ++ (3 ∷ 0 ∷ []))
     ∷ []
 
--- by computation
-examples_right : all_right asked examples ≡ true
-unfolding examples open_engine
-examples_right = refl
-
 -- what stands past the end of a table of questions
 abbrev pub no_example : Case Question
 no_example = case (leaves [] []) []
-
--- move i answers, leaves and reads as the table says
-pub answered : (i : ℕ) → i < length examples → asked (get_or examples i no_example).question ≡ (get_or examples i no_example).answer
-answered i h = each_right asked examples no_example i examples_right h

@@ -1,11 +1,10 @@
 -- What each term kind, 1 to 13, gives, from the text of books, as a table under the lemma of Quoted (SPECIFICATION 2.7, 4.1). Elements are 0 to 6: undef,
--- false, true, the numbers 0, 1 and 2, and a label.
-use Rattle.std.specs.Prelude.{◌≡◌, refl, true, false, List, [], ◌∷◌, ◌++◌, ℕ, suc, ◌+◌, ◌<◌, length, get_or, replicate}
+-- false, true, the numbers 0, 1 and 2, and a label. proofs/Operators shows by computation that the table is right.
+use Rattle.std.specs.Prelude.{false, List, [], ◌∷◌, ◌++◌, ℕ, suc, ◌+◌, replicate}
 use Prim.Native.String.{String}
 use Rattle.text.specs.Text.{written}
-use Rattle.text.specs.Quoted.{bytes, numbers, padded, Case, case, all_right, each_right}
-use Rattle.engine.specs.Open.{open_engine}
-use Rattle.engine.specs.Examples.{Question, leaves, asked, no_example}
+use Rattle.text.specs.Quoted.{bytes, numbers, padded, Case, case}
+use Rattle.engine.specs.Examples.{Question, leaves}
 
 -- the numbers of a quoted text, one after the other
 abbrev pub quoted_numbers : String → List ℕ
@@ -84,12 +83,3 @@ operators =
     -- Kind 13, less
     ∷ pairs_give "13 3 4 0" "0 0 0 0 0 0 0 / 0 0 0 0 0 0 0 / 0 0 0 0 0 0 0 / 0 0 0 1 2 2 0 / 0 0 0 1 1 2 0 / 0 0 0 1 1 1 0 / 0 0 0 0 0 0 0"
     ∷ []
-
--- by computation
-operators_right : all_right asked operators ≡ true
-unfolding operators open_engine
-operators_right = refl
-
--- term i of the table has the value that it says
-pub operated : (i : ℕ) → i < length operators → asked (get_or operators i no_example).question ≡ (get_or operators i no_example).answer
-operated i h = each_right asked operators no_example i operators_right h

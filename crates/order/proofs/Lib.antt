@@ -16,3 +16,4 @@ pub mod Masks
 pub mod Search
 pub mod Best
 pub mod Picks
+pub mod Examples

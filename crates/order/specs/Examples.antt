@@ -1,11 +1,11 @@
 -- Logs with choices, and what their checks answer: the refusal, or each move's agent and picks, as a table under the lemma of Quoted.
-use Rattle.std.specs.Prelude.{◌≡◌, refl, true, List, [], ◌∷◌, ◌++◌, ℕ, ◌<◌, length, get_or}
+-- proofs/Examples shows by computation that the table is right.
+use Rattle.std.specs.Prelude.{List, [], ◌∷◌, ◌++◌, ℕ, length}
 use Rattle.text.specs.Words.{Checked, good, refused}
-use Rattle.text.specs.Quoted.{padded, Case, case, all_right, each_right}
+use Rattle.text.specs.Quoted.{padded, Case, case}
 use Rattle.book.specs.Book.{Program, no_agent}
 use Rattle.engine.specs.Move.{Input}
 use Rattle.order.specs.Log.{Log, check_log}
-use Rattle.order.specs.Open.{open_order}
 
 -- a program of 8 elements and two agents: the checks of a log use nothing else of a program
 unfoldable pub small : Program
@@ -56,12 +56,3 @@ examples =
     -- Refusal 9 before 10: a choice line is at fault, and two moves of one agent are unordered
     ∷ case (padded "2 0 1 0 / 0 0 0 0 / 0 0 0 0 / 0 8 0 0") (9 ∷ 3 ∷ 0 ∷ [])
     ∷ []
-
--- by computation
-examples_right : all_right asked examples ≡ true
-unfolding examples small open_order
-examples_right = refl
-
--- the checks of log i answer as the table says
-pub answered : (i : ℕ) → i < length examples → asked (get_or examples i (case [] [])).question ≡ (get_or examples i (case [] [])).answer
-answered i h = each_right asked examples (case [] []) i examples_right h

@@ -1,1 +1,4 @@
 pub mod Split
+pub mod Cases
+pub mod Examples
+pub mod Tallies

@@ -1,9 +1,7 @@
--- The cases (a) to (l) of SPECIFICATION 10.4, as one table under one lemma.
-use Rattle.std.specs.Prelude.{◌≡◌, refl, true, List, [], ◌∷◌, ◌++◌, ℕ, ◌<◌, length, get_or}
+-- The cases (a) to (l) of SPECIFICATION 10.4, as one table under one lemma, `cases` of proofs/Cases, by computation.
+use Rattle.std.specs.Prelude.{List, [], ◌∷◌, ◌++◌, ℕ}
 use Prim.Native.String.{String}
-use Rattle.text.specs.Quoted.{bytes, padded, Case, case, all_right, each_right}
-use Rattle.report.specs.Report.{rental}
-use Rattle.report.specs.Open.{everything}
+use Rattle.text.specs.Quoted.{bytes, padded, Case, case}
 
 -- ---- the specification's book
 
@@ -57,17 +55,6 @@ table =
     (padded "0 0 0 2 / 0 6 0 2 / 0 7 0 2")
     ∷ []
 
--- ---- the lemma
-
--- by computation
-table_right : all_right rental table ≡ true
-unfolding table everything
-table_right = refl
-
 -- what stands past the end of the table
 abbrev pub no_case : Case (List ℕ)
 no_case = case [] []
-
--- `rental` prints for case i what the table says
-pub cases : (i : ℕ) → i < length table → rental (get_or table i no_case).question ≡ (get_or table i no_case).answer
-cases i h = each_right rental table no_case i table_right h

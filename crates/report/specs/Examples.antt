@@ -1,13 +1,12 @@
 -- What `rental` prints: one example and more for each refusal but 16, which is never given, for moves that change nothing, choices and retirements, and the
--- limits (SPECIFICATION 4.6, 4.10, 5.2, 8.1, 11.1), as tables under the lemma of Quoted.
-use Rattle.std.specs.Prelude.{◌≡◌, refl, true, List, [], ◌∷◌, ◌++◌, ℕ, suc, ◌*◌, ◌<◌, ◌/◌, ◌%◌, length, get_or, take, drop, replicate}
+-- limits (SPECIFICATION 4.6, 4.10, 5.2, 8.1, 11.1), as tables under the lemma of Quoted. proofs/Examples shows by computation that they are right.
+use Rattle.std.specs.Prelude.{List, [], ◌∷◌, ◌++◌, ℕ, suc, ◌*◌, ◌/◌, ◌%◌, take, drop, replicate}
 use Prim.Native.String.{String}
 use Rattle.text.specs.declared.Line.{Line}
 use Rattle.text.specs.Words.{table}
 use Rattle.text.specs.Text.{line_length}
-use Rattle.text.specs.Quoted.{bytes, padded, Case, case, all_right, each_right}
-use Rattle.report.specs.Report.{lines_written, rental}
-use Rattle.report.specs.Open.{everything}
+use Rattle.text.specs.Quoted.{bytes, padded, Case, case}
+use Rattle.report.specs.Report.{lines_written}
 use Rattle.report.specs.Cases.{book}
 
 -- the log of case (a)
@@ -346,42 +345,6 @@ limits =
     ∷ case (counted 63) (padded "0 0 0 1 / 1 0 0 67")
     ∷ []
 
--- by computation
-examples_right : all_right rental examples ≡ true
-unfolding examples counted everything
-examples_right = refl
-
--- by computation
-choices_right : all_right rental choices ≡ true
-unfolding choices everything
-choices_right = refl
-
--- by computation
-retirements_right : all_right rental retirements ≡ true
-unfolding retirements everything
-retirements_right = refl
-
--- by computation
-limits_right : all_right rental limits ≡ true
-unfolding limits squares squares_and_one counted everything
-limits_right = refl
-
 -- what stands past the end of a table
 abbrev pub no_example : Case (List ℕ)
 no_example = case [] []
-
--- `rental` prints for example i what the table says
-pub printed_examples : (i : ℕ) → i < length examples → rental (get_or examples i no_example).question ≡ (get_or examples i no_example).answer
-printed_examples i h = each_right rental examples no_example i examples_right h
-
--- `rental` prints for input i of the choices what the table says
-pub printed_choices : (i : ℕ) → i < length choices → rental (get_or choices i no_example).question ≡ (get_or choices i no_example).answer
-printed_choices i h = each_right rental choices no_example i choices_right h
-
--- `rental` prints for input i of the retirements what the table says
-pub printed_retirements : (i : ℕ) → i < length retirements → rental (get_or retirements i no_example).question ≡ (get_or retirements i no_example).answer
-printed_retirements i h = each_right rental retirements no_example i retirements_right h
-
--- `rental` prints for input i of the limits what the table says
-pub printed_limits : (i : ℕ) → i < length limits → rental (get_or limits i no_example).question ≡ (get_or limits i no_example).answer
-printed_limits i h = each_right rental limits no_example i limits_right h

@@ -1,15 +1,15 @@
--- The answers and the label tallies of whole inputs (SPECIFICATION 4.11, 10.2), as a table under the lemma of Quoted.
-use Rattle.std.specs.Prelude.{◌≡◌, refl, true, List, [], ◌∷◌, ◌++◌, ℕ, ◌<◌, length, get_or}
+-- The answers and the label tallies of whole inputs (SPECIFICATION 4.11, 10.2), as a table under the lemma of Quoted. proofs/Tallies shows
+-- by computation that the table is right.
+use Rattle.std.specs.Prelude.{List, [], ◌∷◌, ◌++◌, ℕ}
 use Rattle.text.specs.declared.Answer.{Answer}
 use Rattle.text.specs.Words.{Checked, good, refused}
-use Rattle.text.specs.Quoted.{padded, Case, case, all_right, each_right}
+use Rattle.text.specs.Quoted.{padded, Case, case}
 use Rattle.book.specs.Book.{Book}
 use Rattle.engine.specs.declared.Tally.{Tally}
 use Rattle.engine.specs.Operators.{quoted_numbers}
 use Rattle.order.specs.Log.{Log}
 use Rattle.order.specs.Run.{run_log}
 use Rattle.report.specs.Report.{lines_written, check_input, input_tally}
-use Rattle.report.specs.Open.{everything}
 use Rattle.report.specs.Cases.{book}
 use Rattle.report.specs.Examples.{log, changed, book_with, four, unordered, both_released}
 
@@ -167,17 +167,6 @@ tallies =
     ∷ case (book ++ padded "2 0 0 0 / 0 0 0 0 / 0 0 0 0") (quoted_numbers "10 0 1 / 0 0")
     ∷ []
 
--- ---- the lemma
-
--- by computation
-tallies_right : all_right answer_and_tally tallies ≡ true
-unfolding tallies everything
-tallies_right = refl
-
 -- what stands past the end of the table
 abbrev pub no_tally : Case (List ℕ)
 no_tally = case [] []
-
--- input i of the table has the answer and the tally that the table says
-pub told_tallies : (i : ℕ) → i < length tallies → answer_and_tally (get_or tallies i no_tally).question ≡ (get_or tallies i no_tally).answer
-told_tallies i h = each_right answer_and_tally tallies no_tally i tallies_right h
