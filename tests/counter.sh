@@ -1,11 +1,11 @@
 #!/usr/bin/env bash
-# Builds the counter's program in C over the proved book check, single move and log, and runs it on a few books, moves and logs. Its last line is
-# 'N passed, M failed'.
+# Builds the counter's program in C over the proved book check, single move and log, which `rt lib` has put into a static library, and runs it on a few
+# books, moves and logs. Its last line is 'N passed, M failed'.
 set -u
 cd "$(dirname "$0")/.." || exit 1
 work=$(mktemp -d) || exit 1
 trap 'rm -rf "$work"' EXIT
-gcc -std=c11 -Wall -Wextra -Werror -O2 -o "$work/counter" tests/counter.c target/staticlib/libc_api.a || exit 1
+gcc -std=c11 -Wall -Wextra -Werror -O2 -o "$work/counter" tests/counter.c crates/c_api/out/libc_api.a || exit 1
 passed=0
 failed=0
 

@@ -1,7 +1,13 @@
 // The program `rental_cases`: prints what `rental` prints for the cases (b) to (l) of SPECIFICATION 10.4, each after its letter.
 #![tactic(auto)]
 
-use libc::STDOUT_FILENO;
+ghost use Rattle.std.specs.Prelude.{◌++◌, OnOk};
+ghost use Rattle.std.specs.Io.KnownBytes.{Appends};
+ghost use Rattle.report.specs.Report.{rental};
+
+use std::alloc::Global;
+use std::io;
+use std::io::Write;
 
 // The specification's book.
 const BOOK: [u8; 575] = *b"     8     6     3    13
@@ -45,77 +51,58 @@ const TERM: [u8; 325] = *b"     8     6     2     5
      0     0     0     0
 ";
 
-// Writes the first n bytes to standard output.
-fn write_front(bytes: &[u8], n: usize) {
-    if n <= bytes.len() {
-        io::write_all(STDOUT_FILENO, &bytes[..n]);
-    }
+// Writes a case's letter, and what `rental` prints for its input.
+fn show<W: Write>(output: &mut W, name: &[u8], input: &[u8]) -> io::Result<()>
+    ensures { OnOk result (Appends (W.contents output.old) (W.contents output.new) (name.now ++ rental input.now)) }
+{
+    output.write_all(name)?;
+    let mut printed = [0u8; 51225];
+    let ran = report_print::report(input, &mut printed);
+    output.write_all(&printed[..ran.bytes])
 }
 
-// Writes the first n bytes of an output, whose length its type says.
-fn write_output(output: &[u8; 51225], n: usize) {
-    write_front(output, n);
-}
-
-// Prints a case's letter, and what `rental` prints for its input.
-fn show(name: &[u8], input: &[u8]) {
-    io::write_all(STDOUT_FILENO, name);
-    let mut output = [0u8; 51225];
-    let printed = report_print::report(input, &mut output);
-    write_output(&output, printed.bytes);
-}
-
-// Prints a case's letter, and what `rental` prints for the first n bytes of an input.
-fn show_front(name: &[u8], input: &[u8], n: usize) {
-    if n <= input.len() {
-        show(name, &input[..n]);
-    }
-}
-
-// Prints a case's letter, and what `rental` prints for the first n bytes of an input, whose length its type says.
-fn show_input(name: &[u8], input: &[u8; 1000], n: usize) {
-    show_front(name, input, n);
-}
-
-// Prints a case's letter, and what `rental` prints for the specification's book and a log.
-fn show_log(name: &[u8], log: &[u8]) {
-    let mut input = [0u8; 1000];
-    let book = BOOK;
-    let n = 575 + log.len();
-    if n <= 1000 {
-        bytes::copy(&book, &mut input);
-        bytes::copy(log, &mut input[575..]);
-        show_input(name, &input, n);
-    }
+// Writes a case's letter, and what `rental` prints for the specification's book and a log.
+fn show_log<W: Write>(output: &mut W, alloc: Global, name: &[u8], log: &[u8]) -> io::Result<()> {
+    let mut input = Vec::from_slice(alloc, &BOOK)?;
+    input.extend_from_slice(log)?;
+    show(output, name, input.as_slice())
 }
 
 // Cases (b) to (e): the specification's book with other logs.
-fn show_logs() {
+fn show_logs<W: Write>(output: &mut W, alloc: Global) -> io::Result<()> {
     // Case (b): no pair.
     show_log(
+        output,
+        alloc,
         b"(b)\n",
         b"     2     0     0     0
      0     0     0     0
      1     0     0     0
 ",
-    );
+    )?;
     // Case (c): no move.
     show_log(
+        output,
+        alloc,
         b"(c)\n",
         b"     0     0     0     0
 ",
-    );
+    )?;
     // Case (d): agent 0 twice.
     show_log(
+        output,
+        alloc,
         b"(d)\n",
         b"     2     1     0     0
      0     0     0     0
      0     0     0     0
      0     1     0     0
 ",
-    );
+    )?;
     // Case (e): agent 1 three times.
     show_log(
+        output,
+        alloc,
         b"(e)\n",
         b"     3     2     0     0
      1     0     0     0
@@ -124,37 +111,38 @@ fn show_logs() {
      0     1     0     0
      1     2     0     0
 ",
-    );
+    )
 }
 
-// Prints a case's letter, and what `rental` prints for a term: the two columns of its kind, and its two elements.
-fn show_term(name: &[u8], kind: [u8; 2], x: u8, y: u8) {
+// Writes a case's letter, and what `rental` prints for a term: the two columns of its kind, and its two elements.
+fn show_term<W: Write>(output: &mut W, name: &[u8], kind: [u8; 2], x: u8, y: u8) -> io::Result<()> {
     let mut input = TERM;
     input[136] = x;
     input[161] = y;
     input[179] = kind[0];
     input[180] = kind[1];
-    show(name, &input);
+    show(output, name, &input)
 }
 
 // Cases (f) to (j): what terms give.
-fn show_terms() {
+fn show_terms<W: Write>(output: &mut W) -> io::Result<()> {
     // Case (f): 1 plus 1.
-    show_term(b"(f)\n", *b"11", b'4', b'4');
+    show_term(output, b"(f)\n", *b"11", b'4', b'4')?;
     // Case (g): 2 plus 1, P being 6.
-    show_term(b"(g)\n", *b"11", b'5', b'4');
+    show_term(output, b"(g)\n", *b"11", b'5', b'4')?;
     // Case (h): 0 minus 1.
-    show_term(b"(h)\n", *b"12", b'3', b'4');
+    show_term(output, b"(h)\n", *b"12", b'3', b'4')?;
     // Case (i): undef equal undef.
-    show_term(b"(i)\n", *b" 7", b'0', b'0');
+    show_term(output, b"(i)\n", *b" 7", b'0', b'0')?;
     // Case (j): false and undef.
-    show_term(b"(j)\n", *b" 9", b'1', b'0');
+    show_term(output, b"(j)\n", *b" 9", b'1', b'0')
 }
 
 // Case (k): updates are made at once.
-fn show_swap() {
+fn show_swap<W: Write>(output: &mut W) -> io::Result<()> {
     // f := g beside g := f.
     show(
+        output,
         b"(k)\n",
         b"     6     6     3     7
      1     2     0     0
@@ -174,13 +162,14 @@ fn show_swap() {
      1     0     0     0
      0     0     0     0
 ",
-    );
+    )
 }
 
 // Case (l): a release.
-fn show_release() {
+fn show_release<W: Write>(output: &mut W) -> io::Result<()> {
     // The rule releases all of Pair, which has 6.
     show(
+        output,
         b"(l)\n",
         b"     8     6     3     3
      1     3     0     0
@@ -197,12 +186,13 @@ fn show_release() {
      1     0     0     0
      0     0     0     0
 ",
-    );
+    )
 }
 
-fn main() {
-    show_logs();
-    show_terms();
-    show_swap();
-    show_release();
+fn main(rt: HostRuntime) -> io::Result<()> {
+    let mut output = rt.stdout();
+    show_logs(&mut output, rt.alloc())?;
+    show_terms(&mut output)?;
+    show_swap(&mut output)?;
+    show_release(&mut output)
 }

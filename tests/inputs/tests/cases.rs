@@ -29,7 +29,7 @@ fn quoted(part: &str) -> Vec<String> {
 }
 
 /// The inputs and outputs in the definitions' table, (a) to (l). An input is a text, the specification's own book and a log, or the nodes of a rule between the
-/// two texts of `f-set-to`.
+/// two texts of `f_set_to`.
 fn defined() -> Vec<(Vec<u8>, Vec<u8>)> {
     let path = concat!(env!("CARGO_MANIFEST_DIR"), "/../../crates/report/specs/Cases.antt");
     let file = fs::read_to_string(path).expect("the definitions");
@@ -42,7 +42,7 @@ fn defined() -> Vec<(Vec<u8>, Vec<u8>)> {
         let [input, output] = quoted(part).try_into().expect("an input and an output");
         let input = if part.contains("book ++") {
             [padded(&book), padded(&input)].concat()
-        } else if part.contains("f-set-to") {
+        } else if part.contains("f_set_to") {
             [padded(&before), padded(&input), padded(&after)].concat()
         } else {
             padded(&input)

@@ -1,5 +1,5 @@
 // Runs the built program on the specification's cases and those of the documents, on the examples, on random inputs and on broken streams.
-// Usage: program PROGRAM, as `program target/bin/rental`. Its last line is 'N passed, M failed'.
+// Usage: program PROGRAM, as `program crates/rental/out/rental`. Its last line is 'N passed, M failed'.
 
 use inputs::cases::{idle, lettered, limits, picks, refusals, releases, Case};
 use inputs::documents::shown_in;
