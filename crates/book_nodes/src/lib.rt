@@ -14,36 +14,64 @@ use text::{Found, Line};
 // The three operand sorts of each node kind from 0 to 28: 0 no such kind, 1 unused, 2 permanent element, 3 variable,
 // 4 to 6 function of arity 0 to 2, 7 universe, 8 dynamic universe, 9 term, 10 rule, 11 a term that names a dynamic location.
 pub const SORTS: [u8; 87] = [
-    0, // 0 no kind
-    0, 0, 2, // 1 element
-    1, 1, 3, // 2 variable
-    1, 1, 1, // 3 agent
-    1, 1, 4, // 4 function
-    1, 1, 5, // 5 function of one
-    9, 1, 6, // 6 function of two
-    9, 9, 9, // 7 equal
-    9, 1, 9, // 8 not
-    1, 1, 9, // 9 and
-    9, 1, 9, // 10 or
-    9, 1, 9, // 11 plus
-    9, 1, 9, // 12 minus
-    9, 1, 9, // 13 less
-    9, 1, 0, // 14 no kind
-    0, 0, 0, // 15 no kind
-    0, 0, 0, // 16 no kind
-    0, 0, 0, // 17 no kind
-    0, 0, 0, // 18 no kind
-    0, 0, 0, // 19 no kind
-    0, 0, 1, // 20 skip
-    1, 1, 11, // 21 set
-    9, 1, 10, // 22 both
-    10, 1, 9, // 23 if
-    10, 10, 3, // 24 let
-    9, 10, 3, // 25 forall
-    7, 10, 3, // 26 import
-    8, 10, 9, // 27 release
-    1, 1, 3, // 28 choose
-    7, 10,
+    // 0 no kind
+    0, 0, 0,
+    // 1 element
+    2, 1, 1,
+    // 2 variable
+    3, 1, 1,
+    // 3 agent
+    1, 1, 1,
+    // 4 function
+    4, 1, 1,
+    // 5 function of one
+    5, 9, 1,
+    // 6 function of two
+    6, 9, 9,
+    // 7 equal
+    9, 9, 1,
+    // 8 not
+    9, 1, 1,
+    // 9 and
+    9, 9, 1,
+    // 10 or
+    9, 9, 1,
+    // 11 plus
+    9, 9, 1,
+    // 12 minus
+    9, 9, 1,
+    // 13 less
+    9, 9, 1,
+    // 14 no kind
+    0, 0, 0,
+    // 15 no kind
+    0, 0, 0,
+    // 16 no kind
+    0, 0, 0,
+    // 17 no kind
+    0, 0, 0,
+    // 18 no kind
+    0, 0, 0,
+    // 19 no kind
+    0, 0, 0,
+    // 20 skip
+    1, 1, 1,
+    // 21 set
+    11, 9, 1,
+    // 22 both
+    10, 10, 1,
+    // 23 if
+    9, 10, 10,
+    // 24 let
+    3, 9, 10,
+    // 25 forall
+    3, 7, 10,
+    // 26 import
+    3, 8, 10,
+    // 27 release
+    9, 1, 1,
+    // 28 choose
+    3, 7, 10,
 ];
 
 // What the three operands of a node have to be.
