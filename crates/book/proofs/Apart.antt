@@ -1,4 +1,5 @@
 -- A location taken apart: its function is found, its arguments are those that it was made of, and their sum is the location again.
+use Rattle.std.specs.Prelude.{if◌then◌else◌}
 use mathlib.Core.Path.{◌≡◌, refl, sym, ◌∙◌}
 use mathlib.Core.Bool.{Bool, true, false, ◌||◌}
 use mathlib.Core.List.{List, [], ◌∷◌}
@@ -8,7 +9,6 @@ use native.Mathlib.Omega.{arith}
 use lib.Dec.{eqb, ltb}
 use lib.ListN.{length, get_or}
 use borrow.Author.Tests.{eqb-true, ltb-true, ltb-false, lt-ltb, le-ltb}
-use Rattle.text.specs.Words.{if◌then◌else◌}
 use Rattle.book.specs.declared.Function.{Function}
 use Rattle.book.specs.Book.{Program, no_function, size, total, L, stride, offset, location, function_at, place, arguments_at}
 use Rattle.book.specs.Sum.{sum, Fitting, first_argument, second_argument, arguments_by, number_in, apart}

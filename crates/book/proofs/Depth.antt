@@ -1,4 +1,5 @@
 -- What stands around a node: each node is used once, so a root has what it began with, and an operand what its one user gave it; depths above all.
+use Rattle.std.specs.Prelude.{if◌then◌else◌}
 use mathlib.Core.Path.{◌≡◌, refl, sym, ◌∙◌}
 use mathlib.Core.Logic.{dite, ◌≢◌}
 use mathlib.Core.Bool.{Bool, true, false, ◌&&◌, and-false, or-true}
@@ -10,7 +11,7 @@ use lib.Dec.{eqb, ltb}
 use lib.ListN.{length, get_or, set, replicate, length-set, length-replicate, get_or-replicate}
 use lib.Seq.{get_or-set_same, get_or-set_other}
 use borrow.Author.Tests.{eqb-true, eqb-false, eq-eqb, ne_eqb, ltb-true, ltb-false, leb-true}
-use Rattle.text.specs.Words.{if◌then◌else◌, one_if}
+use Rattle.text.specs.Words.{one_if}
 use Rattle.text.proofs.Words.{so_true, so_false, some_below_from}
 use Rattle.book.specs.declared.Node.{Node}
 use Rattle.book.specs.Book.{Program, node_at, agent_at}

@@ -1,4 +1,5 @@
 -- The image: what its program has, and what its rows hold after they are stored.
+use Rattle.std.specs.Prelude.{if◌then◌else◌}
 use mathlib.Core.Path.{◌≡◌, refl, sym, ◌∙◌, ap}
 use mathlib.Core.Bool.{Bool, true, false}
 use mathlib.Core.List.{List, ◌∷◌}
@@ -13,7 +14,7 @@ use lib.ListN.{length, get_or, set, length-set}
 use lib.Seq.{get_or-set_same, get_or-set_other}
 use borrow.Author.Tests.{lt-ltb, le-ltb}
 use Rattle.text.specs.declared.Line.{Line}
-use Rattle.text.specs.Words.{if◌then◌else◌, table_from, table}
+use Rattle.text.specs.Words.{table_from, table}
 use Rattle.text.proofs.Words.{length_table_from, getD_table, getD_table_past}
 use Rattle.book.specs.declared.Header.{Header}
 use Rattle.book.specs.declared.Function.{Function}

@@ -1,4 +1,5 @@
 -- Laws of locations: each function's locations are one part of the table, a location says its function and arguments, and the first E are Reserve's.
+use Rattle.std.specs.Prelude.{if◌then◌else◌}
 use mathlib.Core.Path.{◌≡◌, refl, sym, ◌∙◌}
 use mathlib.Core.Logic.{◌⊎◌, inl, inr}
 use mathlib.Core.Bool.{Bool, true, false, ◌||◌, false≢true, or-false}
@@ -9,7 +10,7 @@ use native.Mathlib.Omega.{arith}
 use lib.Dec.{eqb}
 use lib.ListN.{length, get_or}
 use borrow.Author.Tests.{eqb-true, eq-eqb, lt-ltb, le-ltb}
-use Rattle.text.specs.Words.{if◌then◌else◌, has}
+use Rattle.text.specs.Words.{has}
 use Rattle.text.proofs.Words.{or_cases}
 use Rattle.book.specs.declared.Function.{Function}
 use Rattle.book.specs.Book.{Program, no_function, boolean, relation, default, size, total, L, offset, arguments, location, function_at, place_in, place}

@@ -1,4 +1,5 @@
 -- Laws of the sum: it is the location's number, and the stride takes a location's number apart.
+use Rattle.std.specs.Prelude.{if◌then◌else◌}
 use mathlib.Core.Path.{◌≡◌, refl}
 use mathlib.Core.Bool.{Bool, true, false, ◌||◌}
 use mathlib.Core.List.{[], ◌∷◌}
@@ -7,7 +8,6 @@ use native.Mathlib.Nat.{div-one, mul-one, le_trans, mul-le-mul_left, mul-le-mul_
 use native.Mathlib.Omega.{arith}
 use lib.Dec.{eqb}
 use borrow.Author.Tests.{eqb-true, eqb-false, ne_eqb}
-use Rattle.text.specs.Words.{if◌then◌else◌}
 use Rattle.book.specs.Book.{Program, stride, offset, arguments, location, function_at}
 use Rattle.book.specs.Sum.{Strided, sum, Fitting, first_argument, second_argument, arguments_by}
 

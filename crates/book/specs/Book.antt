@@ -1,7 +1,7 @@
 -- The book: its program (elements, functions, nodes, agents) and its contents lines; locations and their defaults; the start of a run
 -- (SPECIFICATION 2.1 to 2.6).
-use Rattle.std.specs.Prelude.{Bool, true, false, ◌||◌, List, [], ◌∷◌, ℕ, ◌+◌, ◌-◌, ◌*◌, ◌/◌, ◌%◌, eqb, ltb, leb, get_or, set}
-use Rattle.text.specs.Words.{if◌then◌else◌, has, table}
+use Rattle.std.specs.Prelude.{Bool, true, false, ◌||◌, List, [], ◌∷◌, ℕ, ◌+◌, ◌-◌, ◌*◌, ◌/◌, ◌%◌, eqb, ltb, leb, get_or, set, if◌then◌else◌}
+use Rattle.text.specs.Words.{has, table}
 use Rattle.book.specs.declared.Function.{Function}
 use Rattle.book.specs.declared.Node.{Node}
 use Rattle.book.specs.declared.Agent.{Agent}

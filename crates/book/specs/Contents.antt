@@ -1,7 +1,6 @@
 -- Refusal 8: contents against the rules, line by line in a book, and location by location in a lent table
 -- (SPECIFICATION 3.9).
-use Rattle.std.specs.Prelude.{Bool, true, false, ◌&&◌, ◌||◌, not, List, [], ◌∷◌, ℕ, zero, suc, ◌+◌, eqb, ltb, leb, length, get_or}
-use Rattle.text.specs.Words.{if◌then◌else◌}
+use Rattle.std.specs.Prelude.{Bool, true, false, ◌&&◌, ◌||◌, not, List, [], ◌∷◌, ℕ, zero, suc, ◌+◌, eqb, ltb, leb, length, get_or, if◌then◌else◌}
 use Rattle.book.specs.declared.Function.{Function}
 use Rattle.book.specs.declared.Entry.{Entry}
 use Rattle.book.specs.Book.{Program, true_element, boolean, relation, dynamic, default, function_at, entry_at, entry_location, reserve, dynamic_at, relation_at, default_at, arguments_at}

@@ -1,9 +1,9 @@
 -- The image of a program, which the code holds: words of 32 bits. The first 200 are rows of four. Rows 0 and 1 are `E P F N` and `A C L 0`; function f is
 -- row 2 + f (first, arity, kind, stride), agent i row 34 + i (root, element). After them each node has two words: kind and a, b and c. A count past its bound counts
 -- as the bound: every image holds a program.
-use Rattle.std.specs.Prelude.{◌≡◌, List, map, ℕ, zero, suc, ◌+◌, ◌*◌, ◌/◌, ◌%◌, ◌≤◌, ltb, length, get_or, set}
+use Rattle.std.specs.Prelude.{◌≡◌, List, map, ℕ, zero, suc, ◌+◌, ◌*◌, ◌/◌, ◌%◌, ◌≤◌, ltb, length, get_or, set, if◌then◌else◌}
 use Rattle.text.specs.declared.Line.{Line}
-use Rattle.text.specs.Words.{if◌then◌else◌, table}
+use Rattle.text.specs.Words.{table}
 use Rattle.book.specs.declared.Header.{Header}
 use Rattle.book.specs.declared.Function.{Function}
 use Rattle.book.specs.declared.Node.{Node}

@@ -1,8 +1,7 @@
 -- Refusal 6, binding, depth and nesting: each node, from the highest on, gives its operands what stands around them: their depth, the variables bound there
 -- and the foralls around them (SPECIFICATION 2.8, 3.7).
-use Rattle.std.specs.Prelude.{Bool, true, false, ◌&&◌, ◌||◌, not, List, [], ◌∷◌, ℕ, zero, suc, ◌+◌, ◌-◌, eqb, ltb, leb, length, get_or, set, replicate}
+use Rattle.std.specs.Prelude.{Bool, true, false, ◌&&◌, ◌||◌, not, List, [], ◌∷◌, ℕ, zero, suc, ◌+◌, ◌-◌, eqb, ltb, leb, length, get_or, set, replicate, if◌then◌else◌}
 use Rattle.std.specs.Int.Bits.{bit_or, bit_and}
-use Rattle.text.specs.Words.{if◌then◌else◌}
 use Rattle.book.specs.declared.Node.{Node}
 use Rattle.book.specs.Book.{Program, node_at}
 use Rattle.book.specs.Kinds.{is_node, is_binder, variable_kind, forall_kind}

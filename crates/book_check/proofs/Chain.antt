@@ -1,4 +1,5 @@
 -- The checks that the code makes of an image, of rows and of lines are those of the definition, one after the other.
+use Rattle.std.specs.Prelude.{if◌then◌else◌}
 use mathlib.Core.Path.{◌≡◌, refl, sym, ◌∙◌, ap, subst}
 use mathlib.Core.Logic.{◌≢◌}
 use mathlib.Core.Bool.{Bool, true, false, not}
@@ -11,7 +12,7 @@ use Rattle.text.specs.declared.Answer.{Answer}
 use Rattle.text.specs.declared.Found.{Found}
 use Rattle.text.specs.declared.Found.TheVariants.{Nowhere, Here}
 use Rattle.text.specs.declared.Line.{Line}
-use Rattle.text.specs.Words.{if◌then◌else◌, least_from, least, Checked, good, refused, ◌>>=◌, ◌>>◌, none_at, must, answer_of}
+use Rattle.text.specs.Words.{least_from, least, Checked, good, refused, ◌>>=◌, ◌>>◌, none_at, must, answer_of}
 use Rattle.text.specs.Refusals.{ill_formed, book_text, header_bounds, function_line, node_line, node_use, agent_line, contents_rule}
 use Rattle.text.specs.Text.{line, line_bytes, well_formed, bad_line}
 use Rattle.text.proofs.Words.{least_same, least_from_same, least_none, least_first, least_rest, then_good}

@@ -1,4 +1,5 @@
 -- The table of the labels on the roll, and what the loop over contents lines has tested.
+use Rattle.std.specs.Prelude.{if◌then◌else◌}
 use mathlib.Core.Path.{◌≡◌, refl, sym, ap, ◌∙◌}
 use mathlib.Core.Bool.{Bool, true, false, not, ◌&&◌, ◌||◌, true≢false}
 use mathlib.Core.List.{List}
@@ -9,7 +10,6 @@ use borrow.Author.Tests.{ltb-true, eqb-true, eqb-false}
 use lib.Dec.{eqb, ltb, leb}
 use lib.ListN.{length, get_or, set, replicate, length-set, length-replicate, get_or-replicate}
 use lib.Seq.{get_or-set_same, get_or-set_other}
-use Rattle.text.specs.Words.{if◌then◌else◌}
 use Rattle.text.specs.Text.{line}
 use Rattle.text.proofs.Words.{and_cases, getD_table}
 use Rattle.book.specs.declared.Entry.{Entry}

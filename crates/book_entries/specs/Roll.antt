@@ -1,6 +1,6 @@
 -- What the code holds for refusal 8 of a book: the contents lines as entries, and a table of the labels that they put on the roll.
-use Rattle.std.specs.Prelude.{◌≡◌, Bool, ◌&&◌, ◌||◌, List, ℕ, zero, suc, ◌+◌, ◌<◌, ◌≤◌, eqb, length, get_or, set}
-use Rattle.text.specs.Words.{if◌then◌else◌, table}
+use Rattle.std.specs.Prelude.{◌≡◌, Bool, ◌&&◌, ◌||◌, List, ℕ, zero, suc, ◌+◌, ◌<◌, ◌≤◌, eqb, length, get_or, set, if◌then◌else◌}
+use Rattle.text.specs.Words.{table}
 use Rattle.text.specs.Text.{line}
 use Rattle.book.specs.declared.Entry.{Entry}
 use Rattle.book.specs.Book.{entry_at}

@@ -1,9 +1,9 @@
 -- What loading a text puts into an image: the header's two rows, then line after line; and the functions laid out.
-use Rattle.std.specs.Prelude.{◌≡◌, List, ℕ, zero, suc, ◌+◌, ◌-◌, ◌<◌, ltb}
+use Rattle.std.specs.Prelude.{◌≡◌, List, ℕ, zero, suc, ◌+◌, ◌-◌, ◌<◌, ltb, if◌then◌else◌}
 use Rattle.text.specs.declared.Line.{Line}
 use Rattle.text.specs.declared.Found.{Found}
 use Rattle.text.specs.declared.Found.TheVariants.{Nowhere, Here}
-use Rattle.text.specs.Words.{if◌then◌else◌, least_from}
+use Rattle.text.specs.Words.{least_from}
 use Rattle.text.specs.Text.{line, bad_line}
 use Rattle.book.specs.declared.Header.{Header}
 use Rattle.book.specs.Lines.{first_function, first_node, first_agent, first_entry, node_of}

@@ -1,6 +1,5 @@
 -- Whether an operand fits its sort, by what the code has loaded for that sort.
-use Rattle.std.specs.Prelude.{Bool, ◌&&◌, ◌||◌, List, ℕ, ◌+◌, ◌*◌, eqb, ltb, get_or}
-use Rattle.text.specs.Words.{if◌then◌else◌}
+use Rattle.std.specs.Prelude.{Bool, ◌&&◌, ◌||◌, List, ℕ, ◌+◌, ◌*◌, eqb, ltb, get_or, if◌then◌else◌}
 use Rattle.book.specs.declared.Function.{Function}
 use Rattle.book.specs.Book.{relation, dynamic, dynamic_relation}
 use Rattle.book.specs.Kinds.{is_term, is_rule, names_location, variables, sort, permanent, variable, function0, function1, function2, universe, dynamic_universe, term, rule, target_sort}

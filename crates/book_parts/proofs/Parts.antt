@@ -1,4 +1,5 @@
 -- A function's part of the contents table: the location numbers that it has, and what a store in it does to the whole table.
+use Rattle.std.specs.Prelude.{if◌then◌else◌}
 use mathlib.Core.Path.{◌≡◌, refl, sym, ap, ap₂, ◌∙◌}
 use mathlib.Core.Bool.{Bool, true, false, and-false}
 use mathlib.Core.List.{List, [], ◌∷◌, ◌++◌}
@@ -8,7 +9,6 @@ use borrow.Author.Tests.{ltb-true, ltb-false, lt-ltb, le-ltb, lt-leb, le-leb}
 use lib.Dec.{ltb, leb}
 use lib.ListN.{length, set, take, drop, length-take, length-drop, take-append-drop, drop_of_length-le, get_or-eq_default}
 use lib.Seq.{set_out, take-set-le, take-set-lt, drop-set-lt, drop-set-add}
-use Rattle.text.specs.Words.{if◌then◌else◌}
 use Rattle.book.specs.declared.Function.{Function}
 use Rattle.book.specs.Book.{Program, L, size, total, no_function, offset, location, function_at, Place, place_in, place}
 use Rattle.book.specs.Sum.{first_argument, second_argument, apart}

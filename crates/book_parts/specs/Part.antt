@@ -1,6 +1,5 @@
 -- A function's part of the contents table: its locations are one unbroken run (SPECIFICATION 2.3).
-use Rattle.std.specs.Prelude.{Bool, ◌&&◌, List, [], ◌∷◌, ℕ, ◌+◌, ltb, leb, set}
-use Rattle.text.specs.Words.{if◌then◌else◌}
+use Rattle.std.specs.Prelude.{Bool, ◌&&◌, List, [], ◌∷◌, ℕ, ◌+◌, ltb, leb, set, if◌then◌else◌}
 use Rattle.book.specs.declared.Function.{Function}
 use Rattle.book.specs.Book.{Program, size, function_at, place}
 use Rattle.book_parts.specs.declared.Part.{Part}

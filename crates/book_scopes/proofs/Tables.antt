@@ -1,4 +1,5 @@
 -- The tables that the code fills say of each node what the definitions say.
+use Rattle.std.specs.Prelude.{if◌then◌else◌}
 use mathlib.Core.Path.{◌≡◌, refl, sym, ◌∙◌, ap}
 use mathlib.Core.Bool.{Bool, true, false, not, ◌&&◌, ◌||◌}
 use mathlib.Core.List.{List}
@@ -10,7 +11,7 @@ use borrow.Author.Tests.{lt-ltb, le-ltb, le-leb, ne_eqb, eqb-true}
 use lib.Bits.{bit_or, or_block, or_lt, or_zero_r}
 use lib.Dec.{eqb, ltb, leb}
 use lib.ListN.{length, get_or, set, replicate, length-set, length-replicate, get_or-replicate}
-use Rattle.text.specs.Words.{if◌then◌else◌, one_if, some_below}
+use Rattle.text.specs.Words.{one_if, some_below}
 use Rattle.book.specs.declared.Node.{Node}
 use Rattle.book.specs.Book.{Program, node_at, agent_at}
 use Rattle.book.specs.Kinds.{is_node, is_binder, forall_kind}

@@ -1,4 +1,5 @@
 -- What the code tests of one location is what refusal 8 says of it.
+use Rattle.std.specs.Prelude.{if◌then◌else◌}
 use mathlib.Core.Path.{◌≡◌}
 use mathlib.Core.Bool.{Bool, true, false, ◌&&◌, ◌||◌, not}
 use mathlib.Core.List.{List}
@@ -6,7 +7,6 @@ use Prim.Native.Nat.{ℕ, ◌<◌, ◌≤◌}
 use borrow.Author.Tests.{lt-ltb, le-ltb, ne_eqb}
 use lib.Dec.{eqb, ltb, leb}
 use lib.ListN.{get_or}
-use Rattle.text.specs.Words.{if◌then◌else◌}
 use Rattle.book.specs.declared.Function.{Function}
 use Rattle.book.specs.Book.{Program, true_element, boolean, relation, dynamic, default, arguments, place}
 use Rattle.book.specs.Contents.{some_on_roll, all_permanent, bad_value}

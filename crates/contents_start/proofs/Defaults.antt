@@ -1,4 +1,5 @@
 -- Functions filled one after the other leave every location at its default.
+use Rattle.std.specs.Prelude.{if◌then◌else◌}
 use mathlib.Core.Path.{◌≡◌, refl, sym, ap, ◌∙◌}
 use mathlib.Core.Bool.{Bool, true, false}
 use mathlib.Core.List.{List, [], ◌∷◌, ◌++◌}
@@ -9,7 +10,7 @@ use lib.Dec.{ltb}
 use lib.ListN.{length, get_or, set, take, drop, replicate, length-append, length-take, length-drop, length-replicate, get_or-replicate, get_or-append}
 use lib.Seq.{length-take-le, take-suc-set, take_all, get_or-take, get_or-drop, get_or-append-add, ext_get_or}
 use borrow.Author.Tests.{ltb-true, ltb-false}
-use Rattle.text.specs.Words.{if◌then◌else◌, table}
+use Rattle.text.specs.Words.{table}
 use Rattle.text.proofs.Words.{length_table_from, getD_table}
 use Rattle.book.specs.Book.{Program, L, size, default, default_at, function_at, Place, defaults}
 use Rattle.book_parts.specs.declared.Owner.{Owner}

@@ -1,5 +1,6 @@
 -- Equal reads (SPECIFICATION 5.7): two contents with equal static functions that agree on what a move reads in one of them give it the same instructions
 -- if it meets none of refusals 11 to 14, 18 and 19 there, and otherwise the same refusal if they agree on Reserve throughout.
+use Rattle.std.specs.Prelude.{if◌then◌else◌}
 use mathlib.Core.Path.{◌≡◌, refl, sym, ap, ◌∙◌}
 use mathlib.Core.Logic.{dite}
 use mathlib.Core.Bool.{Bool, true, false, ◌||◌, or-true}
@@ -10,7 +11,7 @@ use native.Mathlib.Decide.{dec_lt}
 use lib.Dec.{eqb}
 use lib.ListN.{length, get_or-eq_default}
 use borrow.Author.Tests.{eqb-true, eq-eqb}
-use Rattle.text.specs.Words.{has, if◌then◌else◌, least}
+use Rattle.text.specs.Words.{has, least}
 use Rattle.text.specs.declared.Found.{Found}
 use Rattle.text.specs.declared.Found.TheVariants.{Nowhere, Here}
 use Rattle.book.specs.Book.{Program, L, dynamic_at}

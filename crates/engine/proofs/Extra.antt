@@ -1,4 +1,5 @@
 -- What a move reads beside what its walk reads, one location's list at a time: what is in it.
+use Rattle.std.specs.Prelude.{if◌then◌else◌}
 use mathlib.Core.Path.{◌≡◌, refl}
 use mathlib.Core.Logic.{◌⊎◌, inl, inr, ◌≢◌}
 use mathlib.Core.Bool.{Bool, true, false, ◌&&◌, not, false≢true}
@@ -6,7 +7,7 @@ use mathlib.Core.List.{List, [], ◌∷◌}
 use Prim.Native.Nat.{ℕ, ◌≤◌}
 use lib.Dec.{eqb, leb}
 use borrow.Author.Tests.{eqb-true, eqb-false, eq-eqb, ne_eqb, leb-true, le-leb, not-true}
-use Rattle.text.specs.Words.{if◌then◌else◌, has}
+use Rattle.text.specs.Words.{has}
 use Rattle.text.proofs.Words.{and_cases, or_cases}
 use Rattle.book.specs.Book.{Program}
 use Rattle.engine.specs.Move.{release_gives, release_reads, taken_reads}

@@ -1,4 +1,5 @@
 -- What an import reads: Reserve from the first label not yet tried to the one taken, and at a move's first import from P on.
+use Rattle.std.specs.Prelude.{if◌then◌else◌}
 use mathlib.Core.Path.{◌≡◌, refl, ap, ◌∙◌}
 use mathlib.Core.Bool.{Bool, true, false}
 use mathlib.Core.List.{List, [], ◌∷◌, ◌++◌}
@@ -6,7 +7,7 @@ use Prim.Native.Nat.{ℕ, zero, suc, ◌+◌, ◌-◌, ◌≤◌, ◌<◌}
 use native.Mathlib.Omega.{arith}
 use lib.Dec.{eqb}
 use lib.ListN.{set}
-use Rattle.text.specs.Words.{if◌then◌else◌, table_from}
+use Rattle.text.specs.Words.{table_from}
 use Rattle.text.specs.declared.Found.TheVariants.{Here}
 use Rattle.book.specs.Book.{Program, true_element, agent_at, node_at}
 use Rattle.book.specs.Sound.{at}

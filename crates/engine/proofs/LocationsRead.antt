@@ -1,11 +1,12 @@
 -- Reads (SPECIFICATION 5.1), as equations on what is read: by a term of kind 4 to 6, its arguments and its own location; by a set, only the arguments of the
 -- location that it names; by an if, its guard, whatever it gives; by a forall, its universe at all E elements. What an import reads is in Import.
+use Rattle.std.specs.Prelude.{if◌then◌else◌}
 use mathlib.Core.Path.{◌≡◌, refl, ap, ◌∙◌}
 use mathlib.Core.List.{List, [], ◌∷◌, ◌++◌, append-nil}
 use Prim.Native.Nat.{ℕ, zero, suc}
 use lib.Dec.{eqb}
 use lib.ListN.{set}
-use Rattle.text.specs.Words.{if◌then◌else◌, table_from, table}
+use Rattle.text.specs.Words.{table_from, table}
 use Rattle.book.specs.Book.{Program, true_element, location}
 use Rattle.book.specs.Sound.{at}
 use Rattle.engine.specs.Reader.{done, read, value_in, locations_read, ◌>>=◌}

@@ -1,5 +1,6 @@
 -- The numbers of the refusals inside a move, which are 11 to 15, 18 and 19, and their q: a node of the book or a location. A move that fires has at most
 -- 256 instructions.
+use Rattle.std.specs.Prelude.{if◌then◌else◌}
 use mathlib.Core.Path.{◌≡◌, refl, sym, subst}
 use mathlib.Core.Logic.{dite}
 use mathlib.Core.Bool.{Bool, true, false}
@@ -10,7 +11,7 @@ use native.Mathlib.Decide.{dec_lt}
 use lib.Dec.{eqb, ltb}
 use lib.ListN.{length, get_or, set, length-append, get_or-eq_default}
 use borrow.Author.Tests.{ltb-true}
-use Rattle.text.specs.Words.{if◌then◌else◌, least}
+use Rattle.text.specs.Words.{least}
 use Rattle.text.specs.Refusals.{non_boolean, not_releasable, list_full, not_in_universe}
 use Rattle.text.specs.declared.Found.{Found}
 use Rattle.text.specs.declared.Found.TheVariants.{Nowhere, Here}

@@ -1,4 +1,5 @@
 -- Choices: what a choose reads, refusal 19 where no pick is left, and that a walk to its end uses all picks.
+use Rattle.std.specs.Prelude.{if◌then◌else◌}
 use mathlib.Core.Path.{◌≡◌, refl, sym, ap, subst, ◌∙◌}
 use mathlib.Core.Logic.{◌⊎◌, inl, inr}
 use mathlib.Core.List.{List, [], ◌∷◌, ◌++◌}
@@ -11,7 +12,7 @@ use borrow.Author.Tests.{eqb-true, ltb-true, lt-ltb, le-ltb, not-false}
 use Rattle.text.specs.declared.Found.{Found}
 use Rattle.text.specs.declared.Found.TheVariants.{Nowhere, Here}
 use Rattle.text.specs.Refusals.{not_in_universe, pick_count}
-use Rattle.text.specs.Words.{if◌then◌else◌, has, least, good}
+use Rattle.text.specs.Words.{has, least, good}
 use Rattle.text.proofs.Words.{or_cases, least_none, bind_good, then_good, good_same}
 use Rattle.book.specs.Book.{Program, L, true_element, false_element, location, node_at, agent_at}
 use Rattle.book.specs.Sound.{at}

@@ -1,5 +1,6 @@
 -- One move on two contents that agree: where both hold each label that is released at the same locations, it has the same updates; where they also agree on
 -- what is written, it has the same reads.
+use Rattle.std.specs.Prelude.{if◌then◌else◌}
 use mathlib.Core.Path.{◌≡◌, refl, sym, ap, subst, ◌∙◌}
 use mathlib.Core.Logic.{◌↔◌}
 use mathlib.Core.Bool.{Bool, true, false, or-true, and-false}
@@ -7,7 +8,7 @@ use mathlib.Core.List.{List, [], ◌∷◌, ◌++◌}
 use Prim.Native.Nat.{ℕ, ◌+◌}
 use lib.Dec.{eqb, leb}
 use borrow.Author.Tests.{eqb-true, eqb-false, eq-eqb, ne_eqb}
-use Rattle.text.specs.Words.{if◌then◌else◌, has}
+use Rattle.text.specs.Words.{has}
 use Rattle.text.proofs.Words.{table_ext}
 use Rattle.book.specs.Book.{Program, L}
 use Rattle.book.specs.Sound.{at}

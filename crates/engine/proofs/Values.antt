@@ -1,4 +1,5 @@
 -- What instructions give each location, where a value comes from, and what updates leave.
+use Rattle.std.specs.Prelude.{if◌then◌else◌}
 use mathlib.Core.Path.{◌≡◌, refl, sym, ◌∙◌}
 use mathlib.Core.Logic.{◌⊎◌, inl, inr, ◌≢◌}
 use mathlib.Core.Bool.{Bool, true, false, not, ◌||◌, ◌&&◌, or-true, false≢true}
@@ -8,7 +9,7 @@ use native.Mathlib.Omega.{arith}
 use lib.Dec.{eqb}
 use lib.ListN.{length}
 use borrow.Author.Tests.{eqb-true, eqb-false, eq-eqb, ne_eqb, not-false}
-use Rattle.text.specs.Words.{if◌then◌else◌, has}
+use Rattle.text.specs.Words.{has}
 use Rattle.text.proofs.Words.{and_cases, or_cases, or_no, length_table_from, getD_table, getD_table_past, has_append}
 use Rattle.book.specs.Book.{Program, L, true_element, dynamic_at, default_at, concerns}
 use Rattle.book.specs.Sound.{at}

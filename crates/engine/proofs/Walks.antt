@@ -1,5 +1,6 @@
 -- The walk of a lawful book on sound contents: what each of its instructions is. An update names a dynamic location after Reserve, or takes a label;
 -- no label of the roll is in it but those taken; a release is of a label.
+use Rattle.std.specs.Prelude.{if◌then◌else◌}
 use mathlib.Core.Path.{◌≡◌, refl, sym, ap, subst, ◌∙◌}
 use mathlib.Core.Logic.{◌↔◌, ◌⊎◌, inl, inr, dite, ◌≢◌}
 use mathlib.Core.Bool.{Bool, true, false, not, ◌||◌, ◌&&◌, false≢true}
@@ -10,7 +11,7 @@ use native.Mathlib.Decide.{ℕ_discrete, dec_lt}
 use lib.Dec.{eqb, ltb, leb}
 use lib.ListN.{length, get_or, set, get_or-eq_default}
 use borrow.Author.Tests.{eqb-true, eqb-false, eq-eqb, ne_eqb, lt-ltb, le-ltb, ltb-true, ltb-false, leb-true, not-false}
-use Rattle.text.specs.Words.{if◌then◌else◌, one_if}
+use Rattle.text.specs.Words.{one_if}
 use Rattle.text.specs.Refusals.{non_boolean, not_releasable, list_full, not_in_universe}
 use Rattle.text.specs.declared.Found.{Found}
 use Rattle.text.specs.declared.Found.TheVariants.{Nowhere, Here}

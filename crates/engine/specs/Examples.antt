@@ -1,7 +1,7 @@
 -- Single moves and what they leave and read, as a table under the lemma of Quoted: what is easily misread (SPECIFICATION 5.8), and refusals 11 to 15, 18
 -- and 19. proofs/Examples shows by computation that the table is right.
-use Rattle.std.specs.Prelude.{List, [], ◌∷◌, ◌++◌, ℕ, length, replicate}
-use Rattle.text.specs.Words.{if◌then◌else◌, table, Checked, good, refused}
+use Rattle.std.specs.Prelude.{List, [], ◌∷◌, ◌++◌, ℕ, length, replicate, if◌then◌else◌}
+use Rattle.text.specs.Words.{table, Checked, good, refused}
 use Rattle.text.specs.Quoted.{padded, Case, case}
 use Rattle.book.specs.Book.{Book}
 use Rattle.book.specs.Check.{check_book}

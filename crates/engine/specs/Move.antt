@@ -1,7 +1,7 @@
 -- A move: the updates that its instructions give, refusal 15, the contents that it leaves, what it reads and what it writes
 -- (SPECIFICATION 4.7 to 4.10, 5; idle after "Equivalence Is In The Eye Of The Beholder", 2.5).
-use Rattle.std.specs.Prelude.{Bool, true, false, ◌&&◌, ◌||◌, not, List, [], ◌∷◌, ◌++◌, ℕ, zero, suc, eqb, leb, length, get_or}
-use Rattle.text.specs.Words.{if◌then◌else◌, has, table, some_below, least}
+use Rattle.std.specs.Prelude.{Bool, true, false, ◌&&◌, ◌||◌, not, List, [], ◌∷◌, ◌++◌, ℕ, zero, suc, eqb, leb, length, get_or, if◌then◌else◌}
+use Rattle.text.specs.Words.{has, table, some_below, least}
 use Rattle.text.specs.Refusals.{clash}
 use Rattle.text.specs.declared.Found.{Found}
 use Rattle.text.specs.declared.Found.TheVariants.{Nowhere, Here}

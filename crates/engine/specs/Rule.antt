@@ -1,7 +1,6 @@
 -- Rules: the tree that a node stands for, and the walk that gives a move's instructions or meets one of refusals 11 to 14, 18 and 19
 -- (SPECIFICATION 4.2 to 4.6; Lipari Guide 3.1, 3.2, 4.1 and 5.3).
-use Rattle.std.specs.Prelude.{Bool, true, false, ◌&&◌, ◌||◌, not, List, [], ◌∷◌, ◌++◌, ℕ, zero, suc, ◌-◌, eqb, ltb, leb, length, get_or, set}
-use Rattle.text.specs.Words.{if◌then◌else◌}
+use Rattle.std.specs.Prelude.{Bool, true, false, ◌&&◌, ◌||◌, not, List, [], ◌∷◌, ◌++◌, ℕ, zero, suc, ◌-◌, eqb, ltb, leb, length, get_or, set, if◌then◌else◌}
 use Rattle.text.specs.Refusals.{non_boolean, not_releasable, no_label_left, list_full, not_in_universe, pick_count}
 use Rattle.text.specs.declared.Found.{Found}
 use Rattle.text.specs.declared.Found.TheVariants.{Nowhere, Here}

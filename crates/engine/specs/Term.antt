@@ -1,6 +1,5 @@
 -- Terms: the tree that a node stands for, and its value (SPECIFICATION 4.1; Lipari Guide 2.3).
-use Rattle.std.specs.Prelude.{Bool, ◌&&◌, ◌||◌, not, List, [], ◌∷◌, ℕ, zero, suc, ◌+◌, ◌-◌, eqb, ltb, leb, get_or}
-use Rattle.text.specs.Words.{if◌then◌else◌}
+use Rattle.std.specs.Prelude.{Bool, ◌&&◌, ◌||◌, not, List, [], ◌∷◌, ℕ, zero, suc, ◌+◌, ◌-◌, eqb, ltb, leb, get_or, if◌then◌else◌}
 use Rattle.book.specs.declared.Node.{Node}
 use Rattle.book.specs.Book.{undef, true_element, zero_element, boolean, truth, Program, location}
 use Rattle.engine.specs.Reader.{Reader, done, read, ◌>>=◌}

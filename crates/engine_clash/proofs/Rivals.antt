@@ -1,4 +1,5 @@
 -- Refusal 15 of updates alone: a pass that compares each with the last one before it at its location finds the least location with two values.
+use Rattle.std.specs.Prelude.{if◌then◌else◌}
 use mathlib.Core.Path.{◌≡◌, refl, sym, ap, ◌∙◌}
 use mathlib.Core.Logic.{dite}
 use mathlib.Core.Bool.{Bool, true, false, ◌&&◌, ◌||◌, not, or-false, false≢true}
@@ -11,7 +12,7 @@ use borrow.Author.Tests.{eqb-true, eqb-false, leb-true, leb-false, ltb-true, ltb
 use lib.Dec.{eqb, ltb, leb}
 use lib.ListN.{length, get_or, take, set, replicate, length-set, length-replicate, get_or-replicate}
 use lib.Seq.{take-suc, get_or-set_same, get_or-set_other}
-use Rattle.text.specs.Words.{if◌then◌else◌, has, some_below}
+use Rattle.text.specs.Words.{has, some_below}
 use Rattle.text.proofs.Words.{and_cases, refuted, some_below_true, some_below_from}
 use Rattle.book.specs.Book.{Program}
 use Rattle.engine.specs.declared.Instruction.{Instruction}

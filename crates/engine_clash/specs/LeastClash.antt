@@ -1,6 +1,6 @@
 -- What the search for a clash does, step by step: the values that one location is given, and the least clash so far.
-use Rattle.std.specs.Prelude.{Bool, false, ◌&&◌, ◌||◌, List, [], ◌∷◌, ◌++◌, ℕ, eqb, ltb, leb, get_or}
-use Rattle.text.specs.Words.{if◌then◌else◌, has}
+use Rattle.std.specs.Prelude.{Bool, false, ◌&&◌, ◌||◌, List, [], ◌∷◌, ◌++◌, ℕ, eqb, ltb, leb, get_or, if◌then◌else◌}
+use Rattle.text.specs.Words.{has}
 use Rattle.book.specs.Book.{Program, true_element, dynamic, default, place}
 use Rattle.book.specs.Sum.{first_argument, second_argument}
 use Rattle.engine.specs.declared.Instruction.{Instruction}

@@ -1,6 +1,5 @@
 -- Updates alone, as the numbers that stand for them: those that share a slot, and the least clash so far.
-use Rattle.std.specs.Prelude.{◌≡◌, ◌||◌, List, ℕ, ◌-◌, ◌/◌, ◌%◌, ◌<◌, ◌≤◌, eqb, leb, length, get_or}
-use Rattle.text.specs.Words.{if◌then◌else◌}
+use Rattle.std.specs.Prelude.{◌≡◌, ◌||◌, List, ℕ, ◌-◌, ◌/◌, ◌%◌, ◌<◌, ◌≤◌, eqb, leb, length, get_or, if◌then◌else◌}
 
 -- from this number on a number stands for a release
 abbrev pub releases : ℕ

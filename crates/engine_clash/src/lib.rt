@@ -1,8 +1,8 @@
 // Refusal 15, the least location that clashes: each instruction compared with all, and a shorter search for updates alone.
 #![tactic(auto)]
 
-ghost use Rattle.std.specs.Prelude.{◌≡◌, [], ◌<◌, ◌≤◌, length};
-ghost use Rattle.text.specs.Words.{if◌then◌else◌, has};
+ghost use Rattle.std.specs.Prelude.{◌≡◌, [], ◌<◌, ◌≤◌, length, if◌then◌else◌};
+ghost use Rattle.text.specs.Words.{has};
 ghost use Rattle.book.specs.Image.{low_program};
 ghost use Rattle.engine.specs.Move.{label_of, released, other};
 ghost use Rattle.engine_instruction.specs.Code.{items};

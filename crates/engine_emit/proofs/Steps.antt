@@ -1,4 +1,5 @@
 -- Laws of the steps that give an instruction, take a pick or are refused.
+use Rattle.std.specs.Prelude.{if◌then◌else◌}
 use mathlib.Core.Path.{◌≡◌, refl}
 use mathlib.Core.Logic.{◌≢◌}
 use mathlib.Core.Bool.{Bool, true, false, ◌&&◌, not}
@@ -10,7 +11,6 @@ use lib.Dec.{eqb}
 use lib.ListN.{length, get_or, set, drop, length-map, length-take}
 use lib.Seq.{take-suc-set}
 use borrow.Author.Tests.{eq-eqb, ne_eqb, lt-ltb, le-ltb}
-use Rattle.text.specs.Words.{if◌then◌else◌}
 use Rattle.text.specs.Refusals.{non_boolean, not_releasable, no_label_left, list_full, not_in_universe, pick_count}
 use Rattle.book.specs.Book.{true_element, false_element, boolean, relation, Program, function_at, reserve}
 use Rattle.engine.specs.declared.Instruction.{Instruction}

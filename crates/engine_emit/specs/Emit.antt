@@ -1,7 +1,6 @@
 -- How far a walk is, as the code holds it: the list of instructions as numbers, and the picks left; and the steps that give an instruction, take a pick or
 -- refuse.
-use Rattle.std.specs.Prelude.{◌&&◌, not, List, [], ◌∷◌, ℕ, get_or, drop, eqb, ltb}
-use Rattle.text.specs.Words.{if◌then◌else◌}
+use Rattle.std.specs.Prelude.{◌&&◌, not, List, [], ◌∷◌, ℕ, get_or, drop, eqb, ltb, if◌then◌else◌}
 use Rattle.text.specs.Refusals.{non_boolean, not_releasable, no_label_left, not_in_universe, pick_count}
 use Rattle.book.specs.Book.{true_element, false_element, boolean, relation, Program, function_at, reserve}
 use Rattle.engine.specs.declared.Instruction.TheVariants.{Update, Release}

@@ -1,4 +1,5 @@
 -- Firing: clearing the released labels one by one and then putting each instruction's own value is what the definitions say of each location.
+use Rattle.std.specs.Prelude.{if◌then◌else◌}
 use mathlib.Core.Path.{◌≡◌, refl, sym, ap, ap₂, ◌∙◌}
 use mathlib.Core.Bool.{Bool, true, false, ◌&&◌, ◌||◌, not, or-true, or-false}
 use mathlib.Core.List.{List, [], ◌∷◌, ◌++◌}
@@ -10,7 +11,7 @@ use lib.Bits.{bit_or, or_step, or_self}
 use lib.Arith.{bin_ind}
 use lib.ListN.{length, get_or, set, length-set}
 use lib.Seq.{get_or-set_other, ext_get_or}
-use Rattle.text.specs.Words.{if◌then◌else◌, least}
+use Rattle.text.specs.Words.{least}
 use Rattle.text.specs.declared.Found.TheVariants.{Nowhere}
 use Rattle.text.proofs.Words.{or_no, least_none, set_at}
 use Rattle.book.specs.Book.{Program, L, true_element, default_at}

@@ -1,4 +1,5 @@
 -- A value that is put in its function's part is put in the whole table, and its mark likewise.
+use Rattle.std.specs.Prelude.{if◌then◌else◌}
 use mathlib.Core.Path.{◌≡◌, refl, sym, ap, ◌∙◌}
 use mathlib.Core.Bool.{Bool, true, false, ◌&&◌}
 use mathlib.Core.List.{List, ◌++◌}
@@ -9,7 +10,6 @@ use borrow.Author.Tests.{ltb-true, ltb-false, leb-true, lt-ltb, le-ltb}
 use lib.Dec.{ltb, leb}
 use lib.ListN.{length, get_or, set, take, drop}
 use lib.Seq.{get_or-take, get_or-drop, set-get_or}
-use Rattle.text.specs.Words.{if◌then◌else◌}
 use Rattle.book.specs.Book.{Program, L}
 use Rattle.book_parts.specs.declared.Part.{Part}
 use Rattle.book_parts.specs.Part.{put_in, part_of}

@@ -1,4 +1,5 @@
 -- What firing reads, step by step, is what the definition says that a fired move reads beside what its walk reads.
+use Rattle.std.specs.Prelude.{if◌then◌else◌}
 use mathlib.Core.Path.{◌≡◌, refl, sym, ap, ◌∙◌}
 use mathlib.Core.Logic.{◌⊎◌, inl, inr, dite, ◌≢◌}
 use mathlib.Core.Bool.{Bool, true, false, ◌||◌, or-true, false≢true, true≢false}
@@ -10,7 +11,7 @@ use native.Mathlib.Decide.{ℕ_discrete}
 use borrow.Author.Tests.{eqb-true, eq-eqb, ne_eqb, ltb-true, ltb-false, lt-ltb}
 use lib.Dec.{eqb, ltb}
 use lib.ListN.{length, get_or, set}
-use Rattle.text.specs.Words.{if◌then◌else◌, has, least}
+use Rattle.text.specs.Words.{has, least}
 use Rattle.text.specs.declared.Found.TheVariants.{Nowhere}
 use Rattle.text.proofs.Words.{and_cases, or_cases, has_append, set_at, both_ways}
 use Rattle.book.specs.Book.{Program, L, true_element, dynamic_at, default_at, concerns, place}

@@ -1,4 +1,5 @@
 -- The labels that firing counts are those that the move's instructions issue and return.
+use Rattle.std.specs.Prelude.{if◌then◌else◌}
 use mathlib.Core.Path.{◌≡◌, refl, sym, ap, ap₂, ◌∙◌}
 use mathlib.Core.Logic.{inl, inr, dite, ◌≢◌}
 use mathlib.Core.Bool.{Bool, true, false, not, ◌&&◌, and-false, or-true}
@@ -10,7 +11,7 @@ use lib.Dec.{eqb, ltb}
 use lib.ListN.{length, get_or, set, length-set}
 use lib.Seq.{get_or-set_same, get_or-set_other}
 use borrow.Author.Tests.{ltb-true, lt-ltb, eq-eqb, ne_eqb}
-use Rattle.text.specs.Words.{if◌then◌else◌, one_if, has}
+use Rattle.text.specs.Words.{one_if, has}
 use Rattle.text.proofs.Words.{or_no}
 use Rattle.book.specs.Book.{Program, L, true_element, false_element, place}
 use Rattle.book.specs.Sound.{Lawful, Sound}

@@ -1,6 +1,5 @@
 -- How many instructions a walk gave.
-use Rattle.std.specs.Prelude.{ℕ, min, eqb}
-use Rattle.text.specs.Words.{if◌then◌else◌}
+use Rattle.std.specs.Prelude.{ℕ, min, eqb, if◌then◌else◌}
 use Rattle.engine.specs.Rule.{most_instructions}
 use Rattle.engine_emit.specs.declared.Progress.{Progress}
 

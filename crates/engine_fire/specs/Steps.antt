@@ -1,6 +1,6 @@
 -- What firing does, step by step: each instruction's own value put, what firing reads, and the labels that it issues and returns.
-use Rattle.std.specs.Prelude.{Bool, ◌&&◌, not, List, [], ◌∷◌, ◌++◌, ℕ, ◌+◌, min, eqb, ltb, length, get_or, set}
-use Rattle.text.specs.Words.{if◌then◌else◌, one_if}
+use Rattle.std.specs.Prelude.{Bool, ◌&&◌, not, List, [], ◌∷◌, ◌++◌, ℕ, ◌+◌, min, eqb, ltb, length, get_or, set, if◌then◌else◌}
+use Rattle.text.specs.Words.{one_if}
 use Rattle.book.specs.Book.{Program, L, true_element}
 use Rattle.book_parts.specs.declared.Part.{Part}
 use Rattle.book_parts.specs.Part.{between, part_of}

@@ -2,9 +2,9 @@
 // its label tally.
 #![tactic(auto)]
 
-ghost use Rattle.std.specs.Prelude.{◌≡◌, [], ◌+◌, ◌≤◌, ◌<◌, min, ℕ, ltb, length, get_or, set};
+ghost use Rattle.std.specs.Prelude.{◌≡◌, [], ◌+◌, ◌≤◌, ◌<◌, min, ℕ, ltb, length, get_or, set, if◌then◌else◌};
 ghost use Rattle.std.specs.Int.Bits.{bit_or};
-ghost use Rattle.text.specs.Words.{if◌then◌else◌, one_if};
+ghost use Rattle.text.specs.Words.{one_if};
 ghost use Rattle.book.specs.Book.{L};
 ghost use Rattle.book.specs.Sum.{Strided};
 ghost use Rattle.book.specs.Image.{low_program};

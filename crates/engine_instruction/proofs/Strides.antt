@@ -1,4 +1,5 @@
 -- What a release clears, by the arguments that the stride gives: in a program with the strides of its arities these are the arguments themselves.
+use Rattle.std.specs.Prelude.{if◌then◌else◌}
 use mathlib.Core.Path.{◌≡◌, refl, sym, ap}
 use mathlib.Core.Bool.{Bool, true, false, ◌&&◌, ◌||◌, or-false}
 use mathlib.Core.List.{List, [], ◌∷◌}
@@ -7,7 +8,7 @@ use native.Mathlib.Omega.{arith}
 use borrow.Author.Tests.{le-leb, ne_eqb}
 use lib.Dec.{eqb, ltb, leb}
 use lib.ListN.{get_or}
-use Rattle.text.specs.Words.{if◌then◌else◌, has}
+use Rattle.text.specs.Words.{has}
 use Rattle.book.specs.declared.Function.{Function}
 use Rattle.book.specs.Book.{Program, Place, no_function, size, stride, arguments, place_in, place, dynamic}
 use Rattle.book.specs.Sum.{Strided, arguments_by, first_argument, second_argument}

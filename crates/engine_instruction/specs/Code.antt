@@ -1,6 +1,5 @@
 -- A move's instructions as the code holds them: each is one number.
-use Rattle.std.specs.Prelude.{List, map, ℕ, ◌/◌, ◌%◌, ltb, take}
-use Rattle.text.specs.Words.{if◌then◌else◌}
+use Rattle.std.specs.Prelude.{List, map, ℕ, ◌/◌, ◌%◌, ltb, take, if◌then◌else◌}
 use Rattle.engine.specs.declared.Instruction.{Instruction}
 use Rattle.engine.specs.declared.Instruction.TheVariants.{Update, Release}
 

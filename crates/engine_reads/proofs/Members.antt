@@ -1,4 +1,5 @@
 -- Laws of a universe: it is read whole, and its members are found one after the other.
+use Rattle.std.specs.Prelude.{if◌then◌else◌}
 use mathlib.Core.Path.{◌≡◌, refl, ap, ◌∙◌}
 use mathlib.Core.Bool.{Bool, true, false}
 use mathlib.Core.List.{List, [], ◌∷◌, append-nil}
@@ -8,7 +9,7 @@ use native.Mathlib.Omega.{arith}
 use lib.Dec.{eqb}
 use lib.ListN.{get_or}
 use borrow.Author.Tests.{eq-eqb, ne_eqb, eqb-true, eqb-false, lt-ltb, le-ltb}
-use Rattle.text.specs.Words.{if◌then◌else◌, table_from}
+use Rattle.text.specs.Words.{table_from}
 use Rattle.book.specs.declared.Function.{Function}
 use Rattle.book.specs.Book.{Program, dynamic, function_at, location, dynamic_at}
 use Rattle.engine.specs.Reader.{done, value_in, locations_read, ◌>>=◌}

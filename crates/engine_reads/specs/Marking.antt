@@ -1,6 +1,6 @@
 -- What a search among the elements gives, and what a universe read at all elements marks.
-use Rattle.std.specs.Prelude.{Bool, List, [], ◌∷◌, ℕ, zero, suc, ◌+◌, ◌-◌, eqb, ltb, get_or}
-use Rattle.text.specs.Words.{if◌then◌else◌, table_from}
+use Rattle.std.specs.Prelude.{Bool, List, [], ◌∷◌, ℕ, zero, suc, ◌+◌, ◌-◌, eqb, ltb, get_or, if◌then◌else◌}
+use Rattle.text.specs.Words.{table_from}
 use Rattle.text.specs.declared.Found.{Found}
 use Rattle.text.specs.declared.Found.TheVariants.{Nowhere, Here}
 use Rattle.book.specs.declared.Function.{Function}

@@ -1,6 +1,6 @@
 -- A label x cleared from a function's part: every location of the part that a release of x clears gets its default. And what clearing reads.
-use Rattle.std.specs.Prelude.{◌&&◌, List, [], ◌∷◌, ℕ, ◌+◌, ltb, length, get_or}
-use Rattle.text.specs.Words.{if◌then◌else◌, by_place}
+use Rattle.std.specs.Prelude.{◌&&◌, List, [], ◌∷◌, ℕ, ◌+◌, ltb, length, get_or, if◌then◌else◌}
+use Rattle.text.specs.Words.{by_place}
 use Rattle.book.specs.declared.Function.{Function}
 use Rattle.book.specs.Book.{default}
 use Rattle.engine.specs.Move.{append_from, taken_reads}

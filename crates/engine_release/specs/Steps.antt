@@ -1,6 +1,6 @@
 -- A label x cleared, step by step: from a function's locations, from every function, for one instruction after the other; and what clearing reads.
-use Rattle.std.specs.Prelude.{◌&&◌, List, [], ◌∷◌, ◌++◌, ℕ, ◌-◌, ltb, length, get_or}
-use Rattle.text.specs.Words.{if◌then◌else◌, by_place}
+use Rattle.std.specs.Prelude.{◌&&◌, List, [], ◌∷◌, ◌++◌, ℕ, ◌-◌, ltb, length, get_or, if◌then◌else◌}
+use Rattle.text.specs.Words.{by_place}
 use Rattle.book.specs.declared.Function.{Function}
 use Rattle.book.specs.Book.{Program, default, place, default_at}
 use Rattle.book_parts.specs.Part.{between}

@@ -1,4 +1,5 @@
 -- Laws of the program that an image holds: a lawful one has its locations placed, and what that says of them; and of the bindings.
+use Rattle.std.specs.Prelude.{if◌then◌else◌}
 use mathlib.Core.Path.{◌≡◌, refl, sym, ◌∙◌}
 use mathlib.Core.Logic.{dite, ◌⊎◌, inl, inr}
 use mathlib.Core.Bool.{Bool, true, false, ◌&&◌, ◌||◌, and-false, or-true, false≢true}
@@ -11,7 +12,6 @@ use lib.Dec.{ltb, leb}
 use lib.ListN.{length, get_or, take, length-take, get_or-eq_default}
 use lib.Seq.{get_or-take}
 use borrow.Author.Tests.{ltb-true, leb-true, lt-ltb, le-ltb, le-leb}
-use Rattle.text.specs.Words.{if◌then◌else◌}
 use Rattle.text.proofs.Words.{or_cases}
 use Rattle.book.specs.Book.{undef, Program, dynamic, no_function, function_at, node_at, location, dynamic_at}
 use Rattle.book.specs.Sum.{sum}

@@ -1,11 +1,11 @@
 -- Laws of marks made while reading: a computation and its marks run as its parts run, one after the other.
+use Rattle.std.specs.Prelude.{if◌then◌else◌}
 use mathlib.Core.Path.{◌≡◌, refl, ap, sym, ◌∙◌}
 use mathlib.Core.Bool.{Bool, true, false}
 use mathlib.Core.List.{List, [], ◌∷◌, ◌++◌}
 use Prim.Native.Nat.{ℕ}
 use lib.Bits.{bit_or}
 use lib.ListN.{length, get_or, length-set}
-use Rattle.text.specs.Words.{if◌then◌else◌}
 use Rattle.book.specs.Book.{Program, dynamic_at}
 use Rattle.engine.specs.Reader.{Reader, done, read, value_in, locations_read, ◌>>=◌}
 use Rattle.engine.specs.Move.{dynamic_among}

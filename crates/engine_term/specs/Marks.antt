@@ -1,9 +1,9 @@
 -- Marks: each location has the set of the moves that read it, and the set of those that write it, a move being one bit of a number (SPECIFICATION 5.6).
 -- A bit is put in at a list of locations, as what is read has it, or wherever a test passes, as what is written has it. The two are one where the test is
 -- to be in the list (`marked_is_where`, engine_fire/proofs/Marks).
-use Rattle.std.specs.Prelude.{◌≡◌, ◌⊎◌, Bool, true, false, ◌&&◌, List, [], ◌∷◌, ℕ, ◌<◌, ltb, length, get_or, set}
+use Rattle.std.specs.Prelude.{◌≡◌, ◌⊎◌, Bool, true, false, ◌&&◌, List, [], ◌∷◌, ℕ, ◌<◌, ltb, length, get_or, set, if◌then◌else◌}
 use Rattle.std.specs.Int.Bits.{bit_or}
-use Rattle.text.specs.Words.{if◌then◌else◌, by_place}
+use Rattle.text.specs.Words.{by_place}
 use Rattle.book.specs.declared.Function.{Function}
 use Rattle.book.specs.Book.{Program, dynamic, dynamic_at, function_at, node_at, location}
 use Rattle.book.specs.Sum.{Strided, sum}

@@ -1,9 +1,8 @@
 // Terms: their values in the program that an image holds, and the marks of what they read.
 #![tactic(auto)]
 
-ghost use Rattle.std.specs.Prelude.{◌≡◌, ℕ, ◌%◌, get_or};
+ghost use Rattle.std.specs.Prelude.{◌≡◌, ℕ, ◌%◌, get_or, if◌then◌else◌};
 ghost use Rattle.book.specs.Book.{undef, truth, dynamic_at};
-ghost use Rattle.text.specs.Words.{if◌then◌else◌};
 ghost use Rattle.engine.specs.Reader.{read};
 ghost use Rattle.engine.specs.Term.{conjunction, disjunction, plus, minus, less, number, negate, apply, shapes, no_term};
 ghost use Rattle.engine_term.specs.Bindings.{variables_of, value_at, target_at, operator_value};

@@ -1,4 +1,5 @@
 -- Laws of what a move's walk leaves: a refused one leaves none of its marks.
+use Rattle.std.specs.Prelude.{if◌then◌else◌}
 use mathlib.Core.Path.{◌≡◌, refl, sym, ap, ◌∙◌}
 use mathlib.Core.Bool.{Bool, true, false}
 use mathlib.Core.List.{List, [], ◌∷◌}
@@ -10,7 +11,6 @@ use lib.Dec.{eqb}
 use lib.ListN.{get_or}
 use lib.Seq.{map-set_same, set-get_or}
 use borrow.Author.Tests.{eqb-true}
-use Rattle.text.specs.Words.{if◌then◌else◌}
 use Rattle.book.specs.declared.Agent.{Agent}
 use Rattle.book.specs.Book.{Program, node_at, agent_at}
 use Rattle.engine.specs.Reader.{done}

@@ -1,4 +1,5 @@
 -- Laws of a walk's steps: bindingss, and the rules one by one.
+use Rattle.std.specs.Prelude.{if◌then◌else◌}
 use mathlib.Core.Path.{◌≡◌, refl, sym, ap, ◌∙◌}
 use mathlib.Core.Logic.{dite, inl, inr}
 use mathlib.Core.Bool.{Bool, true, false}
@@ -10,7 +11,6 @@ use lib.Dec.{eqb, ltb}
 use lib.ListN.{set, take, length-take}
 use lib.Seq.{take-set-lt, set_out, get_or-set_other}
 use borrow.Author.Tests.{lt-ltb, le-ltb}
-use Rattle.text.specs.Words.{if◌then◌else◌}
 use Rattle.text.specs.Refusals.{no_label_left, not_in_universe, pick_count}
 use Rattle.text.specs.declared.Found.TheVariants.{Nowhere, Here}
 use Rattle.book.specs.declared.Node.{Node}

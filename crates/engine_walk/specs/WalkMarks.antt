@@ -1,7 +1,6 @@
 -- What a move's walk leaves: its outcome, and its marks, which a refused move does not leave.
-use Rattle.std.specs.Prelude.{◌≡◌, List, map, ℕ, ◌-◌, ◌^◌, ◌<◌, eqb, get_or}
+use Rattle.std.specs.Prelude.{◌≡◌, List, map, ℕ, ◌-◌, ◌^◌, ◌<◌, eqb, get_or, if◌then◌else◌}
 use Rattle.std.specs.Int.Bits.{bit_and}
-use Rattle.text.specs.Words.{if◌then◌else◌}
 use Rattle.book.specs.Book.{Program}
 use Rattle.engine.specs.Rule.{Walk, Walked, walking, refused_at}
 use Rattle.engine.specs.Move.{Input, walked, walk_reads}

@@ -1,8 +1,7 @@
 // The walk of a rule: its instructions or its refusal, and the marks of what it reads.
 #![tactic(auto)]
 
-ghost use Rattle.std.specs.Prelude.{◌≡◌, List, [], ℕ, eqb, length, set};
-ghost use Rattle.text.specs.Words.{if◌then◌else◌};
+ghost use Rattle.std.specs.Prelude.{◌≡◌, List, [], ℕ, eqb, length, set, if◌then◌else◌};
 ghost use Rattle.engine.specs.Move.{input};
 ghost use Rattle.engine.specs.Rule.{import, after, most_instructions, walk};
 ghost use Rattle.engine_term.specs.Bindings.{variables_of, agent_of};

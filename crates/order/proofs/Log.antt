@@ -1,4 +1,5 @@
 -- What a log that passes its checks has.
+use Rattle.std.specs.Prelude.{if◌then◌else◌}
 use mathlib.Core.Path.{◌≡◌, ap, subst, ◌∙◌}
 use mathlib.Core.Logic.{◌⊎◌, inl, inr, dite}
 use mathlib.Core.Bool.{Bool, true, false, ◌&&◌, ◌||◌, false≢true}
@@ -11,7 +12,7 @@ use lib.Dec.{eqb, ltb, leb}
 use lib.ListN.{length}
 use Rattle.text.specs.declared.Line.{Line}
 use Rattle.text.specs.declared.Found.TheVariants.{Nowhere}
-use Rattle.text.specs.Words.{if◌then◌else◌, has, table_from, least, good, ◌>>◌, none_at}
+use Rattle.text.specs.Words.{has, table_from, least, good, ◌>>◌, none_at}
 use Rattle.text.specs.Refusals.{ill_formed, log_text, log_line}
 use Rattle.text.specs.Text.{bad_line, line}
 use Rattle.text.proofs.Words.{and_cases, or_cases, length_table_from, getD_table, getD_table_past, least_none, bind_good, then_good, none_good, found_good, test_good, good_same}

@@ -1,4 +1,5 @@
 -- Marks are exactly the reads and writes of the moves fired; and what a log's run leaves, of moves that all fire and of a move that is refused.
+use Rattle.std.specs.Prelude.{if◌then◌else◌}
 use mathlib.Core.Path.{◌≡◌, refl, sym, ◌∙◌}
 use mathlib.Core.Logic.{◌↔◌, ◌⊎◌, inl, inr, dite}
 use mathlib.Core.Bool.{Bool, true, false, ◌||◌, or-true, true≢false}
@@ -11,7 +12,6 @@ use lib.Dec.{eqb}
 use lib.ListN.{length, get_or, length-append, get_or-append}
 use lib.Seq.{get_or_at}
 use borrow.Author.Tests.{eqb-true, eq-eqb}
-use Rattle.text.specs.Words.{if◌then◌else◌}
 use Rattle.book.specs.Book.{Program}
 use Rattle.engine.specs.Move.{Fired, Moved, fires, move_refused, move, fire}
 use Rattle.engine.specs.Claims.{Inside}

@@ -1,7 +1,7 @@
 -- The log: its lines and their checks, refusals 1, 9 and 10 (SPECIFICATION 6.1 to 6.5).
-use Rattle.std.specs.Prelude.{Bool, ◌&&◌, ◌||◌, not, List, [], ◌∷◌, ℕ, ◌+◌, ◌*◌, eqb, ltb, leb, length, get_or}
+use Rattle.std.specs.Prelude.{Bool, ◌&&◌, ◌||◌, not, List, [], ◌∷◌, ℕ, ◌+◌, ◌*◌, eqb, ltb, leb, length, get_or, if◌then◌else◌}
 use Rattle.text.specs.declared.Line.{Line}
-use Rattle.text.specs.Words.{if◌then◌else◌, table, least, Checked, good, ◌>>=◌, ◌>>◌, none_at, must}
+use Rattle.text.specs.Words.{table, least, Checked, good, ◌>>=◌, ◌>>◌, none_at, must}
 use Rattle.text.specs.Refusals.{ill_formed, log_text, log_line, agent_unordered}
 use Rattle.text.specs.Text.{line_length, bad_line, line}
 use Rattle.book.specs.Book.{Program}

@@ -1,8 +1,8 @@
 -- The order that follows from a log's pairs by chaining, and the least pair of moves that passes a test
 -- (SPECIFICATION 6.4, 6.5, 7.3).
-use Rattle.std.specs.Prelude.{Bool, List, [], ◌∷◌, ◌++◌, ℕ, zero, suc, eqb, get_or}
+use Rattle.std.specs.Prelude.{Bool, List, [], ◌∷◌, ◌++◌, ℕ, zero, suc, eqb, get_or, if◌then◌else◌}
 use Rattle.std.specs.Int.Bits.{bit_or}
-use Rattle.text.specs.Words.{if◌then◌else◌, least_from, Checked, good, refused}
+use Rattle.text.specs.Words.{least_from, Checked, good, refused}
 use Rattle.text.specs.declared.Found.{Found}
 use Rattle.text.specs.declared.Found.TheVariants.{Nowhere, Here}
 use Rattle.order.specs.Sets.{bit, with_move}

@@ -1,6 +1,6 @@
 -- A log's run: its moves in turn, the marks that they leave, refusal 17, and the label tally (SPECIFICATION 5.5, 5.6, 7.1 to 7.3, 7.5, 8.3).
-use Rattle.std.specs.Prelude.{Bool, ◌&&◌, ◌||◌, not, List, [], ◌∷◌, ◌++◌, ℕ, zero, suc, length, get_or}
-use Rattle.text.specs.Words.{if◌then◌else◌, has, table, some_below}
+use Rattle.std.specs.Prelude.{Bool, ◌&&◌, ◌||◌, not, List, [], ◌∷◌, ◌++◌, ℕ, zero, suc, length, get_or, if◌then◌else◌}
+use Rattle.text.specs.Words.{has, table, some_below}
 use Rattle.text.specs.Refusals.{unordered_touch}
 use Rattle.text.specs.declared.Answer.{Answer}
 use Rattle.book.specs.Book.{Program, Book, L, start}

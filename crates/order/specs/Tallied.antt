@@ -1,6 +1,6 @@
 -- What is claimed of the label tally of a log call: whose it is, what it says of the roll, and that all orders have it alike (SPECIFICATION 7.5).
-use Rattle.std.specs.Prelude.{◌≡◌, ◌||◌, List, ℕ, ◌+◌, eqb}
-use Rattle.text.specs.Words.{if◌then◌else◌, good, refused}
+use Rattle.std.specs.Prelude.{◌≡◌, ◌||◌, List, ℕ, ◌+◌, eqb, if◌then◌else◌}
+use Rattle.text.specs.Words.{good, refused}
 use Rattle.text.specs.Refusals.{unordered_touch}
 use Rattle.text.specs.declared.Answer.{Answer}
 use Rattle.book.specs.Book.{Book, start}

@@ -1,4 +1,5 @@
 -- The loop over the lines of one kind: what holds when i of them are read and put into a table.
+use Rattle.std.specs.Prelude.{if◌then◌else◌}
 use mathlib.Core.Path.{◌≡◌, refl, sym, ap, ◌∙◌}
 use mathlib.Core.Logic.{dite, ◌≢◌}
 use mathlib.Core.Bool.{Bool, true, false}
@@ -13,7 +14,7 @@ use Rattle.text.specs.declared.Line.{Line}
 use Rattle.text.specs.declared.Parsed.{Parsed}
 use Rattle.text.specs.declared.Found.{Found}
 use Rattle.text.specs.declared.Found.TheVariants.{Nowhere, Here}
-use Rattle.text.specs.Words.{if◌then◌else◌, table_from, table, least_from, least}
+use Rattle.text.specs.Words.{table_from, table, least_from, least}
 use Rattle.text.specs.Text.{bad_line, line, parsed}
 use Rattle.text.proofs.Fields.{parsed_line}
 use Rattle.order.specs.Log.{Choice, bad_choice}

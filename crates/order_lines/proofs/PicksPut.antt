@@ -1,4 +1,5 @@
 -- Choices that are not at fault, put in one after the other: each move then has its own picks, since the choices ascend by their move.
+use Rattle.std.specs.Prelude.{if◌then◌else◌}
 use mathlib.Core.Path.{◌≡◌, refl, sym, ap, ◌∙◌}
 use mathlib.Core.Logic.{◌⊎◌, inl, inr, dite, ◌≢◌}
 use mathlib.Core.Bool.{Bool, true, false, ◌||◌}
@@ -11,7 +12,7 @@ use lib.Dec.{eqb, leb}
 use lib.ListN.{length, get_or, set, take, drop, length-set}
 use lib.Seq.{get_or-set_same, get_or-set_other, drop-cons}
 use Rattle.text.specs.declared.Found.TheVariants.{Nowhere}
-use Rattle.text.specs.Words.{if◌then◌else◌, table_from, table, least}
+use Rattle.text.specs.Words.{table_from, table, least}
 use Rattle.text.specs.Text.{line}
 use Rattle.text.proofs.Words.{or_cases, least_none}
 use Rattle.order.specs.Log.{Choice, choice_at, picks_of, bad_choice_at}

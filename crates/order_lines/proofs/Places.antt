@@ -1,4 +1,5 @@
 -- The least place, part by part: of the lines that are ill-formed, and of the lines at fault as the code finds it.
+use Rattle.std.specs.Prelude.{if◌then◌else◌}
 use mathlib.Core.Path.{◌≡◌, refl, sym, ap, ◌∙◌}
 use mathlib.Core.Bool.{Bool, true, false}
 use mathlib.Core.List.{List}
@@ -7,7 +8,7 @@ use native.Mathlib.Omega.{arith}
 use Rattle.text.specs.declared.Parsed.{Parsed}
 use Rattle.text.specs.declared.Found.{Found}
 use Rattle.text.specs.declared.Found.TheVariants.{Nowhere, Here}
-use Rattle.text.specs.Words.{if◌then◌else◌, least_from, least}
+use Rattle.text.specs.Words.{least_from, least}
 use Rattle.text.specs.Text.{bad_line, parsed}
 use Rattle.text.proofs.Words.{least_first, least_rest}
 use Rattle.text.proofs.Fields.{parsed_ok}

@@ -1,8 +1,8 @@
 -- What reading the lines of one kind finds, and the choices as they are put into the table of a log (SPECIFICATION 6.2, 6.3).
-use Rattle.std.specs.Prelude.{◌≡◌, Bool, List, [], ◌∷◌, ℕ, suc, ◌+◌, eqb, set}
+use Rattle.std.specs.Prelude.{◌≡◌, Bool, List, [], ◌∷◌, ℕ, suc, ◌+◌, eqb, set, if◌then◌else◌}
 use Rattle.text.specs.declared.Found.{Found}
 use Rattle.text.specs.declared.Found.TheVariants.{Nowhere, Here}
-use Rattle.text.specs.Words.{if◌then◌else◌, table, least_from, least}
+use Rattle.text.specs.Words.{table, least_from, least}
 use Rattle.text.specs.Text.{bad_line}
 use Rattle.order.specs.Log.{Choice, choice_at, bad_choice_at}
 use Rattle.order.specs.Table.{end_in}

@@ -1,8 +1,7 @@
 // The lines of a log checked: the least that is ill-formed, and the least at fault; and its choice lines.
 #![tactic(auto)]
 
-ghost use Rattle.std.specs.Prelude.{◌≡◌, false, ◌<◌, ◌≤◌, min};
-ghost use Rattle.text.specs.Words.{if◌then◌else◌};
+ghost use Rattle.std.specs.Prelude.{◌≡◌, false, ◌<◌, ◌≤◌, min, if◌then◌else◌};
 ghost use Rattle.order.specs.Log.{bad_choice};
 ghost use Rattle.order_lines.specs.Lines.{first_found, pick_put, ChoiceLinesRead};
 

@@ -1,4 +1,5 @@
 -- The check of a log from what its lines are: what it answers, and what it leaves of a log that passes.
+use Rattle.std.specs.Prelude.{if◌then◌else◌}
 use mathlib.Core.Path.{◌≡◌, refl, sym, ap, subst, ◌∙◌}
 use mathlib.Core.Logic.{◌≢◌}
 use mathlib.Core.Bool.{Bool, true, false, not}
@@ -12,7 +13,7 @@ use Rattle.text.specs.declared.Parsed.{Parsed}
 use Rattle.text.specs.declared.Answer.{Answer}
 use Rattle.text.specs.declared.Found.{Found}
 use Rattle.text.specs.declared.Found.TheVariants.{Nowhere, Here}
-use Rattle.text.specs.Words.{if◌then◌else◌, least_from, least, Checked, good, refused, ◌>>=◌, ◌>>◌, none_at, must, answer_of}
+use Rattle.text.specs.Words.{least_from, least, Checked, good, refused, ◌>>=◌, ◌>>◌, none_at, must, answer_of}
 use Rattle.text.specs.Refusals.{ill_formed, log_text, log_line}
 use Rattle.text.specs.Text.{line_length, well_formed, line_bytes, bad_line, line, parsed}
 use Rattle.text.proofs.Words.{bind_good, then_good, none_good, found_good, test_good, good_same}

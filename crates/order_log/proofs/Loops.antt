@@ -1,4 +1,5 @@
 -- The loop over the move lines: what holds when i of them are read.
+use Rattle.std.specs.Prelude.{if◌then◌else◌}
 use mathlib.Core.Path.{◌≡◌, refl, ap, ◌∙◌}
 use mathlib.Core.Bool.{Bool, true, false}
 use mathlib.Core.List.{List}
@@ -9,7 +10,7 @@ use Rattle.text.specs.declared.Line.{Line}
 use Rattle.text.specs.declared.Parsed.{Parsed}
 use Rattle.text.specs.declared.Found.{Found}
 use Rattle.text.specs.declared.Found.TheVariants.{Nowhere, Here}
-use Rattle.text.specs.Words.{if◌then◌else◌, least_from, least}
+use Rattle.text.specs.Words.{least_from, least}
 use Rattle.text.specs.Text.{bad_line, line, parsed}
 use Rattle.text.proofs.Fields.{parsed_line}
 use Rattle.order.specs.Log.{bad_move, bad_move_at}

@@ -1,8 +1,8 @@
 // The log: its text read once into the table of its order and picks, with refusals 1 and 9; and refusal 10 by sets of moves.
 #![tactic(auto)]
 
-ghost use Rattle.std.specs.Prelude.{◌≡◌, true, false, ◌-◌, ◌%◌, ◌^◌, ◌<◌, ◌≤◌, length, get_or, take, drop};
-ghost use Rattle.text.specs.Words.{if◌then◌else◌, answer_of};
+ghost use Rattle.std.specs.Prelude.{◌≡◌, true, false, ◌-◌, ◌%◌, ◌^◌, ◌<◌, ◌≤◌, length, get_or, take, drop, if◌then◌else◌};
+ghost use Rattle.text.specs.Words.{answer_of};
 ghost use Rattle.order.specs.Log.{log_header_ok, bad_move, bad_pair};
 ghost use Rattle.order.specs.Table.{agent_in, picks_in};
 ghost use Rattle.order_log.specs.Read.{header_checked, lines_checked, pair_put, MovesRead, PairsRead, join_faults, LinesRead, LogIsRead};

@@ -1,10 +1,11 @@
 -- Marks after one more move: its bit is added where it reads or writes, and all marks so far are below that bit.
+use Rattle.std.specs.Prelude.{if◌then◌else◌}
 use Rattle.std.proofs.Common.{◌≡◌, ℕ, zero, suc, ◌+◌, ◌^◌, ◌<◌, Bool, true, false, ◌||◌, List, [], ◌∷◌, ◌++◌, length, get_or, replicate, sym, refl, ap, ◌∙◌, zero-add, arith}
 use mathlib.Core.Logic.{dite}
 use native.Mathlib.Decide.{dec_lt}
 use lib.Bits.{bit_or, or_lt}
 use lib.Pow.{pow-lt, suc_ones}
-use Rattle.text.specs.Words.{if◌then◌else◌, has, table_from, table}
+use Rattle.text.specs.Words.{has, table_from, table}
 use Rattle.text.proofs.Words.{length_table_from, getD_table, getD_table_past}
 use Rattle.engine.specs.Move.{Fired, writes}
 use Rattle.engine_release.proofs.ByPlace.{each_is}

@@ -1,6 +1,5 @@
 -- A log's run move by move: what holds before a move, when it is begun, and when the run is over.
-use Rattle.std.specs.Prelude.{◌≡◌, ℕ, suc, ◌-◌, ◌^◌, ◌<◌, ◌≤◌, true, false, List, [], length, take, drop}
-use Rattle.text.specs.Words.{if◌then◌else◌}
+use Rattle.std.specs.Prelude.{◌≡◌, ℕ, suc, ◌-◌, ◌^◌, ◌<◌, ◌≤◌, true, false, List, [], length, take, drop, if◌then◌else◌}
 use Rattle.book.specs.Book.{L}
 use Rattle.book.specs.Image.{word, low_program}
 use Rattle.engine.specs.declared.Instruction.{Instruction}

@@ -1,4 +1,5 @@
 -- The moves that touch each other, found location by location: a location's users are taken one by one, the least first.
+use Rattle.std.specs.Prelude.{if◌then◌else◌}
 use mathlib.Core.Path.{◌≡◌, refl, sym, ap, ◌∙◌}
 use mathlib.Core.Logic.{dite, ◌≢◌}
 use mathlib.Core.Bool.{Bool, true, false, not, ◌||◌, ◌&&◌, and-true, or-false}
@@ -13,7 +14,7 @@ use lib.Count.{count_trailing_zeros, ones}
 use lib.ListN.{length, get_or, take, drop, set, length-set, replicate, length-replicate}
 use lib.Seq.{get_or-set_same, get_or-set_other, get_or-take, get_or-drop}
 use borrow.Author.Tests.{eq-eqb, ne_eqb}
-use Rattle.text.specs.Words.{if◌then◌else◌, some_below}
+use Rattle.text.specs.Words.{some_below}
 use Rattle.text.proofs.Words.{and_cases}
 use Rattle.order.specs.Sets.{bit}
 use Rattle.order.proofs.Sets.{bit_of_or, bit_empty}

@@ -1,4 +1,5 @@
 -- Lines put one after the other: what a loop that prints has yet to print, how many lines there are at most, and the whole text.
+use Rattle.std.specs.Prelude.{if◌then◌else◌}
 use mathlib.Core.Path.{◌≡◌, refl, sym, ap, ◌∙◌}
 use mathlib.Core.Bool.{Bool, true, false, ◌||◌}
 use mathlib.Core.List.{List, [], ◌∷◌, ◌++◌, append_assoc, append-nil}
@@ -12,7 +13,6 @@ use lib.Seq.{drop-cons}
 use borrow.Author.Tests.{eqb-true, eqb-false, eq-eqb, ne_eqb}
 use Rattle.text.specs.declared.Line.{Line}
 use Rattle.text.specs.declared.Answer.{Answer}
-use Rattle.text.specs.Words.{if◌then◌else◌}
 use Rattle.text.specs.Text.{written}
 use Rattle.book.specs.declared.Function.{Function}
 use Rattle.book.specs.Book.{Program, L, total, size, stride, default, arguments, function_at, no_function}

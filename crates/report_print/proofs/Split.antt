@@ -1,4 +1,5 @@
 -- Where the book of an input ends, by the tests of its header; the checks of the input are those of its two parts.
+use Rattle.std.specs.Prelude.{if◌then◌else◌}
 use mathlib.Core.Path.{◌≡◌, refl, sym, ◌∙◌}
 use mathlib.Core.Logic.{◌≢◌}
 use mathlib.Core.Bool.{Bool, true, false, ◌&&◌, not}
@@ -14,7 +15,7 @@ use Rattle.text.specs.declared.Found.TheVariants.{Nowhere, Here}
 use Rattle.text.specs.declared.Answer.{Answer}
 use Rattle.text.specs.declared.Line.{Line}
 use Rattle.text.specs.declared.Parsed.{Parsed}
-use Rattle.text.specs.Words.{if◌then◌else◌, least_from, least, Checked, good, refused, ◌>>◌, none_at, answer_of}
+use Rattle.text.specs.Words.{least_from, least, Checked, good, refused, ◌>>◌, none_at, answer_of}
 use Rattle.text.specs.Text.{line_bytes, well_formed, line, parsed}
 use Rattle.text.proofs.Words.{and_cases}
 use Rattle.text.proofs.Fields.{parsed_ok, parsed_line}

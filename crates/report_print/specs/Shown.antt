@@ -1,6 +1,5 @@
 -- A text that stands in front of an output, and the label tally that is given with it.
-use Rattle.std.specs.Prelude.{◌≡◌, List, [], ◌++◌, ℕ, ltb, length, drop}
-use Rattle.text.specs.Words.{if◌then◌else◌}
+use Rattle.std.specs.Prelude.{◌≡◌, List, [], ◌++◌, ℕ, ltb, length, drop, if◌then◌else◌}
 use Rattle.engine.specs.declared.Tally.{Tally}
 use Rattle.engine.specs.Labels.{no_labels}
 use Rattle.report_print.specs.declared.PrintedRun.{PrintedRun}

@@ -1,4 +1,5 @@
 -- The columns of a field, one by one: what the code's scan and pushes give is what the definitions say.
+use Rattle.std.specs.Prelude.{if◌then◌else◌}
 use mathlib.Core.Path.{◌≡◌, refl, sym, ◌∙◌, ap}
 use mathlib.Core.Bool.{Bool, true, false, ◌&&◌, ◌||◌, not, and-true, and_assoc}
 use mathlib.Core.List.{List, [], ◌∷◌, ◌++◌}
@@ -11,7 +12,6 @@ use lib.Seq.{length-take-le, take-take, drop-drop, drop-cons, get_or-take, get_o
 use borrow.Author.Tests.{eqb-true, ne_eqb, leb-true}
 use Rattle.text.specs.declared.Scan.{Scan}
 use Rattle.text.specs.declared.Scan.TheVariants.{Blank, Zero, Digits, Bad}
-use Rattle.text.specs.Words.{if◌then◌else◌}
 use Rattle.text.specs.Text.{blank, zero_digit, digit, digits, field_ok, value_of, line_bytes, column, newline, well_formed, numbers_of, line, unread, parsed}
 use Rattle.text.specs.declared.Line.{Line}
 use Rattle.text.specs.declared.Parsed.{Parsed}

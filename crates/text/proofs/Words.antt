@@ -1,4 +1,5 @@
 -- Laws of what every layer uses: choices by a test, lists made by place, the least place at fault, and checks that pass.
+use Rattle.std.specs.Prelude.{if◌then◌else◌}
 use mathlib.Core.Path.{◌≡◌, refl, sym, ap, ◌∙◌}
 use mathlib.Core.Logic.{◌⊎◌, inl, inr, dite}
 use mathlib.Core.Bool.{Bool, true, false, not, ◌||◌, ◌&&◌, or_assoc, or-true, true≢false, false≢true}
@@ -14,7 +15,7 @@ use lib.Seq.{get_or-set_same, get_or-set_other}
 use borrow.Author.Tests.{eqb-true, eqb-false}
 use Rattle.text.specs.declared.Found.{Found}
 use Rattle.text.specs.declared.Found.TheVariants.{Nowhere, Here}
-use Rattle.text.specs.Words.{if◌then◌else◌, has, table_from, table, some_below, least_from, least, Checked, good, refused, ◌>>=◌, ◌>>◌, none_at, must}
+use Rattle.text.specs.Words.{has, table_from, table, some_below, least_from, least, Checked, good, refused, ◌>>=◌, ◌>>◌, none_at, must}
 
 -- ---- tests
 

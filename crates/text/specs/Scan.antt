@@ -1,8 +1,7 @@
 -- What the code has read of a field, column by column, and the number that it reads of the whole.
-use Rattle.std.specs.Prelude.{◌≡◌, Bool, true, false, not, List, [], ◌∷◌, ℕ, eqb}
+use Rattle.std.specs.Prelude.{◌≡◌, Bool, true, false, not, List, [], ◌∷◌, ℕ, eqb, if◌then◌else◌}
 use Rattle.text.specs.declared.Scan.{Scan}
 use Rattle.text.specs.declared.Scan.TheVariants.{Blank, Zero, Digits, Bad}
-use Rattle.text.specs.Words.{if◌then◌else◌}
 use Rattle.text.specs.Text.{blank, zero_digit, digit, field_ok, value_of}
 
 -- the state of the columns read so far, after one more column, c its byte

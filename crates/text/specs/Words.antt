@@ -1,15 +1,8 @@
--- What every layer uses: a choice by a test, lists made by place, the least place at fault, and what a check answers (SPECIFICATION 8.1).
-use Rattle.std.specs.Prelude.{Bool, true, false, ◌||◌, ◌&&◌, List, [], ◌∷◌, ℕ, zero, suc, ◌+◌, eqb, leb}
+-- What every layer uses: lists made by place, the least place at fault, and what a check answers (SPECIFICATION 8.1).
+use Rattle.std.specs.Prelude.{Bool, true, false, ◌||◌, ◌&&◌, List, [], ◌∷◌, ℕ, zero, suc, ◌+◌, eqb, leb, if◌then◌else◌}
 use Rattle.text.specs.declared.Found.{Found}
 use Rattle.text.specs.declared.Found.TheVariants.{Nowhere, Here}
 use Rattle.text.specs.declared.Answer.{Answer}
-
-module _ {A : Type 0} where
-  -- the choice by a test
-  infixr 20 if◌then◌else◌
-  abbrev pub if◌then◌else◌ : Bool → A → A → A
-  if true then x else y = x
-  if false then x else y = y
 
 -- 1 if the test passes, otherwise 0
 abbrev pub one_if : Bool → ℕ

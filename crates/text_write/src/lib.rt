@@ -1,8 +1,7 @@
 // Lines written as bytes into a text that the caller lends.
 #![tactic(auto)]
 
-ghost use Rattle.std.specs.Prelude.{◌≡◌, ◌&&◌, not, ◌+◌, ◌/◌, ◌%◌, ◌<◌, ◌≤◌, eqb, ltb, set};
-ghost use Rattle.text.specs.Words.{if◌then◌else◌};
+ghost use Rattle.std.specs.Prelude.{◌≡◌, ◌&&◌, not, ◌+◌, ◌/◌, ◌%◌, ◌<◌, ◌≤◌, eqb, ltb, set, if◌then◌else◌};
 ghost use Rattle.text.specs.Text.{blank, zero_digit, field_bytes, written};
 ghost use Rattle.text_write.specs.Bytes.{put_bytes};
 

@@ -1,11 +1,12 @@
 -- `put_values` meets its contract.
+use Rattle.std.specs.Prelude.{if◌then◌else◌}
 use mathlib.Core.Path.{◌≡◌, refl, sym, ap, ap₂, ◌∙◌}
 use mathlib.Core.List.{List, []}
 use Prim.Native.Nat.{ℕ, ◌+◌, min}
 use native.Mathlib.Omega.{arith}
 use lib.Dec.{ltb}
 use lib.ListN.{length, get_or, drop, set}
-use Rattle.text.specs.Words.{if◌then◌else◌, one_if}
+use Rattle.text.specs.Words.{one_if}
 use Rattle.book.specs.Book.{L}
 use Rattle.book.specs.Image.{low_program}
 use Rattle.book.proofs.Held.{elements_held}
