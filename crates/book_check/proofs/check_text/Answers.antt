@@ -66,8 +66,8 @@ returns-then-surplus-ne0 c = (after (check_present c.args.h c.args.text.now) _ _
 
 pub returns-then-program-ne0 : goal.returns-then-program-ne0
 unfolding check_lines
-returns-then-program-ne0 c = (after (check_present c.args.h c.args.text.now) _ _ _ (present_numbered c.args.h c.args.text.now) (present (goal.at.returns-then-program-ne0 c).After-none_at-form) c.if-form-ne0.false (after (check_surplus c.args.h c.args.text.now) _ _ _ (surplus_numbered c.args.h c.args.text.now) (surplus (goal.at.returns-then-program-ne0 c).After-must-surplus) c.if-surplus-ne0.false (stops (check_program c.args.h c.args.text.now) _ _ (program (goal.at.returns-then-program-ne0 c).After-none_at-form) c.if-program-ne0.true)), opened (goal.at.returns-then-program-ne0 c).After-none_at-form)
+returns-then-program-ne0 c = (after (check_present c.args.h c.args.text.now) _ _ _ (present_numbered c.args.h c.args.text.now) (present (goal.at.returns-then-program-ne0 c).After-none_at-form) c.if-form-ne0.false (after (check_surplus c.args.h c.args.text.now) _ _ _ (surplus_numbered c.args.h c.args.text.now) (surplus (goal.at.returns-then-program-ne0 c).After-must-surplus) c.if-surplus-ne0.false (stops (check_program c.args.h c.args.text.now) _ _ (program (goal.at.returns-then-program-ne0 c).After-none_at-form) (λ z. c.if-program-ne0.true (omega (arith, z))))), opened (goal.at.returns-then-program-ne0 c).After-none_at-form)
 
 pub returns : goal.returns
 unfolding check_lines
-returns c = let z = ap (λ (a : Answer). a.number) (sym c.none_at-form.ensures) ∙ c.if-form-ne0.false in (after (check_present c.args.h c.args.text.now) _ _ _ (present_numbered c.args.h c.args.text.now) (present (goal.at.returns c).After-none_at-form) c.if-form-ne0.false (after (check_surplus c.args.h c.args.text.now) _ _ _ (surplus_numbered c.args.h c.args.text.now) (surplus (goal.at.returns c).After-must-surplus) c.if-surplus-ne0.false (after (check_program c.args.h c.args.text.now) _ _ _ (program_numbered c.args.h c.args.text.now) (program (goal.at.returns c).After-none_at-form) c.if-program-ne0.false (last _ _ _ (c.none_at.ensures ∙ ap answer_of (rule_found c.check_program-program.new.image c.args.h c.args.text.now c.requires.0 (holds_are (goal.at.returns c).After-none_at-form) c.check_entries-contents.result c.check_entries-contents.ensures z))))), opened (goal.at.returns c).After-none_at-form)
+returns c = let z = ap (λ (a : Answer). a.number) (sym c.none_at-form.ensures) ∙ c.if-form-ne0.false in (after (check_present c.args.h c.args.text.now) _ _ _ (present_numbered c.args.h c.args.text.now) (present (goal.at.returns c).After-none_at-form) c.if-form-ne0.false (after (check_surplus c.args.h c.args.text.now) _ _ _ (surplus_numbered c.args.h c.args.text.now) (surplus (goal.at.returns c).After-must-surplus) c.if-surplus-ne0.false (after (check_program c.args.h c.args.text.now) _ _ _ (program_numbered c.args.h c.args.text.now) (program (goal.at.returns c).After-none_at-form) (omega (arith, c.if-program-ne0.false)) (last _ _ _ (c.none_at.ensures ∙ ap answer_of (rule_found c.check_program-program.new.image c.args.h c.args.text.now c.requires.0 (holds_are (goal.at.returns c).After-none_at-form) c.check_entries-contents.result c.check_entries-contents.ensures z))))), opened (goal.at.returns c).After-none_at-form)

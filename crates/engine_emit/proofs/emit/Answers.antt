@@ -1,4 +1,5 @@
 -- `emit` meets its contract.
+use native.Mathlib.Omega.{arith}
 use Prim.Native.Nat.{◌+◌}
 use mathlib.Core.Path.{refl, ◌∙◌}
 use lib.ListN.{set}
@@ -12,11 +13,11 @@ pub returns-then-at-lt-MOST_INSTRUCTIONS : goal.returns-then-at-lt-MOST_INSTRUCT
 returns-then-at-lt-MOST_INSTRUCTIONS c =
     let a = c.args in
     λ ys.
-    let k = give_room ys a.s a.list.now a.i a.n c.requires c.code.result c.if-at-lt-MOST_INSTRUCTIONS.true c.code.ensures in
+    let k = give_room ys a.s a.list.now a.i a.n c.requires c.code.result (omega (arith, c.if-at-lt-MOST_INSTRUCTIONS.true)) c.code.ensures in
     reached_walking ys (record { len = a.s.len + 1; label = a.s.label; refused = 0; node = a.s.node }) (set a.list.now a.s.len c.code.result) refl
     ∙ rw (reached_walking ys a.s a.list.now c.if-s-ne0.false) k
 
 pub returns-else-at-lt-MOST_INSTRUCTIONS : goal.returns-else-at-lt-MOST_INSTRUCTIONS
 returns-else-at-lt-MOST_INSTRUCTIONS c =
     let a = c.args in
-    λ ys. c.refuse_at.ensures ys a.list.now ∙ rw (reached_walking ys a.s a.list.now c.if-s-ne0.false) (give_full ys a.s a.list.now a.i a.n c.requires c.if-at-lt-MOST_INSTRUCTIONS.false)
+    λ ys. c.refuse_at.ensures ys a.list.now ∙ rw (reached_walking ys a.s a.list.now c.if-s-ne0.false) (give_full ys a.s a.list.now a.i a.n c.requires (omega (arith, c.if-at-lt-MOST_INSTRUCTIONS.false)))

@@ -1,4 +1,5 @@
 -- `emit_release` meets its contract.
+use native.Mathlib.Omega.{arith}
 use mathlib.Core.Path.{◌≡◌, sym, ◌∙◌}
 use mathlib.Core.Bool.{true, false}
 use borrow.Author.Tests.{lt-ltb, le-ltb, eq-eqb, ne_eqb}
@@ -19,12 +20,12 @@ pub returns-then-v-eq2 : goal.returns-then-v-eq2
 returns-then-v-eq2 c =
     let a = c.args in
     let B = low_program a.image.now in
-    let e : unreleasable B a.x a.v ≡ true = rw (← c.permanent.ensures, le-ltb a.x c.permanent.result c.if-x-permanent.false, eq-eqb a.v 2 c.if-v-eq2.true) in
+    let e : unreleasable B a.x a.v ≡ true = rw (← c.permanent.ensures, le-ltb a.x c.permanent.result c.if-x-permanent.false, eq-eqb a.v 2 (omega (arith, c.if-v-eq2.true))) in
     λ ys. c.refuse_at-then-v-eq2.ensures ys a.list.now ∙ sym (freeing_bad B a.x a.v a.n e (reached ys a.s a.list.now))
 
 pub returns-else-v-eq2 : goal.returns-else-v-eq2
 returns-else-v-eq2 c =
     let a = c.args in
     let B = low_program a.image.now in
-    let e : unreleasable B a.x a.v ≡ false = rw (← c.permanent.ensures, le-ltb a.x c.permanent.result c.if-x-permanent.false, ne_eqb a.v 2 c.if-v-eq2.false) in
+    let e : unreleasable B a.x a.v ≡ false = rw (← c.permanent.ensures, le-ltb a.x c.permanent.result c.if-x-permanent.false, ne_eqb a.v 2 (λ z. c.if-v-eq2.false (omega (arith, z)))) in
     λ ys. c.emit.ensures ys ∙ sym (freeing_ok B a.x a.v a.n e (reached ys a.s a.list.now))

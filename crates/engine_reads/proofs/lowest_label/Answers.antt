@@ -1,4 +1,5 @@
 -- `lowest_label` meets its contract.
+use native.Mathlib.Omega.{arith}
 use mathlib.Core.Path.{◌≡◌, refl, sym, ◌∙◌}
 use lib.ListN.{get_or, length-set}
 use borrow.Author.Tests.{lt-ltb, le-ltb}
@@ -18,7 +19,7 @@ returns-then-fetch-eq2 c =
     let e = c.elements-e.result in
     let l = c.loop-x in
     let h = c.loop-x-test.true in
-    let q = lowest_stop a.contents.now e l.x h (sym c.fetch.ensures ∙ c.if-fetch-eq2.true) in
+    let q = lowest_stop a.contents.now e l.x h (omega (arith, c.fetch.ensures, c.if-fetch-eq2.true)) in
     runs_lowest (low_program a.image.now) a.contents.now a.bit a.from e l.x _ _ (elements_held _ _ c.elements-e.ensures).0 (rw (lt-ltb l.x e h) (sym q.0 ∙ l.invariant.1)) (c.mark.ensures ∙ (rw q.1 at l.invariant.2))
 
 pub loop-x-preserved : goal.loop-x-preserved
@@ -26,7 +27,7 @@ unfolding marked
 loop-x-preserved c =
     let a = c.args in
     let l = c.loop-x in
-    let g : (get_or a.contents.now l.x 0 ≡ 2) → ⊥ = λ z. c.if-fetch-eq2.false (c.fetch.ensures ∙ z) in
+    let g : (get_or a.contents.now l.x 0 ≡ 2) → ⊥ = λ z. c.if-fetch-eq2.false (omega (arith, c.fetch.ensures, z)) in
     let q = lowest_pass a.contents.now c.elements-e.result l.x c.loop-x-test.true g in
     (rw (c.mark.ensures, length-set) l.invariant.0, sym q.0 ∙ l.invariant.1, rw c.mark.ensures (rw q.1 at l.invariant.2))
 

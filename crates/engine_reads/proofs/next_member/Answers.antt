@@ -16,7 +16,7 @@ returns-then-fetch-eq2 c =
     let a = c.args in
     let l = c.loop-y in
     let t : ℕ → Bool = member a.contents.now a.first in
-    let g : t l.y ≡ true = rw (← c.fetch.ensures) (eq-eqb c.fetch.result 2 c.if-fetch-eq2.true) in
+    let g : t l.y ≡ true = rw (← c.fetch.ensures) (eq-eqb c.fetch.result 2 (omega (arith, c.if-fetch-eq2.true))) in
     (omega arith, sym (l.invariant.1 ∙ next_here t a.e l.y c.loop-y-test.true g))
 
 pub loop-y-preserved : goal.loop-y-preserved
@@ -24,7 +24,7 @@ loop-y-preserved c =
     let a = c.args in
     let l = c.loop-y in
     let t : ℕ → Bool = member a.contents.now a.first in
-    let g : t l.y ≡ false = rw (← c.fetch.ensures) (ne_eqb c.fetch.result 2 c.if-fetch-eq2.false) in
+    let g : t l.y ≡ false = rw (← c.fetch.ensures) (ne_eqb c.fetch.result 2 (λ z. c.if-fetch-eq2.false (omega (arith, z)))) in
     (omega arith, l.invariant.1 ∙ next_pass t a.e l.y c.loop-y-test.true g)
 
 pub returns : goal.returns

@@ -21,8 +21,8 @@ returns-after-order-a-eq0 c =
     let a = c.args in
     let e : c.if-order-a-eq0.order ≡ first_pick_put a.order.now a.i a.l.a =
     elim c.if-order-a-eq0.branch [
-      | then-order-a-eq0 w ↦ w.order-is ∙ begun_first a.order.now a.i a.l.a w.if-order-a-eq0.true
-      | else-order-a-eq0 w ↦ w.order-is ∙ begun_later a.order.now a.i a.l.a w.if-order-a-eq0.false
+      | then-order-a-eq0 w ↦ w.order-is ∙ begun_first a.order.now a.i a.l.a (omega (arith, w.if-order-a-eq0.true))
+      | else-order-a-eq0 w ↦ w.order-is ∙ begun_later a.order.now a.i a.l.a (λ z. w.if-order-a-eq0.false (omega (arith, z)))
     ] in
     rw (not-true a.bad c.if-not-bad.true-raw, e)
 

@@ -27,7 +27,7 @@ pub loop-a-preserved : goal.loop-a-preserved
 loop-a-preserved c = let a = c.args in
     let l = c.loop-a in
     let s = c.smaller.result in
-    let none = c.all_marks.ensures c.if-all_marks-ne0.false in
+    let none = c.all_marks.ensures (omega (arith, c.if-all_marks-ne0.false)) in
     (omega (arith, c.smaller.ensures), all_unwritten a.readers.now a.writers.now l.a s l.touching (λ k h. unwritten a.writers.now l.a s k h (none k)) l.invariant.1)
 
 pub returns : goal.returns
