@@ -1,4 +1,5 @@
 -- A book that passes its checks is lawful, and is the book that its lines say.
+use Rattle.std.specs.Prelude.{None}
 use mathlib.Core.Path.{◌≡◌, refl, sym, ap, subst, ◌∙◌}
 use mathlib.Core.Logic.{dite}
 use mathlib.Core.Bool.{Bool, true, false, and-false}
@@ -10,7 +11,6 @@ use lib.Dec.{eqb, ltb, leb}
 use lib.ListN.{length, get_or}
 use borrow.Author.Tests.{eqb-true, ltb-true, leb-true}
 use Rattle.text.specs.declared.Line.{Line}
-use Rattle.text.specs.declared.Found.TheVariants.{Nowhere}
 use Rattle.text.specs.Words.{table_from, table, least, good}
 use Rattle.text.specs.Text.{line, no_line}
 use Rattle.text.proofs.Words.{so_true, length_table_from, getD_table, getD_table_past, least_none, bind_good, then_good, none_good, found_good, test_good, good_same}
@@ -36,7 +36,7 @@ pub record Bounded (h : Header) : Type 0 where
   pub agents : (1 ≤ h.agents) × (h.agents ≤ 16)
   pub contents : h.contents ≤ 65536
 
-header_good : (k l : Line) → least (bad_field k l) 8 ≡ Nowhere → Bounded (header_of k l)
+header_good : (k l : Line) → least (bad_field k l) 8 ≡ None → Bounded (header_of k l)
 unfolding bad_field
 header_good k l e = record {
   elements = (bound 0 (omega arith) 4 k.a (λ q. simp q), bound 0 (omega arith) k.a 10000 (λ q. simp (q, and-false)));

@@ -1,4 +1,5 @@
 -- A lent contents table that passes check 8 is sound.
+use Rattle.std.specs.Prelude.{None}
 use mathlib.Core.Path.{◌≡◌, refl, sym, ◌∙◌}
 use mathlib.Core.Logic.{◌⊎◌, inl, inr, dite}
 use mathlib.Core.Bool.{Bool, true, false, or-true, and-false, true≢false, false≢true}
@@ -9,7 +10,6 @@ use native.Mathlib.Decide.{dec_lt}
 use lib.Dec.{eqb, ltb, leb}
 use lib.ListN.{length, get_or-eq_default}
 use borrow.Author.Tests.{eqb-true, eq-eqb, ltb-true, leb-true, lt-ltb, le-ltb}
-use Rattle.text.specs.declared.Found.TheVariants.{Nowhere}
 use Rattle.text.specs.Words.{has, least}
 use Rattle.text.proofs.Words.{and_cases, or_cases, or_no, so_true, so_false, least_none}
 use Rattle.book.specs.Book.{Program, L, true_element, boolean, place, relation_at, dynamic_at, default_at, arguments_at}
@@ -84,7 +84,7 @@ module _ (B : Program) (ok : Lawful B) (c : List ℕ) where
   default_small : (l : ℕ) → at c l ≡ default_at B l → at c l < B.P
   default_small l e = omega (arith, ok.low, default_low (place B l).function)
 
-  module _ (long : length c ≡ L B) (good : least (bad_value B c) (L B) ≡ Nowhere) where
+  module _ (long : length c ≡ L B) (good : least (bad_value B c) (L B) ≡ None) where
     here : (l : ℕ) → l < L B → Cell l
     here l h = cell l (least_none (bad_value B c) (L B) good l h)
 

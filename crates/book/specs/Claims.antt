@@ -1,7 +1,7 @@
 -- What is claimed of books and contents, and proved in proofs/Claims: the roll rule holds before the first move, and the one sum of Sum is the location's
 -- number, and is undone by the stride (SPECIFICATION 2.1 to 2.6).
+use Rattle.std.specs.Prelude.{None}
 use Rattle.std.specs.Prelude.{◌≡◌, List, ℕ, ◌<◌, length}
-use Rattle.text.specs.declared.Found.TheVariants.{Nowhere}
 use Rattle.text.specs.Words.{least, good}
 use Rattle.book.specs.Book.{Program, Book, L, location, function_at, place, arguments_at, start}
 use Rattle.book.specs.Sum.{sum, Fitting, first_argument, second_argument, arguments_by, apart}
@@ -15,7 +15,7 @@ AcceptedBook = (text : List ℕ) (b : Book) → check_book text ≡ good b → L
 
 -- a lent table that passes the check of refusal 8 is sound
 abbrev pub AcceptedTable : Type 0
-AcceptedTable = (B : Program) → Lawful B → (c : List ℕ) → length c ≡ L B → least (bad_value B c) (L B) ≡ Nowhere → Sound B c
+AcceptedTable = (B : Program) → Lawful B → (c : List ℕ) → length c ≡ L B → least (bad_value B c) (L B) ≡ None → Sound B c
 
 -- ---- the one sum
 

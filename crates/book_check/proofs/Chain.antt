@@ -1,4 +1,5 @@
 -- The checks that the code makes of an image, of rows and of lines are those of the definition, one after the other.
+use Rattle.std.specs.Prelude.{Option, None, Some}
 use Rattle.std.specs.Prelude.{if◌then◌else◌}
 use mathlib.Core.Path.{◌≡◌, refl, sym, ◌∙◌, ap, subst}
 use mathlib.Core.Logic.{◌≢◌}
@@ -9,8 +10,6 @@ use native.Mathlib.Omega.{arith}
 use lib.Dec.{leb}
 use lib.ListN.{length}
 use Rattle.text.specs.declared.Answer.{Answer}
-use Rattle.text.specs.declared.Found.{Found}
-use Rattle.text.specs.declared.Found.TheVariants.{Nowhere, Here}
 use Rattle.text.specs.declared.Line.{Line}
 use Rattle.text.specs.Words.{least_from, least, Checked, good, refused, ◌>>=◌, ◌>>◌, none_at, must, answer_of}
 use Rattle.text.specs.Refusals.{ill_formed, book_text, header_bounds, function_line, node_line, node_use, agent_line, contents_rule}
@@ -58,8 +57,8 @@ module _ {A B : Type 0} where
       go (refused n p q) = refl
 
 -- an answer by a place found is that of the place that the definition finds
-pub answered : (n : ℕ) (a : Answer) (f g : Found) → a ≡ answer_of (none_at n 0 0 f) → f ≡ g → a ≡ answer_of (none_at n 0 0 g)
-answered n a f g e p = e ∙ ap (λ (x : Found). answer_of (none_at n 0 0 x)) p
+pub answered : (n : ℕ) (a : Answer) (f g : Option ℕ) → a ≡ answer_of (none_at n 0 0 f) → f ≡ g → a ≡ answer_of (none_at n 0 0 g)
+answered n a f g e p = e ∙ ap (λ (x : Option ℕ). answer_of (none_at n 0 0 x)) p
 
 -- of a refused book nothing is said of the image
 pub opened_refused : (m : List ℕ) (c : Checked Book) (a : Answer) → a ≡ answer_of c → a.number ≢ 0 → ImageOf m c
@@ -90,7 +89,7 @@ module _ (o : List ℕ) where
   from_locations = of_locations >> (of_nodes >> (of_use >> (of_scopes >> of_agents)))
 
 -- after a refusal the checks that follow make no difference
-stopped : {A : Type 0} (n p : ℕ) (c d : Checked A) → (none_at n 0 0 (Here p) >> c) ≡ (none_at n 0 0 (Here p) >> d)
+stopped : {A : Type 0} (n p : ℕ) (c d : Checked A) → (none_at n 0 0 (Some p) >> c) ≡ (none_at n 0 0 (Some p) >> d)
 unfolding none_at ◌>>◌
 stopped n p c d = refl
 
@@ -156,15 +155,15 @@ module _ (m : List ℕ) (h : Header) (text : List ℕ) (room : FitsImage h) (lon
 
   nodes_on : (of_nodes o >> (of_use o >> (of_scopes o >> of_agents o))) ≡ (none_at node_line 0 0 (least (bad_node B) h.nodes) >> after_nodes)
   nodes_on =
-      ap (λ (f : Found). none_at node_line 0 0 f >> (of_use o >> (of_scopes o >> of_agents o))) nodes_held ∙ go (least (bad_node B) h.nodes) refl
+      ap (λ (f : Option ℕ). none_at node_line 0 0 f >> (of_use o >> (of_scopes o >> of_agents o))) nodes_held ∙ go (least (bad_node B) h.nodes) refl
     where
       go :
-          (f : Found) → least (bad_node B) h.nodes ≡ f →
+          (f : Option ℕ) → least (bad_node B) h.nodes ≡ f →
           (none_at node_line 0 0 f >> (of_use o >> (of_scopes o >> of_agents o))) ≡ (none_at node_line 0 0 f >> after_nodes)
-      go Nowhere e =
+      go None e =
           let is = whole (least_none (bad_node B) h.nodes e) in
           rw (held is bad_use, held is bad_scope, agents_held is)
-      go (Here p) e = stopped node_line p (of_use o >> (of_scopes o >> of_agents o)) after_nodes
+      go (Some p) e = stopped node_line p (of_use o >> (of_scopes o >> of_agents o)) after_nodes
 
   pub program_held : (of_functions m >> from_locations o) ≡ check_program h text
   unfolding check_program
@@ -190,7 +189,7 @@ program_numbered h text =
 -- ---- Refusal 1 on the lines after the header
 
 -- the rows loaded, if all lines are in form
-module _ (h : Header) (text m : List ℕ) (room : FitsImage h) (f : Found) where
+module _ (h : Header) (text m : List ℕ) (room : FitsImage h) (f : Option ℕ) where
   pub rows_found : f ≡ least_from (bad_line text) (first_entry (capped_header h) - 2) 2 → f ≡ least_from (bad_line text) (first_entry h - 2) 2
   rows_found e = e ∙ ap (λ (g : Header). least_from (bad_line text) (first_entry g - 2) 2) (within_bounds h room)
 
@@ -201,40 +200,40 @@ module _ (h : Header) (text m : List ℕ) (room : FitsImage h) (f : Found) where
   rows_taken n long e z =
       go f z (e ∙ ap (λ (g : Header). lines_loaded g text (lines_before 2 (first_entry g) f) (header_loaded g m)) (within_bounds h room))
     where
-      go : (f : Found) → (answer_of (none_at ill_formed 0 book_text f)).number ≡ 0 → n ≡ lines_loaded h text (lines_before 2 (first_entry h) f) (header_loaded h m) → HoldsLines n h text
-      go Nowhere z e =
+      go : (f : Option ℕ) → (answer_of (none_at ill_formed 0 book_text f)).number ≡ 0 → n ≡ lines_loaded h text (lines_before 2 (first_entry h) f) (header_loaded h m) → HoldsLines n h text
+      go None z e =
           let l : length n ≡ length m = ap length e ∙ length_taken h room text (header_loaded h m) (first_entry h - 2) ∙ length_headed h m in
           rw e (taken_rows h room text m (omega arith))
-      go (Here p) z e = absurd (omega arith)
+      go (Some p) z e = absurd (omega arith)
 
 module _ (h : Header) (text : List ℕ) where
-  abbrev rows_form : Found
+  abbrev rows_form : Option ℕ
   rows_form = least_from (bad_line text) (first_entry h - 2) 2
 
-  abbrev contents_form : Found
+  abbrev contents_form : Option ℕ
   contents_form = least_from (bad_line text) h.contents (first_entry h)
 
-module _ (h : Header) (text : List ℕ) (sound : least (bad_line text) 2 ≡ Nowhere) where
+module _ (h : Header) (text : List ℕ) (sound : least (bad_line text) 2 ≡ None) where
   after_header : least (bad_line text) (line_count h) ≡ least_from (bad_line text) (first_entry h - 2 + h.contents) 2
   after_header =
       let n : line_count h ≡ 2 + (first_entry h - 2 + h.contents) = omega arith in
       ap (least (bad_line text)) n ∙ least_rest (bad_line text) 2 (first_entry h - 2 + h.contents) 0 sound
 
   pub rows_refused :
-      (f : Found) → f ≡ rows_form h text → (answer_of (none_at ill_formed 0 book_text f)).number ≢ 0 → none_at ill_formed 0 book_text f ≡ check_present h text
+      (f : Option ℕ) → f ≡ rows_form h text → (answer_of (none_at ill_formed 0 book_text f)).number ≢ 0 → none_at ill_formed 0 book_text f ≡ check_present h text
   unfolding check_present none_at
-  rows_refused Nowhere e n = absurd (n refl)
-  rows_refused (Here p) e n = rw (after_header ∙ least_first (bad_line text) (first_entry h - 2) h.contents 2 p (sym e))
+  rows_refused None e n = absurd (n refl)
+  rows_refused (Some p) e n = rw (after_header ∙ least_first (bad_line text) (first_entry h - 2) h.contents 2 p (sym e))
 
   pub rows_passed :
-      (f : Found) → f ≡ rows_form h text → (answer_of (none_at ill_formed 0 book_text f)).number ≡ 0 →
+      (f : Option ℕ) → f ≡ rows_form h text → (answer_of (none_at ill_formed 0 book_text f)).number ≡ 0 →
       none_at ill_formed 0 book_text (contents_form h text) ≡ check_present h text
   unfolding check_present none_at
-  rows_passed Nowhere e z =
+  rows_passed None e z =
       let n : 2 + (first_entry h - 2) ≡ first_entry h = omega arith in
       let l = least_rest (bad_line text) (first_entry h - 2) h.contents 2 (sym e) in
       ap (none_at ill_formed 0 book_text) (sym (after_header ∙ l ∙ ap (least_from (bad_line text) h.contents) n))
-  rows_passed (Here p) e z = absurd (omega arith)
+  rows_passed (Some p) e z = absurd (omega arith)
 
 -- ---- Refusal 8: the pass over the contents lines
 
@@ -250,8 +249,8 @@ shifted n q first bad (suc k) j =
   where
     go :
         (t : Bool) → none_at n 0 q (least_from (λ i. bad (i - first)) k (suc (first + j))) ≡ none_at n first q (least_from bad k (suc j)) →
-        none_at n 0 q (if t then Here (first + j) else least_from (λ i. bad (i - first)) k (suc (first + j)))
-        ≡ none_at n first q (if t then Here j else least_from bad k (suc j))
+        none_at n 0 q (if t then Some (first + j) else least_from (λ i. bad (i - first)) k (suc (first + j)))
+        ≡ none_at n first q (if t then Some j else least_from bad k (suc j))
     go true p = let z : 0 + (first + j) ≡ first + j = omega arith in rw z
     go false p = p
 
@@ -266,7 +265,7 @@ module _ (o : List ℕ) (h : Header) (text : List ℕ) (room : FitsImage h) (hol
   count_is : entry_count_in o ≡ h.contents
   count_is = ap (λ (n : ℕ). capped n 65536) holds.contents ∙ uncapped h.contents 65536 room.contents
 
-  abbrev rule : Found
+  abbrev rule : Option ℕ
   rule = least_from (bad_at (program_of h text) text (first_entry h) h.contents) h.contents (first_entry h)
 
   rule_kept : least_from (bad_at (kept_program (program_of h text)) text (first_entry h) h.contents) h.contents (first_entry h) ≡ rule
@@ -295,9 +294,9 @@ module _ (o : List ℕ) (h : Header) (text : List ℕ) (room : FitsImage h) (hol
         ap (none_at contents_rule 0 0) (ap (λ (x : LineFaults). x.fault) (is strided ∙ found) ∙ go (contents_form h text) (rw form_found at z))
         ∙ (rw n at (shifted contents_rule 0 (first_entry h) (bad_entry (program_of h text) (entries_of h text)) h.contents 0))
       where
-        go : (f : Found) → (answer_of (none_at ill_formed 0 book_text f)).number ≡ 0 → (faults f rule).fault ≡ rule
-        go Nowhere z = refl
-        go (Here p) z = absurd (omega arith)
+        go : (f : Option ℕ) → (answer_of (none_at ill_formed 0 book_text f)).number ≡ 0 → (faults f rule).fault ≡ rule
+        go None z = refl
+        go (Some p) z = absurd (omega arith)
 
 -- ---- what the checks leave in the image
 
@@ -336,7 +335,7 @@ module _ (text : List ℕ) where
     where
       go :
           (a b : Bool) → (must a ill_formed 0 book_text >> (must b ill_formed 1 book_text >> d))
-          ≡ (none_at ill_formed 0 book_text (if not a then Here 0 else if not b then Here 1 else Nowhere) >> d)
+          ≡ (none_at ill_formed 0 book_text (if not a then Some 0 else if not b then Some 1 else None) >> d)
       go true true = refl
       go true false = refl
       go false b = refl
@@ -348,15 +347,15 @@ module _ (text : List ℕ) where
       ∙ sym (bound (none_at ill_formed 0 book_text (least (bad_line text) 2)) of_bounds header (λ h. check_text h text))
 
   -- if both header lines are in form, no header line is ill-formed
-  pub lines_sound : well_formed (line_bytes text 0) ≡ true → well_formed (line_bytes text 1) ≡ true → least (bad_line text) 2 ≡ Nowhere
+  pub lines_sound : well_formed (line_bytes text 0) ≡ true → well_formed (line_bytes text 1) ≡ true → least (bad_line text) 2 ≡ None
   unfolding least_from
   lines_sound a b = rw (a, b)
 
-  header_good : least (bad_line text) 2 ≡ Nowhere → least (bad_field (line text 0) (line text 1)) 8 ≡ Nowhere → check_header text ≡ good header
+  header_good : least (bad_line text) 2 ≡ None → least (bad_field (line text 0) (line text 1)) 8 ≡ None → check_header text ≡ good header
   unfolding check_header none_at ◌>>◌
   header_good p q = rw (p, q)
 
-  pub header_room : least (bad_line text) 2 ≡ Nowhere → least (bad_field (line text 0) (line text 1)) 8 ≡ Nowhere → FitsImage header
+  pub header_room : least (bad_line text) 2 ≡ None → least (bad_field (line text 0) (line text 1)) 8 ≡ None → FitsImage header
   header_room p q =
       let b = header_bounded text header (header_good p q) in
       record {
@@ -374,10 +373,10 @@ unfolding must
 line_passed true p a e z = refl
 line_passed false p a e z = absurd (omega (arith, ap (λ (x : Answer). x.number) e))
 
-pub bounds_passed : (f : Found) (a : Answer) → a ≡ answer_of (none_at header_bounds 0 0 f) → a.number ≡ 0 → f ≡ Nowhere
+pub bounds_passed : (f : Option ℕ) (a : Answer) → a ≡ answer_of (none_at header_bounds 0 0 f) → a.number ≡ 0 → f ≡ None
 unfolding none_at
-bounds_passed Nowhere a e z = refl
-bounds_passed (Here p) a e z = absurd (omega (arith, ap (λ (x : Answer). x.number) e))
+bounds_passed None a e z = refl
+bounds_passed (Some p) a e z = absurd (omega (arith, ap (λ (x : Answer). x.number) e))
 
 pub opened_same : (m : List ℕ) (c d : Checked Book) → c ≡ d → ImageOf m d → ImageOf m c
 opened_same m c d e o b q = o b (sym e ∙ q)

@@ -3,7 +3,6 @@
 #![tactic(auto)]
 
 ghost use Rattle.std.specs.Prelude.{◌≡◌, List, ℕ, ◌≤◌, length};
-ghost use Rattle.text.specs.declared.Found.TheVariants.{Nowhere};
 ghost use Rattle.text.specs.Words.{least, answer_of};
 ghost use Rattle.text.specs.Text.{bad_line};
 ghost use Rattle.book.specs.declared.Header.{Header};
@@ -70,7 +69,7 @@ fn check_program(image: &mut Image) -> Answer
 
 // Refusal 1 on all lines after the header, 4, 3 for L, and 5 to 8.
 fn check_text(text: &[u8], h: Header, image: &mut Image) -> Answer
-    requires { (FitsImage h) × (least (bad_line text.now) 2 ≡ Nowhere) }
+    requires { (FitsImage h) × (least (bad_line text.now) 2 ≡ None) }
     ensures { (result ≡ answer_of (check_text h text.now)) × ImageOf image.new (check_text h text.now) }
 {
     let rows = text::none_at(text::ILL_FORMED, 0, book_load::load(text, h, image));

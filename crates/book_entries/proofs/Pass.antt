@@ -1,10 +1,9 @@
 -- What the pass over the contents lines finds, line by line.
+use Rattle.std.specs.Prelude.{Option, None, Some}
 use mathlib.Core.Path.{◌≡◌, sym, ◌∙◌, ap}
 use mathlib.Core.List.{List}
 use Prim.Native.Nat.{ℕ, ◌+◌, ◌-◌, ◌<◌, ◌≤◌}
 use native.Mathlib.Omega.{arith}
-use Rattle.text.specs.declared.Found.{Found}
-use Rattle.text.specs.declared.Found.TheVariants.{Nowhere, Here}
 use Rattle.text.specs.Words.{least_from}
 use Rattle.text.specs.Text.{bad_line, line}
 use Rattle.book.specs.Book.{Program, entry_at}
@@ -14,14 +13,14 @@ use Rattle.book_entries.specs.Roll.{entries_from}
 use Rattle.book_entries.specs.Pass.{faults, bad_at, faults_from}
 use Rattle.book_entries.proofs.Roll.{entry_there}
 
-module _ (form fault : Found) where
-  pub ill : (i : ℕ) → form ≡ Here i → ◌≡◌ {A = LineFaults} (record { ill = Here i; fault = Nowhere }) (faults form fault)
+module _ (form fault : Option ℕ) where
+  pub ill : (i : ℕ) → form ≡ Some i → ◌≡◌ {A = LineFaults} (record { ill = Some i; fault = None }) (faults form fault)
   ill i e = rw e
 
-  pub at_fault : (i : ℕ) → form ≡ Nowhere → fault ≡ Here i → ◌≡◌ {A = LineFaults} (record { ill = Nowhere; fault = Here i }) (faults form fault)
+  pub at_fault : (i : ℕ) → form ≡ None → fault ≡ Some i → ◌≡◌ {A = LineFaults} (record { ill = None; fault = Some i }) (faults form fault)
   at_fault i e f = rw (e, f)
 
-  pub sound : form ≡ Nowhere → fault ≡ Nowhere → ◌≡◌ {A = LineFaults} (record { ill = Nowhere; fault = Nowhere }) (faults form fault)
+  pub sound : form ≡ None → fault ≡ None → ◌≡◌ {A = LineFaults} (record { ill = None; fault = None }) (faults form fault)
   sound e f = rw (e, f)
 
 -- the entry of line i is the one that the line says
@@ -32,22 +31,22 @@ entry_line text first end i l h =
     entry_there text first (end - first) (i - first) (omega arith) ∙ ap (λ (k : ℕ). entry_of (line text k)) e
 
 module _ (B : Program) (text : List ℕ) (first end : ℕ) where
-  abbrev form : ℕ → Found
+  abbrev form : ℕ → Option ℕ
   form i = least_from (bad_line text) (end - i) i
 
-  abbrev fault : ℕ → Found
+  abbrev fault : ℕ → Option ℕ
   fault i = least_from (bad_at B text first (end - first)) (end - i) i
 
-  pub ill_formed : (i : ℕ) → Here i ≡ form first → ◌≡◌ {A = LineFaults} (record { ill = Here i; fault = Nowhere }) (faults_from B text first (end - first))
+  pub ill_formed : (i : ℕ) → Some i ≡ form first → ◌≡◌ {A = LineFaults} (record { ill = Some i; fault = None }) (faults_from B text first (end - first))
   unfolding faults_from
   ill_formed i e = ill (form first) (fault first) i (sym e)
 
   pub at_fault_from :
-      (r : LineFaults) (i : ℕ) → r ≡ faults (form i) (Here i) → form i ≡ form first → Here i ≡ fault first → r ≡ faults_from B text first (end - first)
+      (r : LineFaults) (i : ℕ) → r ≡ faults (form i) (Some i) → form i ≡ form first → Some i ≡ fault first → r ≡ faults_from B text first (end - first)
   unfolding faults_from
   at_fault_from r i e f g = e ∙ rw (f, g)
 
-  pub all_sound : Nowhere ≡ form first → Nowhere ≡ fault first → ◌≡◌ {A = LineFaults} (record { ill = Nowhere; fault = Nowhere }) (faults_from B text first (end - first))
+  pub all_sound : None ≡ form first → None ≡ fault first → ◌≡◌ {A = LineFaults} (record { ill = None; fault = None }) (faults_from B text first (end - first))
   unfolding faults_from
   all_sound e f = sound (form first) (fault first) (sym e) (sym f)
 

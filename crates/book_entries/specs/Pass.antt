@@ -1,7 +1,6 @@
 -- What a pass over the contents lines finds. A line that is ill-formed, wherever it stands, comes before one at fault by refusal 8 (SPECIFICATION 3.3, 3.9).
+use Rattle.std.specs.Prelude.{Option, None, Some}
 use Rattle.std.specs.Prelude.{Bool, List, ℕ, ◌-◌}
-use Rattle.text.specs.declared.Found.{Found}
-use Rattle.text.specs.declared.Found.TheVariants.{Nowhere, Here}
 use Rattle.text.specs.Words.{least_from}
 use Rattle.text.specs.Text.{bad_line}
 use Rattle.book.specs.Book.{Program}
@@ -10,12 +9,12 @@ use Rattle.text.specs.declared.LineFaults.{LineFaults}
 use Rattle.book_entries.specs.Roll.{entries_from}
 
 -- the second finding, if the first is none
-abbrev pub unless : Found → Found → Found
-unless (Here i) rule = Nowhere
-unless Nowhere rule = rule
+abbrev pub unless : Option ℕ → Option ℕ → Option ℕ
+unless (Some i) rule = None
+unless None rule = rule
 
 -- both findings: the least line that is ill-formed, and if there is none the least line at fault by refusal 8
-abbrev pub faults : Found → Found → LineFaults
+abbrev pub faults : Option ℕ → Option ℕ → LineFaults
 faults form rule = record { ill = form; fault = unless form rule }
 
 -- the entry of line i is at fault; the n contents lines start at line `first`

@@ -2,7 +2,6 @@
 #![tactic(auto)]
 
 ghost use Rattle.std.specs.Prelude.{◌≡◌, ◌&&◌, ◌||◌, not, ◌+◌, ◌-◌, ◌<◌, ◌≤◌, eqb, ltb, leb};
-ghost use Rattle.text.specs.declared.Found.TheVariants.{Here};
 ghost use Rattle.text.specs.Words.{least_from};
 ghost use Rattle.text.specs.Text.{bad_line};
 ghost use Rattle.book.specs.Book.{true_element, relation, dynamic, default};
@@ -14,7 +13,7 @@ ghost use Rattle.book_entries.specs.Roll.{roll_with, untraced_by, RollEmpty};
 ghost use Rattle.book_entries.specs.Pass.{faults, faults_from};
 
 use book::{Entry, Function, Image};
-use text::{Found, Line, LineFaults};
+use text::{Line, LineFaults};
 
 // The entry that a contents line says.
 fn entry(l: Line) -> Entry
@@ -101,17 +100,17 @@ fn no_trace(roll: &[u8], x: Entry) -> bool
 
 // What the pass finds when line i is at fault: the lines from i up to `end` are still checked for their form.
 fn fault_at(text: &[u8], i: u32, end: u32) -> LineFaults
-    ensures { result ≡ faults (least_from (bad_line text.now) (end - i) i) (Here i) }
+    ensures { result ≡ faults (least_from (bad_line text.now) (end - i) i) (Some i) }
 {
     let found = text::bad_line_from(text, i, end);
     match found {
-        Found::Nowhere => LineFaults {
-            ill: Found::Nowhere,
-            fault: Found::Here(i),
+        None => LineFaults {
+            ill: None,
+            fault: Some(i),
         },
-        Found::Here(j) => LineFaults {
-            ill: Found::Here(j),
-            fault: Found::Nowhere,
+        Some(j) => LineFaults {
+            ill: Some(j),
+            fault: None,
         },
     }
 }
@@ -136,8 +135,8 @@ fn check_entry_lines<'a>(
         let l = text::parse(text, i);
         if !l.ok {
             return LineFaults {
-                ill: Found::Here(i),
-                fault: Found::Nowhere,
+                ill: Some(i),
+                fault: None,
             };
         }
         let x = entry(l.line);
@@ -152,8 +151,8 @@ fn check_entry_lines<'a>(
         i += 1;
     }
     LineFaults {
-        ill: Found::Nowhere,
-        fault: Found::Nowhere,
+        ill: None,
+        fault: None,
     }
 }
 

@@ -7,7 +7,7 @@ ghost use Rattle.book.specs.Lines.{first_function, bad_field, bad_function};
 ghost use Rattle.book.specs.Image.{image_row, program_in};
 
 use book::Image;
-use text::{Found, Line};
+use text::{Line};
 
 // Refusal 3: field i of the header, whose lines are k and l, is outside its bounds.
 fn bad_field(k: Line, l: Line, i: u32) -> bool
@@ -24,17 +24,17 @@ fn bad_field(k: Line, l: Line, i: u32) -> bool
 }
 
 // Refusal 3: the least field of the header that is outside its bounds.
-pub fn bad_header(k: Line, l: Line) -> Found
+pub fn bad_header(k: Line, l: Line) -> Option<u32>
     ensures { result ≡ least (bad_field k l) 8 }
 {
     let mut i: u32 = 0;
     while i < 8 {
         if bad_field(k, l, i) {
-            return Found::Here(i);
+            return Some(i);
         }
         i += 1;
     }
-    Found::Nowhere
+    None
 }
 
 // Refusal 4: function line f is at fault.
@@ -45,7 +45,7 @@ fn bad_function(l: Line, f: u32) -> bool
 }
 
 // Refusal 4: the least function whose line is at fault, on the rows before the functions have first locations.
-pub fn bad_functions(image: &Image) -> Found
+pub fn bad_functions(image: &Image) -> Option<u32>
     ensures { result ≡ least (λ f. bad_function (image_row image.now (first_function + f)) f) (length (program_in image.now).functions) }
 {
     let n = book_image::functions(image) as u32;
@@ -53,9 +53,9 @@ pub fn bad_functions(image: &Image) -> Found
     while i < n {
         let l = book_image::row(image, book_image::FUNCTION_ROWS + i);
         if bad_function(l, i) {
-            return Found::Here(i);
+            return Some(i);
         }
         i += 1;
     }
-    Found::Nowhere
+    None
 }

@@ -1,8 +1,7 @@
 -- What loading a text puts into an image: the header's two rows, then line after line; and the functions laid out.
+use Rattle.std.specs.Prelude.{Option, None, Some}
 use Rattle.std.specs.Prelude.{◌≡◌, List, ℕ, zero, suc, ◌+◌, ◌-◌, ◌<◌, ltb, if◌then◌else◌}
 use Rattle.text.specs.declared.Line.{Line}
-use Rattle.text.specs.declared.Found.{Found}
-use Rattle.text.specs.declared.Found.TheVariants.{Nowhere, Here}
 use Rattle.text.specs.Words.{least_from}
 use Rattle.text.specs.Text.{line, bad_line}
 use Rattle.book.specs.declared.Header.{Header}
@@ -34,9 +33,9 @@ lines_loaded h text zero m = m
 lines_loaded h text (suc k) m = line_loaded h (first_function + k) (line text (first_function + k)) (lines_loaded h text k m)
 
 -- how many places from `first` up to `end` come before the one found
-abbrev pub lines_before : ℕ → ℕ → Found → ℕ
-lines_before first end Nowhere = end - first
-lines_before first end (Here p) = p - first
+abbrev pub lines_before : ℕ → ℕ → Option ℕ → ℕ
+lines_before first end None = end - first
+lines_before first end (Some p) = p - first
 
 -- image m with the functions' first locations and strides in their rows, and L in the header's second row
 unfoldable pub functions_laid : List ℕ → List ℕ
@@ -55,7 +54,7 @@ pub record HoldsLines (m : List ℕ) (h : Header) (text : List ℕ) : Type 0 whe
   pub agent : (i : ℕ) → i < h.agents → image_row m (34 + i) ≡ line text (first_agent h + i)
 
 -- the lines before the contents of a text with the header h are loaded into the image m, which becomes n: refusal 1 at the place r
-abbrev pub LinesLoaded : Header → List ℕ → List ℕ → List ℕ → Found → Type 0
+abbrev pub LinesLoaded : Header → List ℕ → List ℕ → List ℕ → Option ℕ → Type 0
 LinesLoaded h text m n r =
     (r ≡ least_from (bad_line text) (first_entry h - first_function) first_function)
     × (n ≡ lines_loaded h text (lines_before first_function (first_entry h) r) m)

@@ -7,7 +7,7 @@ ghost use Rattle.book.specs.Image.{image_length, image_row, FitsImage, capped_he
 ghost use Rattle.book_load.specs.Loaded.{line_loaded, header_loaded, functions_laid, LinesLoaded};
 
 use book::{Header, Image, Node};
-use text::{Found, Line, Value};
+use text::{Line, Value};
 
 // The node that a node line says.
 fn node_of(l: Line) -> Node
@@ -64,7 +64,7 @@ fn put_header(h: Header, image: &mut Image)
 }
 
 // Puts the lines of functions, nodes and agents, up to the first that is ill-formed, which it gives.
-fn load_lines(text: &[u8], h: Header, image: &mut Image) -> Found
+fn load_lines(text: &[u8], h: Header, image: &mut Image) -> Option<u32>
     requires { FitsImage h }
     ensures { LinesLoaded h text.now image.old image.new result }
 {
@@ -73,16 +73,16 @@ fn load_lines(text: &[u8], h: Header, image: &mut Image) -> Found
     while i < end {
         let l = text::parse(text, i);
         if !l.ok {
-            return Found::Here(i);
+            return Some(i);
         }
         put_line(h, i, l.line, image);
         i += 1;
     }
-    Found::Nowhere
+    None
 }
 
 // Refusal 1 on the lines of functions, nodes and agents: the least one that is ill-formed. Those before it are put into the image as they stand.
-pub fn load(text: &[u8], h: Header, image: &mut Image) -> Found
+pub fn load(text: &[u8], h: Header, image: &mut Image) -> Option<u32>
     ensures { LinesLoaded (capped_header h) text.now (header_loaded (capped_header h) image.old) image.new result }
 {
     let g = book_image::capped(h);

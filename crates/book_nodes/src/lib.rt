@@ -9,7 +9,7 @@ ghost use Rattle.book.specs.Image.{image_row, program_in};
 ghost use Rattle.book_nodes.specs.Fits.{sorts_in, fits_plain, fits_function, fits_node, fits_target};
 
 use book::{Function, Image};
-use text::{Found, Line};
+use text::{Line};
 
 // The three operand sorts of each node kind from 0 to 28: 0 no such kind, 1 unused, 2 permanent element, 3 variable,
 // 4 to 6 function of arity 0 to 2, 7 universe, 8 dynamic universe, 9 term, 10 rule, 11 a term that names a dynamic location.
@@ -201,7 +201,7 @@ fn bad_node(image: &Image, table: &[u8; 87], n: u32) -> bool
 }
 
 // Refusal 5: the least node at fault.
-pub fn bad_nodes(image: &Image) -> Found
+pub fn bad_nodes(image: &Image) -> Option<u32>
     ensures { result ≡ least (bad_node (program_in image.now)) (length (program_in image.now).nodes) }
 {
     let table = SORTS;
@@ -209,11 +209,11 @@ pub fn bad_nodes(image: &Image) -> Found
     let mut i: u32 = 0;
     while i < n {
         if bad_node(image, &table, i) {
-            return Found::Here(i);
+            return Some(i);
         }
         i += 1;
     }
-    Found::Nowhere
+    None
 }
 
 // The number before i; 0 for 0.
@@ -240,7 +240,7 @@ fn bad_agent(image: &Image, l: Line, i: u32) -> bool
 }
 
 // Refusal 7: the least agent at fault, on the rows of the agents' lines.
-pub fn bad_agents(image: &Image) -> Found
+pub fn bad_agents(image: &Image) -> Option<u32>
     ensures { result ≡ least (λ i. bad_agent (program_in image.now) (image_row image.now (34 + i)) i) (length (program_in image.now).agents) }
 {
     let n = book_image::agents(image) as u32;
@@ -248,9 +248,9 @@ pub fn bad_agents(image: &Image) -> Found
     while i < n {
         let l = book_image::row(image, book_image::AGENT_ROWS + i);
         if bad_agent(image, l, i) {
-            return Found::Here(i);
+            return Some(i);
         }
         i += 1;
     }
-    Found::Nowhere
+    None
 }

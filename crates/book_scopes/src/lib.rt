@@ -10,7 +10,6 @@ ghost use Rattle.book.specs.Image.{program_in};
 ghost use Rattle.book_scopes.specs.Tables.{one_more, use_added, operands_counted, roots_counted, uses_counted, scope_below, in_forall, in_binder, to_ab, to_c, misplaced_at};
 
 use book::{Image, Node};
-use text::Found;
 
 // A count plus 1, which stops at 2: that is already too many.
 fn one_more(k: u8) -> u8
@@ -66,21 +65,21 @@ fn count_uses(image: &Image, n: u32, s: &mut [u8])
 }
 
 // The least of the first n nodes whose count is not 1.
-fn not_once(s: &[u8], n: u32) -> Found
+fn not_once(s: &[u8], n: u32) -> Option<u32>
     ensures { result ≡ least (λ i. not (eqb (get_or s.now i 0) 1)) n }
 {
     let mut i: u32 = 0;
     while i < n {
         if !(text::byte_at(s, i as usize) == 1) {
-            return Found::Here(i);
+            return Some(i);
         }
         i += 1;
     }
-    Found::Nowhere
+    None
 }
 
 // Refusal 6, use: the least node that is not used exactly once.
-pub fn bad_use(image: &Image) -> Found
+pub fn bad_use(image: &Image) -> Option<u32>
     ensures { result ≡ least (bad_use (program_in image.now)) (length (program_in image.now).nodes) }
 {
     let mut counts = [0u8; 1024];
@@ -209,21 +208,21 @@ fn misplaced_at<'a>(image: &'a Image, s: &'a [u16], i: u32) -> bool
 }
 
 // The least of the first n nodes that is at fault, by the table of what stands around each node.
-fn misplaced_in<'a>(image: &'a Image, s: &'a [u16], n: u32) -> Found
+fn misplaced_in<'a>(image: &'a Image, s: &'a [u16], n: u32) -> Option<u32>
     ensures { result ≡ least (misplaced_at (program_in image.now) s.now) n }
 {
     let mut i: u32 = 0;
     while i < n {
         if misplaced_at(image, s, i) {
-            return Found::Here(i);
+            return Some(i);
         }
         i += 1;
     }
-    Found::Nowhere
+    None
 }
 
 // Refusal 6, binding, depth and nesting: the least node at fault.
-pub fn bad_scope(image: &Image) -> Found
+pub fn bad_scope(image: &Image) -> Option<u32>
     ensures { result ≡ least (bad_scope (program_in image.now)) (length (program_in image.now).nodes) }
 {
     let mut around = [0u16; 1024];

@@ -1,11 +1,11 @@
 -- A function's part, location after location: the least at fault from l on is the least of the part.
+use Rattle.std.specs.Prelude.{None, Some}
 use mathlib.Core.Path.{◌≡◌, sym, ap, ◌∙◌}
 use mathlib.Core.Bool.{Bool, true, false}
 use mathlib.Core.List.{List}
 use Prim.Native.Nat.{ℕ, zero, suc, ◌+◌, ◌-◌, ◌<◌, ◌≤◌}
 use native.Mathlib.Omega.{arith}
 use Rattle.text.specs.Words.{least_from, least}
-use Rattle.text.specs.declared.Found.TheVariants.{Nowhere, Here}
 use Rattle.text.proofs.Words.{least_start, least_pass, least_stop, least_end}
 use Rattle.book.specs.declared.Function.{Function}
 use Rattle.book.specs.Book.{Program, Place, size}
@@ -67,10 +67,10 @@ module _ (B : Program) (c : List ℕ) (E P : ℕ) (f : Function) (first end : �
         let d : l - first + 1 ≡ l + 1 - first = omega arith in
         rw d at (least_pass bad n (l - first) (omega (arith, part.long)) (rw e (sym (k (held_is h)) ∙ q)) p)
 
-    pub scan_stop : (r : Bool) → l < end → (Held B E P f l (l - first) → r ≡ bad_value B c l) → r ≡ true → Here (l - first) ≡ least bad n
+    pub scan_stop : (r : Bool) → l < end → (Held B E P f l (l - first) → r ≡ bad_value B c l) → r ≡ true → Some (l - first) ≡ least bad n
     scan_stop r h k q =
         let e : first + (l - first) ≡ l = omega arith in
         least_stop bad n (l - first) (omega (arith, part.long)) (rw e (sym (k (held_is h)) ∙ q)) p
 
-    pub scan_end : end ≤ l → Nowhere ≡ least bad n
+    pub scan_end : end ≤ l → None ≡ least bad n
     scan_end h = least_end bad n (l - first) (omega (arith, part.long)) p

@@ -3,7 +3,6 @@
 
 ghost use Rattle.std.specs.Prelude.{◌≡◌, ◌&&◌, ◌||◌, ℕ, ◌+◌, ◌<◌, ◌≤◌, eqb, ltb, get_or};
 ghost use Rattle.text.specs.Words.{least};
-ghost use Rattle.text.specs.declared.Found.TheVariants.{Here};
 ghost use Rattle.book.specs.Book.{Program, L, true_element, size, dynamic, default};
 ghost use Rattle.book.specs.Sum.{Strided, arguments_by};
 ghost use Rattle.book.specs.Image.{low_program};
@@ -12,7 +11,7 @@ ghost use Rattle.contents_check.specs.Part.{Held, Faultless, SkippedTo, Part};
 
 use book::{Function, Image};
 use book_parts::Arguments;
-use text::{Found, Value};
+use text::{Value};
 
 // ---- Refusal 8
 
@@ -92,24 +91,24 @@ fn skip_value(contents: &[Value], v: u32, l: u32, end: u32) -> u32
 }
 
 // The least location at fault of f's part, counted from its first. Nearly all hold a value that is not at fault, and only the others are checked in full.
-fn bad_part(contents: &[Value], e: Value, p: Value, f: Function, first: u32, end: u32) -> Found
+fn bad_part(contents: &[Value], e: Value, p: Value, f: Function, first: u32, end: u32) -> Option<u32>
     requires { first ≤ end }
     ensures value { (B : Program) → Part B e p f first end → result ≡ least (λ i. bad_value B contents.now (first + i)) (size e f.arity) }
-    ensures by_index { (i : ℕ) → result ≡ Here i → first + i < end }
+    ensures by_index { (i : ℕ) → result ≡ Some i → first + i < end }
 {
     let v = faultless_value(contents, e, f);
     let mut l = skip_value(contents, v, first, end);
     while l < end {
         if is_bad(contents, e, p, f, l, l - first) {
-            return Found::Here(l - first);
+            return Some(l - first);
         }
         l = skip_value(contents, v, l + 1, end);
     }
-    Found::Nowhere
+    None
 }
 
 // Refusal 8 of a lent table: the least location at fault, function after function.
-pub fn bad_value(image: &Image, contents: &[Value]) -> Found
+pub fn bad_value(image: &Image, contents: &[Value]) -> Option<u32>
     ensures { Strided (low_program image.now) → result ≡ least (bad_value (low_program image.now) contents.now) (L (low_program image.now)) }
 {
     let e = book_image::elements(image);
@@ -121,11 +120,11 @@ pub fn bad_value(image: &Image, contents: &[Value]) -> Found
         let own = book_parts::part_from(image, g, first);
         let end = own.end as u32;
         let found = bad_part(contents, e, p, own.function, first, end);
-        if let Found::Here(i) = found {
-            return Found::Here(first + i);
+        if let Some(i) = found {
+            return Some(first + i);
         }
         first = end;
         g = g + 1;
     }
-    Found::Nowhere
+    None
 }

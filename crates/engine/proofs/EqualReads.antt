@@ -1,5 +1,6 @@
 -- Equal reads (SPECIFICATION 5.7): two contents with equal static functions that agree on what a move reads in one of them give it the same instructions
 -- if it meets none of refusals 11 to 14, 18 and 19 there, and otherwise the same refusal if they agree on Reserve throughout.
+use Rattle.std.specs.Prelude.{Option, None, Some}
 use Rattle.std.specs.Prelude.{if◌then◌else◌}
 use mathlib.Core.Path.{◌≡◌, refl, sym, ap, ◌∙◌}
 use mathlib.Core.Logic.{dite}
@@ -12,8 +13,6 @@ use lib.Dec.{eqb}
 use lib.ListN.{length, get_or-eq_default}
 use borrow.Author.Tests.{eqb-true, eq-eqb}
 use Rattle.text.specs.Words.{has, least}
-use Rattle.text.specs.declared.Found.{Found}
-use Rattle.text.specs.declared.Found.TheVariants.{Nowhere, Here}
 use Rattle.book.specs.Book.{Program, L, dynamic_at}
 use Rattle.book.specs.Sound.{at}
 use Rattle.engine.specs.Reader.{locations_read}
@@ -48,9 +47,9 @@ looked_read : (B : Program) (c : List ℕ) (i : Input) (l : ℕ) → has (walk_r
 unfolding reads move settle fire_or_clash
 looked_read B c i l h = go (walked B c i)
   where
-    judge : (o : Found) (f : Fired) → has f.reads l ≡ true → has (reads_of (walk_reads B c i) (unless_clash o (fires f))) l ≡ true
-    judge Nowhere f m = m
-    judge (Here k) f m = h
+    judge : (o : Option ℕ) (f : Fired) → has f.reads l ≡ true → has (reads_of (walk_reads B c i) (unless_clash o (fires f))) l ≡ true
+    judge None f m = m
+    judge (Some k) f m = h
 
     go : (w : Walked) → has (reads_of (walk_reads B c i) (settle B c (walk_reads B c i) w)) l ≡ true
     go (refused_at n q) = h

@@ -1,5 +1,6 @@
 -- A move that fires: its updates and no others change the contents, static locations are never written, and the contents after it are sound, the roll rule
 -- included; what it releases is cleared, and it reads Reserve at each label that it takes out of a location. An idle one leaves the contents as they are.
+use Rattle.std.specs.Prelude.{Option, None, Some}
 use mathlib.Core.Path.{◌≡◌, refl, sym, ap, subst, ◌∙◌}
 use mathlib.Core.Logic.{◌⊎◌, inl, inr, dite, ◌≢◌}
 use mathlib.Core.Bool.{Bool, true, false, not, ◌||◌, ◌&&◌, or-true, true≢false, false≢true}
@@ -12,8 +13,6 @@ use lib.ListN.{length, get_or, replicate, get_or-eq_default}
 use lib.Seq.{ext_get_or}
 use borrow.Author.Tests.{eq-eqb, ne_eqb, le-ltb, eqb-true, ltb-false, not-false, not-true}
 use Rattle.text.specs.Words.{has, some_below, least}
-use Rattle.text.specs.declared.Found.{Found}
-use Rattle.text.specs.declared.Found.TheVariants.{Nowhere, Here}
 use Rattle.text.proofs.Words.{and_cases, or_cases, or_no, both_ways, least_none, some_below_true, some_below_from, refuted, has_append}
 use Rattle.book.specs.Book.{Program, L, true_element, false_element, boolean, node_at, agent_at, place, relation_at, dynamic_at, default_at, arguments_at}
 use Rattle.book.specs.Sound.{Lawful, at, Argument, OnRoll, Sound}
@@ -46,11 +45,11 @@ pub record Firing (B : Program) (c : List ℕ) (i : Input) (f : Fired) : Type 0 
   pub walk : Walk
   pub went : walked B c i ≡ walking walk
   pub gave : fired_of B c (walk_reads B c i) walk.made ≡ f
-  pub no_clash : least (clashes f.instructions f.updates) (length f.updates) ≡ Nowhere
+  pub no_clash : least (clashes f.instructions f.updates) (length f.updates) ≡ None
 
-settled : (o : Found) (g f : Fired) → unless_clash o (fires g) ≡ fires f → (o ≡ Nowhere) × (g ≡ f)
-settled (Here l) g f e = let z : ◌≡◌ {A = ℕ} 0 1 = cc in absurd (omega arith)
-settled Nowhere g f e = (refl, cc)
+settled : (o : Option ℕ) (g f : Fired) → unless_clash o (fires g) ≡ fires f → (o ≡ None) × (g ≡ f)
+settled (Some l) g f e = let z : ◌≡◌ {A = ℕ} 0 1 = cc in absurd (omega arith)
+settled None g f e = (refl, cc)
 
 pub firing : (B : Program) (c : List ℕ) (i : Input) (f : Fired) → move B c i ≡ fires f → Firing B c i f
 unfolding move settle fire_or_clash
@@ -65,7 +64,7 @@ firing B c i f e = go (walked B c i) refl e
           walk = w;
           went = p;
           gave = s.1;
-          no_clash = subst (λ (k : Fired). least (clashes k.instructions k.updates) (length k.updates) ≡ Nowhere) s.1 s.0;
+          no_clash = subst (λ (k : Fired). least (clashes k.instructions k.updates) (length k.updates) ≡ None) s.1 s.0;
         }
 
 module _ (B : Program) (c : List ℕ) (i : Input) (f : Fired) (moves : move B c i ≡ fires f) where

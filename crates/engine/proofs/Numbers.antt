@@ -1,5 +1,6 @@
 -- The numbers of the refusals inside a move, which are 11 to 15, 18 and 19, and their q: a node of the book or a location. A move that fires has at most
 -- 256 instructions.
+use Rattle.std.specs.Prelude.{Option, None, Some}
 use Rattle.std.specs.Prelude.{if◌then◌else◌}
 use mathlib.Core.Path.{◌≡◌, refl, sym, subst}
 use mathlib.Core.Logic.{dite}
@@ -13,8 +14,6 @@ use lib.ListN.{length, get_or, set, length-append, get_or-eq_default}
 use borrow.Author.Tests.{ltb-true}
 use Rattle.text.specs.Words.{least}
 use Rattle.text.specs.Refusals.{non_boolean, not_releasable, list_full, not_in_universe}
-use Rattle.text.specs.declared.Found.{Found}
-use Rattle.text.specs.declared.Found.TheVariants.{Nowhere, Here}
 use Rattle.text.proofs.Words.{length_table_from, least_here}
 use Rattle.book.specs.Book.{Program, L, true_element, false_element, reserve, location, no_node, node_at, agent_at}
 use Rattle.book.specs.Scopes.{most_depth}
@@ -112,11 +111,11 @@ module _ (N : ℕ) (B : Program) (c : List ℕ) (me : ℕ) where
   each_says f (y ∷ ys) w m k =
       rw (value_bind c (f y w) (λ o. after o (each f ys))) (after_says (value_in c (f y w)) (each f ys) (k y w m) (λ v m. each_says f ys v m k))
 
-  import_says : (n u : ℕ) (w : Walk) (body : ℕ → Walk → Reader Walked) (o : Found) → n < N → ((y : ℕ) (v : Walk) → Fits v → Says N (value_in c (body y v)))
+  import_says : (n u : ℕ) (w : Walk) (body : ℕ → Walk → Reader Walked) (o : Option ℕ) → n < N → ((y : ℕ) (v : Walk) → Fits v → Says N (value_in c (body y v)))
       → Says N (value_in c (import_of B n u w body o))
   unfolding value_in
-  import_says n u w body Nowhere h k = (inside_small 13 (omega arith) (omega arith), omega arith)
-  import_says n u w body (Here x) h k =
+  import_says n u w body None h k = (inside_small 13 (omega arith) (omega arith), omega arith)
+  import_says n u w body (Some x) h k =
       after_says (emit n (Update (reserve x) false_element) (take_label x w) then emit n (Update (location B u x 0) true_element)) (body x)
       (then_says N (emit n (Update (reserve x) false_element) (take_label x w)) (emit n (Update (location B u x 0) true_element))
       (give_says N n (Update (reserve x) false_element) (take_label x w) h) (λ v m. give_says N n (Update (location B u x 0) true_element) v h)) (k x)
@@ -203,10 +202,10 @@ module _ (B : Program) (c : List ℕ) (i : Input) where
   unfolding move settle fire_or_clash updates
   move_stops = go (walked B c i) walk_stops
     where
-      settled : (o : Found) (f : Fired) → length f.instructions ≤ most_instructions → ((l : ℕ) → o ≡ Here l → l < L B)
+      settled : (o : Option ℕ) (f : Fired) → length f.instructions ≤ most_instructions → ((l : ℕ) → o ≡ Some l → l < L B)
           → Stops (last_place B i) (unless_clash o (fires f))
-      settled (Here l) f m h = (inside_small 15 (omega arith) (omega arith), omega (arith, h l refl))
-      settled Nowhere f m h = m
+      settled (Some l) f m h = (inside_small 15 (omega arith) (omega arith), omega (arith, h l refl))
+      settled None f m h = m
 
       go : (o : Walked) → Says (last_place B i) o → Stops (last_place B i) (settle B c (walk_reads B c i) o)
       go (refused_at n q) h = h

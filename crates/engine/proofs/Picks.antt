@@ -1,4 +1,5 @@
 -- Choices: what a choose reads, refusal 19 where no pick is left, and that a walk to its end uses all picks.
+use Rattle.std.specs.Prelude.{Option, None, Some}
 use Rattle.std.specs.Prelude.{if◌then◌else◌}
 use mathlib.Core.Path.{◌≡◌, refl, sym, ap, subst, ◌∙◌}
 use mathlib.Core.Logic.{◌⊎◌, inl, inr}
@@ -9,8 +10,6 @@ use native.Mathlib.Omega.{arith}
 use lib.Dec.{eqb, ltb}
 use lib.ListN.{length, get_or, set, take}
 use borrow.Author.Tests.{eqb-true, ltb-true, lt-ltb, le-ltb, not-false}
-use Rattle.text.specs.declared.Found.{Found}
-use Rattle.text.specs.declared.Found.TheVariants.{Nowhere, Here}
 use Rattle.text.specs.Refusals.{not_in_universe, pick_count}
 use Rattle.text.specs.Words.{has, least, good}
 use Rattle.text.proofs.Words.{or_cases, least_none, bind_good, then_good, good_same}
@@ -98,9 +97,9 @@ has_at (x ∷ ys) y h = go (or_cases (eqb x y) (has ys y) h) (has_at ys y)
     go (inl e) r = (zero, omega arith, eqb-true x y e)
     go (inr e) r = let t = r e in (suc t.0, omega (arith, t.1), t.2)
 
-none_at_fault : (o : Found) (u : Unit {0}) → no_pick_at o ≡ good u → o ≡ Nowhere
-none_at_fault Nowhere u e = refl
-none_at_fault (Here j) u e = let z : ◌≡◌ {A = ℕ} 0 1 = cc in absurd (omega arith)
+none_at_fault : (o : Option ℕ) (u : Unit {0}) → no_pick_at o ≡ good u → o ≡ None
+none_at_fault None u e = refl
+none_at_fault (Some j) u e = let z : ◌≡◌ {A = ℕ} 0 1 = cc in absurd (omega arith)
 
 picks_low : (B : Program) (ys : List ℕ) (u : Unit {0}) → check_picks B ys ≡ good u → (y : ℕ) → has ys y ≡ true → y < B.E
 unfolding check_picks

@@ -1,12 +1,11 @@
 -- The answer of a single-move call fits one number, for all inputs: its number is at most 19, its p and its q are below 2^24.
+use Rattle.std.specs.Prelude.{Option, None, Some}
 use mathlib.Core.Path.{◌≡◌, refl}
 use mathlib.Core.List.{List}
 use Prim.Native.Nat.{ℕ, ◌^◌, ◌<◌}
 use native.Mathlib.Omega.{arith}
 use lib.ListN.{length, take}
 use Rattle.text.specs.Words.{least, Checked, good, refused}
-use Rattle.text.specs.declared.Found.{Found}
-use Rattle.text.specs.declared.Found.TheVariants.{Nowhere, Here}
 use Rattle.text.proofs.Checks.{Ends, on, off, Any, bind_ends, then_ends, none_ends, must_ends, Before, Small}
 use Rattle.book.specs.Book.{Program, L}
 use Rattle.book.proofs.Refusals.{Fits, book_before}
@@ -20,9 +19,9 @@ pub picks_end : (B : Program) (ys : List ℕ) → Ends Any Before (check_picks B
 unfolding check_picks
 picks_end B ys = go (least _ (length ys))
   where
-    go : (o : Found) → Ends Any Before (no_pick_at o)
-    go Nowhere = on tt
-    go (Here j) = off {n = 9} {p = pick_place j} {q = 0} (omega arith, omega arith, omega arith, omega arith)
+    go : (o : Option ℕ) → Ends Any Before (no_pick_at o)
+    go None = on tt
+    go (Some j) = off {n = 9} {p = pick_place j} {q = 0} (omega arith, omega arith, omega arith, omega arith)
 
 step_ends : (text c : List ℕ) (i : Input) (n : ℕ) → Ends Fits Before (check_step text c i n)
 unfolding check_step check_agent check_lent_step check_contents

@@ -1,5 +1,6 @@
 -- The walk of a lawful book on sound contents: what each of its instructions is. An update names a dynamic location after Reserve, or takes a label;
 -- no label of the roll is in it but those taken; a release is of a label.
+use Rattle.std.specs.Prelude.{Option, None, Some}
 use Rattle.std.specs.Prelude.{if◌then◌else◌}
 use mathlib.Core.Path.{◌≡◌, refl, sym, ap, subst, ◌∙◌}
 use mathlib.Core.Logic.{◌↔◌, ◌⊎◌, inl, inr, dite, ◌≢◌}
@@ -13,8 +14,6 @@ use lib.ListN.{length, get_or, set, get_or-eq_default}
 use borrow.Author.Tests.{eqb-true, eqb-false, eq-eqb, ne_eqb, lt-ltb, le-ltb, ltb-true, ltb-false, leb-true, not-false}
 use Rattle.text.specs.Words.{one_if}
 use Rattle.text.specs.Refusals.{non_boolean, not_releasable, list_full, not_in_universe}
-use Rattle.text.specs.declared.Found.{Found}
-use Rattle.text.specs.declared.Found.TheVariants.{Nowhere, Here}
 use Rattle.text.proofs.Words.{and_cases, or_no}
 use Rattle.book.specs.Book.{undef, true_element, false_element, boolean, truth, relation, dynamic, Program, L, location, reserve, function_at, place, relation_at, dynamic_at}
 use Rattle.book.specs.Sound.{Lawful, at, Argument, OnRoll, Sound}
@@ -314,21 +313,21 @@ module _ (B : Program) (c : List ℕ) where
       -- ---- labels
 
       -- the label that a search from x finds is on the roll, and no label from x up to it is
-      abbrev Lowest : ℕ → Found → Type 0
-      Lowest x Nowhere = Unit {0}
-      Lowest x (Here y) = (x ≤ y) × OnRoll B c y × ((z : ℕ) → x ≤ z → z < y → at c z ≢ true_element)
+      abbrev Lowest : ℕ → Option ℕ → Type 0
+      Lowest x None = Unit {0}
+      Lowest x (Some y) = (x ≤ y) × OnRoll B c y × ((z : ℕ) → x ≤ z → z < y → at c z ≢ true_element)
 
       lowest_is : (x n : ℕ) → x + n ≤ B.E → Lowest x (value_in c (lowest x n))
       unfolding lowest value_in ◌>>=◌
       lowest_is x zero h = tt
       lowest_is x (suc n) h = go (eqb (at c x) true_element) refl (lowest_is (suc x) n (omega arith))
         where
-          later : at c x ≢ true_element → (o : Found) → Lowest (suc x) o → Lowest x o
-          later d Nowhere r = tt
-          later d (Here y) (a, b, e) = (omega arith, b, λ z p q. dite (ℕ_discrete z x) (λ i. rw i d) (λ i. e z (omega arith) q))
+          later : at c x ≢ true_element → (o : Option ℕ) → Lowest (suc x) o → Lowest x o
+          later d None r = tt
+          later d (Some y) (a, b, e) = (omega arith, b, λ z p q. dite (ℕ_discrete z x) (λ i. rw i d) (λ i. e z (omega arith) q))
 
           go : (b : Bool) → eqb (at c x) true_element ≡ b → Lowest (suc x) (value_in c (lowest (suc x) n))
-              → Lowest x (value_in c (if b then done (Here x) else lowest (suc x) n))
+              → Lowest x (value_in c (if b then done (Some x) else lowest (suc x) n))
           go true e r = (omega arith, (omega arith, eqb-true (at c x) true_element e), λ z p q. absurd (omega arith))
           go false e r = later (eqb-false (at c x) true_element e) (value_in c (lowest (suc x) n)) r
 
@@ -340,7 +339,7 @@ module _ (B : Program) (c : List ℕ) where
             (rw (roll_place B B_ok x o.0, B_ok.reserve, eq-eqb x x refl))).1 o,
       )
 
-      pub import_takes : (w : Walk) → Made w → (y : ℕ) → value_in c (lowest w.next (B.E - w.next)) ≡ Here y
+      pub import_takes : (w : Walk) → Made w → (y : ℕ) → value_in c (lowest w.next (B.E - w.next)) ≡ Some y
           → OnRoll B c y × ¬ Sets y false_element w.made × ((x : ℕ) → OnRoll B c x → ¬ Sets x false_element w.made → y ≤ x)
       import_takes w m y e =
           let l = subst (Lowest w.next) e (lowest_is w.next (B.E - w.next) (omega (arith, m.upto))) in (
@@ -350,18 +349,18 @@ module _ (B : Program) (c : List ℕ) where
                 (λ (d : ¬ (x < w.next)). l.2 x (omega arith) b o.1))) (λ (b : ¬ (x < y)). omega arith),
           )
 
-      lowest_none : (x n : ℕ) → value_in c (lowest x n) ≡ Nowhere → (z : ℕ) → x ≤ z → z < x + n → at c z ≢ true_element
+      lowest_none : (x n : ℕ) → value_in c (lowest x n) ≡ None → (z : ℕ) → x ≤ z → z < x + n → at c z ≢ true_element
       unfolding lowest value_in ◌>>=◌
       lowest_none x zero e z a b = absurd (omega arith)
       lowest_none x (suc n) e z a b = go (eqb (at c x) true_element) refl e (lowest_none (suc x) n)
         where
-          go : (t : Bool) → eqb (at c x) true_element ≡ t → value_in c (if t then done (Here x) else lowest (suc x) n) ≡ Nowhere
-              → (value_in c (lowest (suc x) n) ≡ Nowhere → (z : ℕ) → suc x ≤ z → z < suc x + n → at c z ≢ true_element) → at c z ≢ true_element
+          go : (t : Bool) → eqb (at c x) true_element ≡ t → value_in c (if t then done (Some x) else lowest (suc x) n) ≡ None
+              → (value_in c (lowest (suc x) n) ≡ None → (z : ℕ) → suc x ≤ z → z < suc x + n → at c z ≢ true_element) → at c z ≢ true_element
           go true q f r = let k : ◌≡◌ {A = ℕ} 0 1 = cc in absurd (omega arith)
           go false q f r = dite (ℕ_discrete z x) (λ i. rw i (eqb-false (at c x) true_element q)) (λ i. r f z (omega arith) (omega arith))
 
       -- an import that finds no label, refusal 13, has no label of the roll left that is not taken
-      pub import_none : (w : Walk) → Made w → value_in c (lowest w.next (B.E - w.next)) ≡ Nowhere → (x : ℕ) → OnRoll B c x
+      pub import_none : (w : Walk) → Made w → value_in c (lowest w.next (B.E - w.next)) ≡ None → (x : ℕ) → OnRoll B c x
           → Sets x false_element w.made
       import_none w m e x o =
           dite (dec_lt x w.next) (m.taken x o)
@@ -397,7 +396,7 @@ module _ (B : Program) (c : List ℕ) where
           this x (inl e) = (omega arith, λ r. omega arith)
           this x (inr e) = rw e (zero_clean n)
 
-      take_made : (n y : ℕ) (w : Walk) → Made w → Lowest w.next (Here y) → Comes (suc y) (emit n (Update (reserve y) false_element) (take_label y w))
+      take_made : (n y : ℕ) (w : Walk) → Made w → Lowest w.next (Some y) → Comes (suc y) (emit n (Update (reserve y) false_element) (take_label y w))
       unfolding count_below
       take_made n y w m (a, r, low) = go (ltb (length w.made) most_instructions)
         where
@@ -426,14 +425,14 @@ module _ (B : Program) (c : List ℕ) where
             },
           )
 
-      import_comes : (n u : ℕ) (body : ℕ → Walk → Reader Walked) (w : Walk) (o : Found) → Named B u 1 → (function_at B u).kind ≡ 3 → Made w → Lowest w.next o
+      import_comes : (n u : ℕ) (body : ℕ → Walk → Reader Walked) (w : Walk) (o : Option ℕ) → Named B u 1 → (function_at B u).kind ≡ 3 → Made w → Lowest w.next o
           → ((y : ℕ) → y < B.E → (v : Walk) → w.next ≤ v.next → y < v.next → Made v → Comes v.next (value_in c (body y v)))
           → Comes w.next (value_in c (import_of B n u w body o))
       unfolding value_in
-      import_comes n u body w Nowhere p k m l f = tt
-      import_comes n u body w (Here y) p k m l f =
+      import_comes n u body w None p k m l f = tt
+      import_comes n u body w (Some y) p k m l f =
           let a : w.next ≤ y = l.0 in
-          comes_more w.next (suc y) (value_in c (import_of B n u w body (Here y))) (omega arith)
+          comes_more w.next (suc y) (value_in c (import_of B n u w body (Some y))) (omega arith)
           (after_comes (suc y) (emit n (Update (reserve y) false_element) (take_label y w) then emit n (Update (location B u y 0) true_element)) (body y)
           (then_comes (suc y) (emit n (Update (reserve y) false_element) (take_label y w)) (emit n (Update (location B u y 0) true_element))
           (take_made n y w m l) (λ v b q. give_made n (Update (location B u y 0) true_element) v q (universe_fine u y v.next p k l.1.0 (omega arith))

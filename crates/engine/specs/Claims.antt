@@ -1,7 +1,7 @@
 -- What is claimed of single moves, and proved in proofs/Claims: equal reads, the frame, the roll rule, idle moves, the label tally, refusals, what
 -- imports and choices read, and that trees are whole (SPECIFICATION 2.8, 4, 5).
+use Rattle.std.specs.Prelude.{Some}
 use Rattle.std.specs.Prelude.{◌≡◌, ◌↔◌, ◌≢◌, true, false, List, [], ◌∷◌, ℕ, suc, ◌+◌, ◌-◌, ◌≤◌, ◌<◌, length, set}
-use Rattle.text.specs.declared.Found.TheVariants.{Here}
 use Rattle.text.specs.Words.{has, table_from, good}
 use Rattle.text.specs.Refusals.{not_in_universe, pick_count}
 use Rattle.book.specs.Book.{Program, L, dynamic_at, location, node_at, agent_at}
@@ -95,7 +95,7 @@ StepsAnswer = (book c : List ℕ) (i : Input) (n : ℕ) → (step_call book c i 
 
 -- an import that searches from label x on and takes y has read Reserve from x to y, and nothing else
 abbrev pub ImportsRead : Type 0
-ImportsRead = (c : List ℕ) (x n y : ℕ) → value_in c (lowest x n) ≡ Here y → locations_read c (lowest x n) ≡ table_from (λ l. l) x (suc y - x)
+ImportsRead = (c : List ℕ) (x n y : ℕ) → value_in c (lowest x n) ≡ Some y → locations_read c (lowest x n) ≡ table_from (λ l. l) x (suc y - x)
 
 -- a choose with an element as its next pick reads its universe there, before refusal 18 is checked, and nothing else of its own
 abbrev pub ChoicesRead : Type 0

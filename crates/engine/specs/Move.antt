@@ -1,10 +1,9 @@
 -- A move: the updates that its instructions give, refusal 15, the contents that it leaves, what it reads and what it writes
 -- (SPECIFICATION 4.7 to 4.10, 5; idle after "Equivalence Is In The Eye Of The Beholder", 2.5).
+use Rattle.std.specs.Prelude.{Option, None, Some}
 use Rattle.std.specs.Prelude.{Bool, true, false, ◌&&◌, ◌||◌, not, List, [], ◌∷◌, ◌++◌, ℕ, zero, suc, eqb, leb, length, get_or, if◌then◌else◌}
 use Rattle.text.specs.Words.{has, table, some_below, least}
 use Rattle.text.specs.Refusals.{clash}
-use Rattle.text.specs.declared.Found.{Found}
-use Rattle.text.specs.declared.Found.TheVariants.{Nowhere, Here}
 use Rattle.book.specs.Book.{true_element, Program, L, dynamic_at, default_at, concerns, reserve}
 use Rattle.engine.specs.declared.Instruction.{Instruction}
 use Rattle.engine.specs.declared.Instruction.TheVariants.{Update, Release}
@@ -162,9 +161,9 @@ pub data Moved : Type 0 where
   move_refused : ℕ → ℕ → Moved
 
 -- the move, unless a location clashes: then refusal 15 at it
-abbrev pub unless_clash : Found → Moved → Moved
-unless_clash Nowhere m = m
-unless_clash (Here l) m = move_refused clash l
+abbrev pub unless_clash : Option ℕ → Moved → Moved
+unless_clash None m = m
+unless_clash (Some l) m = move_refused clash l
 
 -- what the walk of a move comes to in the contents c: all terms are read in the contents before the move
 abbrev pub walked : Program → List ℕ → Input → Walked

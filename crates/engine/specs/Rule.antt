@@ -1,9 +1,8 @@
 -- Rules: the tree that a node stands for, and the walk that gives a move's instructions or meets one of refusals 11 to 14, 18 and 19
 -- (SPECIFICATION 4.2 to 4.6; Lipari Guide 3.1, 3.2, 4.1 and 5.3).
+use Rattle.std.specs.Prelude.{Option, None, Some}
 use Rattle.std.specs.Prelude.{Bool, true, false, ◌&&◌, ◌||◌, not, List, [], ◌∷◌, ◌++◌, ℕ, zero, suc, ◌-◌, eqb, ltb, leb, length, get_or, set, if◌then◌else◌}
 use Rattle.text.specs.Refusals.{non_boolean, not_releasable, no_label_left, list_full, not_in_universe, pick_count}
-use Rattle.text.specs.declared.Found.{Found}
-use Rattle.text.specs.declared.Found.TheVariants.{Nowhere, Here}
 use Rattle.book.specs.declared.Node.{Node}
 use Rattle.book.specs.Book.{true_element, false_element, boolean, relation, Program, location, reserve, function_at, node_at, agent_at}
 use Rattle.book.specs.Scopes.{most_depth}
@@ -140,18 +139,18 @@ each f (x ∷ xs) w = do
   after o (each f xs)
 
 -- the lowest label on the roll of the n elements from x on
-unfoldable pub lowest : ℕ → ℕ → Reader Found
+unfoldable pub lowest : ℕ → ℕ → Reader (Option ℕ)
 unfolding ◌>>=◌
-lowest x zero = done Nowhere
+lowest x zero = done None
 lowest x (suc n) = do
   v ← read (reserve x)
   let r = lowest (suc x) n
-  if eqb v true_element then done (Here x) else r
+  if eqb v true_element then done (Some x) else r
 
 -- an import at node n into the universe u, of the label found; refusal 13 if there is none. body is the walk of its c
-abbrev pub import_of : Program → ℕ → ℕ → Walk → (ℕ → Walk → Reader Walked) → Found → Reader Walked
-import_of B n u w body Nowhere = done (refused_at no_label_left n)
-import_of B n u w body (Here x) =
+abbrev pub import_of : Program → ℕ → ℕ → Walk → (ℕ → Walk → Reader Walked) → Option ℕ → Reader Walked
+import_of B n u w body None = done (refused_at no_label_left n)
+import_of B n u w body (Some x) =
     after (emit n (Update (reserve x) false_element) (take_label x w) then emit n (Update (location B u x 0) true_element)) (body x)
 
 -- Refusal 11: the function of the location term t is a relation, and v is no Boolean

@@ -1,8 +1,7 @@
 -- The single-move entry: a book, a contents table, an agent and its picks (SPECIFICATION 9.2).
+use Rattle.std.specs.Prelude.{Option, None, Some}
 use Rattle.std.specs.Prelude.{Bool, not, List, [], ◌++◌, ℕ, suc, min, ltb, leb, length, get_or, take, drop}
 use Rattle.text.specs.declared.Answer.{Answer}
-use Rattle.text.specs.declared.Found.{Found}
-use Rattle.text.specs.declared.Found.TheVariants.{Nowhere, Here}
 use Rattle.text.specs.Words.{least, Checked, good, refused, ◌>>=◌, ◌>>◌, none_at, must}
 use Rattle.text.specs.Refusals.{lent_short, contents_table, instructions_table, contents_rule, log_line}
 use Rattle.book.specs.Book.{Program, L}
@@ -30,9 +29,9 @@ abbrev pub pick_place : ℕ → ℕ
 pick_place j = min (suc j) most_place
 
 -- Refusal 9 at the place of the pick found, if one is found
-abbrev pub no_pick_at : Found → Checked (Unit {0})
-no_pick_at Nowhere = good tt
-no_pick_at (Here j) = refused log_line (pick_place j) 0
+abbrev pub no_pick_at : Option ℕ → Checked (Unit {0})
+no_pick_at None = good tt
+no_pick_at (Some j) = refused log_line (pick_place j) 0
 
 -- pick j of the list is no element
 abbrev pub bad_pick : Program → List ℕ → ℕ → Bool

@@ -1,4 +1,5 @@
 -- The search for a clash: the least of the instructions' own locations that clash is the least location that clashes.
+use Rattle.std.specs.Prelude.{Option, None, Some}
 use Rattle.std.specs.Prelude.{if◌then◌else◌}
 use mathlib.Core.Path.{◌≡◌, refl, sym, ap, ◌∙◌}
 use mathlib.Core.Bool.{Bool, true, false, ◌&&◌, ◌||◌, not, or-true}
@@ -9,8 +10,6 @@ use borrow.Author.Tests.{eqb-true, eqb-false, ltb-true, ltb-false, eq-eqb, ne_eq
 use lib.Dec.{eqb, ltb}
 use lib.ListN.{length}
 use Rattle.text.specs.Words.{has, least}
-use Rattle.text.specs.declared.Found.{Found}
-use Rattle.text.specs.declared.Found.TheVariants.{Nowhere, Here}
 use Rattle.text.proofs.Words.{refuted, or_no, least_none, least_all, least_here, has_append}
 use Rattle.book.specs.Book.{Program, L, default, place}
 use Rattle.book.specs.Sum.{Strided}
@@ -27,12 +26,12 @@ use Rattle.engine_clash.proofs.Laws.{own_value, given_strided}
 -- ---- tests
 
 -- a place at fault, below which none is, is the least
-pub least_is : (bad : ℕ → Bool) (n m : ℕ) → m < n → bad m ≡ true → ((l : ℕ) → l < m → bad l ≡ false) → Here m ≡ least bad n
+pub least_is : (bad : ℕ → Bool) (n m : ℕ) → m < n → bad m ≡ true → ((l : ℕ) → l < m → bad l ≡ false) → Some m ≡ least bad n
 least_is bad n m h e none = go (least bad n) refl
   where
-    go : (o : Found) → least bad n ≡ o → Here m ≡ o
-    go Nowhere q = let z : ◌≡◌ {A = ℕ} 0 1 = cc (sym (least_none bad n q m h) ∙ e) in absurd (omega arith)
-    go (Here i) q = ap Here (same (ltb m i) (ltb i m) refl refl)
+    go : (o : Option ℕ) → least bad n ≡ o → Some m ≡ o
+    go None q = let z : ◌≡◌ {A = ℕ} 0 1 = cc (sym (least_none bad n q m h) ∙ e) in absurd (omega arith)
+    go (Some i) q = ap Some (same (ltb m i) (ltb i m) refl refl)
       where
         same : (a b : Bool) → ltb m i ≡ a → ltb i m ≡ b → m ≡ i
         same true b p r = let z : ◌≡◌ {A = ℕ} 0 1 = cc (sym ((least_here bad n i q).2 m (ltb-true m i p)) ∙ e) in absurd (omega arith)
@@ -250,7 +249,7 @@ module _ (B : Program) (c : List ℕ) (all : List Instruction) where
     found = least_clash B c all all k
 
     -- a result below L is the least location that clashes
-    pub best_least : found < L B → Here found ≡ least (clashes all (updates B c all)) (length (updates B c all))
+    pub best_least : found < L B → Some found ≡ least (clashes all (updates B c all)) (length (updates B c all))
     best_least h =
         rw (length_updates B c all)
         (least_is (clashes all (updates B c all)) (L B) found h
@@ -258,7 +257,7 @@ module _ (B : Program) (c : List ℕ) (all : List Instruction) where
         (λ l e. clashes_at l (omega arith) ∙ refuted (Bad l) (λ b. omega (arith, best_here all k l (clash_clashes l b)))))
 
     -- if the result is not below L, no location clashes
-    pub best_none : L B ≤ found → Nowhere ≡ least (clashes all (updates B c all)) (length (updates B c all))
+    pub best_none : L B ≤ found → None ≡ least (clashes all (updates B c all)) (length (updates B c all))
     best_none h =
         rw (length_updates B c all)
         (sym (least_all (clashes all (updates B c all)) (L B)

@@ -1,7 +1,7 @@
 -- The updates of a list of instructions and their least clash (SPECIFICATION 4.7, 4.8).
+use Rattle.std.specs.Prelude.{Option}
 use Rattle.std.specs.Prelude.{List, ℕ, length}
 use Rattle.text.specs.Words.{least}
-use Rattle.text.specs.declared.Found.{Found}
 use Rattle.book.specs.Image.{low_program}
 use Rattle.engine.specs.Move.{updates, clashes}
 use Rattle.engine_instruction.specs.Code.{items}
@@ -11,5 +11,5 @@ abbrev pub updates_by : List ℕ → List ℕ → List ℕ → ℕ → List (Lis
 updates_by image c list n = updates (low_program image) c (items list n)
 
 -- the least location that clashes by the first n instructions of a list
-abbrev pub clash_by : List ℕ → List ℕ → List ℕ → ℕ → Found
+abbrev pub clash_by : List ℕ → List ℕ → List ℕ → ℕ → Option ℕ
 clash_by image c list n = least (clashes (items list n) (updates_by image c list n)) (length (updates_by image c list n))

@@ -1,4 +1,5 @@
 -- A move's effect, from how its walk ended and how it was finished.
+use Rattle.std.specs.Prelude.{Option, None, Some}
 use mathlib.Core.Path.{◌≡◌, refl, sym, ap, subst, ◌∙◌}
 use mathlib.Core.Bool.{Bool, true, false, ◌&&◌, ◌||◌}
 use mathlib.Core.List.{List, ◌++◌}
@@ -8,8 +9,6 @@ use borrow.Author.Tests.{ltb-false}
 use lib.Dec.{ltb}
 use lib.ListN.{length, get_or}
 use Rattle.engine.specs.declared.TalliedAnswer.{TalliedAnswer}
-use Rattle.text.specs.declared.Found.{Found}
-use Rattle.text.specs.declared.Found.TheVariants.{Nowhere, Here}
 use Rattle.text.specs.Words.{has, least}
 use Rattle.text.specs.Refusals.{clash}
 use Rattle.book.specs.Book.{Program}
@@ -97,7 +96,7 @@ module _ (B : Program) (i : Input) (bit at : ℕ) (c rs ws : List ℕ) (fit : Mo
       back = let p = fit.power in ap (bits_cleared bit) noted ∙ taken_back bit p.0 ls rs p.1 fit.unmarked
 
       -- firing adds marks for what it reads, which is what the definition says
-      rest : move B c i ≡ fires f → least (clashes f.instructions f.updates) (length f.updates) ≡ Nowhere
+      rest : move B c i ≡ fires f → least (clashes f.instructions f.updates) (length f.updates) ≡ None
           → read_marked bit B w.made c rs' ≡ marked_where bit (has f.reads) rs
       rest fired e =
           ap (marked bit (fire_reads B w.made c)) noted
@@ -108,11 +107,11 @@ module _ (B : Program) (i : Input) (bit at : ℕ) (c rs ws : List ℕ) (fit : Mo
           ∙ ap (λ (b : Bool). has ls k || b) (fire_reads_are B fit.lawful c fit.sound.long w.made e (λ x h. (fired_label B fit.lawful c fit.sound i f fired x h).1) k)
           ∙ sym (has_append ls (extra_reads B c w.made f.updates) k))
 
-      go : (x : Found) → least (clashes f.instructions f.updates) (length f.updates) ≡ x → MoveEffect B i bit at (tables c rs ws) r (tables c'' rs'' ws'')
-      go Nowhere e =
+      go : (x : Option ℕ) → least (clashes f.instructions f.updates) (length f.updates) ≡ x → MoveEffect B i bit at (tables c rs ws) r (tables c'' rs'' ws'')
+      go None e =
           let fired : move B c i ≡ fires f = same (walking w) rs' walks r c'' rs'' ws'' done ∙ rw e in
           ends (walking w) rs' walks r c'' rs'' ws'' done (fires f) (rw e) (fire_tally_is B fit.lawful c fit.sound i f fired) (rw (rest fired e, write_marked_is w.made))
-      go (Here l) e = ends (walking w) rs' walks r c'' rs'' ws'' done (move_refused clash l) (rw e) refl (rw back)
+      go (Some l) e = ends (walking w) rs' walks r c'' rs'' ws'' done (move_refused clash l) (rw e) refl (rw back)
 
 -- the effect of a move as the code has it: the walk, begun on t, left the tables c, rs and ws with its end s and the list l
 pub finished_effect : (B : Program) (i : Input) (bit at : ℕ) (t : Tables) (s : Progress) (l c rs ws : List ℕ) → AfterWalk B i bit t s l (tables c rs ws) → (r : TalliedAnswer) (u : Tables)

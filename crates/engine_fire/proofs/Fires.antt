@@ -1,4 +1,5 @@
 -- Firing: clearing the released labels one by one and then putting each instruction's own value is what the definitions say of each location.
+use Rattle.std.specs.Prelude.{None}
 use Rattle.std.specs.Prelude.{if◌then◌else◌}
 use mathlib.Core.Path.{◌≡◌, refl, sym, ap, ap₂, ◌∙◌}
 use mathlib.Core.Bool.{Bool, true, false, ◌&&◌, ◌||◌, not, or-true, or-false}
@@ -12,7 +13,6 @@ use lib.Arith.{bin_ind}
 use lib.ListN.{length, get_or, set, length-set}
 use lib.Seq.{get_or-set_other, ext_get_or}
 use Rattle.text.specs.Words.{least}
-use Rattle.text.specs.declared.Found.TheVariants.{Nowhere}
 use Rattle.text.proofs.Words.{or_no, least_none, set_at}
 use Rattle.book.specs.Book.{Program, L, true_element, default_at}
 use Rattle.book.specs.Sum.{Strided}
@@ -381,14 +381,14 @@ put_marks_at bit n (i ∷ is) ms l h =
 -- ---- clearing and putting together
 
 module _ (B : Program) (is : List Instruction) (c : List ℕ) where
-  pub unclashed : least (clashes is (updates B c is)) (length (updates B c is)) ≡ Nowhere → (l : ℕ) → l < L B → two_values (values B c l is) ≡ false
+  pub unclashed : least (clashes is (updates B c is)) (length (updates B c is)) ≡ None → (l : ℕ) → l < L B → two_values (values B c l is) ≡ false
   unfolding clashes
   unclashed h l k =
       let e = least_none (clashes is (updates B c is)) (length (updates B c is)) h l (omega (arith, length_updates B c is)) in
       rw (updates_at B c is l k) at (or_no (two_values (values_at (updates B c is) l)) (set_to_label (released is) l is) e).0
 
   -- the contents after a move that does not clash are what clearing and then putting leave
-  pub fired_is : Strided B → least (clashes is (updates B c is)) (length (updates B c is)) ≡ Nowhere → puts (L B) is (all_cleared B is c) ≡ fire (updates B c is) c
+  pub fired_is : Strided B → least (clashes is (updates B c is)) (length (updates B c is)) ≡ None → puts (L B) is (all_cleared B is c) ≡ fire (updates B c is) c
   fired_is ok h =
       let n : length (puts (L B) is (all_cleared B is c)) ≡ length c = length_puts (L B) is (all_cleared B is c) ∙ length_clears B is c in
       ext_get_or 0 (puts (L B) is (all_cleared B is c)) (fire (updates B c is) c) (n ∙ sym (fire_length (updates B c is) c))

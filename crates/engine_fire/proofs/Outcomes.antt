@@ -1,4 +1,5 @@
 -- A move whose walk met no refusal is settled: it clashes, or it fires.
+use Rattle.std.specs.Prelude.{None, Some}
 use mathlib.Core.Path.{◌≡◌, sym, ap, ◌∙◌}
 use mathlib.Core.List.{List}
 use Prim.Native.Nat.{ℕ, ◌<◌, ◌≤◌}
@@ -12,7 +13,6 @@ use Rattle.engine.specs.declared.Tally.{Tally}
 use Rattle.engine_instruction.specs.Code.{items}
 use Rattle.engine_clash.specs.LeastClash.{least_clash}
 use Rattle.engine_clash.proofs.Best.{best_least, best_none}
-use Rattle.text.specs.declared.Found.TheVariants.{Nowhere, Here}
 use Rattle.text.specs.Refusals.{clash}
 use Rattle.engine.specs.Move.{fires, move_refused, fire, fire_or_clash}
 use Rattle.engine.specs.Move as move
@@ -26,7 +26,7 @@ module _ (image list : List ℕ) (n bit : ℕ) (t : Tables) where
   abbrev f : List ℕ → move.Fired
   f ls = move_by image t.contents list n ls
 
-  pub clash_settled : (l : ℕ) → clash_by image t.contents list n ≡ Here l → Settled image list n bit t (Clash l) t
+  pub clash_settled : (l : ℕ) → clash_by image t.contents list n ≡ Some l → Settled image list n bit t (Clash l) t
   unfolding fire_or_clash
   clash_settled l e =
       record {
@@ -41,7 +41,7 @@ module _ (image list : List ℕ) (n bit : ℕ) (t : Tables) where
       q ls = rw e
 
   pub fire_settled :
-      clash_by image t.contents list n ≡ Nowhere → (k : Tally) → k ≡ fire_tally (low_program image) (items list n) t.contents → (u : Tables) →
+      clash_by image t.contents list n ≡ None → (k : Tally) → k ≡ fire_tally (low_program image) (items list n) t.contents → (u : Tables) →
       u.contents ≡ fire (updates_by image t.contents list n) t.contents →
       u.readers ≡ read_marked bit (low_program image) (items list n) t.contents t.readers →
       u.writers ≡ write_marked bit (length t.contents) (updates_by image t.contents list n) t.writers → Settled image list n bit t (Fired k) u
@@ -68,8 +68,8 @@ module _ (image c list : List ℕ) (n : ℕ) (k : ℕ) (high : L (low_program im
   is = items list n
 
   -- the search for a clash, begun from k, gives r
-  pub clash_at : (r : ℕ) → r ≡ least_clash B c is is k → r < L B → clash_by image c list n ≡ Here r
-  clash_at r q h = sym (best_least B c is k high ok (omega (arith, q, h))) ∙ ap Here (sym q)
+  pub clash_at : (r : ℕ) → r ≡ least_clash B c is is k → r < L B → clash_by image c list n ≡ Some r
+  clash_at r q h = sym (best_least B c is k high ok (omega (arith, q, h))) ∙ ap Some (sym q)
 
-  pub clash_none : (r : ℕ) → r ≡ least_clash B c is is k → L B ≤ r → clash_by image c list n ≡ Nowhere
+  pub clash_none : (r : ℕ) → r ≡ least_clash B c is is k → L B ≤ r → clash_by image c list n ≡ None
   clash_none r q h = sym (best_none B c is k high ok (omega (arith, q, h)))

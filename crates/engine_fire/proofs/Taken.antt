@@ -1,4 +1,5 @@
 -- What firing reads, step by step, is what the definition says that a fired move reads beside what its walk reads.
+use Rattle.std.specs.Prelude.{None}
 use Rattle.std.specs.Prelude.{if◌then◌else◌}
 use mathlib.Core.Path.{◌≡◌, refl, sym, ap, ◌∙◌}
 use mathlib.Core.Logic.{◌⊎◌, inl, inr, dite, ◌≢◌}
@@ -12,7 +13,6 @@ use borrow.Author.Tests.{eqb-true, eq-eqb, ne_eqb, ltb-true, ltb-false, lt-ltb}
 use lib.Dec.{eqb, ltb}
 use lib.ListN.{length, get_or, set}
 use Rattle.text.specs.Words.{has, least}
-use Rattle.text.specs.declared.Found.TheVariants.{Nowhere}
 use Rattle.text.proofs.Words.{and_cases, or_cases, has_append, set_at, both_ways}
 use Rattle.book.specs.Book.{Program, L, true_element, dynamic_at, default_at, concerns, place}
 use Rattle.book.specs.Sound.{Lawful}
@@ -211,7 +211,7 @@ module _ (P n : ℕ) (w : ℕ → ℕ) where
 -- ---- clearing and putting together
 
 module _ (B : Program) (ok : Lawful B) (c : List ℕ) (long : length c ≡ L B) (is : List Instruction)
-    (fired : least (clashes is (updates B c is)) (length (updates B c is)) ≡ Nowhere)
+    (fired : least (clashes is (updates B c is)) (length (updates B c is)) ≡ None)
     (labels : (x : ℕ) → has (released is) x ≡ true → x < B.E) where
   -- the value that a location is given, or keeps
   abbrev new : ℕ → ℕ

@@ -1,8 +1,8 @@
 -- What becomes of a move whose walk met no refusal: refusal 15, or the contents and the marks after, and the label tally (SPECIFICATION 4.8, 4.9, 4.11,
 -- 5.2).
+use Rattle.std.specs.Prelude.{None}
 use Rattle.std.specs.Prelude.{◌≡◌, ◌&&◌, List, ℕ, ltb, length}
 use Rattle.text.specs.Refusals.{clash}
-use Rattle.text.specs.declared.Found.TheVariants.{Nowhere}
 use Rattle.book.specs.Book.{Program}
 use Rattle.book.specs.Sum.{Strided}
 use Rattle.book.specs.Image.{low_program}
@@ -70,7 +70,7 @@ readers_after bit B c rs (move_refused k q) = rs
 
 -- the contents d are those after the move of the first n of a list in the contents c, if each function has the stride of its arity and no location clashes
 abbrev pub FiresTo : List ℕ → List ℕ → List ℕ → ℕ → List ℕ → Type 0
-FiresTo image c list n d = Strided (low_program image) → clash_by image c list n ≡ Nowhere → d ≡ fire (updates_by image c list n) c
+FiresTo image c list n d = Strided (low_program image) → clash_by image c list n ≡ None → d ≡ fire (updates_by image c list n) c
 
 -- the move of the first n of a list, whatever its walk read, is settled: how, with which tally, and what it leaves of the tables t
 pub record Settled (image list : List ℕ) (n bit : ℕ) (t : Tables) (r : Outcome) (u : Tables) : Type 0 where

@@ -1,8 +1,7 @@
 -- What a search among the elements gives, and what a universe read at all elements marks.
+use Rattle.std.specs.Prelude.{Option, None, Some}
 use Rattle.std.specs.Prelude.{Bool, List, [], ◌∷◌, ℕ, zero, suc, ◌+◌, ◌-◌, eqb, ltb, get_or, if◌then◌else◌}
 use Rattle.text.specs.Words.{table_from}
-use Rattle.text.specs.declared.Found.{Found}
-use Rattle.text.specs.declared.Found.TheVariants.{Nowhere, Here}
 use Rattle.book.specs.declared.Function.{Function}
 use Rattle.book.specs.Book.{Program, true_element, dynamic}
 use Rattle.engine.specs.Reader.{value_in}
@@ -10,8 +9,8 @@ use Rattle.engine.specs.Rule.{members}
 use Rattle.engine_term.specs.Marks.{marked}
 
 -- a search below e came to x, which is e if nothing was found
-abbrev pub found_below : ℕ → ℕ → Found
-found_below e x = if ltb x e then Here x else Nowhere
+abbrev pub found_below : ℕ → ℕ → Option ℕ
+found_below e x = if ltb x e then Some x else None
 
 -- ---- universes
 

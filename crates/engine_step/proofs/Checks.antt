@@ -1,4 +1,5 @@
 -- Refusals 9, 2 and 8 of a single-move call: what each check answers, what they answer in turn, and what they show when all pass.
+use Rattle.std.specs.Prelude.{None, Some}
 use mathlib.Core.Path.{◌≡◌, sym, ap, ◌∙◌}
 use mathlib.Core.Logic.{◌≢◌}
 use mathlib.Core.List.{List}
@@ -10,7 +11,6 @@ use lib.ListN.{length, take}
 use lib.Seq.{take_all}
 use borrow.Author.Tests.{ltb-true, leb-true, lt-ltb, le-ltb, le-leb, lt-leb}
 use Rattle.text.specs.declared.Answer.{Answer}
-use Rattle.text.specs.declared.Found.TheVariants.{Nowhere, Here}
 use Rattle.text.specs.Words.{Checked, good, refused, ◌>>◌, none_at, must, answer_of, least}
 use Rattle.text.proofs.Words.{then_good, test_good}
 use Rattle.book.specs.Book.{Program, L}
@@ -35,11 +35,11 @@ module _ (B : Program) (k : ℕ) where
   agent_missing h = rw (le-ltb k (length B.agents) h)
 
 module _ (B : Program) (ys : List ℕ) where
-  pub pick_bad : (j : ℕ) → Here j ≡ least (bad_pick B ys) (length ys) → Refusal 9 (pick_place j) 0 ≡ answer_of (check_picks B ys)
+  pub pick_bad : (j : ℕ) → Some j ≡ least (bad_pick B ys) (length ys) → Refusal 9 (pick_place j) 0 ≡ answer_of (check_picks B ys)
   unfolding check_picks
   pick_bad j e = rw (← e)
 
-  pub picks_fine : Nowhere ≡ least (bad_pick B ys) (length ys) → Refusal 0 0 0 ≡ answer_of (check_picks B ys)
+  pub picks_fine : None ≡ least (bad_pick B ys) (length ys) → Refusal 0 0 0 ≡ answer_of (check_picks B ys)
   unfolding check_picks
   picks_fine e = rw (← e)
 
@@ -57,11 +57,11 @@ module _ (locations : ℕ) (c : List ℕ) (n : ℕ) where
   both_lent h g = rw (le-leb locations (length c) h, le-leb 256 n g)
 
 module _ (B : Program) (c : List ℕ) where
-  pub value_bad : (l : ℕ) → least (bad_value B c) (L B) ≡ Here l → Refusal 8 l 0 ≡ answer_of (check_contents B c)
+  pub value_bad : (l : ℕ) → least (bad_value B c) (L B) ≡ Some l → Refusal 8 l 0 ≡ answer_of (check_contents B c)
   unfolding check_contents none_at
   value_bad l e = rw (e, zero-add l)
 
-  pub values_fine : least (bad_value B c) (L B) ≡ Nowhere → Refusal 0 0 0 ≡ answer_of (check_contents B c)
+  pub values_fine : least (bad_value B c) (L B) ≡ None → Refusal 0 0 0 ≡ answer_of (check_contents B c)
   unfolding check_contents none_at
   values_fine e = rw e
 

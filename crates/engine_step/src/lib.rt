@@ -16,7 +16,7 @@ use book::Image;
 use engine::{Pick, Record, Work};
 use engine_emit::Progress;
 use engine_fire::Begun;
-use text::{Answer, Found, Value};
+use text::{Answer, Value};
 
 // The place of pick j: its index + 1, but no more than C's one number holds.
 fn place_of(j: usize) -> u32
@@ -77,8 +77,8 @@ fn check_contents(image: &Image, contents: &[Value]) -> Answer
     let n = text::smaller(book_image::locations(image) as usize, contents.len());
     let found = contents_check::bad_value(image, &contents[..n]);
     match found {
-        Found::Here(l) => text::answer_at(text::CONTENTS_RULE, l, 0),
-        Found::Nowhere => text::answer_at(0, 0, 0),
+        Some(l) => text::answer_at(text::CONTENTS_RULE, l, 0),
+        None => text::answer_at(0, 0, 0),
     }
 }
 

@@ -1,4 +1,5 @@
 -- Laws of a walk's steps: bindingss, and the rules one by one.
+use Rattle.std.specs.Prelude.{None, Some}
 use Rattle.std.specs.Prelude.{if◌then◌else◌}
 use mathlib.Core.Path.{◌≡◌, refl, sym, ap, ◌∙◌}
 use mathlib.Core.Logic.{dite, inl, inr}
@@ -12,7 +13,6 @@ use lib.ListN.{set, take, length-take}
 use lib.Seq.{take-set-lt, set_out, get_or-set_other}
 use borrow.Author.Tests.{lt-ltb, le-ltb}
 use Rattle.text.specs.Refusals.{no_label_left, not_in_universe, pick_count}
-use Rattle.text.specs.declared.Found.TheVariants.{Nowhere, Here}
 use Rattle.book.specs.declared.Node.{Node}
 use Rattle.book.specs.Book.{Program, location}
 use Rattle.engine.specs.Reader.{Reader, done, value_in, ◌>>=◌}
@@ -105,7 +105,7 @@ pub import_as : (B : Program) (n u x : ℕ) (w : Walk) (body : ℕ → Walk → 
     → import_of B n u w body (found_below B.E x) ≡ after (importing_found B.E (location B u x 0) x n w) (body x)
 import_as B n u x w body = go (ltb x B.E)
   where
-    go : (b : Bool) → import_of B n u w body (if b then Here x else Nowhere) ≡ after (if b then importing (location B u x 0) x n w else refused_at no_label_left n) (body x)
+    go : (b : Bool) → import_of B n u w body (if b then Some x else None) ≡ after (if b then importing (location B u x 0) x n w else refused_at no_label_left n) (body x)
     go true = refl
     go false = refl
 

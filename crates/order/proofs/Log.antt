@@ -1,4 +1,5 @@
 -- What a log that passes its checks has.
+use Rattle.std.specs.Prelude.{None}
 use Rattle.std.specs.Prelude.{if◌then◌else◌}
 use mathlib.Core.Path.{◌≡◌, ap, subst, ◌∙◌}
 use mathlib.Core.Logic.{◌⊎◌, inl, inr, dite}
@@ -11,7 +12,6 @@ use borrow.Author.Tests.{eqb-true, ltb-true, leb-true, not-false}
 use lib.Dec.{eqb, ltb, leb}
 use lib.ListN.{length}
 use Rattle.text.specs.declared.Line.{Line}
-use Rattle.text.specs.declared.Found.TheVariants.{Nowhere}
 use Rattle.text.specs.Words.{has, table_from, least, good, ◌>>◌, none_at}
 use Rattle.text.specs.Refusals.{ill_formed, log_text, log_line}
 use Rattle.text.specs.Text.{bad_line, line}
@@ -111,8 +111,8 @@ input_at h text i = input_of (line text (1 + i)) (picks_of (choices_of h text) i
 
 module _ (A E : ℕ) (h : Line) (text : List ℕ) (u : Unit {0}) (e : check_log_lines A E h text ≡ good u) where
   -- no line of the log is at fault
-  no_fault : (least (bad_move_at A text) h.a ≡ Nowhere) × (least (bad_pair_at h.a text) h.b ≡ Nowhere)
-      × (least (bad_choice_at E h.a (h.a + h.b) text) h.c ≡ Nowhere)
+  no_fault : (least (bad_move_at A text) h.a ≡ None) × (least (bad_pair_at h.a text) h.b ≡ None)
+      × (least (bad_choice_at E h.a (h.a + h.b) text) h.c ≡ None)
   unfolding check_log_lines
   no_fault =
       let moves = least (bad_move_at A text) h.a in

@@ -1,12 +1,11 @@
 -- The least pair of moves that passes a test is found.
+use Rattle.std.specs.Prelude.{Option, None, Some}
 use mathlib.Core.Path.{◌≡◌, refl, sym, ap, ◌∙◌}
 use mathlib.Core.Logic.{◌↔◌, ◌⊎◌, inl, inr, dite}
 use mathlib.Core.Bool.{Bool, true, false, true≢false}
 use Prim.Native.Nat.{ℕ, zero, suc, ◌+◌, ◌≤◌, ◌<◌}
 use native.Mathlib.Omega.{arith}
 use native.Mathlib.Decide.{ℕ_discrete, dec_lt}
-use Rattle.text.specs.declared.Found.{Found}
-use Rattle.text.specs.declared.Found.TheVariants.{Nowhere, Here}
 use Rattle.text.specs.Words.{least_from}
 use Rattle.text.proofs.Words.{least_from_none, least_from_here}
 use Rattle.order.specs.Pairs.{PairFound, no_pair, a_pair, or_else, least_pair_from, least_pair}
@@ -23,8 +22,8 @@ module _ (f : ℕ → ℕ → Bool) where
   two_is i zero = λ x y a b d. absurd (omega arith)
   two_is i (suc n) = go (least_from (f i) n (suc i)) (least_pair_from f (suc i) n) refl (two_is (suc i) n)
     where
-      go : (o : Found) (r : PairFound) → least_from (f i) n (suc i) ≡ o → Two (suc i) n r → Two i (suc n) (or_else i o r)
-      go (Here b) r q h = the_first
+      go : (o : Option ℕ) (r : PairFound) → least_from (f i) n (suc i) ≡ o → Two (suc i) n r → Two i (suc n) (or_else i o r)
+      go (Some b) r q h = the_first
         where
           found : (suc i ≤ b) × (b < suc i + n) × (f i b ≡ true) × ((y : ℕ) → suc i ≤ y → y < b → f i y ≡ false)
           found = least_from_here (f i) n (suc i) b q
@@ -39,10 +38,10 @@ module _ (f : ℕ → ℕ → Bool) where
 
           the_first : Two i (suc n) (a_pair i b)
           the_first = (omega arith, omega (arith, found.0), omega (arith, found.1), found.2, least)
-      go Nowhere no_pair p h = λ x y a d e. dite (ℕ_discrete x i)
+      go None no_pair p h = λ x y a d e. dite (ℕ_discrete x i)
           (λ k. ap (λ (v : ℕ). f v y) k ∙ least_from_none (f i) n (suc i) p y (omega arith) (omega arith))
           (λ k. h x y (omega arith) d (omega arith))
-      go Nowhere (a_pair u v) p (b0, b1, b2, b3, low) = (
+      go None (a_pair u v) p (b0, b1, b2, b3, low) = (
         omega arith,
         b1,
         omega arith,

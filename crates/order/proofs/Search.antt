@@ -1,10 +1,10 @@
 -- The least pair of moves by loops, and by tests that agree.
+use Rattle.std.specs.Prelude.{None, Some}
 use mathlib.Core.Path.{◌≡◌, refl, sym, ◌∙◌}
 use mathlib.Core.Bool.{Bool}
 use Prim.Native.Nat.{ℕ, suc, ◌+◌, ◌-◌, ◌≤◌, ◌<◌}
 use native.Mathlib.Numerals.{add-one}
 use native.Mathlib.Omega.{arith}
-use Rattle.text.specs.declared.Found.TheVariants.{Nowhere, Here}
 use Rattle.text.specs.Words.{least_from}
 use Rattle.order.specs.Pairs.{PairFound, no_pair, a_pair, or_else, least_pair_from, least_pair}
 use Rattle.order.proofs.Pairs.{Passing, two_none, two_least}
@@ -37,12 +37,12 @@ module _ (f : ℕ → ℕ → Bool) (m : ℕ) where
   two_at i h = let e : m - i ≡ suc (m - (i + 1)) = omega arith in rw (e, add-one i)
 
   -- a first move without a second is passed over
-  pub two_pass : (i : ℕ) → i < m → least_from (f i) (m - (i + 1)) (i + 1) ≡ Nowhere → least_pair_from f i (m - i) ≡ least_pair f m
+  pub two_pass : (i : ℕ) → i < m → least_from (f i) (m - (i + 1)) (i + 1) ≡ None → least_pair_from f i (m - i) ≡ least_pair f m
       → least_pair_from f (i + 1) (m - (i + 1)) ≡ least_pair f m
   two_pass i h e p = sym (two_at i h ∙ rw e) ∙ p
 
   -- the first move that has a second is that of the least pair
-  pub two_stop : (i j : ℕ) → i < m → least_from (f i) (m - (i + 1)) (i + 1) ≡ Here j → least_pair_from f i (m - i) ≡ least_pair f m → least_pair f m ≡ a_pair i j
+  pub two_stop : (i j : ℕ) → i < m → least_from (f i) (m - (i + 1)) (i + 1) ≡ Some j → least_pair_from f i (m - i) ≡ least_pair f m → least_pair f m ≡ a_pair i j
   two_stop i j h e p = sym p ∙ two_at i h ∙ rw e
 
   -- if all first moves were passed over, there is no pair

@@ -1,10 +1,9 @@
 -- The order that follows from a log's pairs by chaining, and the least pair of moves that passes a test
 -- (SPECIFICATION 6.4, 6.5, 7.3).
+use Rattle.std.specs.Prelude.{Option, None, Some}
 use Rattle.std.specs.Prelude.{Bool, List, [], ◌∷◌, ◌++◌, ℕ, zero, suc, eqb, get_or, if◌then◌else◌}
 use Rattle.std.specs.Int.Bits.{bit_or}
 use Rattle.text.specs.Words.{least_from, Checked, good, refused}
-use Rattle.text.specs.declared.Found.{Found}
-use Rattle.text.specs.declared.Found.TheVariants.{Nowhere, Here}
 use Rattle.order.specs.Sets.{bit, with_move}
 
 -- a pair of a log: move `earlier` comes before move `later`
@@ -38,9 +37,9 @@ pub data PairFound : Type 0 where
   a_pair : ℕ → ℕ → PairFound
 
 -- the pair of i and the second move found, or else r
-abbrev pub or_else : ℕ → Found → PairFound → PairFound
-or_else i Nowhere r = r
-or_else i (Here j) r = a_pair i j
+abbrev pub or_else : ℕ → Option ℕ → PairFound → PairFound
+or_else i None r = r
+or_else i (Some j) r = a_pair i j
 
 -- the least pair that passes the test f and whose first move is one of the n from i on
 unfoldable pub least_pair_from : (ℕ → ℕ → Bool) → ℕ → ℕ → PairFound

@@ -1,4 +1,5 @@
 -- The loop over the lines of one kind: what holds when i of them are read and put into a table.
+use Rattle.std.specs.Prelude.{Option, None, Some}
 use Rattle.std.specs.Prelude.{if◌then◌else◌}
 use mathlib.Core.Path.{◌≡◌, refl, sym, ap, ◌∙◌}
 use mathlib.Core.Logic.{dite, ◌≢◌}
@@ -12,8 +13,6 @@ use borrow.Author.Tests.{eq-eqb, ne_eqb}
 use lib.ListN.{set}
 use Rattle.text.specs.declared.Line.{Line}
 use Rattle.text.specs.declared.Parsed.{Parsed}
-use Rattle.text.specs.declared.Found.{Found}
-use Rattle.text.specs.declared.Found.TheVariants.{Nowhere, Here}
 use Rattle.text.specs.Words.{table_from, table, least_from, least}
 use Rattle.text.specs.Text.{bad_line, line, parsed}
 use Rattle.text.proofs.Fields.{parsed_line}
@@ -30,19 +29,19 @@ module _ (text : List ℕ) (k n : ℕ) (bad : Line → Line → ℕ → Bool) (r
   abbrev pub bad_at : ℕ → Bool
   bad_at i = bad (line text (k + i)) (line text (1 + k + i)) i
 
-  pub record Turned (i : ℕ) (t : List ℕ) (last : Line) (found : Found) : Type 0 where
+  pub record Turned (i : ℕ) (t : List ℕ) (last : Line) (found : Option ℕ) : Type 0 where
     pub ill : least_from (bad_line text) (n - i) (1 + k + i) ≡ least_from (bad_line text) n (1 + k)
     pub before : 0 < i → last ≡ line text (k + i)
     pub fault : found ≡ shifted (1 + k) (least bad_at i)
-    pub order : found ≡ Nowhere → rest i t ≡ rest 0 s
+    pub order : found ≡ None → rest i t ≡ rest 0 s
 
-  pub turned_start : (l : Line) → Turned 0 s l Nowhere
+  pub turned_start : (l : Line) → Turned 0 s l None
   unfolding least_from
   turned_start l = record { ill = part_start (bad_line text) (1 + k) n; before = λ h. absurd (omega arith); fault = refl; order = λ z. refl }
 
-  module _ (i : ℕ) (t : List ℕ) (last : Line) (found : Found) (w : Turned i t last found) where
+  module _ (i : ℕ) (t : List ℕ) (last : Line) (found : Option ℕ) (w : Turned i t last found) where
     module _ (h : i < n) (p : Parsed) (is : p ≡ parsed text (1 + k + i)) where
-      pub turned_stop : p.ok ≡ false → KindRead text k n bad_at (rest 0 s) t (record { ill = Here (1 + k + i); fault = found })
+      pub turned_stop : p.ok ≡ false → KindRead text k n bad_at (rest 0 s) t (record { ill = Some (1 + k + i); fault = found })
       turned_stop e = record {
         ill = part_stop (bad_line text) (1 + k) n i h (line_bad text (1 + k + i) p is e) w.ill;
         fault = λ z. found_some z;
@@ -50,8 +49,8 @@ module _ (text : List ℕ) (k n : ℕ) (bad : Line → Line → ℕ → Bool) (r
       }
 
       -- one line more is read and put in, v being the table with it; the first line has none before it
-      pub turned_turn : ((j l : Line) → bad j l 0 ≡ bad (line text (k + 0)) l 0) → p.ok ≡ true → (b : Bool) → b ≡ bad last p.line i → (r : Found)
-          → r ≡ first_found found (if b then Here (1 + k + i) else Nowhere) → (u v : List ℕ) → u ≡ (if b then t else v)
+      pub turned_turn : ((j l : Line) → bad j l 0 ≡ bad (line text (k + 0)) l 0) → p.ok ≡ true → (b : Bool) → b ≡ bad last p.line i → (r : Option ℕ)
+          → r ≡ first_found found (if b then Some (1 + k + i) else None) → (u v : List ℕ) → u ≡ (if b then t else v)
           → (p.line ≡ line text (1 + k + i) → rest (i + 1) v ≡ rest i t) → Turned (i + 1) u p.line r
       turned_turn first e b f r g u v q turn = record {
         ill = part_pass (bad_line text) (1 + k) n i h (line_good text (1 + k + i) p is e) w.ill;
@@ -69,7 +68,7 @@ module _ (text : List ℕ) (k n : ℕ) (bad : Line → Line → ℕ → Bool) (r
           same : bad last (line text (1 + k + i)) i ≡ bad (line text (k + i)) (line text (1 + k + i)) i
           same = dite (ℕ_discrete i 0) (λ (z : i ≡ 0). rw z (first last (line text (1 + k + 0)))) (λ (z : i ≢ 0). rw (w.before (omega arith)))
 
-    pub turned_end : i ≡ n → rest i t ≡ t → KindRead text k n bad_at (rest 0 s) t (record { ill = Nowhere; fault = found })
+    pub turned_end : i ≡ n → rest i t ≡ t → KindRead text k n bad_at (rest 0 s) t (record { ill = None; fault = found })
     turned_end e last = record {
       ill = part_end (bad_line text) (1 + k) n i (omega arith) w.ill;
       fault = λ z. w.fault ∙ rw e;

@@ -1,4 +1,5 @@
 -- Choices that are not at fault, put in one after the other: each move then has its own picks, since the choices ascend by their move.
+use Rattle.std.specs.Prelude.{None}
 use Rattle.std.specs.Prelude.{if◌then◌else◌}
 use mathlib.Core.Path.{◌≡◌, refl, sym, ap, ◌∙◌}
 use mathlib.Core.Logic.{◌⊎◌, inl, inr, dite, ◌≢◌}
@@ -11,7 +12,6 @@ use borrow.Author.Tests.{eqb-true, leb-true, eq-eqb, ne_eqb}
 use lib.Dec.{eqb, leb}
 use lib.ListN.{length, get_or, set, take, drop, length-set}
 use lib.Seq.{get_or-set_same, get_or-set_other, drop-cons}
-use Rattle.text.specs.declared.Found.TheVariants.{Nowhere}
 use Rattle.text.specs.Words.{table_from, table, least}
 use Rattle.text.specs.Text.{line}
 use Rattle.text.proofs.Words.{or_cases, least_none}
@@ -231,7 +231,7 @@ module _
 -- ---- the choice lines of a log
 
 -- n choice lines, none at fault
-module _ (E m k : ℕ) (text : List ℕ) (n : ℕ) (none : least (bad_choice_at E m k text) n ≡ Nowhere) where
+module _ (E m k : ℕ) (text : List ℕ) (n : ℕ) (none : least (bad_choice_at E m k text) n ≡ None) where
   abbrev f : ℕ → Choice
   f = choice_at k text
 

@@ -1,7 +1,6 @@
 -- What reading the lines of one kind finds, and the choices as they are put into the table of a log (SPECIFICATION 6.2, 6.3).
+use Rattle.std.specs.Prelude.{Option, None, Some}
 use Rattle.std.specs.Prelude.{◌≡◌, Bool, List, [], ◌∷◌, ℕ, suc, ◌+◌, eqb, set, if◌then◌else◌}
-use Rattle.text.specs.declared.Found.{Found}
-use Rattle.text.specs.declared.Found.TheVariants.{Nowhere, Here}
 use Rattle.text.specs.Words.{table, least_from, least}
 use Rattle.text.specs.Text.{bad_line}
 use Rattle.order.specs.Log.{Choice, choice_at, bad_choice_at}
@@ -11,22 +10,22 @@ use Rattle.text.specs.declared.LineFaults.{LineFaults}
 -- ---- places
 
 -- the first place, if there is one, or else the second
-abbrev pub first_found : Found → Found → Found
-first_found Nowhere b = b
-first_found (Here p) b = Here p
+abbrev pub first_found : Option ℕ → Option ℕ → Option ℕ
+first_found None b = b
+first_found (Some p) b = Some p
 
 -- the place found, counted from k on
-abbrev pub shifted : ℕ → Found → Found
-shifted k Nowhere = Nowhere
-shifted k (Here p) = Here (k + p)
+abbrev pub shifted : ℕ → Option ℕ → Option ℕ
+shifted k None = None
+shifted k (Some p) = Some (k + p)
 
 -- ---- lines of one kind
 
 -- the n lines after line k are read, `bad` saying which of them are at fault: r has what is found, and if nothing is, the table t is u
 pub record KindRead (text : List ℕ) (k n : ℕ) (bad : ℕ → Bool) (u t : List ℕ) (r : LineFaults) : Type 0 where
   pub ill : r.ill ≡ least_from (bad_line text) n (1 + k)
-  pub fault : r.ill ≡ Nowhere → r.fault ≡ shifted (1 + k) (least bad n)
-  pub order : r.ill ≡ Nowhere → r.fault ≡ Nowhere → t ≡ u
+  pub fault : r.ill ≡ None → r.fault ≡ shifted (1 + k) (least bad n)
+  pub order : r.ill ≡ None → r.fault ≡ None → t ≡ u
 
 -- ---- the choices
 

@@ -6,26 +6,26 @@ ghost use Rattle.order.specs.Log.{bad_choice};
 ghost use Rattle.order_lines.specs.Lines.{first_found, pick_put, ChoiceLinesRead};
 
 use order::OrderTable;
-use text::{Found, Line, LineFaults};
+use text::{Line, LineFaults};
 
 // The first place, if there is one, or else the second.
-pub fn first_found(a: Found, b: Found) -> Found
+pub fn first_found(a: Option<u32>, b: Option<u32>) -> Option<u32>
     ensures { result ≡ first_found a b }
 {
     match a {
-        Found::Nowhere => b,
-        Found::Here(p) => Found::Here(p),
+        None => b,
+        Some(p) => Some(p),
     }
 }
 
 // The place found before, or else p if that is at fault.
-pub fn or_here(found: Found, bad: bool, p: u32) -> Found
-    ensures { result ≡ first_found found (if bad then Found.Here p else Found.Nowhere) }
+pub fn or_here(found: Option<u32>, bad: bool, p: u32) -> Option<u32>
+    ensures { result ≡ first_found found (if bad then Some p else None) }
 {
     if bad {
-        return first_found(found, Found::Here(p));
+        return first_found(found, Some(p));
     }
-    first_found(found, Found::Nowhere)
+    first_found(found, None)
 }
 
 // Refusal 9: choice line i, of m moves, is at fault in a book of so many elements; k is the line before it.
@@ -68,14 +68,14 @@ fn read_bounded(
         c: 0,
         d: 0,
     };
-    let mut fault = Found::Nowhere;
+    let mut fault = None;
     let mut i: u32 = 0;
     while i < n {
         let read = text::parse(log, 1 + k + i);
         let l = read.line;
         if !read.ok {
             return LineFaults {
-                ill: Found::Here(1 + k + i),
+                ill: Some(1 + k + i),
                 fault: fault,
             };
         }
@@ -86,7 +86,7 @@ fn read_bounded(
         i += 1;
     }
     LineFaults {
-        ill: Found::Nowhere,
+        ill: None,
         fault: fault,
     }
 }

@@ -1,4 +1,5 @@
 -- The check of a log from what its lines are: what it answers, and what it leaves of a log that passes.
+use Rattle.std.specs.Prelude.{Option, None, Some}
 use Rattle.std.specs.Prelude.{if◌then◌else◌}
 use mathlib.Core.Path.{◌≡◌, refl, sym, ap, subst, ◌∙◌}
 use mathlib.Core.Logic.{◌≢◌}
@@ -11,8 +12,6 @@ use lib.ListN.{length}
 use Rattle.text.specs.declared.Line.{Line}
 use Rattle.text.specs.declared.Parsed.{Parsed}
 use Rattle.text.specs.declared.Answer.{Answer}
-use Rattle.text.specs.declared.Found.{Found}
-use Rattle.text.specs.declared.Found.TheVariants.{Nowhere, Here}
 use Rattle.text.specs.Words.{least_from, least, Checked, good, refused, ◌>>=◌, ◌>>◌, none_at, must, answer_of}
 use Rattle.text.specs.Refusals.{ill_formed, log_text, log_line}
 use Rattle.text.specs.Text.{line_length, well_formed, line_bytes, bad_line, line, parsed}
@@ -52,10 +51,10 @@ module _ {A : Type 0} (g : A) (l : Checked (Unit {0})) where
   regroup (refused n p q) d = refl
 
 -- a last check that only matters where nothing was found before it may be exchanged
-last_part : (n q : ℕ) (o : Found) (d l m : Checked (Unit {0})) → (o ≡ Nowhere → l ≡ m) → answer_of (none_at n 0 q o >> (d >> l)) ≡ answer_of (none_at n 0 q o >> (d >> m))
+last_part : (n q : ℕ) (o : Option ℕ) (d l m : Checked (Unit {0})) → (o ≡ None → l ≡ m) → answer_of (none_at n 0 q o >> (d >> l)) ≡ answer_of (none_at n 0 q o >> (d >> m))
 unfolding ◌>>◌ none_at
-last_part n q Nowhere d l m f = rw (f refl)
-last_part n q (Here p) d l m f = refl
+last_part n q None d l m f = rw (f refl)
+last_part n q (Some p) d l m f = refl
 
 -- ---- the header
 
@@ -66,7 +65,7 @@ both_pass true false z = let x : ◌≡◌ {A = ℕ} 9 0 = z in absurd (omega ar
 both_pass false c z = let x : ◌≡◌ {A = ℕ} 1 0 = z in absurd (omega arith)
 
 module _ (text : List ℕ) where
-  first_line : least (bad_line text) 1 ≡ (if not (well_formed (line_bytes text 0)) then Here 0 else Nowhere)
+  first_line : least (bad_line text) 1 ≡ (if not (well_formed (line_bytes text 0)) then Some 0 else None)
   unfolding least_from
   first_line = refl
 
@@ -76,7 +75,7 @@ module _ (text : List ℕ) where
     header_as = rw (first_line, ← parsed_ok text 0 p is) (go p.ok refl)
       where
         go : (b : Bool) → p.ok ≡ b
-            → (none_at ill_formed 0 log_text (if not b then Here 0 else Nowhere) >> (must (log_header_ok (line text 0)) log_line 0 0 >> good (line text 0)))
+            → (none_at ill_formed 0 log_text (if not b then Some 0 else None) >> (must (log_header_ok (line text 0)) log_line 0 0 >> good (line text 0)))
             ≡ ((must b ill_formed 0 log_text >> must (log_header_ok p.line) log_line 0 0) >> good p.line)
         go true e = rw (parsed_line text 0 p is e)
         go false e = refl
@@ -115,7 +114,7 @@ module _
     all_ill : least (bad_line text) (log_lines h) ≡ found.ill
     all_ill =
         let z : log_lines h ≡ 1 + (h.a + h.b + h.c) = omega arith in
-        let first : least (bad_line text) 1 ≡ Nowhere = first_line text ∙ rw formed in
+        let first : least (bad_line text) 1 ≡ None = first_line text ∙ rw formed in
         rw z (least_split (bad_line text) 1 (h.a + h.b + h.c) 0 ∙ rw (first, w.ill))
 
     lines_answer : answer_of (lines_checked (length text) (log_lines h) found.ill found.fault) ≡ answer_of (read_log A E text)
@@ -127,12 +126,12 @@ module _
         ∙ rw all_ill (last_part ill_formed log_text found.ill long (check_log_lines A E h text) (none_at log_line 0 0 found.fault) w.fault))
 
     -- if the log passes, none of its lines is ill-formed or at fault
-    clean : (g : Log) → read_log A E text ≡ good g → (log_of h text ≡ g) × (found.ill ≡ Nowhere) × (found.fault ≡ Nowhere)
+    clean : (g : Log) → read_log A E text ≡ good g → (log_of h text ≡ g) × (found.ill ≡ None) × (found.fault ≡ None)
     unfolding check_log_text
     clean g e =
         let c = then_good (check_log_text h text) (check_log_lines A E h text >> good (log_of h text)) g (sym past ∙ e) in
         let f = found_good ill_formed 0 log_text (least (bad_line text) (log_lines h)) _ c.0 c.1 in
-        let form : found.ill ≡ Nowhere = sym all_ill ∙ f.0 in
+        let form : found.ill ≡ None = sym all_ill ∙ f.0 in
         let l = then_good (check_log_lines A E h text) (good (log_of h text)) g c.2 in
         (good_same (log_of h text) g l.2, form, none_good log_line 0 0 found.fault l.0 (sym (w.fault form) ∙ l.1))
 

@@ -1,4 +1,5 @@
 -- The lines after the header from those of each kind: refusals 1 and 9 on them, and the table of the log if they pass.
+use Rattle.std.specs.Prelude.{Option, None, Some}
 use mathlib.Core.Path.{◌≡◌, refl, sym, ap, ◌∙◌}
 use mathlib.Core.Bool.{true, ◌&&◌}
 use mathlib.Core.List.{List}
@@ -9,8 +10,6 @@ use borrow.Author.Tests.{leb-true}
 use lib.Dec.{eqb, leb}
 use lib.ListN.{length, get_or}
 use Rattle.text.specs.declared.Line.{Line}
-use Rattle.text.specs.declared.Found.{Found}
-use Rattle.text.specs.declared.Found.TheVariants.{Nowhere, Here}
 use Rattle.text.specs.Words.{table, least_from, least, ◌>>◌, none_at}
 use Rattle.text.specs.Refusals.{log_line}
 use Rattle.text.specs.Text.{bad_line}
@@ -30,28 +29,28 @@ use Rattle.order_log.proofs.Parts.{up}
 
 -- ---- places
 
-first_none : (a b : Found) → first_found a b ≡ Nowhere → (a ≡ Nowhere) × (b ≡ Nowhere)
-first_none Nowhere b e = (refl, e)
-first_none (Here p) b e = let x : ◌≡◌ {A = ℕ} 0 1 = cc in absurd (omega arith)
+first_none : (a b : Option ℕ) → first_found a b ≡ None → (a ≡ None) × (b ≡ None)
+first_none None b e = (refl, e)
+first_none (Some p) b e = let x : ◌≡◌ {A = ℕ} 0 1 = cc in absurd (omega arith)
 
-shifted_none : (k : ℕ) (o : Found) → shifted k o ≡ Nowhere → o ≡ Nowhere
-shifted_none k Nowhere e = refl
-shifted_none k (Here p) e = let x : ◌≡◌ {A = ℕ} 0 1 = cc in absurd (omega arith)
+shifted_none : (k : ℕ) (o : Option ℕ) → shifted k o ≡ None → o ≡ None
+shifted_none k None e = refl
+shifted_none k (Some p) e = let x : ◌≡◌ {A = ℕ} 0 1 = cc in absurd (omega arith)
 
 -- two searches one after the other are one
-two_searches : (n j : ℕ) (a b : Found) → (none_at n j 0 a >> none_at n 0 0 b) ≡ none_at n 0 0 (first_found (shifted j a) b)
+two_searches : (n j : ℕ) (a b : Option ℕ) → (none_at n j 0 a >> none_at n 0 0 b) ≡ none_at n 0 0 (first_found (shifted j a) b)
 unfolding ◌>>◌ none_at
-two_searches n j Nowhere b = refl
-two_searches n j (Here p) b = rw (zero-add (j + p))
+two_searches n j None b = refl
+two_searches n j (Some p) b = rw (zero-add (j + p))
 
-one_search : (n j : ℕ) (a : Found) → none_at n j 0 a ≡ none_at n 0 0 (shifted j a)
+one_search : (n j : ℕ) (a : Option ℕ) → none_at n j 0 a ≡ none_at n 0 0 (shifted j a)
 unfolding none_at
-one_search n j Nowhere = refl
-one_search n j (Here p) = rw (zero-add (j + p))
+one_search n j None = refl
+one_search n j (Some p) = rw (zero-add (j + p))
 
-first_group : (a b c : Found) → first_found a (first_found b c) ≡ first_found (first_found a b) c
-first_group Nowhere b c = refl
-first_group (Here p) b c = refl
+first_group : (a b c : Option ℕ) → first_found a (first_found b c) ≡ first_found (first_found a b) c
+first_group None b c = refl
+first_group (Some p) b c = refl
 
 -- ---- the header
 
@@ -89,8 +88,8 @@ module _
     all_ill : all.ill ≡ least_from (bad_line text) (h.a + h.b + h.c) 1
     all_ill = sym (least_split (bad_line text) k h.c 1 ∙ rw (least_split (bad_line text) h.a h.b 1, ms.ill, ps.ill, cs.ill))
 
-    module _ (form : all.ill ≡ Nowhere) where
-      forms : (mv.ill ≡ Nowhere) × (pr.ill ≡ Nowhere) × (ch.ill ≡ Nowhere)
+    module _ (form : all.ill ≡ None) where
+      forms : (mv.ill ≡ None) × (pr.ill ≡ None) × (ch.ill ≡ None)
       forms =
           let two = first_none (first_found mv.ill pr.ill) ch.ill form in
           let one = first_none mv.ill pr.ill two.0 in
@@ -114,16 +113,16 @@ module _
             cs.fault forms.2,
           )
 
-      module _ (none : all.fault ≡ Nowhere) where
-        faults : (pr.fault ≡ Nowhere) × (ch.fault ≡ Nowhere)
+      module _ (none : all.fault ≡ None) where
+        faults : (pr.fault ≡ None) × (ch.fault ≡ None)
         faults =
             let two = first_none (first_found mv.fault pr.fault) ch.fault none in
             ((first_none mv.fault pr.fault two.0).1, two.1)
 
-        no_pair : least (bad_pair_at h.a text) h.b ≡ Nowhere
+        no_pair : least (bad_pair_at h.a text) h.b ≡ None
         no_pair = shifted_none (1 + h.a) _ (sym (ps.fault forms.1) ∙ faults.0)
 
-        no_choice : least (bad_choice_at E h.a k text) h.c ≡ Nowhere
+        no_choice : least (bad_choice_at E h.a k text) h.c ≡ None
         no_choice = shifted_none (1 + k) _ (sym (cs.fault forms.2) ∙ faults.1)
 
         few : h.a ≤ 64

@@ -1,4 +1,5 @@
 -- The loop over the move lines: what holds when i of them are read.
+use Rattle.std.specs.Prelude.{Option, None, Some}
 use Rattle.std.specs.Prelude.{if◌then◌else◌}
 use mathlib.Core.Path.{◌≡◌, refl, ap, ◌∙◌}
 use mathlib.Core.Bool.{Bool, true, false}
@@ -8,8 +9,6 @@ use native.Mathlib.Omega.{arith}
 use lib.ListN.{length}
 use Rattle.text.specs.declared.Line.{Line}
 use Rattle.text.specs.declared.Parsed.{Parsed}
-use Rattle.text.specs.declared.Found.{Found}
-use Rattle.text.specs.declared.Found.TheVariants.{Nowhere, Here}
 use Rattle.text.specs.Words.{least_from, least}
 use Rattle.text.specs.Text.{bad_line, line, parsed}
 use Rattle.text.proofs.Fields.{parsed_line}
@@ -20,18 +19,18 @@ use Rattle.order_log.specs.Read.{MovesRead}
 use Rattle.order_log.proofs.Parts.{Filled, filled, filled_start, filled_turn}
 
 module _ (A : ℕ) (text : List ℕ) (m : ℕ) where
-  pub record Moved (i : ℕ) (t : List ℕ) (found : Found) : Type 0 where
+  pub record Moved (i : ℕ) (t : List ℕ) (found : Option ℕ) : Type 0 where
     pub ill : least_from (bad_line text) (m - i) (1 + i) ≡ least_from (bad_line text) m 1
     pub fault : found ≡ shifted 1 (least (bad_move_at A text) i)
     pub table : Filled (λ j. (line text (1 + j)).a) i t
 
-  pub moved_start : (t : List ℕ) → length t ≡ 512 → Moved 0 t Nowhere
+  pub moved_start : (t : List ℕ) → length t ≡ 512 → Moved 0 t None
   unfolding least_from
   moved_start t e = record { ill = part_start (bad_line text) 1 m; fault = refl; table = filled_start (λ j. (line text (1 + j)).a) t e }
 
-  module _ (i : ℕ) (t : List ℕ) (found : Found) (w : Moved i t found) where
+  module _ (i : ℕ) (t : List ℕ) (found : Option ℕ) (w : Moved i t found) where
     module _ (h : i < m) (p : Parsed) (is : p ≡ parsed text (1 + i)) where
-      pub moved_stop : p.ok ≡ false → MovesRead A text m t (record { ill = Here (1 + i); fault = found })
+      pub moved_stop : p.ok ≡ false → MovesRead A text m t (record { ill = Some (1 + i); fault = found })
       moved_stop e = record {
         ill = part_stop (bad_line text) 1 m i h (line_bad text (1 + i) p is e) w.ill;
         fault = λ z. found_some z;
@@ -40,7 +39,7 @@ module _ (A : ℕ) (text : List ℕ) (m : ℕ) where
         picks = λ z. found_some z;
       }
 
-      pub moved_turn : m ≤ 64 → p.ok ≡ true → (b : Bool) → b ≡ bad_move A p.line → (r : Found) → r ≡ first_found found (if b then Here (1 + i) else Nowhere)
+      pub moved_turn : m ≤ 64 → p.ok ≡ true → (b : Bool) → b ≡ bad_move A p.line → (r : Option ℕ) → r ≡ first_found found (if b then Some (1 + i) else None)
           → Moved (i + 1) (filled t i p.line.a) r
       moved_turn small e b f r g =
           let l = parsed_line text (1 + i) p is e in
@@ -50,7 +49,7 @@ module _ (A : ℕ) (text : List ℕ) (m : ℕ) where
             table = filled_turn (λ j. (line text (1 + j)).a) t i p.line.a (omega arith) (ap (λ (x : Line). x.a) l) w.table;
           }
 
-    pub moved_end : i ≡ m → MovesRead A text m t (record { ill = Nowhere; fault = found })
+    pub moved_end : i ≡ m → MovesRead A text m t (record { ill = None; fault = found })
     moved_end e = record {
       ill = part_end (bad_line text) 1 m i (omega arith) w.ill;
       fault = λ z. w.fault ∙ rw e;

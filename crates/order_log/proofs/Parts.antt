@@ -1,4 +1,5 @@
 -- What the loops that read a log's lines put into the table, and what pairs that pass have.
+use Rattle.std.specs.Prelude.{None}
 use mathlib.Core.Path.{◌≡◌, sym, ◌∙◌}
 use mathlib.Core.Logic.{◌⊎◌, inl, inr, dite, ◌≢◌}
 use mathlib.Core.Bool.{Bool, true, false, ◌&&◌, ◌||◌}
@@ -13,7 +14,6 @@ use lib.ListN.{length, get_or, set, length-set}
 use lib.Seq.{get_or-set_same, get_or-set_other}
 use borrow.Author.Tests.{ltb-true, eqb-true, not-false}
 use Rattle.text.specs.declared.Line.{Line}
-use Rattle.text.specs.declared.Found.TheVariants.{Nowhere}
 use Rattle.text.specs.Words.{table_from, table, least}
 use Rattle.text.specs.Text.{line}
 use Rattle.text.proofs.Words.{and_cases, or_cases, least_none}
@@ -156,7 +156,7 @@ up_from f m lo i (suc n) g s l = (
 )
 
 -- n pair lines of m moves, none at fault
-module _ (m : ℕ) (text : List ℕ) (n : ℕ) (e : least (bad_pair_at m text) n ≡ Nowhere) where
+module _ (m : ℕ) (text : List ℕ) (n : ℕ) (e : least (bad_pair_at m text) n ≡ None) where
   pair_small : (i : ℕ) → i < n → ((line text (1 + m + i)).a < (line text (1 + m + i)).b) × ((line text (1 + m + i)).b < m)
   pair_small i h = pair_below m (line text (m + i)) (line text (1 + m + i)) i (least_none (bad_pair_at m text) n e i h)
 

@@ -1,10 +1,9 @@
 -- What reading a log's text leaves on the way, and what it gives a caller (SPECIFICATION 6.1 to 6.4).
+use Rattle.std.specs.Prelude.{Option, None}
 use Rattle.std.specs.Prelude.{◌≡◌, List, [], ◌∷◌, ℕ, ◌+◌, ◌*◌, ◌<◌, leb, length, get_or, set}
 use Rattle.std.specs.Int.Bits.{bit_or}
 use Rattle.text.specs.declared.Line.{Line}
 use Rattle.text.specs.declared.Parsed.{Parsed}
-use Rattle.text.specs.declared.Found.{Found}
-use Rattle.text.specs.declared.Found.TheVariants.{Nowhere}
 use Rattle.text.specs.Words.{table, least_from, least, Checked, good, ◌>>◌, none_at, must, answer_of}
 use Rattle.text.specs.Refusals.{ill_formed, log_text, log_line}
 use Rattle.text.specs.Text.{line_length, bad_line, line}
@@ -29,10 +28,10 @@ header_checked p = do
 -- the m move lines are read: r has what is found, and in the table t each move has its agent, no predecessors and no picks
 pub record MovesRead (A : ℕ) (text : List ℕ) (m : ℕ) (t : List ℕ) (r : LineFaults) : Type 0 where
   pub ill : r.ill ≡ least_from (bad_line text) m 1
-  pub fault : r.ill ≡ Nowhere → r.fault ≡ shifted 1 (least (bad_move_at A text) m)
-  pub predecessors : r.ill ≡ Nowhere → (j : ℕ) → j < m → predecessors_in t j ≡ 0
-  pub agents : r.ill ≡ Nowhere → (i : ℕ) → i < m → agent_in t i ≡ (line text (1 + i)).a
-  pub picks : r.ill ≡ Nowhere → (i : ℕ) → i < m → (first_in t i ≡ 0) × (end_in t i ≡ 0)
+  pub fault : r.ill ≡ None → r.fault ≡ shifted 1 (least (bad_move_at A text) m)
+  pub predecessors : r.ill ≡ None → (j : ℕ) → j < m → predecessors_in t j ≡ 0
+  pub agents : r.ill ≡ None → (i : ℕ) → i < m → agent_in t i ≡ (line text (1 + i)).a
+  pub picks : r.ill ≡ None → (i : ℕ) → i < m → (first_in t i ≡ 0) × (end_in t i ≡ 0)
 
 -- the pair of pair line i, of m moves
 abbrev pub pair_at : ℕ → List ℕ → ℕ → Pair
@@ -58,11 +57,11 @@ join_faults a b = record { ill = first_found a.ill b.ill; fault = first_found a.
 -- the lines after the header h are read: r has what refusals 1 and 9 find in them; if nothing is found, the table t is that of the log
 pub record LinesRead (A E : ℕ) (text : List ℕ) (h : Line) (t : List ℕ) (r : LineFaults) : Type 0 where
   pub ill : r.ill ≡ least_from (bad_line text) (h.a + h.b + h.c) 1
-  pub fault : r.ill ≡ Nowhere → check_log_lines A E h text ≡ none_at log_line 0 0 r.fault
-  pub order : r.ill ≡ Nowhere → r.fault ≡ Nowhere → OrderTable (log_of h text) t
+  pub fault : r.ill ≡ None → check_log_lines A E h text ≡ none_at log_line 0 0 r.fault
+  pub order : r.ill ≡ None → r.fault ≡ None → OrderTable (log_of h text) t
 
 -- Refusals 1 and 9 on a log of `size` bytes and n lines, from what is found in its lines
-unfoldable pub lines_checked : ℕ → ℕ → Found → Found → Checked (Unit {0})
+unfoldable pub lines_checked : ℕ → ℕ → Option ℕ → Option ℕ → Checked (Unit {0})
 lines_checked size n ill fault = do
   none_at ill_formed 0 log_text ill
   must (leb size (line_length * n)) ill_formed n log_text

@@ -9,7 +9,7 @@ ghost use Rattle.order_log.specs.Read.{header_checked, lines_checked, pair_put, 
 ghost use Rattle.order_log.specs.Agents.{LeastUnordered, check_agents_in};
 
 use order::OrderTable;
-use text::{Answer, Found, Line, LineFaults, Parsed};
+use text::{Answer, Line, LineFaults, Parsed};
 
 // What reading a log gives: its answer, and when accepted how many moves it has.
 #[derive(Clone, Copy)]
@@ -48,14 +48,14 @@ fn read_moves(log: &[u8], agents: u32, m: u32, order: &mut [u64]) -> LineFaults
     requires { (m ≤ 64) × (length order.old ≡ 512) }
     ensures { MovesRead agents log.now m order.new result }
 {
-    let mut fault = Found::Nowhere;
+    let mut fault = None;
     let mut i: u32 = 0;
     while i < m {
         let read = text::parse(log, 1 + i);
         let l = read.line;
         if !read.ok {
             return LineFaults {
-                ill: Found::Here(1 + i),
+                ill: Some(1 + i),
                 fault: fault,
             };
         }
@@ -67,7 +67,7 @@ fn read_moves(log: &[u8], agents: u32, m: u32, order: &mut [u64]) -> LineFaults
         i += 1;
     }
     LineFaults {
-        ill: Found::Nowhere,
+        ill: None,
         fault: fault,
     }
 }
@@ -97,14 +97,14 @@ fn read_pairs(log: &[u8], m: u32, n: u32, order: &mut OrderTable) -> LineFaults
         c: 0,
         d: 0,
     };
-    let mut fault = Found::Nowhere;
+    let mut fault = None;
     let mut i: u32 = 0;
     while i < n {
         let read = text::parse(log, 1 + m + i);
         let l = read.line;
         if !read.ok {
             return LineFaults {
-                ill: Found::Here(1 + m + i),
+                ill: Some(1 + m + i),
                 fault: fault,
             };
         }
@@ -115,7 +115,7 @@ fn read_pairs(log: &[u8], m: u32, n: u32, order: &mut OrderTable) -> LineFaults
         i += 1;
     }
     LineFaults {
-        ill: Found::Nowhere,
+        ill: None,
         fault: fault,
     }
 }
@@ -160,7 +160,7 @@ fn check_header(head: Parsed) -> Answer
 }
 
 // Refusals 1 and 9 on a log of `size` bytes and so many lines, from what is found in its lines.
-fn check_lines(size: usize, lines: u32, ill: Found, fault: Found) -> Answer
+fn check_lines(size: usize, lines: u32, ill: Option<u32>, fault: Option<u32>) -> Answer
     ensures { result ≡ answer_of (lines_checked size lines ill fault) }
 {
     let form = text::none_at(text::ILL_FORMED, text::LOG_TEXT, ill);

@@ -1,4 +1,5 @@
 -- Where the book of an input ends, by the tests of its header; the checks of the input are those of its two parts.
+use Rattle.std.specs.Prelude.{Option, None, Some}
 use Rattle.std.specs.Prelude.{if◌then◌else◌}
 use mathlib.Core.Path.{◌≡◌, refl, sym, ◌∙◌}
 use mathlib.Core.Logic.{◌≢◌}
@@ -10,8 +11,6 @@ use native.Mathlib.Omega.{arith}
 use native.Mathlib.Decide.{dec_lt}
 use lib.ListN.{length, take, drop, drop_of_length-le}
 use lib.Seq.{take_all, take-length, drop-length}
-use Rattle.text.specs.declared.Found.{Found}
-use Rattle.text.specs.declared.Found.TheVariants.{Nowhere, Here}
 use Rattle.text.specs.declared.Answer.{Answer}
 use Rattle.text.specs.declared.Line.{Line}
 use Rattle.text.specs.declared.Parsed.{Parsed}
@@ -31,23 +30,23 @@ use Rattle.report_print.specs.Split.{called_for, book_length}
 
 -- how long the book is, by the tests of its header: a and b say that its lines are in form, o is a field outside its bounds
 by_tests :
-    (a b : Bool) (o : Found) (n : ℕ) (h : Header) →
-    called_for n (none_at 1 0 0 (if not a then Here 0 else (if not b then Here 1 else Nowhere)) >> (none_at 3 0 0 o >> good h))
+    (a b : Bool) (o : Option ℕ) (n : ℕ) (h : Header) →
+    called_for n (none_at 1 0 0 (if not a then Some 0 else (if not b then Some 1 else None)) >> (none_at 3 0 0 o >> good h))
     ≡ (if a && b then called_for n (none_at 3 0 0 o >> good h) else n)
 unfolding none_at ◌>>◌
 by_tests true true o n h = refl
 by_tests true false o n h = refl
 by_tests false b o n h = refl
 
-bounds_refused : (o : Found) (n : ℕ) (h : Header) → (answer_of (none_at 3 0 0 o)).number ≢ 0 → n ≡ called_for n (none_at 3 0 0 o >> good h)
+bounds_refused : (o : Option ℕ) (n : ℕ) (h : Header) → (answer_of (none_at 3 0 0 o)).number ≢ 0 → n ≡ called_for n (none_at 3 0 0 o >> good h)
 unfolding none_at ◌>>◌
-bounds_refused Nowhere n h z = absurd (z refl)
-bounds_refused (Here i) n h z = refl
+bounds_refused None n h z = absurd (z refl)
+bounds_refused (Some i) n h z = refl
 
-bounds_passed : (o : Found) (n : ℕ) (h : Header) → (answer_of (none_at 3 0 0 o)).number ≡ 0 → min (25 * line_count h) n ≡ called_for n (none_at 3 0 0 o >> good h)
+bounds_passed : (o : Option ℕ) (n : ℕ) (h : Header) → (answer_of (none_at 3 0 0 o)).number ≡ 0 → min (25 * line_count h) n ≡ called_for n (none_at 3 0 0 o >> good h)
 unfolding none_at ◌>>◌
-bounds_passed Nowhere n h z = refl
-bounds_passed (Here i) n h z = absurd (omega arith)
+bounds_passed None n h z = refl
+bounds_passed (Some i) n h z = absurd (omega arith)
 
 module _ (text : List ℕ) where
   abbrev of_bounds : Line → Line → Checked Header

@@ -1,4 +1,5 @@
 -- How checks end: with a fact about what they give, or with one about their refusal's number and place.
+use Rattle.std.specs.Prelude.{Option, None, Some}
 use mathlib.Core.Path.{◌≡◌, refl}
 use mathlib.Core.Bool.{Bool, true, false}
 use mathlib.Core.Logic.{◌≢◌}
@@ -6,8 +7,6 @@ use Prim.Native.Nat.{ℕ, ◌+◌, ◌^◌, ◌≤◌, ◌<◌}
 use native.Mathlib.Nat.{zero-add}
 use native.Mathlib.Omega.{arith}
 use Rattle.text.specs.declared.Answer.{Answer}
-use Rattle.text.specs.declared.Found.{Found}
-use Rattle.text.specs.declared.Found.TheVariants.{Nowhere, Here}
 use Rattle.text.specs.Words.{least, Checked, good, refused, ◌>>=◌, ◌>>◌, none_at, must, answer_of}
 use Rattle.text.proofs.Words.{least_here}
 
@@ -42,9 +41,9 @@ module _ (R : ℕ → ℕ → ℕ → Type 0) where
   unfolding none_at
   none_ends n first q bad m k = go (least bad m) refl
     where
-      go : (o : Found) → least bad m ≡ o → Ends Any R (none_at n first q o)
-      go Nowhere e = on tt
-      go (Here p) e = off (k p (least_here bad m p e).0)
+      go : (o : Option ℕ) → least bad m ≡ o → Ends Any R (none_at n first q o)
+      go None e = on tt
+      go (Some p) e = off (k p (least_here bad m p e).0)
 
   pub must_ends : (t : Bool) (n p q : ℕ) → R n p q → Ends Any R (must t n p q)
   unfolding must
@@ -53,7 +52,7 @@ module _ (R : ℕ → ℕ → ℕ → Type 0) where
 
 -- ---- one check after the other, by what they answer
 
-pub none_here : (n q p : ℕ) (o : Found) → o ≡ Here p → ◌≡◌ {A = Answer} (record { number = n; p = p; q = q }) (answer_of (none_at n 0 q o))
+pub none_here : (n q p : ℕ) (o : Option ℕ) → o ≡ Some p → ◌≡◌ {A = Answer} (record { number = n; p = p; q = q }) (answer_of (none_at n 0 q o))
 unfolding none_at
 none_here n q p o e = rw (e, zero-add p)
 
@@ -61,10 +60,10 @@ none_here n q p o e = rw (e, zero-add p)
 abbrev pub Numbered : {A : Type 0} → Checked A → Type 0
 Numbered c = Ends Any (λ n p q. 1 ≤ n) c
 
-pub none_numbered : (n first q : ℕ) (o : Found) → 1 ≤ n → Numbered (none_at n first q o)
+pub none_numbered : (n first q : ℕ) (o : Option ℕ) → 1 ≤ n → Numbered (none_at n first q o)
 unfolding none_at
-none_numbered n first q Nowhere h = on tt
-none_numbered n first q (Here p) h = off h
+none_numbered n first q None h = on tt
+none_numbered n first q (Some p) h = off h
 
 pub must_numbered : (t : Bool) (n p q : ℕ) → 1 ≤ n → Numbered (must t n p q)
 unfolding must

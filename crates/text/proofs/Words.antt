@@ -1,4 +1,5 @@
 -- Laws of what every layer uses: choices by a test, lists made by place, the least place at fault, and checks that pass.
+use Rattle.std.specs.Prelude.{Option, None, Some}
 use Rattle.std.specs.Prelude.{if◌then◌else◌}
 use mathlib.Core.Path.{◌≡◌, refl, sym, ap, ◌∙◌}
 use mathlib.Core.Logic.{◌⊎◌, inl, inr, dite}
@@ -13,8 +14,6 @@ use lib.Dec.{eqb}
 use lib.ListN.{length, get_or, set, get_or-eq_default}
 use lib.Seq.{get_or-set_same, get_or-set_other}
 use borrow.Author.Tests.{eqb-true, eqb-false}
-use Rattle.text.specs.declared.Found.{Found}
-use Rattle.text.specs.declared.Found.TheVariants.{Nowhere, Here}
 use Rattle.text.specs.Words.{has, table_from, table, some_below, least_from, least, Checked, good, refused, ◌>>=◌, ◌>>◌, none_at, must}
 
 -- ---- tests
@@ -107,34 +106,34 @@ some_below_from test (suc n) i h e =
 
 -- ---- the least place at fault
 
-pub least_from_none : (bad : ℕ → Bool) (n j : ℕ) → least_from bad n j ≡ Nowhere → (i : ℕ) → j ≤ i → i < j + n → bad i ≡ false
+pub least_from_none : (bad : ℕ → Bool) (n j : ℕ) → least_from bad n j ≡ None → (i : ℕ) → j ≤ i → i < j + n → bad i ≡ false
 unfolding least_from
 least_from_none bad zero j e i a b = absurd (omega arith)
 least_from_none bad (suc n) j e i a b = go (bad j) refl e (least_from_none bad n (suc j))
   where
-    go : (t : Bool) → bad j ≡ t → (if t then Here j else least_from bad n (suc j)) ≡ Nowhere
-        → (least_from bad n (suc j) ≡ Nowhere → (i : ℕ) → suc j ≤ i → i < suc j + n → bad i ≡ false) → bad i ≡ false
+    go : (t : Bool) → bad j ≡ t → (if t then Some j else least_from bad n (suc j)) ≡ None
+        → (least_from bad n (suc j) ≡ None → (i : ℕ) → suc j ≤ i → i < suc j + n → bad i ≡ false) → bad i ≡ false
     go true q e r = let z : ◌≡◌ {A = ℕ} 0 1 = cc in absurd (omega arith)
     go false q e r = dite (ℕ_discrete i j) (λ (s : i ≡ j). rw s q) (λ (s : ¬ (i ≡ j)). r e i (omega arith) (omega arith))
 
-pub least_none : (bad : ℕ → Bool) (n : ℕ) → least bad n ≡ Nowhere → (i : ℕ) → i < n → bad i ≡ false
+pub least_none : (bad : ℕ → Bool) (n : ℕ) → least bad n ≡ None → (i : ℕ) → i < n → bad i ≡ false
 least_none bad n e i h = least_from_none bad n 0 e i (omega arith) (omega arith)
 
-least_from_all : (bad : ℕ → Bool) (n j : ℕ) → ((i : ℕ) → j ≤ i → i < j + n → bad i ≡ false) → least_from bad n j ≡ Nowhere
+least_from_all : (bad : ℕ → Bool) (n j : ℕ) → ((i : ℕ) → j ≤ i → i < j + n → bad i ≡ false) → least_from bad n j ≡ None
 unfolding least_from
 least_from_all bad zero j h = refl
 least_from_all bad (suc n) j h = rw (h j (omega arith) (omega arith)) (least_from_all bad n (suc j) (λ i a b. h i (omega arith) (omega arith)))
 
-pub least_all : (bad : ℕ → Bool) (n : ℕ) → ((i : ℕ) → i < n → bad i ≡ false) → least bad n ≡ Nowhere
+pub least_all : (bad : ℕ → Bool) (n : ℕ) → ((i : ℕ) → i < n → bad i ≡ false) → least bad n ≡ None
 least_all bad n h = least_from_all bad n 0 (λ i a b. h i (omega arith))
 
-pub least_from_here : (bad : ℕ → Bool) (n k i : ℕ) → least_from bad n k ≡ Here i → (k ≤ i) × (i < k + n) × (bad i ≡ true) × ((j : ℕ) → k ≤ j → j < i → bad j ≡ false)
+pub least_from_here : (bad : ℕ → Bool) (n k i : ℕ) → least_from bad n k ≡ Some i → (k ≤ i) × (i < k + n) × (bad i ≡ true) × ((j : ℕ) → k ≤ j → j < i → bad j ≡ false)
 unfolding least_from
 least_from_here bad zero k i e = let z : ◌≡◌ {A = ℕ} 0 1 = cc in absurd (omega arith)
 least_from_here bad (suc n) k i e = go (bad k) refl e (least_from_here bad n (suc k) i)
   where
-    go : (t : Bool) → bad k ≡ t → (if t then Here k else least_from bad n (suc k)) ≡ Here i
-        → (least_from bad n (suc k) ≡ Here i → (suc k ≤ i) × (i < suc k + n) × (bad i ≡ true) × ((j : ℕ) → suc k ≤ j → j < i → bad j ≡ false))
+    go : (t : Bool) → bad k ≡ t → (if t then Some k else least_from bad n (suc k)) ≡ Some i
+        → (least_from bad n (suc k) ≡ Some i → (suc k ≤ i) × (i < suc k + n) × (bad i ≡ true) × ((j : ℕ) → suc k ≤ j → j < i → bad j ≡ false))
         → (k ≤ i) × (i < k + suc n) × (bad i ≡ true) × ((j : ℕ) → k ≤ j → j < i → bad j ≡ false)
     go true q e r = let s : k ≡ i = cc in (omega arith, omega arith, rw (← s) q, λ j a b. absurd (omega arith))
     go false q e r =
@@ -145,7 +144,7 @@ least_from_here bad (suc n) k i e = go (bad k) refl e (least_from_here bad n (su
           λ j a b. dite (ℕ_discrete j k) (λ (s : j ≡ k). rw s q) (λ (s : ¬ (j ≡ k)). t.3 j (omega arith) b),
         )
 
-pub least_here : (bad : ℕ → Bool) (n i : ℕ) → least bad n ≡ Here i → (i < n) × (bad i ≡ true) × ((j : ℕ) → j < i → bad j ≡ false)
+pub least_here : (bad : ℕ → Bool) (n i : ℕ) → least bad n ≡ Some i → (i < n) × (bad i ≡ true) × ((j : ℕ) → j < i → bad j ≡ false)
 least_here bad n i e = let r = least_from_here bad n 0 i e in (omega (arith, r.1), r.2, λ j h. r.3 j (omega arith) h)
 
 pub least_from_same : (f g : ℕ → Bool) (n j : ℕ) → ((i : ℕ) → j ≤ i → i < j + n → f i ≡ g i) → least_from f n j ≡ least_from g n j
@@ -160,27 +159,27 @@ pub least_same : (f g : ℕ → Bool) (n : ℕ) → ((i : ℕ) → i < n → f i
 least_same f g n h = least_from_same f g n 0 (λ i a b. h i (omega arith))
 
 -- a place found in the first m places is found in the m + n
-pub least_first : (bad : ℕ → Bool) (m n i p : ℕ) → least_from bad m i ≡ Here p → least_from bad (m + n) i ≡ Here p
+pub least_first : (bad : ℕ → Bool) (m n i p : ℕ) → least_from bad m i ≡ Some p → least_from bad (m + n) i ≡ Some p
 unfolding least_from
 least_first bad zero n i p e = let z : ◌≡◌ {A = ℕ} 0 1 = cc in absurd (omega arith)
 least_first bad (suc m) n i p e = rw (suc-add m n) (go (bad i) e (least_first bad m n (suc i) p))
   where
     go :
-        (t : Bool) → (if t then Here i else least_from bad m (suc i)) ≡ Here p →
-        (least_from bad m (suc i) ≡ Here p → least_from bad (m + n) (suc i) ≡ Here p) →
-        (if t then Here i else least_from bad (m + n) (suc i)) ≡ Here p
+        (t : Bool) → (if t then Some i else least_from bad m (suc i)) ≡ Some p →
+        (least_from bad m (suc i) ≡ Some p → least_from bad (m + n) (suc i) ≡ Some p) →
+        (if t then Some i else least_from bad (m + n) (suc i)) ≡ Some p
     go true e r = e
     go false e r = r e
 
-pub least_rest : (bad : ℕ → Bool) (m n i : ℕ) → least_from bad m i ≡ Nowhere → least_from bad (m + n) i ≡ least_from bad n (i + m)
+pub least_rest : (bad : ℕ → Bool) (m n i : ℕ) → least_from bad m i ≡ None → least_from bad (m + n) i ≡ least_from bad n (i + m)
 unfolding least_from
 least_rest bad zero n i e = let a : 0 + n ≡ n = omega arith in let b : i + 0 ≡ i = omega arith in rw (a, b)
 least_rest bad (suc m) n i e = rw (suc-add m n) (go (bad i) e (least_rest bad m n (suc i)))
   where
     go :
-        (t : Bool) → (if t then Here i else least_from bad m (suc i)) ≡ Nowhere →
-        (least_from bad m (suc i) ≡ Nowhere → least_from bad (m + n) (suc i) ≡ least_from bad n (suc i + m)) →
-        (if t then Here i else least_from bad (m + n) (suc i)) ≡ least_from bad n (i + suc m)
+        (t : Bool) → (if t then Some i else least_from bad m (suc i)) ≡ None →
+        (least_from bad m (suc i) ≡ None → least_from bad (m + n) (suc i) ≡ least_from bad n (suc i + m)) →
+        (if t then Some i else least_from bad (m + n) (suc i)) ≡ least_from bad n (i + suc m)
     go true e r = let z : ◌≡◌ {A = ℕ} 0 1 = cc in absurd (omega arith)
     go false e r = let q : i + suc m ≡ suc i + m = omega arith in rw q (r e)
 
@@ -191,17 +190,17 @@ module _ (bad : ℕ → Bool) (n : ℕ) where
   least_start = let e : n - 0 ≡ n = omega arith in rw e
 
   -- a place that is not at fault is passed over
-  pub least_pass : {t : Found} (i : ℕ) → i < n → bad i ≡ false → least_from bad (n - i) i ≡ t → least_from bad (n - (i + 1)) (i + 1) ≡ t
+  pub least_pass : {t : Option ℕ} (i : ℕ) → i < n → bad i ≡ false → least_from bad (n - i) i ≡ t → least_from bad (n - (i + 1)) (i + 1) ≡ t
   unfolding least_from
   least_pass i h b p = let e : n - i ≡ suc (n - suc i) = omega arith in rw (add-one i) (rw (e, b) at p)
 
   -- the first place that is at fault is the least
-  pub least_stop : {t : Found} (i : ℕ) → i < n → bad i ≡ true → least_from bad (n - i) i ≡ t → Here i ≡ t
+  pub least_stop : {t : Option ℕ} (i : ℕ) → i < n → bad i ≡ true → least_from bad (n - i) i ≡ t → Some i ≡ t
   unfolding least_from
   least_stop i h b p = let e : n - i ≡ suc (n - suc i) = omega arith in rw (e, b) at p
 
   -- if all places were passed over, none is at fault
-  pub least_end : {t : Found} (i : ℕ) → n ≤ i → least_from bad (n - i) i ≡ t → Nowhere ≡ t
+  pub least_end : {t : Option ℕ} (i : ℕ) → n ≤ i → least_from bad (n - i) i ≡ t → None ≡ t
   unfolding least_from
   least_end i h p = let e : n - i ≡ 0 = omega arith in rw e at p
 
@@ -217,10 +216,10 @@ unfolding ◌>>◌
 then_good (good a) d b e = (a, refl, e)
 then_good (refused n p q) d b e = let z : ◌≡◌ {A = ℕ} 0 1 = cc in absurd (omega arith)
 
-pub none_good : (n first q : ℕ) (o : Found) (u : Unit {0}) → none_at n first q o ≡ good u → o ≡ Nowhere
+pub none_good : (n first q : ℕ) (o : Option ℕ) (u : Unit {0}) → none_at n first q o ≡ good u → o ≡ None
 unfolding none_at
-none_good n first q Nowhere u e = refl
-none_good n first q (Here p) u e = let z : ◌≡◌ {A = ℕ} 0 1 = cc in absurd (omega arith)
+none_good n first q None u e = refl
+none_good n first q (Some p) u e = let z : ◌≡◌ {A = ℕ} 0 1 = cc in absurd (omega arith)
 
 must_good : (b : Bool) (n p q : ℕ) (u : Unit {0}) → must b n p q ≡ good u → b ≡ true
 unfolding must
@@ -228,7 +227,7 @@ must_good true n p q u e = refl
 must_good false n p q u e = let z : ◌≡◌ {A = ℕ} 0 1 = cc in absurd (omega arith)
 
 -- if a check that begins with a search passes, the search finds nothing and the rest passes
-pub found_good : {B : Type 0} (n first q : ℕ) (o : Found) (d : Checked B) (b : B) → (none_at n first q o >> d) ≡ good b → (o ≡ Nowhere) × (d ≡ good b)
+pub found_good : {B : Type 0} (n first q : ℕ) (o : Option ℕ) (d : Checked B) (b : B) → (none_at n first q o >> d) ≡ good b → (o ≡ None) × (d ≡ good b)
 found_good n first q o d b e = let r = then_good (none_at n first q o) d b e in (none_good n first q o r.0 r.1, r.2)
 
 -- if a check that begins with a test passes, the test and the rest pass

@@ -1,7 +1,6 @@
 -- What every layer uses: lists made by place, the least place at fault, and what a check answers (SPECIFICATION 8.1).
+use Rattle.std.specs.Prelude.{Option, None, Some}
 use Rattle.std.specs.Prelude.{Bool, true, false, ◌||◌, ◌&&◌, List, [], ◌∷◌, ℕ, zero, suc, ◌+◌, eqb, leb, if◌then◌else◌}
-use Rattle.text.specs.declared.Found.{Found}
-use Rattle.text.specs.declared.Found.TheVariants.{Nowhere, Here}
 use Rattle.text.specs.declared.Answer.{Answer}
 
 -- 1 if the test passes, otherwise 0
@@ -39,12 +38,12 @@ some_below test zero = false
 some_below test (suc n) = some_below test n || test n
 
 -- of the n places from i on, the least that is at fault
-unfoldable pub least_from : (ℕ → Bool) → ℕ → ℕ → Found
-least_from bad zero i = Nowhere
-least_from bad (suc n) i = let r = least_from bad n (suc i) in if bad i then Here i else r
+unfoldable pub least_from : (ℕ → Bool) → ℕ → ℕ → Option ℕ
+least_from bad zero i = None
+least_from bad (suc n) i = let r = least_from bad n (suc i) in if bad i then Some i else r
 
 -- of the places below n, the least that is at fault
-abbrev pub least : (ℕ → Bool) → ℕ → Found
+abbrev pub least : (ℕ → Bool) → ℕ → Option ℕ
 least bad n = least_from bad n 0
 
 -- what a check answers: a value, or a refusal with its number and its place (p, q)
@@ -66,9 +65,9 @@ module _ {A B : Type 0} where
   refused n p q >> c = refused n p q
 
 -- refused with the number n at the place found, counted from `first`, with q; accepted if nothing was found
-unfoldable pub none_at : ℕ → ℕ → ℕ → Found → Checked (Unit {0})
-none_at n first q Nowhere = good tt
-none_at n first q (Here p) = refused n (first + p) q
+unfoldable pub none_at : ℕ → ℕ → ℕ → Option ℕ → Checked (Unit {0})
+none_at n first q None = good tt
+none_at n first q (Some p) = refused n (first + p) q
 
 -- refused with n at (p, q) unless the test passes
 unfoldable pub must : Bool → ℕ → ℕ → ℕ → Checked (Unit {0})

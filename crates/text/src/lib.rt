@@ -84,18 +84,11 @@ pub struct Parsed {
     pub line: Line,
 }
 
-// The result of a search: the place found, if there is one.
-#[derive(Clone, Copy)]
-pub enum Found {
-    Nowhere,
-    Here(u32),
-}
-
 // What is found in lines of one kind: the least that is ill-formed, and the least at fault.
 #[derive(Clone, Copy)]
 pub struct LineFaults {
-    pub ill: Found,
-    pub fault: Found,
+    pub ill: Option<u32>,
+    pub fault: Option<u32>,
 }
 
 // An answer: a refusal's number and its place (p, q); 0 0 0 when accepted.
@@ -114,16 +107,16 @@ pub fn answer_at(number: u32, p: u32, q: u32) -> Answer
 }
 
 // Refused with the number at the place found and q; accepted if nothing was found.
-pub fn none_at(number: u32, q: u32, found: Found) -> Answer
+pub fn none_at(number: u32, q: u32, found: Option<u32>) -> Answer
     ensures { result ≡ answer_of (none_at number 0 q found) }
 {
     match found {
-        Found::Nowhere => Answer {
+        None => Answer {
             number: 0,
             p: 0,
             q: 0,
         },
-        Found::Here(p) => Answer { number, p, q },
+        Some(p) => Answer { number, p, q },
     }
 }
 
@@ -363,17 +356,17 @@ fn is_line_in_form(text: &[u8], i: u32) -> bool
 }
 
 // Refusal 1: the least of the lines from `first` up to `end` that is ill-formed or missing.
-pub fn bad_line_from(text: &[u8], first: u32, end: u32) -> Found
+pub fn bad_line_from(text: &[u8], first: u32, end: u32) -> Option<u32>
     ensures { result ≡ least_from (bad_line text.now) (end - first) first }
 {
     let mut i = first;
     while i < end {
         if !is_line_in_form(text, i) {
-            return Found::Here(i);
+            return Some(i);
         }
         i += 1;
     }
-    Found::Nowhere
+    None
 }
 
 // The number n with the digit of column `at` put after it. A blank leaves n as it is, and so does the text's end.

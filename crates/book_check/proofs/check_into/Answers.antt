@@ -2,6 +2,7 @@
 -- the header lines, once they are in form
 
 -- what each check answers
+use Rattle.std.specs.Prelude.{None}
 use native.Mathlib.Omega.{arith}
 use Rattle.book_check.proofs.Chain.{answered, stops, goes_on, after, opened_refused, opened_same, of_line, of_bounds, header, book_chain, lines_sound, header_room, line_passed, bounds_passed}
 use Rattle.book_check.specs.ImageOf.{check_text}
@@ -11,7 +12,6 @@ use Rattle.text.proofs.Fields.{parsed_ok, parsed_line}
 use Rattle.text.proofs.Checks.{none_numbered, must_numbered}
 use Rattle.text.specs.Text.{line, bad_line}
 use Rattle.text.specs.Words.{least, must, answer_of}
-use Rattle.text.specs.declared.Found.TheVariants.{Nowhere}
 use mathlib.Core.Bool.{Bool, true}
 use mathlib.Core.Path.{◌≡◌, sym, ap, ◌∙◌}
 use Rattle.book_check.proofs.check_into.Goals as goal
@@ -32,7 +32,7 @@ second_is c = parsed_line c.args.book.now 1 _ c.parse-l.ensures (ok1 c)
 header_is : (c : After-header_of) → c.header_of.result ≡ header c.args.book.now
 header_is c = c.header_of.ensures ∙ rw ((parsed_line c.args.book.now 0 _ c.parse-k.ensures ((line_passed _ 0 _ c.must-first.ensures c.if-first-ne0.false))), (parsed_line c.args.book.now 1 _ c.parse-l.ensures ((line_passed _ 1 _ c.must-second.ensures c.if-second-ne0.false))))
 
-sound : (c : After-header_of) → least (bad_line c.args.book.now) 2 ≡ Nowhere
+sound : (c : After-header_of) → least (bad_line c.args.book.now) 2 ≡ None
 sound c =
     let text = c.args.book.now in
     lines_sound text (sym (parsed_ok text 0 _ c.parse-k.ensures) ∙ (line_passed _ 0 _ c.must-first.ensures c.if-first-ne0.false)) (sym (parsed_ok text 1 _ c.parse-l.ensures) ∙ (line_passed _ 1 _ c.must-second.ensures c.if-second-ne0.false))

@@ -1,4 +1,5 @@
 -- `bad_value` meets its contract.
+use Rattle.std.specs.Prelude.{Some}
 use Prim.Native.Nat.{◌<◌}
 use native.Mathlib.Omega.{arith}
 use lib.ListN.{length}
@@ -37,16 +38,16 @@ overflow_add-result c =
     let l = c.loop-g in
     let own = c.part_from-own in
     let more : l.g < length B.functions = omega (arith, c.loop-g-test.true, (functions_held _ _ c.functions-n.ensures).0) in
-    record { fits = omega (arith, c.bad_part-found.ensures.by_index c.in-Here.i c.in-Here.is, part_fits a.image.now l.g l.first own.result own.ensures l.invariant.0 more) }
+    record { fits = omega (arith, c.bad_part-found.ensures.by_index c.in-Some.i c.in-Some.is, part_fits a.image.now l.g l.first own.result own.ensures l.invariant.0 more) }
 
-pub returns-in-Here : goal.returns-in-Here
-returns-in-Here c =
+pub returns-in-Some : goal.returns-in-Some
+returns-in-Some c =
     let a = c.args in
     let B = low_program a.image.now in
     let l = c.loop-g in
     let own = c.part_from-own in
     let more : l.g < length B.functions = omega (arith, c.loop-g-test.true, (functions_held _ _ c.functions-n.ensures).0) in
-    λ strides. own_stop B a.contents.now _ _ l.g l.first own.result c.bad_part-found.result (elements_held _ _ c.elements-e.ensures).0 c.permanent-p.ensures own.ensures strides l.invariant.0 more (l.invariant.1 strides) c.bad_part-found.ensures.value c.in-Here.i c.in-Here.is
+    λ strides. own_stop B a.contents.now _ _ l.g l.first own.result c.bad_part-found.result (elements_held _ _ c.elements-e.ensures).0 c.permanent-p.ensures own.ensures strides l.invariant.0 more (l.invariant.1 strides) c.bad_part-found.ensures.value c.in-Some.i c.in-Some.is
 
 pub loop-g-preserved : goal.loop-g-preserved
 loop-g-preserved c =

@@ -1,4 +1,5 @@
 -- `check_contents` meets its contract.
+use Rattle.std.specs.Prelude.{None, Some}
 use mathlib.Core.Path.{◌≡◌, ◌∙◌, ap, sym}
 use mathlib.Core.List.{List}
 use Prim.Native.Nat.{ℕ, min}
@@ -14,16 +15,16 @@ use Rattle.engine_step.proofs.check_contents.Goals as goal
 pub slice_bounds-bad_value-end : goal.slice_bounds-bad_value-end
 slice_bounds-bad_value-end c = sym (length-take-le c.smaller-n.result c.args.contents.now (omega (arith, c.smaller-n.ensures)))
 
-pub returns-in-Here : goal.returns-in-Here
-returns-in-Here c = λ strides. let a = c.args in
+pub returns-in-Some : goal.returns-in-Some
+returns-in-Some c = λ strides. let a = c.args in
     let B = low_program a.image.now in
     let n = c.smaller-n.result in
     let e : n ≡ min (word a.image.now 6) (length a.contents.now) = omega (arith, c.smaller-n.ensures, c.locations.ensures) in
-    c.answer_at.ensures ∙ value_bad B (take n a.contents.now) _ (sym (c.bad_value-found.ensures strides) ∙ c.in-Here.is) ∙ ap (λ (x : List ℕ). answer_of (check_contents B x)) (taken _ n a.contents.now e)
+    c.answer_at.ensures ∙ value_bad B (take n a.contents.now) _ (sym (c.bad_value-found.ensures strides) ∙ c.in-Some.is) ∙ ap (λ (x : List ℕ). answer_of (check_contents B x)) (taken _ n a.contents.now e)
 
-pub returns-in-Nowhere : goal.returns-in-Nowhere
-returns-in-Nowhere c = λ strides. let a = c.args in
+pub returns-in-None : goal.returns-in-None
+returns-in-None c = λ strides. let a = c.args in
     let B = low_program a.image.now in
     let n = c.smaller-n.result in
     let e : n ≡ min (word a.image.now 6) (length a.contents.now) = omega (arith, c.smaller-n.ensures, c.locations.ensures) in
-    c.answer_at-in-Nowhere.ensures ∙ values_fine B (take n a.contents.now) (sym (c.bad_value-found.ensures strides) ∙ c.in-Nowhere.is) ∙ ap (λ (x : List ℕ). answer_of (check_contents B x)) (taken _ n a.contents.now e)
+    c.answer_at-in-None.ensures ∙ values_fine B (take n a.contents.now) (sym (c.bad_value-found.ensures strides) ∙ c.in-None.is) ∙ ap (λ (x : List ℕ). answer_of (check_contents B x)) (taken _ n a.contents.now e)

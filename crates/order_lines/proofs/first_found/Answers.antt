@@ -1,5 +1,6 @@
 -- `first_found` meets its contract.
+use Rattle.std.specs.Prelude.{Some}
 use Rattle.order_lines.proofs.first_found.Goals as goal
 
-pub returns-in-Here : goal.returns-in-Here
-returns-in-Here c = rw c.in-Here.is
+pub returns-in-Some : goal.returns-in-Some
+returns-in-Some c = rw c.in-Some.is
