@@ -1,6 +1,6 @@
 -- The checks of a book, refusals 1 and 3 to 8, in their order (SPECIFICATION 3, 8.2); and what the exported check answers (SPECIFICATION 9.6).
 use Rattle.std.specs.Prelude.{List, ℕ, ◌+◌, ◌*◌, leb, length}
-use Rattle.text.specs.declared.Answer.{Answer}
+use Rattle.text.specs.Words.{Answer}
 use Rattle.text.specs.Words.{least, Checked, good, ◌>>=◌, ◌>>◌, none_at, must}
 use Rattle.text.specs.Refusals.{ill_formed, book_text, header_bounds, function_line, node_line, node_use, agent_line, contents_rule}
 use Rattle.text.specs.Text.{line_length, bad_line, line}

@@ -1,7 +1,7 @@
 -- Books and what their check answers, as a table under the lemma of Quoted: the order of the refusals, and examples of each (SPECIFICATION 3).
 -- proofs/Examples shows by computation that the table is right.
 use Rattle.std.specs.Prelude.{List, [], ◌∷◌, ℕ}
-use Rattle.text.specs.declared.Answer.{Answer}
+use Rattle.text.specs.Words.{Answer}
 use Rattle.text.specs.Words.{answer_of}
 use Rattle.text.specs.Quoted.{padded, Case, case}
 use Rattle.book.specs.Check.{check_book}

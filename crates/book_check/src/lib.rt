@@ -3,7 +3,7 @@
 #![tactic(auto)]
 
 ghost use Rattle.std.specs.Prelude.{◌≡◌, List, ℕ, ◌≤◌, length};
-ghost use Rattle.text.specs.Words.{least, answer_of};
+ghost use Rattle.text.specs.Words.{least, answer_of, told};
 ghost use Rattle.text.specs.Text.{bad_line};
 ghost use Rattle.book.specs.declared.Header.{Header};
 ghost use Rattle.book.specs.Lines.{header_of};
@@ -13,7 +13,7 @@ ghost use Rattle.book_load.specs.Loaded.{functions_laid, HoldsLines};
 ghost use Rattle.book_check.specs.ImageOf.{ImageOf, check_text};
 
 use book::{Header, Image};
-use text::{Answer, Line};
+use text::{Line, Reason, Refusal};
 
 // The number of L among the fields of the header, as refusal 3 gives it.
 const FIELD_OF_L: u32 = 8;
@@ -33,101 +33,77 @@ fn header_of(k: Line, l: Line) -> Header
 }
 
 // Refusal 4, refusal 3 for L, and refusals 5 to 7, on the rows of lines that are in form. The functions get their first locations and strides once their lines are checked.
-fn check_program(image: &mut Image) -> Answer
-    ensures { (image.new ≡ functions_laid image.old) × (image_length ≤ length image.old) × ((h : Header) (text : List ℕ) → FitsImage h → HoldsLines image.old h text → result ≡ answer_of (check_program h text)) }
+fn check_program(image: &mut Image) -> Result<(), Refusal>
+    ensures { (image.new ≡ functions_laid image.old) × (image_length ≤ length image.old) × ((h : Header) (text : List ℕ) → FitsImage h → HoldsLines image.old h text → told result ≡ answer_of (check_program h text)) }
 {
     let bad_function = book_header::bad_functions(image);
     book_load::lay_out(image);
-    let functions = text::none_at(text::FUNCTION_LINE, 0, bad_function);
-    if functions.number != 0 {
-        return functions;
-    }
+    let functions = text::none_at(Reason::FunctionLine, 0, bad_function);
+    functions?;
     let all = book_image::locations(image);
     let locations = text::must(
         all <= book::MOST_LOCATIONS,
-        text::HEADER_BOUNDS,
+        Reason::HeaderBounds,
         FIELD_OF_L,
         0,
     );
-    if locations.number != 0 {
-        return locations;
-    }
-    let nodes = text::none_at(text::NODE_LINE, 0, book_nodes::bad_nodes(image));
-    if nodes.number != 0 {
-        return nodes;
-    }
-    let uses = text::none_at(text::NODE_USE, 0, book_scopes::bad_use(image));
-    if uses.number != 0 {
-        return uses;
-    }
-    let around = text::none_at(text::NODE_USE, 0, book_scopes::bad_scope(image));
-    if around.number != 0 {
-        return around;
-    }
-    text::none_at(text::AGENT_LINE, 0, book_nodes::bad_agents(image))
+    locations?;
+    let nodes = text::none_at(Reason::NodeLine, 0, book_nodes::bad_nodes(image));
+    nodes?;
+    let uses = text::none_at(Reason::NodeUse, 0, book_scopes::bad_use(image));
+    uses?;
+    let around = text::none_at(Reason::NodeUse, 0, book_scopes::bad_scope(image));
+    around?;
+    text::none_at(Reason::AgentLine, 0, book_nodes::bad_agents(image))
 }
 
 // Refusal 1 on all lines after the header, 4, 3 for L, and 5 to 8.
-fn check_text(text: &[u8], h: Header, image: &mut Image) -> Answer
+fn check_text(text: &[u8], h: Header, image: &mut Image) -> Result<(), Refusal>
     requires { (FitsImage h) × (least (bad_line text.now) 2 ≡ None) }
-    ensures { (result ≡ answer_of (check_text h text.now)) × ImageOf image.new (check_text h text.now) }
+    ensures { (told result ≡ answer_of (check_text h text.now)) × ImageOf image.new (check_text h text.now) }
 {
-    let rows = text::none_at(text::ILL_FORMED, 0, book_load::load(text, h, image));
-    if rows.number != 0 {
-        return rows;
-    }
+    let rows = text::none_at(Reason::IllFormed, 0, book_load::load(text, h, image));
+    rows?;
     let program = check_program(image);
     let contents = book_entries::check_entries(text, image);
     let ill_formed = contents.ill;
     let at_fault = contents.fault;
-    let form = text::none_at(text::ILL_FORMED, 0, ill_formed);
-    if form.number != 0 {
-        return form;
-    }
+    let form = text::none_at(Reason::IllFormed, 0, ill_formed);
+    form?;
     let all = 2 + h.functions + h.nodes + h.agents + h.contents;
     let surplus = text::must(
         text.len() <= text::LINE * all as usize,
-        text::ILL_FORMED,
+        Reason::IllFormed,
         all,
         0,
     );
-    if surplus.number != 0 {
-        return surplus;
-    }
-    if program.number != 0 {
-        return program;
-    }
-    text::none_at(text::CONTENTS_RULE, 0, at_fault)
+    surplus?;
+    program?;
+    text::none_at(Reason::ContentsRule, 0, at_fault)
 }
 
 // The whole check of a book. It leaves the image of an accepted one.
-pub fn check_into(book: &[u8], image: &mut Image) -> Answer
-    ensures { (result ≡ answer_of (check_book book.now)) × ImageOf image.new (check_book book.now) }
+pub fn check_into(book: &[u8], image: &mut Image) -> Result<(), Refusal>
+    ensures { (told result ≡ answer_of (check_book book.now)) × ImageOf image.new (check_book book.now) }
 {
     let k = text::parse(book, 0);
-    let first = text::must(k.ok, text::ILL_FORMED, 0, 0);
-    if first.number != 0 {
-        return first;
-    }
+    let first = text::must(k.ok, Reason::IllFormed, 0, 0);
+    first?;
     let l = text::parse(book, 1);
-    let second = text::must(l.ok, text::ILL_FORMED, 1, 0);
-    if second.number != 0 {
-        return second;
-    }
+    let second = text::must(l.ok, Reason::IllFormed, 1, 0);
+    second?;
     let bounds = text::none_at(
-        text::HEADER_BOUNDS,
+        Reason::HeaderBounds,
         0,
         book_header::bad_header(k.line, l.line),
     );
-    if bounds.number != 0 {
-        return bounds;
-    }
+    bounds?;
     check_text(book, header_of(k.line, l.line), image)
 }
 
 // The whole check of a book, without its image.
-pub fn check_book(book: &[u8]) -> Answer
-    ensures { result ≡ answer_of (check_book book.now) }
+pub fn check_book(book: &[u8]) -> Result<(), Refusal>
+    ensures { told result ≡ answer_of (check_book book.now) }
 {
     let mut image = [0u32; 2248];
     check_into(book, &mut image)

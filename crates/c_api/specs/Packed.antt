@@ -1,6 +1,6 @@
 -- An answer as C gets it, in one number, with the tables and the tally beside it; how C has it back; and what each function that C can call promises.
 use Rattle.std.specs.Prelude.{◌≡◌, List, [], ◌∷◌, ℕ, ◌+◌, ◌*◌, ◌/◌, ◌%◌, ◌^◌}
-use Rattle.text.specs.declared.Answer.{Answer}
+use Rattle.text.specs.Words.{Answer}
 use Rattle.text.specs.Words.{answer_of}
 use Rattle.book.specs.Check.{check_book}
 use Rattle.book.specs.Check.{packed as packed_check}

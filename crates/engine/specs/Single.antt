@@ -1,7 +1,7 @@
 -- The single-move entry: a book, a contents table, an agent and its picks (SPECIFICATION 9.2).
 use Rattle.std.specs.Prelude.{Option, None, Some}
 use Rattle.std.specs.Prelude.{Bool, not, List, [], ◌++◌, ℕ, suc, min, ltb, leb, length, get_or, take, drop}
-use Rattle.text.specs.declared.Answer.{Answer}
+use Rattle.text.specs.Words.{Answer}
 use Rattle.text.specs.Words.{least, Checked, good, refused, ◌>>=◌, ◌>>◌, none_at, must}
 use Rattle.text.specs.Refusals.{lent_short, contents_table, instructions_table, contents_rule, log_line}
 use Rattle.book.specs.Book.{Program, L}

@@ -1,7 +1,7 @@
 -- What one move leaves of the contents and the marks: one that fires its updates and its bit, a refused one nothing; and its label tally (SPECIFICATION 4.9,
 -- 4.11, 5.6, 8.3).
 use Rattle.std.specs.Prelude.{◌≡◌, List, ℕ, ◌^◌, ◌<◌, length, get_or}
-use Rattle.text.specs.declared.Answer.{Answer}
+use Rattle.text.specs.Words.{Answer}
 use Rattle.text.specs.Words.{has}
 use Rattle.book.specs.Book.{Program}
 use Rattle.book.specs.Sound.{Lawful, Sound}

@@ -10,7 +10,7 @@ use lib.Dec.{leb}
 use lib.ListN.{length, take}
 use lib.Seq.{take_all}
 use borrow.Author.Tests.{ltb-true, leb-true, lt-ltb, le-ltb, le-leb, lt-leb}
-use Rattle.text.specs.declared.Answer.{Answer}
+use Rattle.text.specs.Words.{Answer}
 use Rattle.text.specs.Words.{Checked, good, refused, ◌>>◌, none_at, must, answer_of, least}
 use Rattle.text.proofs.Words.{then_good, test_good}
 use Rattle.book.specs.Book.{Program, L}

@@ -6,7 +6,7 @@ use Prim.Native.Nat.{ℕ, ◌≤◌, min}
 use native.Mathlib.Decide.{ℕ_discrete}
 use native.Mathlib.Omega.{arith}
 use lib.ListN.{length, take, drop}
-use Rattle.text.specs.declared.Answer.{Answer}
+use Rattle.text.specs.Words.{Answer}
 use Rattle.book.specs.Book.{Program, L}
 use Rattle.book.specs.Sum.{Strided}
 use Rattle.book.specs.Image.{word, low_program}

@@ -4,7 +4,7 @@ use mathlib.Core.Logic.{◌≢◌}
 use mathlib.Core.List.{List}
 use Prim.Native.Nat.{ℕ}
 use lib.ListN.{take}
-use Rattle.text.specs.declared.Answer.{Answer}
+use Rattle.text.specs.Words.{Answer}
 use Rattle.text.specs.Words.{Checked, good, refused, ◌>>=◌, ◌>>◌, answer_of}
 use Rattle.book.specs.Book.{Program, Book, L}
 use Rattle.book.specs.Sum.{Strided}

@@ -1,6 +1,6 @@
 -- What the single-move entries promise, for all inputs.
 use Rattle.std.specs.Prelude.{◌≡◌, List, ℕ, length}
-use Rattle.text.specs.declared.Answer.{Answer}
+use Rattle.text.specs.Words.{Answer}
 use Rattle.engine.specs.declared.Record.{Record}
 use Rattle.engine.specs.Move.{Input}
 use Rattle.engine.specs.Single.{step_call}

@@ -1,6 +1,6 @@
 -- The single-move entry: what a call leaves (SPECIFICATION 8.3, 9.2).
 use Rattle.std.specs.Prelude.{◌≡◌, List, ℕ}
-use Rattle.text.specs.declared.Answer.{Answer}
+use Rattle.text.specs.Words.{Answer}
 use Rattle.engine.specs.Single.{Stepped}
 use Rattle.engine_instruction.specs.Code.{items}
 

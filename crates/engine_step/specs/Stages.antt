@@ -1,6 +1,6 @@
 -- The single-move call in two stages, between which the move's instructions go through the lent list.
 use Rattle.std.specs.Prelude.{◌≡◌, ◌≢◌, List, [], ◌++◌, ℕ, ◌≤◌, length, take, drop}
-use Rattle.text.specs.declared.Answer.{Answer}
+use Rattle.text.specs.Words.{Answer}
 use Rattle.book.specs.Book.{Program, L}
 use Rattle.book.specs.Sum.{Strided}
 use Rattle.book.specs.Image.{word, low_program}

@@ -2,7 +2,7 @@
 use Rattle.std.specs.Prelude.{Bool, ◌&&◌, ◌||◌, not, List, [], ◌∷◌, ◌++◌, ℕ, zero, suc, length, get_or, if◌then◌else◌}
 use Rattle.text.specs.Words.{has, table, some_below}
 use Rattle.text.specs.Refusals.{unordered_touch}
-use Rattle.text.specs.declared.Answer.{Answer}
+use Rattle.text.specs.Words.{Answer}
 use Rattle.book.specs.Book.{Program, Book, L, start}
 use Rattle.engine.specs.declared.Tally.{Tally}
 use Rattle.engine.specs.Move.{Input, Fired, Moved, fires, move_refused, move, fire, writes}

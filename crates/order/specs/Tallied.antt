@@ -2,7 +2,7 @@
 use Rattle.std.specs.Prelude.{◌≡◌, ◌||◌, List, ℕ, ◌+◌, eqb, if◌then◌else◌}
 use Rattle.text.specs.Words.{good, refused}
 use Rattle.text.specs.Refusals.{unordered_touch}
-use Rattle.text.specs.declared.Answer.{Answer}
+use Rattle.text.specs.Words.{Answer}
 use Rattle.book.specs.Book.{Book, start}
 use Rattle.engine.specs.declared.Tally.{Tally}
 use Rattle.engine.specs.Labels.{no_labels, tally, roll_count}

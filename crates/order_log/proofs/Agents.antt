@@ -12,7 +12,7 @@ use lib.Bits.{bit_and, bit_or}
 use lib.Count.{count_trailing_zeros}
 use lib.ListN.{length, get_or, set, length-set, replicate, length-replicate}
 use lib.Seq.{get_or-set_same, get_or-set_other}
-use Rattle.text.specs.declared.Answer.{Answer}
+use Rattle.text.specs.Words.{Answer}
 use Rattle.text.specs.Words.{good, ◌>>=◌, ◌>>◌, must, answer_of}
 use Rattle.text.proofs.Words.{and_cases}
 use Rattle.book.specs.Book.{Program}

@@ -11,7 +11,7 @@ use lib.Dec.{leb}
 use lib.ListN.{length}
 use Rattle.text.specs.declared.Line.{Line}
 use Rattle.text.specs.declared.Parsed.{Parsed}
-use Rattle.text.specs.declared.Answer.{Answer}
+use Rattle.text.specs.Words.{Answer}
 use Rattle.text.specs.Words.{least_from, least, Checked, good, refused, ◌>>=◌, ◌>>◌, none_at, must, answer_of}
 use Rattle.text.specs.Refusals.{ill_formed, log_text, log_line}
 use Rattle.text.specs.Text.{line_length, well_formed, line_bytes, bad_line, line, parsed}

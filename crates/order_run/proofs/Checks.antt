@@ -1,6 +1,6 @@
 -- The checks before the first move: what passing them shows, and the answer if one of them refuses.
 use Rattle.std.proofs.Common.{◌≡◌, ℕ, ◌≤◌, ◌≢◌, List, [], length, sym, refl, ap, ◌∙◌, subst, arith}
-use Rattle.text.specs.declared.Answer.{Answer}
+use Rattle.text.specs.Words.{Answer}
 use Rattle.text.specs.Words.{Checked, good, refused, ◌>>=◌, ◌>>◌, answer_of}
 use Rattle.text.proofs.Words.{bind_good, then_good, good_same}
 use Rattle.text.proofs.Checks.{bind_stops, then_stops}

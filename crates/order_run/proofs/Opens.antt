@@ -1,7 +1,7 @@
 -- A call up to its first move: refused by a check, or begun from its start.
 use Rattle.std.proofs.Common.{◌≡◌, ℕ, min, ◌≢◌, List, ◌++◌, length, take, drop, sym, refl, ap, ◌∙◌, subst, arith, length-take-le}
 use mathlib.Core.Bool.{false≢true}
-use Rattle.text.specs.declared.Answer.{Answer}
+use Rattle.text.specs.Words.{Answer}
 use Rattle.text.specs.Words.{good}
 use Rattle.book.specs.Book.{Program, Book, L, start}
 use Rattle.book.specs.Image.{word, low_program}

@@ -3,7 +3,7 @@ use Rattle.std.proofs.Common.{◌≡◌, ℕ, ◌<◌, ◌≤◌, Bool, true, fa
 use mathlib.Core.Bool.{false≢true}
 use borrow.Author.Tests.{lt-leb}
 use lib.Seq.{drop-length}
-use Rattle.text.specs.declared.Answer.{Answer}
+use Rattle.text.specs.Words.{Answer}
 use Rattle.text.specs.Words.{good, ◌>>◌, must, answer_of}
 use Rattle.text.proofs.Words.{test_good}
 use Rattle.book.specs.Book.{Program, Book, L, start}

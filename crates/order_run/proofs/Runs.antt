@@ -9,7 +9,7 @@ use Rattle.engine.specs.Move.{Input, Fired, Moved, fires, move_refused, move, fi
 use Rattle.engine.proofs.Claims.{moves_leave}
 use Rattle.engine.proofs.Numbers.{move_number, fired_few}
 use Rattle.engine.proofs.Labels.{issued_few, returned_few}
-use Rattle.text.specs.declared.Answer.{Answer}
+use Rattle.text.specs.Words.{Answer}
 use Rattle.engine_fire.specs.Effect.{tables_left, tally_left, move_answer, MoveFits, MoveEffect}
 use Rattle.order.specs.Log.{Log, move_at}
 use Rattle.order.specs.Run.{Run, halted, moved, run, readers}

@@ -1,7 +1,7 @@
 -- A log's run on tables of just the records needed: the next move, one that is begun, one that is finished, and the end.
 use Rattle.std.proofs.Common.{◌≡◌, ℕ, zero, suc, ◌+◌, ◌-◌, ◌%◌, ◌^◌, ◌<◌, ◌≤◌, true, false, ◌≢◌, List, [], ◌∷◌, length, replicate, sym, refl, ap, ◌∙◌, subst, true≢false, add-one, arith}
 use mathlib.Core.Bool.{false≢true}
-use Rattle.text.specs.declared.Answer.{Answer}
+use Rattle.text.specs.Words.{Answer}
 use Rattle.book.specs.Book.{Program, Book, start}
 use Rattle.book.specs.Image.{low_program}
 use Rattle.engine.specs.declared.Instruction.{Instruction}

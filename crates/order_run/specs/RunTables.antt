@@ -1,6 +1,6 @@
 -- What the tables hold at the end of a log's run, and the answer of the order check.
 use Rattle.std.specs.Prelude.{◌≡◌, ℕ, List}
-use Rattle.text.specs.declared.Answer.{Answer}
+use Rattle.text.specs.Words.{Answer}
 use Rattle.text.specs.Refusals.{unordered_touch}
 use Rattle.book.specs.Book.{Program, L}
 use Rattle.order.specs.Pairs.{PairFound, no_pair, a_pair}

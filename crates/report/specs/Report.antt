@@ -1,7 +1,7 @@
 -- What the program `rental` prints for the bytes that it reads, and the label tally of their run (SPECIFICATION 10.1, 10.2).
 use Rattle.std.specs.Prelude.{List, [], ◌∷◌, ◌++◌, ℕ, zero, suc, ◌+◌, ◌*◌, eqb, leb, length, get_or, drop, if◌then◌else◌}
 use Rattle.text.specs.declared.Line.{Line}
-use Rattle.text.specs.declared.Answer.{Answer}
+use Rattle.text.specs.Words.{Answer}
 use Rattle.text.specs.Words.{Checked, good, refused, ◌>>=◌, ◌>>◌, must}
 use Rattle.text.specs.Refusals.{lent_short, input_table}
 use Rattle.text.specs.Text.{line_length, written}

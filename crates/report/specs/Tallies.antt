@@ -1,7 +1,7 @@
 -- The answers and the label tallies of whole inputs (SPECIFICATION 4.11, 10.2), as a table under the lemma of Quoted. proofs/Tallies shows
 -- by computation that the table is right.
 use Rattle.std.specs.Prelude.{List, [], ◌∷◌, ◌++◌, ℕ}
-use Rattle.text.specs.declared.Answer.{Answer}
+use Rattle.text.specs.Words.{Answer}
 use Rattle.text.specs.Words.{Checked, good, refused}
 use Rattle.text.specs.Quoted.{padded, Case, case}
 use Rattle.book.specs.Book.{Book}

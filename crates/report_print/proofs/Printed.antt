@@ -8,7 +8,7 @@ use native.Mathlib.Omega.{arith}
 use lib.ListN.{length, take, drop, length-replicate, length-drop, length-append}
 use lib.Seq.{take_all, take-append_seam}
 use borrow.Author.Tests.{ne_eqb}
-use Rattle.text.specs.declared.Answer.{Answer}
+use Rattle.text.specs.Words.{Answer}
 use Rattle.text.specs.Words.{Checked, good, refused, answer_of}
 use Rattle.text.specs.Text.{written}
 use Rattle.book.specs.declared.Header.{Header}

@@ -1,13 +1,17 @@
 -- How checks end: with a fact about what they give, or with one about their refusal's number and place.
-use Rattle.std.specs.Prelude.{Option, None, Some}
-use mathlib.Core.Path.{◌≡◌, refl}
+use Rattle.std.specs.Prelude.{Option, None, Some, Result, Ok, Err}
+use Rattle.std.specs.Result.{IsErrAnd}
+use mathlib.Core.Path.{◌≡◌, refl, sym, ap, ◌∙◌}
 use mathlib.Core.Bool.{Bool, true, false}
 use mathlib.Core.Logic.{◌≢◌}
 use Prim.Native.Nat.{ℕ, ◌+◌, ◌^◌, ◌≤◌, ◌<◌}
 use native.Mathlib.Nat.{zero-add}
 use native.Mathlib.Omega.{arith}
-use Rattle.text.specs.declared.Answer.{Answer}
-use Rattle.text.specs.Words.{least, Checked, good, refused, ◌>>=◌, ◌>>◌, none_at, must, answer_of}
+use Rattle.text.specs.declared.Reason.{Reason}
+use Rattle.text.specs.declared.Reason.TheVariants.{IllFormed, LentShort, HeaderBounds, FunctionLine, NodeLine, NodeUse, AgentLine, ContentsRule, LogLine, AgentUnordered, NonBoolean, NotReleasable, NoLabelLeft, ListFull, Clash, UnorderedTouch, NotInUniverse, PickCount}
+use Rattle.text.specs.declared.Refusal.{Refusal}
+use Rattle.text.specs.Refusals.{number_of}
+use Rattle.text.specs.Words.{least, Answer, told, Checked, good, refused, ◌>>=◌, ◌>>◌, none_at, must, answer_of}
 use Rattle.text.proofs.Words.{least_here}
 
 pub data Ends {A : Type 0} (G : A → Type 0) (R : ℕ → ℕ → ℕ → Type 0) : Checked A → Type 0 where
@@ -90,6 +94,48 @@ module _ {A B : Type 0} where
   pub then_goes_on : (c : Checked A) (d : Checked B) → Numbered c → (answer_of c).number ≡ 0 → (c >> d) ≡ d
   unfolding ◌>>◌
   then_goes_on c d k z = rw (accepted_good k z).1
+
+-- ---- what the code's results tell
+
+-- no refusal has the number 0 or 16, and none a number past 19
+pub reason_numbered : (r : Reason) → (1 ≤ number_of r) × (number_of r ≤ 19) × (number_of r ≢ 16)
+reason_numbered IllFormed = (omega arith, omega arith, λ e. omega (arith, e))
+reason_numbered LentShort = (omega arith, omega arith, λ e. omega (arith, e))
+reason_numbered HeaderBounds = (omega arith, omega arith, λ e. omega (arith, e))
+reason_numbered FunctionLine = (omega arith, omega arith, λ e. omega (arith, e))
+reason_numbered NodeLine = (omega arith, omega arith, λ e. omega (arith, e))
+reason_numbered NodeUse = (omega arith, omega arith, λ e. omega (arith, e))
+reason_numbered AgentLine = (omega arith, omega arith, λ e. omega (arith, e))
+reason_numbered ContentsRule = (omega arith, omega arith, λ e. omega (arith, e))
+reason_numbered LogLine = (omega arith, omega arith, λ e. omega (arith, e))
+reason_numbered AgentUnordered = (omega arith, omega arith, λ e. omega (arith, e))
+reason_numbered NonBoolean = (omega arith, omega arith, λ e. omega (arith, e))
+reason_numbered NotReleasable = (omega arith, omega arith, λ e. omega (arith, e))
+reason_numbered NoLabelLeft = (omega arith, omega arith, λ e. omega (arith, e))
+reason_numbered ListFull = (omega arith, omega arith, λ e. omega (arith, e))
+reason_numbered Clash = (omega arith, omega arith, λ e. omega (arith, e))
+reason_numbered UnorderedTouch = (omega arith, omega arith, λ e. omega (arith, e))
+reason_numbered NotInUniverse = (omega arith, omega arith, λ e. omega (arith, e))
+reason_numbered PickCount = (omega arith, omega arith, λ e. omega (arith, e))
+
+module _ {A : Type 0} {r : Result A Refusal} where
+  -- a result that is accepted tells 0 0 0
+  pub passing : {a : A} → r ≡ Ok a → (told r).number ≡ 0
+  passing e = ap (λ (x : Result A Refusal). (told x).number) e
+
+  -- a result that is refused tells no 0
+  pub refusing : {e : Refusal} → r ≡ Err e → (told r).number ≢ 0
+  refusing {e = e} h z = omega (arith, (reason_numbered e.reason).0, sym (ap (λ (x : Result A Refusal). (told x).number) h) ∙ z)
+
+  -- the refusal passed on, as a result of another type, tells the same
+  pub refused_alike : {B : Type 0} (s : Result B Refusal) {e : Refusal} → r ≡ Err e → IsErrAnd s (λ d. d ≡ e) → told s ≡ told r
+  refused_alike (Ok b) h g = absurd g
+  refused_alike (Err d) h g = ap (λ (x : Refusal). told {A = A} (Err x)) g ∙ sym (ap (λ (x : Result A Refusal). told x) h)
+
+-- a refusal passed on tells no 0
+pub refused_on : {B : Type 0} (s : Result B Refusal) (e : Refusal) → IsErrAnd s (λ d. d ≡ e) → (told s).number ≢ 0
+refused_on (Ok b) e g = absurd g
+refused_on {B = B} (Err d) e g = refusing {A = B} {r = Err d} refl
 
 -- ---- refusals and answers that fit one number
 

@@ -1,5 +1,7 @@
 -- The numbers of the refusals, lent tables and texts (SPECIFICATION 8.1, 11.2).
 use Rattle.std.specs.Prelude.{ℕ}
+use Rattle.text.specs.declared.Reason.{Reason}
+use Rattle.text.specs.declared.Reason.TheVariants.{IllFormed, LentShort, HeaderBounds, FunctionLine, NodeLine, NodeUse, AgentLine, ContentsRule, LogLine, AgentUnordered, NonBoolean, NotReleasable, NoLabelLeft, ListFull, Clash, UnorderedTouch, NotInUniverse, PickCount}
 
 -- Refusal 1: a line is ill-formed, missing or surplus
 abbrev pub ill_formed : ℕ
@@ -74,6 +76,27 @@ not_in_universe = 18
 -- Refusal 19: a choose lacks a pick, or picks are left over
 abbrev pub pick_count : ℕ
 pick_count = 19
+
+-- the number of a refusal, by the code's name for it
+abbrev pub number_of : Reason → ℕ
+number_of IllFormed = ill_formed
+number_of LentShort = lent_short
+number_of HeaderBounds = header_bounds
+number_of FunctionLine = function_line
+number_of NodeLine = node_line
+number_of NodeUse = node_use
+number_of AgentLine = agent_line
+number_of ContentsRule = contents_rule
+number_of LogLine = log_line
+number_of AgentUnordered = agent_unordered
+number_of NonBoolean = non_boolean
+number_of NotReleasable = not_releasable
+number_of NoLabelLeft = no_label_left
+number_of ListFull = list_full
+number_of Clash = clash
+number_of UnorderedTouch = unordered_touch
+number_of NotInUniverse = not_in_universe
+number_of PickCount = pick_count
 
 -- ---- texts, as the q of refusal 1
 

@@ -1,7 +1,8 @@
 -- What every layer uses: lists made by place, the least place at fault, and what a check answers (SPECIFICATION 8.1).
 use Rattle.std.specs.Prelude.{Option, None, Some}
-use Rattle.std.specs.Prelude.{Bool, true, false, ◌||◌, ◌&&◌, List, [], ◌∷◌, ℕ, zero, suc, ◌+◌, eqb, leb, if◌then◌else◌}
-use Rattle.text.specs.declared.Answer.{Answer}
+use Rattle.std.specs.Prelude.{Bool, true, false, ◌||◌, ◌&&◌, List, [], ◌∷◌, ℕ, zero, suc, ◌+◌, eqb, leb, if◌then◌else◌, Result, Ok, Err}
+use Rattle.text.specs.declared.Refusal.{Refusal}
+use Rattle.text.specs.Refusals.{number_of}
 
 -- 1 if the test passes, otherwise 0
 abbrev pub one_if : Bool → ℕ
@@ -45,6 +46,17 @@ least_from bad (suc n) i = let r = least_from bad n (suc i) in if bad i then Som
 -- of the places below n, the least that is at fault
 abbrev pub least : (ℕ → Bool) → ℕ → Option ℕ
 least bad n = least_from bad n 0
+
+-- an answer, the triple of SPECIFICATION 8.1: a refusal's number and its place (p, q); 0 0 0 when accepted
+pub record Answer : Type 0 where
+  pub number : ℕ
+  pub p : ℕ
+  pub q : ℕ
+
+-- the answer that the code's result tells
+abbrev pub told : {A : Type 0} → Result A Refusal → Answer
+told (Ok a) = record { number = 0; p = 0; q = 0 }
+told (Err r) = record { number = number_of r.reason; p = r.p; q = r.q }
 
 -- what a check answers: a value, or a refusal with its number and its place (p, q)
 pub data Checked (A : Type 0) : Type 0 where

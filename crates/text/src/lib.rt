@@ -1,49 +1,51 @@
 // The text of books and logs: its lines read and checked; and small functions over lists that many crates use.
 #![tactic(auto)]
 
-ghost use Rattle.std.specs.Prelude.{◌≡◌, true, ◌&&◌, not, [], ◌∷◌, ◌+◌, ◌-◌, ◌*◌, ◌<◌, ◌≤◌, ◌%◌, min, eqb, length, take, drop, get_or, set};
-ghost use Rattle.text.specs.Words.{least, least_from, none_at, must, answer_of};
+ghost use Rattle.std.specs.Prelude.{◌≡◌, true, ◌&&◌, not, [], ◌∷◌, ◌+◌, ◌-◌, ◌*◌, ◌<◌, ◌≤◌, ◌%◌, Err, min, eqb, length, take, drop, get_or, set};
+ghost use Rattle.text.specs.Words.{least, least_from, none_at, must, answer_of, told};
+ghost use Rattle.text.specs.Refusals.{number_of};
 ghost use Rattle.text.specs.Text.{unread, zero_digit, digit, field_ok, value_of, well_formed, line_bytes, line, bad_line, parsed};
 ghost use Rattle.text.specs.Scan.{step_of, ends_well, four_blanks, Read};
 
-// The numbers of the refusals (SPECIFICATION 8.1).
-pub const ILL_FORMED: u32 = 1;
+// Why something is refused, by its number (SPECIFICATION 8.1). Refusal 16 is taken and never given (SPECIFICATION 4.10).
+#[derive(Clone, Copy, Debug, PartialEq, Eq)]
+pub enum Reason {
+    IllFormed = 1,
+    LentShort = 2,
+    HeaderBounds = 3,
+    FunctionLine = 4,
+    NodeLine = 5,
+    NodeUse = 6,
+    AgentLine = 7,
+    ContentsRule = 8,
+    LogLine = 9,
+    AgentUnordered = 10,
+    NonBoolean = 11,
+    NotReleasable = 12,
+    NoLabelLeft = 13,
+    ListFull = 14,
+    Clash = 15,
+    UnorderedTouch = 17,
+    NotInUniverse = 18,
+    PickCount = 19,
+}
 
-pub const LENT_SHORT: u32 = 2;
+impl Reason {
+    // The number of the refusal.
+    pub fn number(self) -> u32
+        ensures { result ≡ number_of self }
+    {
+        self as u32
+    }
+}
 
-pub const HEADER_BOUNDS: u32 = 3;
-
-pub const FUNCTION_LINE: u32 = 4;
-
-pub const NODE_LINE: u32 = 5;
-
-pub const NODE_USE: u32 = 6;
-
-pub const AGENT_LINE: u32 = 7;
-
-pub const CONTENTS_RULE: u32 = 8;
-
-pub const LOG_LINE: u32 = 9;
-
-pub const AGENT_UNORDERED: u32 = 10;
-
-pub const NON_BOOLEAN: u32 = 11;
-
-pub const NOT_RELEASABLE: u32 = 12;
-
-pub const NO_LABEL_LEFT: u32 = 13;
-
-pub const LIST_FULL: u32 = 14;
-
-pub const CLASH: u32 = 15;
-
-// Refusal 16 is taken and never given (SPECIFICATION 4.10).
-
-pub const UNORDERED_TOUCH: u32 = 17;
-
-pub const NOT_IN_UNIVERSE: u32 = 18;
-
-pub const PICK_COUNT: u32 = 19;
+// A refusal: why, and its place (p, q).
+#[derive(Clone, Copy, Debug, PartialEq, Eq)]
+pub struct Refusal {
+    pub reason: Reason,
+    pub p: u32,
+    pub q: u32,
+}
 
 // The texts, as the q of refusal 1: the book is 0, and the log 1.
 pub const LOG_TEXT: u32 = 1;
@@ -91,48 +93,28 @@ pub struct LineFaults {
     pub fault: Option<u32>,
 }
 
-// An answer: a refusal's number and its place (p, q); 0 0 0 when accepted.
-#[derive(Clone, Copy)]
-pub struct Answer {
-    pub number: u32,
-    pub p: u32,
-    pub q: u32,
-}
-
-// An answer of this number and place; 0 0 0 accepts.
-pub fn answer_at(number: u32, p: u32, q: u32) -> Answer
-    ensures { result ≡ record { number = number; p = p; q = q } }
+// Refused at (p, q).
+pub fn refused(reason: Reason, p: u32, q: u32) -> Result<(), Refusal>
+    ensures { result ≡ Err (record { reason = reason; p = p; q = q }) }
 {
-    Answer { number, p, q }
+    Err(Refusal { reason, p, q })
 }
 
-// Refused with the number at the place found and q; accepted if nothing was found.
-pub fn none_at(number: u32, q: u32, found: Option<u32>) -> Answer
-    ensures { result ≡ answer_of (none_at number 0 q found) }
+// Refused at the place found and q; accepted if nothing was found.
+pub fn none_at(reason: Reason, q: u32, found: Option<u32>) -> Result<(), Refusal>
+    ensures { told result ≡ answer_of (none_at (number_of reason) 0 q found) }
 {
     match found {
-        None => Answer {
-            number: 0,
-            p: 0,
-            q: 0,
-        },
-        Some(p) => Answer { number, p, q },
+        None => Ok(()),
+        Some(p) => refused(reason, p, q),
     }
 }
 
-// Refused with the number at (p, q) unless the test passes.
-pub fn must(test: bool, number: u32, p: u32, q: u32) -> Answer
-    ensures { result ≡ answer_of (must test number p q) }
+// Refused at (p, q) unless the test passes.
+pub fn must(test: bool, reason: Reason, p: u32, q: u32) -> Result<(), Refusal>
+    ensures { told result ≡ answer_of (must test (number_of reason) p q) }
 {
-    if test {
-        Answer {
-            number: 0,
-            p: 0,
-            q: 0,
-        }
-    } else {
-        Answer { number, p, q }
-    }
+    if test { Ok(()) } else { refused(reason, p, q) }
 }
 
 // The state of the columns of a field that have been read: blanks, a single 0, a number, or not readable.

@@ -1,7 +1,7 @@
 -- `rental_move` meets its contract.
 use mathlib.Core.Path.{ap}
 use native.Mathlib.Omega.{arith}
-use Rattle.text.specs.declared.Answer.{Answer}
+use Rattle.text.specs.Words.{Answer}
 use Rattle.engine.specs.Move.{input}
 use Rattle.engine.specs.Single.{step_call}
 use Rattle.engine.proofs.Refusals.{step_small}

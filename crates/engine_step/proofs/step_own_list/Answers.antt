@@ -1,6 +1,6 @@
 -- `step_own_list` meets its contract: a list of more than 256 records makes no difference.
 use Rattle.std.proofs.Common.{◌≡◌, ◌∙◌, ap, arith, ℕ, List, length, min, length-take}
-use Rattle.text.specs.declared.Answer.{Answer}
+use Rattle.text.specs.Words.{Answer}
 use Rattle.engine.specs.declared.Record.{Record}
 use Rattle.engine.specs.Move.{Input}
 use Rattle.engine.specs.Single.{Stepped, step_call}

@@ -1,6 +1,6 @@
 -- `none_at` meets its contract.
-use Rattle.std.specs.Prelude.{None, Some}
-use Rattle.text.specs.Words.{none_at}
+use Rattle.std.proofs.Common.{ap, ◌∙◌}
+use Rattle.text.specs.Words.{none_at, told}
 use Rattle.text.proofs.Checks.{none_here}
 use Rattle.text.proofs.none_at.Goals as goal
 
@@ -9,4 +9,4 @@ unfolding none_at
 returns-in-None c = rw c.in-None.is
 
 pub returns-in-Some : goal.returns-in-Some
-returns-in-Some c = none_here _ _ _ _ c.in-Some.is
+returns-in-Some c = ap told c.refused.ensures ∙ none_here _ _ _ _ c.in-Some.is
