@@ -1,10 +1,11 @@
 -- The label tally: how many labels instructions issue and return, and how many labels are on the roll (SPECIFICATION 4.11).
 use Rattle.std.specs.Prelude.{Bool, false, not, ◌&&◌, List, [], ◌∷◌, ℕ, zero, suc, ◌+◌, eqb, ltb, get_or}
-use Rattle.text.specs.Words.{one_if, has}
+use Rattle.text.specs.Words.{Answer, told, one_if, has}
 use Rattle.book.specs.Book.{Program, true_element, reserve}
 use Rattle.engine.specs.declared.Instruction.{Instruction}
 use Rattle.engine.specs.declared.Instruction.TheVariants.{Update, Release}
 use Rattle.engine.specs.declared.Tally.{Tally}
+use Rattle.engine.specs.declared.TalliedResult.{TalliedResult}
 use Rattle.engine.specs.Move.{Fired, released}
 
 -- ---- the tally of a move
@@ -68,3 +69,14 @@ roll_count B c = count_below (in_reserve c) B.E
 -- how many labels leave the roll from the contents c to the contents d: on it in c, and not in d
 unfoldable pub labels_leaving : Program → List ℕ → List ℕ → ℕ
 labels_leaving B c d = count_below (λ x. in_reserve c x && not (in_reserve d x)) B.E
+
+-- ---- an answer with a tally
+
+-- an answer, and the tally of the moves that have fired
+pub record TalliedAnswer : Type 0 where
+  pub answer : Answer
+  pub tally : Tally
+
+-- the answer and the tally that the code's result tells
+abbrev pub tallied : TalliedResult → TalliedAnswer
+tallied r = record { answer = told r.answer; tally = r.tally }

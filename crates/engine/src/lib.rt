@@ -2,7 +2,7 @@
 // caller lends.
 #![tactic(auto)]
 
-use text::{Answer, Value};
+use text::{Refusal, Value};
 
 // How many instructions a move may give, and how many records of them have to be lent.
 pub const MOST_INSTRUCTIONS: usize = 256;
@@ -34,9 +34,9 @@ pub struct Tally {
     pub returned: u64,
 }
 
-// An answer, and the tally of the moves that have fired.
+// Accepted or refused, and the tally of the moves that have fired.
 #[derive(Clone, Copy)]
-pub struct TalliedAnswer {
-    pub answer: Answer,
+pub struct TalliedResult {
+    pub answer: Result<(), Refusal>,
     pub tally: Tally,
 }

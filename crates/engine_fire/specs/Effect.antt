@@ -6,7 +6,7 @@ use Rattle.text.specs.Words.{has}
 use Rattle.book.specs.Book.{Program}
 use Rattle.book.specs.Sound.{Lawful, Sound}
 use Rattle.engine.specs.declared.Tally.{Tally}
-use Rattle.engine.specs.declared.TalliedAnswer.{TalliedAnswer}
+use Rattle.engine.specs.Labels.{TalliedAnswer}
 use Rattle.engine.specs.Labels.{no_labels, move_tally}
 use Rattle.engine.specs.Move.{Input, Moved, fires, move_refused, move, fire, writes}
 use Rattle.engine_fire.specs.declared.Begun.{Begun}

@@ -3,7 +3,7 @@ use Rattle.std.specs.Prelude.{◌≡◌, List, ℕ, length}
 use Rattle.book.specs.Book.{Program}
 use Rattle.book.specs.Sum.{Strided}
 use Rattle.book.specs.Image.{low_program}
-use Rattle.engine.specs.declared.TalliedAnswer.{TalliedAnswer}
+use Rattle.engine.specs.Labels.{TalliedAnswer}
 use Rattle.engine.specs.Labels.{no_labels}
 use Rattle.engine.specs.Rule.{Walked, walking, refused_at}
 use Rattle.engine.specs.Move.{Moved, fires, move_refused, settle}

@@ -21,7 +21,7 @@ use Rattle.engine_fire.specs.declared.Begun.{Begun}
 use Rattle.engine_fire.specs.Count.{instructions_given}
 use Rattle.engine_fire.specs.Outcome.{contents_after}
 use Rattle.engine_fire.specs.Effect.{move_answer}
-use Rattle.engine.specs.declared.TalliedAnswer.{TalliedAnswer}
+use Rattle.engine.specs.Labels.{TalliedAnswer}
 use Rattle.engine_fire.specs.Finish.{MoveFinished}
 use Rattle.engine_fire.proofs.Count.{given_few, made_of, same_outcome}
 use Rattle.engine_step.specs.declared.BegunCall.{BegunCall}

@@ -11,7 +11,7 @@ use Rattle.order.specs.Log.{Log}
 use Rattle.order.specs.Lists.{lists_from}
 use Rattle.order.specs.Run.{LogAnswer}
 use Rattle.engine.specs.Tables.{Tables}
-use Rattle.engine.specs.declared.TalliedAnswer.{TalliedAnswer}
+use Rattle.engine.specs.Labels.{TalliedAnswer}
 use Rattle.engine_list.specs.Written.{records_written, all_records_written, through, PassedThrough}
 use Rattle.engine_list.proofs.Laws.{none_left}
 use Rattle.order_run.specs.declared.RunState.{RunState}

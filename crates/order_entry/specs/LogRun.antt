@@ -1,7 +1,7 @@
 -- What the log entry promises: the run's answer and label tally, the tables and the records that it leaves, and freedom of order.
 use Rattle.std.specs.Prelude.{◌≡◌, List, ℕ, length}
 use Rattle.engine.specs.declared.Record.{Record}
-use Rattle.engine.specs.declared.TalliedAnswer.{TalliedAnswer}
+use Rattle.engine.specs.Labels.{TalliedAnswer}
 use Rattle.order.specs.Call.{log_call}
 use Rattle.order.specs.Demand.{Demand3}
 use Rattle.order.specs.Tallied.{Tallied}

@@ -1,6 +1,6 @@
 -- The check of a log from what its lines are: what it answers, and what it leaves of a log that passes.
-use Rattle.std.specs.Prelude.{Option, None, Some}
-use Rattle.std.specs.Prelude.{if◌then◌else◌}
+use Rattle.std.proofs.lemmas.Result.{IfOk-weaker}
+use Rattle.std.specs.Prelude.{Option, None, Some, Result, IfOk, if◌then◌else◌}
 use mathlib.Core.Path.{◌≡◌, refl, sym, ap, subst, ◌∙◌}
 use mathlib.Core.Logic.{◌≢◌}
 use mathlib.Core.Bool.{Bool, true, false, not}
@@ -11,8 +11,9 @@ use lib.Dec.{leb}
 use lib.ListN.{length}
 use Rattle.text.specs.declared.Line.{Line}
 use Rattle.text.specs.declared.Parsed.{Parsed}
+use Rattle.text.specs.declared.Refusal.{Refusal}
 use Rattle.text.specs.Words.{Answer}
-use Rattle.text.specs.Words.{least_from, least, Checked, good, refused, ◌>>=◌, ◌>>◌, none_at, must, answer_of}
+use Rattle.text.specs.Words.{least_from, least, Checked, good, refused, ◌>>=◌, ◌>>◌, none_at, must, answer_of, told}
 use Rattle.text.specs.Refusals.{ill_formed, log_text, log_line}
 use Rattle.text.specs.Text.{line_length, well_formed, line_bytes, bad_line, line, parsed}
 use Rattle.text.proofs.Words.{bind_good, then_good, none_good, found_good, test_good, good_same}
@@ -94,10 +95,10 @@ module _ (text : List ℕ) where
             let f : answer_of (check_log_header text) ≡ a = ap answer_of header_as ∙ then_gives (header_checked p) p.line ∙ sym e in
             sym (bind_stops (check_log_header text) _ (rw f n) ∙ f)
 
-        pub header_refused : a.number ≢ 0 → (t : List ℕ) (m : ℕ) → LogIsRead A E text t (record { answer = a; moves = m })
-        header_refused n t m =
+        pub header_refused : a.number ≢ 0 → (t : List ℕ) (s : Result ℕ Refusal) → told s ≡ a → LogIsRead A E text t s
+        header_refused n t s w =
             let never : (g : Log) → read_log A E text ≡ good g → ⊥ = λ g q. n (ap (λ (x : Answer). x.number) (at_header n ∙ ap answer_of q)) in
-            record { answer = at_header n; moves = λ g q. absurd (never g q); order = λ g q. absurd (never g q) }
+            record { answer = w ∙ at_header n; moves = λ g q. absurd (never g q); order = λ g q. absurd (never g q) }
 
         pub past_header : a.number ≡ 0 → read_log A E text ≡ (check_log_text p.line text >> (check_log_lines A E p.line text >> good (log_of p.line text)))
         unfolding read_log header_checked ◌>>=◌ ◌>>◌ must
@@ -136,10 +137,10 @@ module _
         (good_same (log_of h text) g l.2, form, none_good log_line 0 0 found.fault l.0 (sym (w.fault form) ∙ l.1))
 
     pub lines_read : (a : Answer) → a ≡ answer_of (lines_checked (length text) (log_lines h) found.ill found.fault)
-        → LogIsRead A E text t (record { answer = a; moves = h.a })
-    lines_read a e = record {
-      answer = e ∙ lines_answer;
-      moves = λ g q. sym (how_many h text) ∙ ap (λ (x : Log). length x.moves) (clean g q).0;
+        → (s : Result ℕ Refusal) → told s ≡ a → IfOk s (λ n. n ≡ h.a) → LogIsRead A E text t s
+    lines_read a e s k many = record {
+      answer = k ∙ e ∙ lines_answer;
+      moves = λ g q. IfOk-weaker s _ _ (λ n p. p ∙ sym (how_many h text) ∙ ap (λ (x : Log). length x.moves) (clean g q).0) many;
       order = λ g q. let c = clean g q in subst (λ (x : Log). OrderTable x t) c.0 (w.order c.1 c.2);
     }
 

@@ -1,10 +1,10 @@
 -- What reading a log's text leaves on the way, and what it gives a caller (SPECIFICATION 6.1 to 6.4).
-use Rattle.std.specs.Prelude.{Option, None}
-use Rattle.std.specs.Prelude.{◌≡◌, List, [], ◌∷◌, ℕ, ◌+◌, ◌*◌, ◌<◌, leb, length, get_or, set}
+use Rattle.std.specs.Prelude.{Option, None, Result, IfOk, ◌≡◌, List, [], ◌∷◌, ℕ, ◌+◌, ◌*◌, ◌<◌, leb, length, get_or, set}
 use Rattle.std.specs.Int.Bits.{bit_or}
 use Rattle.text.specs.declared.Line.{Line}
 use Rattle.text.specs.declared.Parsed.{Parsed}
-use Rattle.text.specs.Words.{table, least_from, least, Checked, good, ◌>>◌, none_at, must, answer_of}
+use Rattle.text.specs.declared.Refusal.{Refusal}
+use Rattle.text.specs.Words.{table, least_from, least, Checked, good, ◌>>◌, none_at, must, answer_of, told}
 use Rattle.text.specs.Refusals.{ill_formed, log_text, log_line}
 use Rattle.text.specs.Text.{line_length, bad_line, line}
 use Rattle.order.specs.Sets.{with_move}
@@ -13,7 +13,6 @@ use Rattle.order.specs.Log.{Log, log_header_ok, pair_of, log_of, bad_move_at, ba
 use Rattle.order.specs.Table.{predecessors_in, agent_in, first_in, end_in, OrderTable}
 use Rattle.text.specs.declared.LineFaults.{LineFaults}
 use Rattle.order_lines.specs.Lines.{first_found, shifted, KindRead}
-use Rattle.order_log.specs.declared.LogRead.{LogRead}
 
 -- ---- the header
 
@@ -70,7 +69,7 @@ lines_checked size n ill fault = do
 -- ---- the log
 
 -- a log is read: r has its answer and, of a log that passes, how many moves it has; then the table t has its order and picks
-pub record LogIsRead (A E : ℕ) (text t : List ℕ) (r : LogRead) : Type 0 where
-  pub answer : r.answer ≡ answer_of (read_log A E text)
-  pub moves : (g : Log) → read_log A E text ≡ good g → r.moves ≡ length g.moves
+pub record LogIsRead (A E : ℕ) (text t : List ℕ) (r : Result ℕ Refusal) : Type 0 where
+  pub answer : told r ≡ answer_of (read_log A E text)
+  pub moves : (g : Log) → read_log A E text ≡ good g → IfOk r (λ n. n ≡ length g.moves)
   pub order : (g : Log) → read_log A E text ≡ good g → OrderTable g t

@@ -2,21 +2,14 @@
 #![tactic(auto)]
 
 ghost use Rattle.std.specs.Prelude.{◌≡◌, true, false, ◌-◌, ◌%◌, ◌^◌, ◌<◌, ◌≤◌, length, get_or, take, drop, if◌then◌else◌};
-ghost use Rattle.text.specs.Words.{answer_of};
+ghost use Rattle.text.specs.Words.{answer_of, told};
 ghost use Rattle.order.specs.Log.{log_header_ok, bad_move, bad_pair};
 ghost use Rattle.order.specs.Table.{agent_in, picks_in};
 ghost use Rattle.order_log.specs.Read.{header_checked, lines_checked, pair_put, MovesRead, PairsRead, join_faults, LinesRead, LogIsRead};
 ghost use Rattle.order_log.specs.Agents.{LeastUnordered, check_agents_in};
 
 use order::OrderTable;
-use text::{Answer, Line, LineFaults, Parsed};
-
-// What reading a log gives: its answer, and when accepted how many moves it has.
-#[derive(Clone, Copy)]
-pub struct LogRead {
-    pub answer: Answer,
-    pub moves: u32,
-}
+use text::{Line, LineFaults, Parsed, Reason, Refusal};
 
 // The header is within its bounds.
 fn header_fits(h: Line) -> bool
@@ -148,54 +141,46 @@ fn read_lines(log: &[u8], agents: u32, elements: u32, h: Line, order: &mut Order
 }
 
 // Refusals 1 and 9, in this order, on the header line.
-fn check_header(head: Parsed) -> Answer
-    ensures { result ≡ answer_of (header_checked head) }
+fn check_header(head: Parsed) -> Result<(), Refusal>
+    ensures { told result ≡ answer_of (header_checked head) }
 {
-    let form = text::must(head.ok, text::ILL_FORMED, 0, text::LOG_TEXT);
-    if form.number != 0 {
-        return form;
-    }
+    let form = text::must(head.ok, Reason::IllFormed, 0, text::LOG_TEXT);
+    form?;
     let h = head.line;
-    text::must(header_fits(h), text::LOG_LINE, 0, 0)
+    text::must(header_fits(h), Reason::LogLine, 0, 0)
 }
 
 // Refusals 1 and 9 on a log of `size` bytes and so many lines, from what is found in its lines.
-fn check_lines(size: usize, lines: u32, ill: Option<u32>, fault: Option<u32>) -> Answer
-    ensures { result ≡ answer_of (lines_checked size lines ill fault) }
+fn check_lines(size: usize, lines: u32, ill: Option<u32>, fault: Option<u32>) -> Result<(), Refusal>
+    ensures { told result ≡ answer_of (lines_checked size lines ill fault) }
 {
-    let form = text::none_at(text::ILL_FORMED, text::LOG_TEXT, ill);
-    if form.number != 0 {
-        return form;
-    }
+    let form = text::none_at(Reason::IllFormed, text::LOG_TEXT, ill);
+    form?;
     let whole = size <= text::LINE * lines as usize;
-    let surplus = text::must(whole, text::ILL_FORMED, lines, text::LOG_TEXT);
-    if surplus.number != 0 {
-        return surplus;
-    }
-    text::none_at(text::LOG_LINE, 0, fault)
+    let surplus = text::must(whole, Reason::IllFormed, lines, text::LOG_TEXT);
+    surplus?;
+    text::none_at(Reason::LogLine, 0, fault)
 }
 
-// Refusals 1 and 9, for a book of so many agents and elements: the log's order and picks are left in the table. Each line is read once.
-pub fn read_log(log: &[u8], agents: u32, elements: u32, order: &mut OrderTable) -> LogRead
+// Refusals 1 and 9, for a book of so many agents and elements: how many moves the log has; its order and picks are left in the table. Each line is read once.
+pub fn read_log(
+    log: &[u8],
+    agents: u32,
+    elements: u32,
+    order: &mut OrderTable,
+) -> Result<u32, Refusal>
     ensures { LogIsRead agents elements log.now order.new result }
 {
     let head = text::parse(log, 0);
     let first = check_header(head);
-    if first.number != 0 {
-        return LogRead {
-            answer: first,
-            moves: 0,
-        };
-    }
+    first?;
     let h = head.line;
     let found = read_lines(log, agents, elements, h, order);
     let ill = found.ill;
     let fault = found.fault;
     let answer = check_lines(log.len(), 1 + h.a + h.b + h.c, ill, fault);
-    LogRead {
-        answer: answer,
-        moves: h.a,
-    }
+    answer?;
+    Ok(h.a)
 }
 
 // The least move of the set `own` that is not in the set of predecessors; 64 for none.
@@ -206,8 +191,8 @@ fn least_unordered(own: u64, predecessors: u64) -> u32
 }
 
 // Refusal 10: the least pair of the first `moves` moves that are of one agent and unordered. The code's `own` has each agent's moves so far.
-pub fn check_agents(order: &OrderTable, moves: u32) -> Answer
-    ensures { result ≡ answer_of (check_agents_in order.now moves) }
+pub fn check_agents(order: &OrderTable, moves: u32) -> Result<(), Refusal>
+    ensures { told result ≡ answer_of (check_agents_in order.now moves) }
 {
     let m = text::smaller(moves as usize, order::MOST_MOVES as usize);
     let mut own: [u64; 16] = [0; 16];
@@ -226,7 +211,7 @@ pub fn check_agents(order: &OrderTable, moves: u32) -> Answer
     }
     text::must(
         first >= order::MOST_MOVES,
-        text::AGENT_UNORDERED,
+        Reason::AgentUnordered,
         first,
         second as u32,
     )

@@ -5,7 +5,7 @@ use lib.Seq.{length_front, take-append_seam, drop-append_seam}
 use Rattle.book.specs.Book.{L}
 use Rattle.book.specs.Image.{word, low_program}
 use Rattle.engine.specs.declared.Instruction.{Instruction}
-use Rattle.engine.specs.declared.TalliedAnswer.{TalliedAnswer}
+use Rattle.engine.specs.Labels.{TalliedAnswer}
 use Rattle.engine.specs.Rule.{most_instructions}
 use Rattle.engine.specs.Single.{over_first}
 use Rattle.order.specs.Log.{Log}

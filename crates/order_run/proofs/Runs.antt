@@ -3,7 +3,7 @@ use Rattle.std.proofs.Common.{◌≡◌, ℕ, zero, suc, ◌+◌, ◌%◌, ◌^�
 use Rattle.book.specs.Book.{Program, L}
 use Rattle.book.specs.Sound.{Lawful, Sound}
 use Rattle.engine.specs.declared.Tally.{Tally}
-use Rattle.engine.specs.declared.TalliedAnswer.{TalliedAnswer}
+use Rattle.engine.specs.Labels.{TalliedAnswer}
 use Rattle.engine.specs.Labels.{tally_of, no_labels, added, move_tally, tally}
 use Rattle.engine.specs.Move.{Input, Fired, Moved, fires, move_refused, move, fire}
 use Rattle.engine.proofs.Claims.{moves_leave}

@@ -6,7 +6,7 @@ use Rattle.book.specs.Book.{Program, Book, start}
 use Rattle.book.specs.Image.{low_program}
 use Rattle.engine.specs.declared.Instruction.{Instruction}
 use Rattle.engine.specs.declared.Tally.{Tally}
-use Rattle.engine.specs.declared.TalliedAnswer.{TalliedAnswer}
+use Rattle.engine.specs.Labels.{TalliedAnswer}
 use Rattle.engine.specs.Labels.{no_labels, tally}
 use Rattle.engine.specs.Move.{Input, input, walked, made_by}
 use Rattle.engine.specs.Rule.{Walked as Outcome}

@@ -6,7 +6,7 @@ use Rattle.book.specs.Check.{check_book}
 use Rattle.book.specs.Image.{word, program_in, low_program}
 use Rattle.book.specs.Sound.{Lawful, Sound}
 use Rattle.engine.specs.declared.Tally.{Tally}
-use Rattle.engine.specs.declared.TalliedAnswer.{TalliedAnswer}
+use Rattle.engine.specs.Labels.{TalliedAnswer}
 use Rattle.engine.specs.Rule.{most_instructions}
 use Rattle.engine.specs.Labels.{tally}
 use Rattle.order.specs.Log.{Log, most_moves, move_at}

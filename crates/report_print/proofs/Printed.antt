@@ -18,7 +18,7 @@ use Rattle.book.specs.Check.{check_header, check_book}
 use Rattle.book.specs.Image.{word, program_in}
 use Rattle.book.proofs.Claims.{accepted_book}
 use Rattle.engine.specs.declared.Tally.{Tally}
-use Rattle.engine.specs.declared.TalliedAnswer.{TalliedAnswer}
+use Rattle.engine.specs.Labels.{TalliedAnswer}
 use Rattle.engine.specs.Labels.{no_labels}
 use Rattle.engine.specs.Move.{Moved, fires, move_refused, move}
 use Rattle.engine.specs.Single.{over_first}

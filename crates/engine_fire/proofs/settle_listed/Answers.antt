@@ -1,6 +1,6 @@
 -- `settle_listed` meets its contract.
 use mathlib.Core.Path.{sym, ap, ap₂, ◌∙◌}
-use Rattle.engine.specs.declared.TalliedAnswer.{TalliedAnswer}
+use Rattle.engine.specs.Labels.{TalliedAnswer}
 use Rattle.engine.specs.Move.{settle}
 use Rattle.engine_fire.specs.Outcome.{move_by}
 use Rattle.engine_fire.specs.Effect.{move_answer}

@@ -1,7 +1,7 @@
 -- `run_from_own_list` meets its contract: a list of more than 256 records makes no difference.
 use Rattle.std.proofs.Common.{◌≡◌, sym, subst, arith, ℕ, List, length, min, length-take}
 use Rattle.engine.specs.declared.Record.{Record}
-use Rattle.engine.specs.declared.TalliedAnswer.{TalliedAnswer}
+use Rattle.engine.specs.Labels.{TalliedAnswer}
 use Rattle.engine.specs.Tables.{Tables}
 use Rattle.order_run.specs.declared.RunState.{RunState}
 use Rattle.order_run.specs.Stages.{CallAt}

@@ -1,7 +1,7 @@
 -- `run_own_list` meets its contract: a list of more than 256 records makes no difference.
 use Rattle.std.proofs.Common.{◌≡◌, ◌∙◌, ap, arith, ℕ, List, length, min, length-take}
 use Rattle.engine.specs.declared.Record.{Record}
-use Rattle.engine.specs.declared.TalliedAnswer.{TalliedAnswer}
+use Rattle.engine.specs.Labels.{TalliedAnswer}
 use Rattle.engine.specs.Tables.{Tables}
 use Rattle.order.specs.Call.{log_call}
 use Rattle.order.proofs.Claim.{demand3}

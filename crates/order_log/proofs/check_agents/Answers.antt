@@ -6,6 +6,7 @@ use Rattle.order_log.specs.Agents.{one_agent_unordered_in}
 use Rattle.order_log.proofs.Agents.{own_start, own_turn, own_hit, own_low, ten}
 use native.Mathlib.Omega.{arith}
 use borrow.Author.Rules.{rules}
+use Rattle.text.specs.Words.{told}
 use Rattle.order_log.proofs.check_agents.Goals as goal
 use Rattle.order_log.proofs.check_agents.Goals.{then-i-first, else-i-first}
 
@@ -39,4 +40,4 @@ returns c =
     let a = c.args in
     let l = c.loop-j in
     let e : l.j ≡ c.smaller-m.result = omega arith in
-    ten a.order.now c.smaller-m.result l.first l.second a.moves c.must.result c.smaller-m.ensures (rw e at l.invariant.3) c.must.ensures
+    ten a.order.now c.smaller-m.result l.first l.second a.moves (told c.must.result) c.smaller-m.ensures (rw e at l.invariant.3) c.must.ensures
