@@ -1,4 +1,5 @@
 -- Laws of the steps that give an instruction, take a pick or are refused.
+use Rattle.text.specs.Refusals.{refusal_number}
 use Rattle.std.specs.Prelude.{if◌then◌else◌}
 use mathlib.Core.Path.{◌≡◌, refl}
 use mathlib.Core.Logic.{◌≢◌}
@@ -20,13 +21,13 @@ use Rattle.engine_instruction.specs.Code.{decode_of, items}
 use Rattle.engine_emit.specs.declared.Progress.{Progress}
 use Rattle.engine_emit.specs.Emit.{walk_from, reached, refused_by, setting, releasing, importing, importing_found, next_pick, picking}
 
-pub reached_walking : (ys : List ℕ) (s : Progress) (l : List ℕ) → s.refused ≡ 0 → reached ys s l ≡ walking (walk_from ys s l)
+pub reached_walking : (ys : List ℕ) (s : Progress) (l : List ℕ) → (refusal_number s.refused) ≡ 0 → reached ys s l ≡ walking (walk_from ys s l)
 unfolding reached
-reached_walking ys s l e = rw (eq-eqb s.refused 0 e)
+reached_walking ys s l e = rw (eq-eqb (refusal_number s.refused) 0 e)
 
-pub reached_refused : (ys : List ℕ) (s : Progress) (l : List ℕ) → ((s.refused ≡ 0) → ⊥) → reached ys s l ≡ refused_at s.refused s.node
+pub reached_refused : (ys : List ℕ) (s : Progress) (l : List ℕ) → (((refusal_number s.refused) ≡ 0) → ⊥) → reached ys s l ≡ refused_at (refusal_number s.refused) s.node
 unfolding reached
-reached_refused ys s l e = rw (ne_eqb s.refused 0 e)
+reached_refused ys s l e = rw (ne_eqb (refusal_number s.refused) 0 e)
 
 -- one instruction more, or refusal 14
 module _ (ys : List ℕ) (s : Progress) (l : List ℕ) (i : Instruction) (n : ℕ) (long : length l ≡ most_instructions) where
@@ -69,10 +70,10 @@ pub taking_from : (at x n : ℕ) (ys : List ℕ) (s : Progress) (l : List ℕ)
     → (reached ys (record { len = s.len; label = x + 1; refused = s.refused; node = s.node }) l then emit n (Update (reserve x) false_element) then emit n (Update at true_element))
     ≡ (reached ys s l then importing at x n)
 unfolding reached
-taking_from at x n ys s l = rw (add-one x) (go (eqb s.refused 0))
+taking_from at x n ys s l = rw (add-one x) (go (eqb (refusal_number s.refused) 0))
   where
-    go : (b : Bool) → ((if b then walking (record { made = items l s.len; next = suc x; left = ys }) else refused_at s.refused s.node) then emit n (Update (reserve x) false_element) then emit n (Update at true_element))
-        ≡ ((if b then walking (walk_from ys s l) else refused_at s.refused s.node) then importing at x n)
+    go : (b : Bool) → ((if b then walking (record { made = items l s.len; next = suc x; left = ys }) else refused_at (refusal_number s.refused) s.node) then emit n (Update (reserve x) false_element) then emit n (Update at true_element))
+        ≡ ((if b then walking (walk_from ys s l) else refused_at (refusal_number s.refused) s.node) then importing at x n)
     go true = refl
     go false = refl
 
@@ -114,28 +115,28 @@ module _ (E : ℕ) (ys : List ℕ) (i : ℕ) where
 module _ (s : Progress) (l : List ℕ) (ys : List ℕ) (i v n : ℕ) where
   pub picking_none : length ys ≤ i → (reached (drop i ys) s l then refused_by pick_count n) ≡ (reached (drop i ys) s l then picking v n)
   unfolding reached
-  picking_none h = rw (drop_past ys i h) (go (eqb s.refused 0))
+  picking_none h = rw (drop_past ys i h) (go (eqb (refusal_number s.refused) 0))
     where
-      go : (b : Bool) → ((if b then walking (walk_from [] s l) else refused_at s.refused s.node) then refused_by pick_count n)
-          ≡ ((if b then walking (walk_from [] s l) else refused_at s.refused s.node) then picking v n)
+      go : (b : Bool) → ((if b then walking (walk_from [] s l) else refused_at (refusal_number s.refused) s.node) then refused_by pick_count n)
+          ≡ ((if b then walking (walk_from [] s l) else refused_at (refusal_number s.refused) s.node) then picking v n)
       go true = refl
       go false = refl
 
   pub picking_some : i < length ys → v ≡ true_element → reached (drop (suc i) ys) s l ≡ (reached (drop i ys) s l then picking v n)
   unfolding reached
-  picking_some h e = rw (drop_at ys i h, e) (go (eqb s.refused 0))
+  picking_some h e = rw (drop_at ys i h, e) (go (eqb (refusal_number s.refused) 0))
     where
-      go : (b : Bool) → (if b then walking (walk_from (drop (suc i) ys) s l) else refused_at s.refused s.node)
-          ≡ ((if b then walking (walk_from (get_or ys i 0 ∷ drop (suc i) ys) s l) else refused_at s.refused s.node) then picking true_element n)
+      go : (b : Bool) → (if b then walking (walk_from (drop (suc i) ys) s l) else refused_at (refusal_number s.refused) s.node)
+          ≡ ((if b then walking (walk_from (get_or ys i 0 ∷ drop (suc i) ys) s l) else refused_at (refusal_number s.refused) s.node) then picking true_element n)
       go true = refl
       go false = refl
 
   pub picking_other : i < length ys → v ≢ true_element → (reached (drop i ys) s l then refused_by not_in_universe n) ≡ (reached (drop i ys) s l then picking v n)
   unfolding reached
-  picking_other h e = rw (drop_at ys i h) (go (eqb s.refused 0))
+  picking_other h e = rw (drop_at ys i h) (go (eqb (refusal_number s.refused) 0))
     where
-      go : (b : Bool) → ((if b then walking (walk_from (get_or ys i 0 ∷ drop (suc i) ys) s l) else refused_at s.refused s.node) then refused_by not_in_universe n)
-          ≡ ((if b then walking (walk_from (get_or ys i 0 ∷ drop (suc i) ys) s l) else refused_at s.refused s.node) then picking v n)
+      go : (b : Bool) → ((if b then walking (walk_from (get_or ys i 0 ∷ drop (suc i) ys) s l) else refused_at (refusal_number s.refused) s.node) then refused_by not_in_universe n)
+          ≡ ((if b then walking (walk_from (get_or ys i 0 ∷ drop (suc i) ys) s l) else refused_at (refusal_number s.refused) s.node) then picking v n)
       go true = rw (ne_eqb v true_element e)
       go false = refl
 
@@ -143,18 +144,18 @@ module _ (s : Progress) (l : List ℕ) (ys : List ℕ) (i v n : ℕ) where
 module _ (s : Progress) (l : List ℕ) (ys : List ℕ) (i q : ℕ) where
   pub taken_all : length ys ≤ i → reached [] s l ≡ (reached (drop i ys) s l then λ w. all_taken q w.left w)
   unfolding reached
-  taken_all h = rw (drop_past ys i h) (go (eqb s.refused 0))
+  taken_all h = rw (drop_past ys i h) (go (eqb (refusal_number s.refused) 0))
     where
-      go : (b : Bool) → (if b then walking (walk_from [] s l) else refused_at s.refused s.node)
-          ≡ ((if b then walking (walk_from [] s l) else refused_at s.refused s.node) then λ w. all_taken q w.left w)
+      go : (b : Bool) → (if b then walking (walk_from [] s l) else refused_at (refusal_number s.refused) s.node)
+          ≡ ((if b then walking (walk_from [] s l) else refused_at (refusal_number s.refused) s.node) then λ w. all_taken q w.left w)
       go true = refl
       go false = refl
 
   pub taken_some : i < length ys → (reached [] s l then refused_by pick_count q) ≡ (reached (drop i ys) s l then λ w. all_taken q w.left w)
   unfolding reached
-  taken_some h = rw (drop_at ys i h) (go (eqb s.refused 0))
+  taken_some h = rw (drop_at ys i h) (go (eqb (refusal_number s.refused) 0))
     where
-      go : (b : Bool) → ((if b then walking (walk_from [] s l) else refused_at s.refused s.node) then refused_by pick_count q)
-          ≡ ((if b then walking (walk_from (get_or ys i 0 ∷ drop (suc i) ys) s l) else refused_at s.refused s.node) then λ w. all_taken q w.left w)
+      go : (b : Bool) → ((if b then walking (walk_from [] s l) else refused_at (refusal_number s.refused) s.node) then refused_by pick_count q)
+          ≡ ((if b then walking (walk_from (get_or ys i 0 ∷ drop (suc i) ys) s l) else refused_at (refusal_number s.refused) s.node) then λ w. all_taken q w.left w)
       go true = refl
       go false = refl

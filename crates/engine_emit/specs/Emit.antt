@@ -1,5 +1,6 @@
 -- How far a walk is, as the code holds it: the list of instructions as numbers, and the picks left; and the steps that give an instruction, take a pick or
 -- refuse.
+use Rattle.text.specs.Refusals.{refusal_number}
 use Rattle.std.specs.Prelude.{◌&&◌, not, List, [], ◌∷◌, ℕ, get_or, drop, eqb, ltb, if◌then◌else◌}
 use Rattle.text.specs.Refusals.{non_boolean, not_releasable, no_label_left, not_in_universe, pick_count}
 use Rattle.book.specs.Book.{true_element, false_element, boolean, relation, Program, function_at, reserve}
@@ -20,7 +21,7 @@ walk_from ys s l = record { made = items l s.len; next = s.label; left = ys }
 
 -- what a walk has come to, by its state s; a refusal's number is not 0
 unfoldable pub reached : List ℕ → Progress → List ℕ → Walked
-reached ys s l = if eqb s.refused 0 then walking (walk_from ys s l) else refused_at s.refused s.node
+reached ys s l = if eqb (refusal_number s.refused) 0 then walking (walk_from ys s l) else refused_at (refusal_number s.refused) s.node
 
 -- ---- steps
 

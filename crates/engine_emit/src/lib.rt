@@ -2,6 +2,7 @@
 #![tactic(auto)]
 
 ghost use Rattle.std.specs.Prelude.{◌≡◌, List, [], ℕ, suc, ◌<◌, length, get_or};
+ghost use Rattle.text.specs.Refusals.{number_of};
 ghost use Rattle.book.specs.Book.{node_at};
 ghost use Rattle.engine.specs.Term.{term_at, function_of};
 ghost use Rattle.engine.specs.Rule.{◌then◌, most_instructions, emit, all_taken};
@@ -10,31 +11,30 @@ ghost use Rattle.engine_emit.specs.Emit.{reached, picks_left, refused_by, settin
 
 use book::Image;
 use engine::{Instruction, Pick, Work};
-use text::Value;
+use text::{Reason, Value};
 
 // How far a walk is: how many instructions it has given, the label from which the next import searches,
-// its refusal (0 for none) and the refusal's node. Eight bytes go from node to node in a register; how many picks it has used stands in a
+// its refusal, if it has met one, and the refusal's node. Eight bytes go from node to node in a register; how many picks it has used stands in a
 // cell that is lent beside it.
 #[derive(Clone, Copy)]
 pub struct Progress {
     pub len: u16,
     pub label: Value,
-    pub refused: u16,
+    pub refused: Option<Reason>,
     pub node: u16,
 }
 
 // The state with the refusal at node n, unless it has one already.
-fn refuse_at(s: Progress, number: u32, n: u16) -> Progress
-    requires { (0 < number) × (number < 65536) }
-    ensures { (ys l : List ℕ) → reached ys result l ≡ (reached ys s l then refused_by number n) }
+fn refuse_at(s: Progress, reason: Reason, n: u16) -> Progress
+    ensures { (ys l : List ℕ) → reached ys result l ≡ (reached ys s l then refused_by (number_of reason) n) }
 {
-    if s.refused != 0 {
+    if s.refused.is_some() {
         return s;
     }
     Progress {
         len: s.len,
         label: s.label,
-        refused: number as u16,
+        refused: Some(reason),
         node: n,
     }
 }
@@ -44,7 +44,7 @@ fn emit(list: &mut [u64], s: Progress, i: Instruction, n: u16) -> Progress
     requires { length list.old ≡ most_instructions }
     ensures { (ys : List ℕ) → reached ys result list.new ≡ (reached ys s list.old then emit n i) }
 {
-    if s.refused != 0 {
+    if s.refused.is_some() {
         return s;
     }
     let at = s.len as usize;
@@ -53,11 +53,11 @@ fn emit(list: &mut [u64], s: Progress, i: Instruction, n: u16) -> Progress
         Progress {
             len: s.len + 1,
             label: s.label,
-            refused: 0,
+            refused: None,
             node: s.node,
         }
     } else {
-        refuse_at(s, text::LIST_FULL, n)
+        refuse_at(s, Reason::ListFull, n)
     }
 }
 
@@ -102,7 +102,7 @@ pub fn emit_update(
                 n,
             )
         } else {
-            refuse_at(s, text::NON_BOOLEAN, n)
+            refuse_at(s, Reason::NonBoolean, n)
         }
     } else {
         emit(
@@ -162,7 +162,7 @@ pub fn import_label(
     if x < book_image::elements(image) {
         emit_import(list, s, n, at, x)
     } else {
-        refuse_at(s, text::NO_LABEL_LEFT, n)
+        refuse_at(s, Reason::NoLabelLeft, n)
     }
 }
 
@@ -178,10 +178,10 @@ pub fn emit_release(
     ensures { (ys : List ℕ) → reached ys result list.new ≡ (reached ys s list.old then releasing (low_program image.now) x v n) }
 {
     if x < book_parts::permanent(image) {
-        return refuse_at(s, text::NOT_RELEASABLE, n);
+        return refuse_at(s, Reason::NotReleasable, n);
     }
     if v == 2 {
-        refuse_at(s, text::NOT_RELEASABLE, n)
+        refuse_at(s, Reason::NotReleasable, n)
     } else {
         emit(list, s, Instruction::Release { label: x }, n)
     }
@@ -216,10 +216,10 @@ pub fn take_pick(picks: &[Pick], used: &mut [usize; 1], s: Progress, n: u16, v: 
 {
     let i = used[0];
     if picks.len() <= i {
-        return refuse_at(s, text::PICK_COUNT, n);
+        return refuse_at(s, Reason::PickCount, n);
     }
     if v != 2 {
-        return refuse_at(s, text::NOT_IN_UNIVERSE, n);
+        return refuse_at(s, Reason::NotInUniverse, n);
     }
     use_pick(used);
     s
@@ -230,7 +230,7 @@ pub fn all_used(picks: &[Pick], used: &[usize; 1], s: Progress, root: u16) -> Pr
     ensures { (l : List ℕ) → reached [] result l ≡ (reached (picks_left picks.now used.now) s l then λ w. all_taken root w.left w) }
 {
     if used[0] < picks.len() {
-        return refuse_at(s, text::PICK_COUNT, root);
+        return refuse_at(s, Reason::PickCount, root);
     }
     s
 }

@@ -2,6 +2,7 @@
 #![tactic(auto)]
 
 ghost use Rattle.std.specs.Prelude.{◌≡◌, List, [], ℕ, eqb, length, set, if◌then◌else◌};
+ghost use Rattle.text.specs.Refusals.{refusal_number};
 ghost use Rattle.engine.specs.Move.{input};
 ghost use Rattle.engine.specs.Rule.{import, after, most_instructions, walk};
 ghost use Rattle.engine_term.specs.Bindings.{variables_of, agent_of};
@@ -46,7 +47,7 @@ fn walk_assign(
     n: u16,
     node: StoredNode,
 ) -> Progress
-    requires { s.refused ≡ 0 }
+    requires { refusal_number s.refused ≡ 0 }
     ensures { (ys : List ℕ) → RuleWalked (frame image.now contents.now bit bindings.now) (assign_rule image.now depth n node) (state_with ys s list.old readers.old) (state_with ys result list.new readers.new) }
 {
     let at = engine_term::target_location(image, contents, readers, bit, bindings, depth, node.a);
@@ -68,7 +69,7 @@ fn walk_release(
     n: u16,
     node: StoredNode,
 ) -> Progress
-    requires { s.refused ≡ 0 }
+    requires { refusal_number s.refused ≡ 0 }
     ensures { (ys : List ℕ) → RuleWalked (frame image.now contents.now bit bindings.now) (release_rule image.now depth n node) (state_with ys s list.old readers.old) (state_with ys result list.new readers.new) }
 {
     let x = engine_term::eval(image, contents, readers, bit, bindings, depth, node.a);
@@ -98,7 +99,7 @@ fn walk(
     let mut at = n;
     let mut r = s;
     while 2 <= left {
-        if r.refused != 0 {
+        if r.refused.is_some() {
             return r;
         }
         let node = book_parts::node(image, at);
@@ -185,7 +186,7 @@ fn walk_let(
     s: Progress,
     node: StoredNode,
 ) -> Progress
-    requires { s.refused ≡ 0 }
+    requires { refusal_number s.refused ≡ 0 }
     ensures { RuleWalked (frame image.now contents.now bit bindings.now) (let_rule image.now depth node) (state picks.now used.old s list.old readers.old) (state picks.now used.new result list.new readers.new) }
 {
     let x = engine_term::eval(image, contents, readers, bit, bindings, depth, node.b);
@@ -209,7 +210,7 @@ fn walk_forall(
     s: Progress,
     node: StoredNode,
 ) -> Progress
-    requires { s.refused ≡ 0 }
+    requires { refusal_number s.refused ≡ 0 }
     ensures { Has (low_program image.now) node.b 1 → RuleWalked (frame image.now contents.now bit bindings.now) (forall_rule image.now depth node) (state picks.now used.old s list.old readers.old) (state picks.now used.new result list.new readers.new) }
 {
     let e = book_image::elements(image);
@@ -221,7 +222,7 @@ fn walk_forall(
         r = walk_body(
             image, contents, readers, bit, list, picks, used, bindings, depth, r, node, y,
         );
-        if r.refused != 0 {
+        if r.refused.is_some() {
             return r;
         }
         y = engine_reads::next_member(contents, f.first, e, y + 1);
@@ -245,7 +246,7 @@ fn walk_import(
     n: u16,
     node: StoredNode,
 ) -> Progress
-    requires { s.refused ≡ 0 }
+    requires { refusal_number s.refused ≡ 0 }
     ensures { Has (low_program image.now) node.b 1 → RuleWalked (frame image.now contents.now bit bindings.now) (import_rule image.now depth n node) (state picks.now used.old s list.old readers.old) (state picks.now used.new result list.new readers.new) }
 {
     let x = engine_reads::lowest_label(image, contents, readers, bit, s.label);
@@ -272,7 +273,7 @@ fn walk_choose(
     n: u16,
     node: StoredNode,
 ) -> Progress
-    requires { s.refused ≡ 0 }
+    requires { refusal_number s.refused ≡ 0 }
     ensures { Has (low_program image.now) node.b 1 → RuleWalked (frame image.now contents.now bit bindings.now) (choose_rule image.now depth n node) (state picks.now used.old s list.old readers.old) (state picks.now used.new result list.new readers.new) }
 {
     let x = engine_emit::next_pick(image, picks, used);
@@ -309,7 +310,7 @@ pub fn walk_move(
     let s = Progress {
         len: 0,
         label: book_parts::permanent(image),
-        refused: 0,
+        refused: None,
         node: 0,
     };
     let bindings = [0, 0, 0, 0, 0, 0, 0, 0, text::low(who.element)];
@@ -318,7 +319,7 @@ pub fn walk_move(
         image, contents, readers, bit, list, picks, &mut used, &bindings, 32, s, root,
     );
     let r = engine_emit::all_used(picks, &used, w, root);
-    if r.refused == 0 {
+    if r.refused.is_none() {
         return r;
     }
     clear_marks(readers, bit);

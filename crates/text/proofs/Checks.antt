@@ -10,7 +10,9 @@ use native.Mathlib.Omega.{arith}
 use Rattle.text.specs.declared.Reason.{Reason}
 use Rattle.text.specs.declared.Reason.TheVariants.{IllFormed, LentShort, HeaderBounds, FunctionLine, NodeLine, NodeUse, AgentLine, ContentsRule, LogLine, AgentUnordered, NonBoolean, NotReleasable, NoLabelLeft, ListFull, Clash, UnorderedTouch, NotInUniverse, PickCount}
 use Rattle.text.specs.declared.Refusal.{Refusal}
-use Rattle.text.specs.Refusals.{number_of}
+use Rattle.std.specs.Option.{is_some, is_none}
+use mathlib.Core.Bool.{true≢false, false≢true}
+use Rattle.text.specs.Refusals.{number_of, refusal_number}
 use Rattle.text.specs.Words.{least, Answer, told, Checked, good, refused, ◌>>=◌, ◌>>◌, none_at, must, answer_of}
 use Rattle.text.proofs.Words.{least_here}
 
@@ -136,6 +138,36 @@ module _ {A : Type 0} {r : Result A Refusal} where
 pub refused_on : {B : Type 0} (s : Result B Refusal) (e : Refusal) → IsErrAnd s (λ d. d ≡ e) → (told s).number ≢ 0
 refused_on (Ok b) e g = absurd g
 refused_on {B = B} (Err d) e g = refusing {A = B} {r = Err d} refl
+
+-- whether there is a refusal, by its number; b is the test
+module _ (o : Option Reason) {b : Bool} where
+  pub some_numbered : b ≡ is_some o → b ≡ true → refusal_number o ≢ 0
+  some_numbered e t z = go o (sym e ∙ t) z
+    where
+      go : (o : Option Reason) → is_some o ≡ true → refusal_number o ≢ 0
+      go None e z = absurd (false≢true e)
+      go (Some r) e z = omega (arith, (reason_numbered r).0, z)
+
+  pub unrefused : b ≡ is_some o → b ≡ false → refusal_number o ≡ 0
+  unrefused e t = go o (sym e ∙ t)
+    where
+      go : (o : Option Reason) → is_some o ≡ false → refusal_number o ≡ 0
+      go None e = refl
+      go (Some r) e = absurd (true≢false e)
+
+  pub none_unrefused : b ≡ is_none o → b ≡ true → refusal_number o ≡ 0
+  none_unrefused e t = go o (sym e ∙ t)
+    where
+      go : (o : Option Reason) → is_none o ≡ true → refusal_number o ≡ 0
+      go None e = refl
+      go (Some r) e = absurd (false≢true e)
+
+  pub not_none_numbered : b ≡ is_none o → b ≡ false → refusal_number o ≢ 0
+  not_none_numbered e t z = go o (sym e ∙ t) z
+    where
+      go : (o : Option Reason) → is_none o ≡ false → refusal_number o ≢ 0
+      go None e z = absurd (true≢false e)
+      go (Some r) e z = omega (arith, (reason_numbered r).0, z)
 
 -- ---- refusals and answers that fit one number
 

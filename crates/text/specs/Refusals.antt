@@ -1,5 +1,5 @@
 -- The numbers of the refusals, lent tables and texts (SPECIFICATION 8.1, 11.2).
-use Rattle.std.specs.Prelude.{ℕ}
+use Rattle.std.specs.Prelude.{ℕ, Option, None, Some}
 use Rattle.text.specs.declared.Reason.{Reason}
 use Rattle.text.specs.declared.Reason.TheVariants.{IllFormed, LentShort, HeaderBounds, FunctionLine, NodeLine, NodeUse, AgentLine, ContentsRule, LogLine, AgentUnordered, NonBoolean, NotReleasable, NoLabelLeft, ListFull, Clash, UnorderedTouch, NotInUniverse, PickCount}
 
@@ -97,6 +97,11 @@ number_of Clash = clash
 number_of UnorderedTouch = unordered_touch
 number_of NotInUniverse = not_in_universe
 number_of PickCount = pick_count
+
+-- the number of a refusal that there may be; 0 for none
+abbrev pub refusal_number : Option Reason → ℕ
+refusal_number None = 0
+refusal_number (Some r) = number_of r
 
 -- ---- texts, as the q of refusal 1
 

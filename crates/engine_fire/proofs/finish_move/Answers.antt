@@ -1,4 +1,5 @@
 -- `finish_move` meets its contract.
+use Rattle.text.specs.Refusals.{refusal_number}
 use mathlib.Core.Path.{◌≡◌, refl, sym, subst}
 use mathlib.Core.List.{[]}
 use Rattle.book.specs.Image.{low_program}
@@ -15,8 +16,8 @@ returns-then-s-ne0 c =
     λ strides.
     let a = c.args in
     let t = tables a.contents.now a.readers.now a.writers.now in
-    let r : c.refused_answer.result ≡ refused_answer a.s.refused a.at a.s.node = c.refused_answer.ensures in
-    rw r (subst (λ (w : Walked). MoveFinished (low_program a.image.now) a.bit a.at w t (refused_answer a.s.refused a.at a.s.node) t)
+    let r : c.refused_answer.result ≡ refused_answer (refusal_number a.s.refused) a.at a.s.node = c.refused_answer.ensures in
+    rw r (subst (λ (w : Walked). MoveFinished (low_program a.image.now) a.bit a.at w t (refused_answer (refusal_number a.s.refused) a.at a.s.node) t)
     (sym (reached_refused [] a.s a.list.now c.if-s-ne0.true))
     (record { answer = λ ls. refl; tally = λ ls. refl; contents = λ ls. refl; readers = λ ls. refl; writers = λ ls. refl }))
 

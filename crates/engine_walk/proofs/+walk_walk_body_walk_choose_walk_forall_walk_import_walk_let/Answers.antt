@@ -1,3 +1,4 @@
+use Rattle.text.proofs.Checks.{some_numbered, unrefused}
 use mathlib.Core.Logic.{inl, inr}
 use mathlib.Core.Path.{◌≡◌, refl, ◌∙◌}
 use Prim.Native.Nat.{ℕ, ◌+◌, ◌-◌, ◌<◌, ◌≤◌}
@@ -26,11 +27,11 @@ use Rattle.engine_walk.proofs.+walk_walk_body_walk_choose_walk_forall_walk_impor
 pub walk-loop-left-init : goal.walk-loop-left-init
 walk-loop-left-init t c = (omega arith, refl, λ z m h. h)
 
-pub walk-returns-then-r-ne0 : goal.walk-returns-then-r-ne0
-walk-returns-then-r-ne0 t c =
+pub walk-returns-then-is_some : goal.walk-returns-then-is_some
+walk-returns-then-is_some t c =
     let a = c.args in
     let l = c.loop-left in
-    l.invariant.2 _ _ (runs_refused (low_program a.image.now) a.contents.now a.bit _ _ _ _ _ (reached_refused (picks_left a.picks.now l.used) l.r l.list c.if-r-ne0.true))
+    l.invariant.2 _ _ (runs_refused (low_program a.image.now) a.contents.now a.bit _ _ _ _ _ (reached_refused (picks_left a.picks.now l.used) l.r l.list (some_numbered _ c.is_some.ensures c.if-is_some.true)))
 
 pub walk-returns-in-21 : goal.walk-returns-in-21
 walk-returns-in-21 t c =
@@ -38,7 +39,7 @@ walk-returns-in-21 t c =
     let B = low_program a.image.now in
     let l = c.loop-left in
     l.invariant.2 _ _
-    (runs_rule B a.contents.now a.bit (agent_of a.bindings.now) (variables_of a.bindings.now) (rule_from (node_at B) l.left l.at) _ (picks_left a.picks.now l.used) l.r l.list _ _ _ c.if-r-ne0.false
+    (runs_rule B a.contents.now a.bit (agent_of a.bindings.now) (variables_of a.bindings.now) (rule_from (node_at B) l.left l.at) _ (picks_left a.picks.now l.used) l.r l.list _ _ _ (unrefused _ c.is_some.ensures c.if-is_some.false)
     (rule_assign (node_at B) l.left l.at (stored_node c.node-node.result) c.loop-left-test.true c.node-node.ensures c.in-21.is)
     (c.walk_assign.ensures (picks_left a.picks.now l.used)))
 
@@ -48,7 +49,7 @@ walk-returns-in-24 t c =
     let B = low_program a.image.now in
     let l = c.loop-left in
     l.invariant.2 _ _
-    (runs_rule B a.contents.now a.bit (agent_of a.bindings.now) (variables_of a.bindings.now) (rule_from (node_at B) l.left l.at) _ (picks_left a.picks.now l.used) l.r l.list _ _ _ c.if-r-ne0.false
+    (runs_rule B a.contents.now a.bit (agent_of a.bindings.now) (variables_of a.bindings.now) (rule_from (node_at B) l.left l.at) _ (picks_left a.picks.now l.used) l.r l.list _ _ _ (unrefused _ c.is_some.ensures c.if-is_some.false)
     (rule_bind (node_at B) l.left l.at (stored_node c.node-node.result) c.loop-left-test.true c.node-node.ensures c.in-24.is)
     c.walk_let.ensures)
 
@@ -58,7 +59,7 @@ walk-returns-in-25 t c =
     let B = low_program a.image.now in
     let l = c.loop-left in
     l.invariant.2 _ _
-    (runs_rule B a.contents.now a.bit (agent_of a.bindings.now) (variables_of a.bindings.now) (rule_from (node_at B) l.left l.at) _ (picks_left a.picks.now l.used) l.r l.list _ _ _ c.if-r-ne0.false
+    (runs_rule B a.contents.now a.bit (agent_of a.bindings.now) (variables_of a.bindings.now) (rule_from (node_at B) l.left l.at) _ (picks_left a.picks.now l.used) l.r l.list _ _ _ (unrefused _ c.is_some.ensures c.if-is_some.false)
     (rule_for_all (node_at B) l.left l.at (stored_node c.node-node.result) c.loop-left-test.true c.node-node.ensures c.in-25.is)
     (runs_given B a.contents.now a.bit _ _ _ _ (λ p. c.walk_forall.ensures (named_universe B p l.at (stored_node c.node-node.result) c.node-node.ensures (inl c.in-25.is)))))
 
@@ -68,7 +69,7 @@ walk-returns-in-26 t c =
     let B = low_program a.image.now in
     let l = c.loop-left in
     l.invariant.2 _ _
-    (runs_rule B a.contents.now a.bit (agent_of a.bindings.now) (variables_of a.bindings.now) (rule_from (node_at B) l.left l.at) _ (picks_left a.picks.now l.used) l.r l.list _ _ _ c.if-r-ne0.false
+    (runs_rule B a.contents.now a.bit (agent_of a.bindings.now) (variables_of a.bindings.now) (rule_from (node_at B) l.left l.at) _ (picks_left a.picks.now l.used) l.r l.list _ _ _ (unrefused _ c.is_some.ensures c.if-is_some.false)
     (rule_import (node_at B) l.left l.at (stored_node c.node-node.result) c.loop-left-test.true c.node-node.ensures c.in-26.is)
     (runs_given B a.contents.now a.bit _ _ _ _ (λ p. c.walk_import.ensures (named_universe B p l.at (stored_node c.node-node.result) c.node-node.ensures (inr (inl c.in-26.is))))))
 
@@ -78,7 +79,7 @@ walk-returns-in-27 t c =
     let B = low_program a.image.now in
     let l = c.loop-left in
     l.invariant.2 _ _
-    (runs_rule B a.contents.now a.bit (agent_of a.bindings.now) (variables_of a.bindings.now) (rule_from (node_at B) l.left l.at) _ (picks_left a.picks.now l.used) l.r l.list _ _ _ c.if-r-ne0.false
+    (runs_rule B a.contents.now a.bit (agent_of a.bindings.now) (variables_of a.bindings.now) (rule_from (node_at B) l.left l.at) _ (picks_left a.picks.now l.used) l.r l.list _ _ _ (unrefused _ c.is_some.ensures c.if-is_some.false)
     (rule_release (node_at B) l.left l.at (stored_node c.node-node.result) c.loop-left-test.true c.node-node.ensures c.in-27.is)
     (c.walk_release.ensures (picks_left a.picks.now l.used)))
 
@@ -88,7 +89,7 @@ walk-returns-in-28 t c =
     let B = low_program a.image.now in
     let l = c.loop-left in
     l.invariant.2 _ _
-    (runs_rule B a.contents.now a.bit (agent_of a.bindings.now) (variables_of a.bindings.now) (rule_from (node_at B) l.left l.at) _ (picks_left a.picks.now l.used) l.r l.list _ _ _ c.if-r-ne0.false
+    (runs_rule B a.contents.now a.bit (agent_of a.bindings.now) (variables_of a.bindings.now) (rule_from (node_at B) l.left l.at) _ (picks_left a.picks.now l.used) l.r l.list _ _ _ (unrefused _ c.is_some.ensures c.if-is_some.false)
     (rule_choose (node_at B) l.left l.at (stored_node c.node-node.result) c.loop-left-test.true c.node-node.ensures c.in-28.is)
     (runs_given B a.contents.now a.bit _ _ _ _ (λ p. c.walk_choose.ensures (named_universe B p l.at (stored_node c.node-node.result) c.node-node.ensures (inr (inr c.in-28.is))))))
 
@@ -128,7 +129,7 @@ walk-loop-left-preserved-in-22 t c =
       omega arith,
       k.auto.readers ∙ l.invariant.1,
       λ z m h. l.invariant.2 z m
-          (runs_block B a.contents.now a.bit (agent_of a.bindings.now) (variables_of a.bindings.now) (node_at B) l.left l.at (stored_node c.node-node.result) c.loop-left-test.true c.node-node.ensures (picks_left a.picks.now l.used) l.r l.list c.if-r-ne0.false _ z _ _ m c.in-22.is k.ensures h),
+          (runs_block B a.contents.now a.bit (agent_of a.bindings.now) (variables_of a.bindings.now) (node_at B) l.left l.at (stored_node c.node-node.result) c.loop-left-test.true c.node-node.ensures (picks_left a.picks.now l.used) l.r l.list (unrefused _ c.is_some.ensures c.if-is_some.false) _ z _ _ m c.in-22.is k.ensures h),
     )
 
 pub walk-loop-left-preserved : goal.walk-loop-left-preserved
@@ -139,7 +140,7 @@ walk-loop-left-preserved t c =
       omega arith,
       c.eval-x.auto.readers ∙ l.invariant.1,
       λ z m h. l.invariant.2 z m
-          (runs_test B a.contents.now a.bit (agent_of a.bindings.now) (variables_of a.bindings.now) (node_at B) l.left l.at (stored_node c.node-node.result) c.loop-left-test.true c.node-node.ensures (picks_left a.picks.now l.used) l.r l.list c.if-r-ne0.false c.eval-x.result c.branch-at.result z _ _ m c.in-23.is c.branch-at.ensures c.eval-x.ensures h),
+          (runs_test B a.contents.now a.bit (agent_of a.bindings.now) (variables_of a.bindings.now) (node_at B) l.left l.at (stored_node c.node-node.result) c.loop-left-test.true c.node-node.ensures (picks_left a.picks.now l.used) l.r l.list (unrefused _ c.is_some.ensures c.if-is_some.false) c.eval-x.result c.branch-at.result z _ _ m c.in-23.is c.branch-at.ensures c.eval-x.ensures h),
     )
 
 pub walk-returns : goal.walk-returns
@@ -184,8 +185,8 @@ walk_forall-loop-y-init t c =
           sweep_as B a.contents.now a.bit a.node.b f _ _ (reached (picks_left a.picks.now a.used.now) a.s a.list.now) z _ n (members_next B p a.contents.now a.node.b has c.function_at-f.result c.elements-e.result 0 c.next_member-y.result (function_held _ _ _ c.function_at-f.ensures) (elements_held _ _ c.elements-e.ensures).0 c.next_member-y.ensures.1) h),
     )
 
-pub walk_forall-returns-then-r-ne0 : goal.walk_forall-returns-then-r-ne0
-walk_forall-returns-then-r-ne0 t c =
+pub walk_forall-returns-then-is_some : goal.walk_forall-returns-then-is_some
+walk_forall-returns-then-is_some t c =
     let a = c.args in
     let B = low_program a.image.now in
     let f : ℕ → Walk → Reader Walked = body_at a.image.now a.bindings.now a.depth a.node.c a.node.a in
@@ -195,7 +196,7 @@ walk_forall-returns-then-r-ne0 t c =
     λ has. runs_for_all B a.contents.now a.bit (agent_of a.bindings.now) (variables_of a.bindings.now) a.node.a a.node.b (rule_from (node_at B) a.depth a.node.c) (picks_left a.picks.now a.used.now) a.s a.list.now _ _ _ _ c.requires (λ p. c.mark_universe.ensures ∙ rw (function_held _ _ _ c.function_at-f.ensures, (elements_held _ _ c.elements-e.ensures).0) (universe_placed B p a.node.b has a.contents.now a.bit a.readers.now))
     (l.invariant.1 has _ _
     (sweep_more B a.contents.now a.bit a.node.b f l.y (reached (picks_left a.picks.now l.used) l.r l.list) _ _ _ _ _ h k.ensures
-    (runs_refused B a.contents.now a.bit _ _ _ _ _ (reached_refused _ k.result _ c.if-r-ne0.true))))
+    (runs_refused B a.contents.now a.bit _ _ _ _ _ (reached_refused _ k.result _ (some_numbered _ c.is_some.ensures c.if-is_some.true)))))
 
 pub walk_forall-loop-y-preserved : goal.walk_forall-loop-y-preserved
 walk_forall-loop-y-preserved t c =

@@ -1,4 +1,6 @@
 -- `walk_move` meets its contract.
+use Rattle.text.proofs.Checks.{none_unrefused, not_none_numbered}
+use Rattle.text.specs.Refusals.{refusal_number}
 use mathlib.Core.Path.{◌≡◌, refl}
 use mathlib.Core.List.{[], ◌∷◌}
 use Rattle.book.specs.declared.Agent.{Agent}
@@ -13,8 +15,8 @@ use Rattle.engine_walk.proofs.Steps.{runs_from}
 use Rattle.engine_walk.proofs.Kept.{runs_agent, gathered, walk_marked_back}
 use Rattle.engine_walk.proofs.walk_move.Goals as goal
 
-pub returns-then-r-eq0 : goal.returns-then-r-eq0
-returns-then-r-eq0 c =
+pub returns-then-is_none : goal.returns-then-is_none
+returns-then-is_none c =
     let a = c.args in
     let m = a.image.now in
     let B = low_program m in
@@ -26,7 +28,7 @@ returns-then-r-eq0 c =
     gathered B a.contents.now a.bit (input a.agent a.picks.now) _ _ _
     (runs_agent B a.contents.now a.bit _ _ _ a.agent c.permanent.result a.picks.now who (reached [] r l) is c.permanent.ensures
     (runs_from B a.contents.now a.bit (walk_at m (0 ∷ 0 ∷ 0 ∷ 0 ∷ 0 ∷ 0 ∷ 0 ∷ 0 ∷ who.element ∷ []) 32 who.root) a.picks.now (record { len = 0; label = c.permanent.result; refused = 0; node = 0 }) a.list.now refl _ _ _ w.ensures) (c.all_used-r.ensures l))
-    (walk_from [] r l) (reached_walking [] r l c.if-r-eq0.true)
+    (walk_from [] r l) (reached_walking [] r l (none_unrefused _ c.is_none.ensures c.if-is_none.true))
 
 pub returns : goal.returns
 returns c =
@@ -41,4 +43,4 @@ returns c =
     walk_marked_back B a.contents.now a.bit (input a.agent a.picks.now) _ _ _
     (runs_agent B a.contents.now a.bit _ _ _ a.agent c.permanent.result a.picks.now who (reached [] r l) is c.permanent.ensures
     (runs_from B a.contents.now a.bit (walk_at m (0 ∷ 0 ∷ 0 ∷ 0 ∷ 0 ∷ 0 ∷ 0 ∷ 0 ∷ who.element ∷ []) 32 who.root) a.picks.now (record { len = 0; label = c.permanent.result; refused = 0; node = 0 }) a.list.now refl _ _ _ w.ensures) (c.all_used-r.ensures l))
-    r.refused r.node _ (reached_refused [] r l c.if-r-eq0.false) c.clear_marks.ensures
+    (refusal_number r.refused) r.node _ (reached_refused [] r l (not_none_numbered _ c.is_none.ensures c.if-is_none.false)) c.clear_marks.ensures
