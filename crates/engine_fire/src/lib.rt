@@ -5,11 +5,12 @@
 ghost use Rattle.std.specs.Prelude.{◌≡◌, [], ◌+◌, ◌≤◌, ◌<◌, min, ℕ, ltb, length, get_or, set, if◌then◌else◌};
 ghost use Rattle.std.specs.Int.Bits.{bit_or};
 ghost use Rattle.text.specs.Words.{one_if};
+ghost use Rattle.text.specs.Refusals.{number_of};
 ghost use Rattle.book.specs.Book.{L};
 ghost use Rattle.book.specs.Sum.{Strided};
 ghost use Rattle.book.specs.Image.{low_program};
 ghost use Rattle.book_parts.specs.Part.{put_in};
-ghost use Rattle.engine.specs.Labels.{no_labels};
+ghost use Rattle.engine.specs.Labels.{no_labels, tallied};
 ghost use Rattle.engine.specs.Move.{taken_reads, Fired, input};
 ghost use Rattle.engine_instruction.specs.Code.{items};
 ghost use Rattle.engine_clash.specs.Clash.{updates_by};
@@ -26,9 +27,9 @@ ghost use Rattle.engine.specs.Tables.{tables};
 
 use book::Image;
 use book_parts::Part;
-use engine::{Pick, TalliedAnswer, Tally, Work};
+use engine::{Pick, TalliedResult, Tally, Work};
 use engine_emit::Progress;
-use text::Value;
+use text::{Reason, Value};
 
 // What becomes of a move whose walk met no refusal: it fires, with its label tally, or clashes at a location.
 #[derive(Clone, Copy)]
@@ -250,7 +251,7 @@ fn instructions_given(s: Progress, list: &[u64]) -> usize
     requires { length list.now ≡ most_instructions }
     ensures { result ≡ instructions_given s }
 {
-    if s.refused != 0 {
+    if s.refused.is_some() {
         return 0;
     }
     text::smaller(s.len as usize, list.len())
@@ -277,40 +278,35 @@ pub fn begin_move(
 }
 
 // The answer to a move that is refused: it has issued and returned no label.
-fn refused_answer(number: u32, at: u32, q: u32) -> TalliedAnswer
-    ensures { result ≡ refused_answer number at q }
+fn refused_answer(reason: Reason, at: u32, q: u32) -> TalliedResult
+    ensures { tallied result ≡ refused_answer (number_of reason) at q }
 {
-    let answer = text::answer_at(number, at, q);
-    let none = no_labels();
-    TalliedAnswer {
-        answer: answer,
-        tally: none,
+    TalliedResult {
+        answer: text::refused(reason, at, q),
+        tally: no_labels(),
     }
 }
 
 // The answer to move `at`, which is refused; its reader marks are taken out.
-fn refuse_move(readers: &mut [u64], bit: u64, number: u32, at: u32, q: u32) -> TalliedAnswer
-    ensures value { result ≡ refused_answer number at q }
+fn refuse_move(readers: &mut [u64], bit: u64, reason: Reason, at: u32, q: u32) -> TalliedResult
+    ensures value { tallied result ≡ refused_answer (number_of reason) at q }
     ensures readers_after { readers.new ≡ bits_cleared bit readers.old }
 {
     engine_walk::clear_marks(readers, bit);
-    refused_answer(number, at, q)
+    refused_answer(reason, at, q)
 }
 
 // The answer to move `at`, which is settled; if it is refused, its reader marks are taken out.
-fn answer_move(readers: &mut [u64], bit: u64, at: u32, what: Outcome) -> TalliedAnswer
-    ensures value { (f : Fired) → result ≡ record { answer = move_answer at (moved_by f what); tally = tally_told what } }
+fn answer_move(readers: &mut [u64], bit: u64, at: u32, what: Outcome) -> TalliedResult
+    ensures value { (f : Fired) → tallied result ≡ record { answer = move_answer at (moved_by f what); tally = tally_told what } }
     ensures readers_after { (f : Fired) → readers.new ≡ readers_kept bit (moved_by f what) readers.old }
 {
     match what {
-        Outcome::Fired { tally } => {
-            let accepted = text::answer_at(0, 0, 0);
-            TalliedAnswer {
-                answer: accepted,
-                tally: tally,
-            }
-        }
-        Outcome::Clash { location } => refuse_move(readers, bit, text::CLASH, at, location),
+        Outcome::Fired { tally } => TalliedResult {
+            answer: Ok(()),
+            tally,
+        },
+        Outcome::Clash { location } => refuse_move(readers, bit, Reason::Clash, at, location),
     }
 }
 
@@ -324,8 +320,8 @@ fn settle_listed(
     list: &Work,
     len: usize,
     at: u32,
-) -> TalliedAnswer
-    ensures { (next : ℕ) → Finishes image.now bit at (walking (record { made = items list.now len; next = next; left = [] })) (tables contents.old readers.old writers.old) result (tables contents.new readers.new writers.new) }
+) -> TalliedResult
+    ensures { (next : ℕ) → Finishes image.now bit at (walking (record { made = items list.now len; next = next; left = [] })) (tables contents.old readers.old writers.old) (tallied result) (tables contents.new readers.new writers.new) }
 {
     let what = settle(image, contents, readers, writers, list, len, bit);
     answer_move(readers, bit, at, what)
@@ -341,11 +337,11 @@ pub fn finish_move(
     list: &Work,
     s: Progress,
     at: u32,
-) -> TalliedAnswer
-    ensures { Finishes image.now bit at (outcome s list.now) (tables contents.old readers.old writers.old) result (tables contents.new readers.new writers.new) }
+) -> TalliedResult
+    ensures { Finishes image.now bit at (outcome s list.now) (tables contents.old readers.old writers.old) (tallied result) (tables contents.new readers.new writers.new) }
 {
-    if s.refused != 0 {
-        return refused_answer(s.refused as u32, at, s.node as u32);
+    if let Some(reason) = s.refused {
+        return refused_answer(reason, at, s.node as u32);
     }
     let len = s.len as usize;
     settle_listed(image, contents, readers, writers, bit, list, len, at)

@@ -319,9 +319,9 @@ pub fn walk_move(
         image, contents, readers, bit, list, picks, &mut used, &bindings, 32, s, root,
     );
     let r = engine_emit::all_used(picks, &used, w, root);
-    if r.refused.is_none() {
+    if r.refused.is_some() {
+        clear_marks(readers, bit);
         return r;
     }
-    clear_marks(readers, bit);
     r
 }

@@ -10,7 +10,7 @@ use native.Mathlib.Omega.{arith}
 use Rattle.text.specs.declared.Reason.{Reason}
 use Rattle.text.specs.declared.Reason.TheVariants.{IllFormed, LentShort, HeaderBounds, FunctionLine, NodeLine, NodeUse, AgentLine, ContentsRule, LogLine, AgentUnordered, NonBoolean, NotReleasable, NoLabelLeft, ListFull, Clash, UnorderedTouch, NotInUniverse, PickCount}
 use Rattle.text.specs.declared.Refusal.{Refusal}
-use Rattle.std.specs.Option.{is_some, is_none}
+use Rattle.std.specs.Option.{is_some}
 use mathlib.Core.Bool.{true≢false, false≢true}
 use Rattle.text.specs.Refusals.{number_of, refusal_number}
 use Rattle.text.specs.Words.{least, Answer, told, Checked, good, refused, ◌>>=◌, ◌>>◌, none_at, must, answer_of}
@@ -154,20 +154,6 @@ module _ (o : Option Reason) {b : Bool} where
       go : (o : Option Reason) → is_some o ≡ false → refusal_number o ≡ 0
       go None e = refl
       go (Some r) e = absurd (true≢false e)
-
-  pub none_unrefused : b ≡ is_none o → b ≡ true → refusal_number o ≡ 0
-  none_unrefused e t = go o (sym e ∙ t)
-    where
-      go : (o : Option Reason) → is_none o ≡ true → refusal_number o ≡ 0
-      go None e = refl
-      go (Some r) e = absurd (false≢true e)
-
-  pub not_none_numbered : b ≡ is_none o → b ≡ false → refusal_number o ≢ 0
-  not_none_numbered e t z = go o (sym e ∙ t) z
-    where
-      go : (o : Option Reason) → is_none o ≡ false → refusal_number o ≢ 0
-      go None e z = absurd (true≢false e)
-      go (Some r) e z = omega (arith, (reason_numbered r).0, z)
 
 -- ---- refusals and answers that fit one number
 
