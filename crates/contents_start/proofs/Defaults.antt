@@ -2,13 +2,12 @@
 use Rattle.std.specs.Prelude.{if◌then◌else◌}
 use mathlib.Core.Path.{◌≡◌, refl, sym, ap, ◌∙◌}
 use mathlib.Core.Bool.{Bool, true, false}
-use mathlib.Core.List.{List, [], ◌∷◌, ◌++◌}
-use Prim.Native.Nat.{ℕ, zero, suc, ◌+◌, ◌-◌, ◌≤◌, ◌<◌, min}
-use native.Mathlib.Numerals.{add-one}
+use mathlib.Core.List.{List, ◌++◌}
+use Prim.Native.Nat.{ℕ, ◌+◌, ◌-◌, ◌≤◌, ◌<◌, min}
 use native.Mathlib.Omega.{arith}
 use lib.Dec.{ltb}
-use lib.ListN.{length, get_or, set, take, drop, replicate, length-append, length-take, length-drop, length-replicate, get_or-replicate, get_or-append}
-use lib.Seq.{length-take-le, take-suc-set, take_all, get_or-take, get_or-drop, get_or-append-add, ext_get_or}
+use lib.ListN.{length, get_or, take, drop, replicate, length-append, length-take, length-drop, length-replicate, get_or-replicate, get_or-append}
+use lib.Seq.{length-take-le, take_all, get_or-take, get_or-drop, get_or-append-add, ext_get_or}
 use borrow.Author.Tests.{ltb-true, ltb-false}
 use Rattle.text.specs.Words.{table}
 use Rattle.text.proofs.Words.{length_table_from, getD_table}
@@ -16,21 +15,8 @@ use Rattle.book.specs.Book.{Program, L, size, default, default_at, function_at, 
 use Rattle.book_parts.specs.declared.Owner.{Owner}
 use Rattle.book_parts.specs.Part.{between, part_from}
 use Rattle.book_parts.proofs.Parts.{between_before, between_inside, between_after}
-use Rattle.book_parts.proofs.Places.{From, from_start, from_at, from_next, from_end}
+use Rattle.book_parts.proofs.Places.{From, from_at, from_next, from_end}
 use Rattle.contents_start.specs.Written.{function_filled, defaults_in}
-
--- ---- a part filled with v
-
-replicate_more : (v i : ℕ) → replicate i v ++ (v ∷ []) ≡ replicate (suc i) v
-replicate_more v zero = refl
-replicate_more v (suc i) = ap (λ (s : List ℕ). v ∷ s) (replicate_more v i)
-
-module _ (v : ℕ) where
-  pub fill_next : (c : List ℕ) (i : ℕ) → i < length c → take i c ≡ replicate i v → take (i + 1) (set c i v) ≡ replicate (i + 1) v
-  fill_next c i h e = rw (add-one i) (take-suc-set c i v h ∙ ap (λ (s : List ℕ). s ++ (v ∷ [])) e ∙ replicate_more v i)
-
-  pub fill_end : (c : List ℕ) (i n : ℕ) → length c ≡ n → i ≡ n → take i c ≡ replicate i v → c ≡ replicate n v
-  fill_end c i n h k e = sym (take_all i c (omega arith)) ∙ e ∙ ap (λ (m : ℕ). replicate m v) k
 
 -- ---- a part of the table filled with v
 
@@ -126,9 +112,6 @@ module _ (B : Program) (c₀ : List ℕ) where
     pub done : (k : ℕ) → k < length c₀ → k < first → get_or c k 0 ≡ default_at B k
     pub left : (k : ℕ) → k < length c₀ → first ≤ k → get_or c k 0 ≡ get_or c₀ k 0
     pub at : From B g first
-
-  pub filled_none : Filled 0 0 c₀
-  filled_none = record { same = refl; done = λ k l h. absurd (omega arith); left = λ k l h. refl; at = from_start B }
 
   module _ (first g : ℕ) (c d : List ℕ) (p : Filled first g c) (more : g < length B.functions) where
     abbrev end : ℕ

@@ -33,9 +33,6 @@ use Rattle.contents_start.proofs.Defaults.{defaults_long}
 -- ---- the loop over the contents lines
 
 module _ (B : Program) (at : ℕ → Line) where
-  pub lines_first : (n : ℕ) (c : List ℕ) → entries_put B (table_from at 0 (n - 0)) c ≡ entries_put B (table at n) c
-  lines_first n c = let e : n - 0 ≡ n = omega arith in rw e
-
   pub lines_next : (n i : ℕ) (c d : List ℕ) → i < n → d ≡ entry_put B (at i) c
       → entries_put B (table_from at (i + 1) (n - (i + 1))) d ≡ entries_put B (table_from at i (n - i)) c
   unfolding entries_put table_from

@@ -1,24 +1,13 @@
 // The start of a run, written into a contents table: each location's default, then the book's entries.
 #![tactic(auto)]
 
-ghost use Rattle.std.specs.Prelude.{◌≡◌, ◌≤◌, length, set, replicate};
+ghost use Rattle.std.specs.Prelude.{◌≡◌, ◌≤◌, set};
 ghost use Rattle.book.specs.Image.{low_program};
 ghost use Rattle.book_parts.specs.Part.{put_in};
 ghost use Rattle.contents_start.specs.Written.{function_filled, defaults_in, entry_put, entries_put, entry_lines, started};
 
 use book::Image;
 use text::{Line, Value};
-
-// Puts v at every place of a part.
-fn fill_part(part: &mut [Value], v: Value)
-    ensures { part.new ≡ replicate (length part.old) v }
-{
-    let mut i: usize = 0;
-    while i < part.len() {
-        part[i] = v;
-        i += 1;
-    }
-}
 
 // Puts v at the locations from `first` up to `end`, as far as the table goes.
 fn fill_function(contents: &mut [Value], first: usize, end: usize, v: Value)
@@ -28,7 +17,7 @@ fn fill_function(contents: &mut [Value], first: usize, end: usize, v: Value)
     let n = contents.len();
     let a = text::smaller(first, n);
     let b = text::smaller(end, n);
-    fill_part(&mut contents[a..b], v);
+    contents[a..b].fill(v);
 }
 
 // Puts its default at every location, function by function.
@@ -37,13 +26,11 @@ fn write_defaults(image: &Image, contents: &mut [Value])
 {
     let n = book_image::functions(image);
     let mut first: u32 = 0;
-    let mut f: u16 = 0;
-    while f < n {
+    for f in 0..n {
         let own = book_parts::part_from(image, f, first);
         let v = book_parts::default_of(own.function);
         fill_function(contents, own.first, own.end, v);
         first = own.end as u32;
-        f += 1;
     }
 }
 
@@ -86,11 +73,9 @@ fn write_entries(book: &[u8], image: &Image, contents: &mut [Value])
 {
     let first = book_image::first_entry(image);
     let count = book_image::entries(image);
-    let mut i: u32 = 0;
-    while i < count {
+    for i in 0..count {
         let entry = text::read_line(book, first, i);
         write_entry(image, contents, entry);
-        i += 1;
     }
 }
 

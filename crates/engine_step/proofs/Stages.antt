@@ -1,7 +1,7 @@
 -- The call in two stages, begun and finished: what each shows of it, and what the list between them holds.
 use mathlib.Core.Path.{◌≡◌, refl, sym, ap, subst, ◌∙◌}
 use mathlib.Core.Logic.{◌≢◌, dite}
-use mathlib.Core.List.{List, [], ◌∷◌, ◌++◌}
+use mathlib.Core.List.{List, [], ◌++◌}
 use Prim.Native.Nat.{ℕ, ◌≤◌, min}
 use native.Mathlib.Decide.{ℕ_discrete}
 use native.Mathlib.Omega.{arith}
@@ -16,9 +16,6 @@ use Rattle.engine_instruction.specs.Code.{items}
 use Rattle.engine_instruction.proofs.Laws.{take_min, drop_min}
 use Rattle.engine_term.proofs.Leaves.{placed}
 use Rattle.engine_walk.specs.Walk.{outcome}
-use Rattle.engine_walk.specs.WalkMarks.{WalkMarked}
-use Rattle.engine_fire.specs.declared.Begun.{Begun}
-use Rattle.engine_fire.specs.Count.{instructions_given}
 use Rattle.engine_fire.specs.Outcome.{contents_after}
 use Rattle.engine_fire.specs.Effect.{move_answer}
 use Rattle.engine.specs.Labels.{TalliedAnswer}
@@ -32,20 +29,6 @@ use Rattle.engine_step.proofs.Whole.{Cleared}
 use Rattle.engine.specs.Tables.{tables}
 
 -- ---- the call begun
-
-nil_of : (xs : List ℕ) → length xs ≡ 0 → xs ≡ []
-nil_of [] e = refl
-nil_of (x ∷ xs) e = absurd (omega (arith, e))
-
--- the move is begun on the first j records, with a table of no marks
-pub begun_on : (B : Program) (c : List ℕ) (k : Input) (i j : ℕ) (l : List ℕ) (s : Begun) (rs : List ℕ) → j ≡ min i (length c) → length rs ≡ 0
-    → WalkMarked B (take j c) 1 k (outcome s.walk l) [] rs → s.count ≡ instructions_given s.walk → length l ≡ 256 → MoveWalked B (take i c) k l s
-begun_on B c k i j l s rs e z g n r = record {
-  walk = subst (λ (d : List ℕ). WalkMarked B d 1 k (outcome s.walk l) [] []) (take_min c j i e)
-      (subst (λ (x : List ℕ). WalkMarked B (take j c) 1 k (outcome s.walk l) [] x) (nil_of rs z) g);
-  count = n;
-  room = r;
-}
 
 module _ (text c : List ℕ) (k : Input) (n : ℕ) (m l : List ℕ) (p : BegunCall) where
   pub halted_call : (a : Answer) → p.answer ≡ a → p.begun.count ≡ 0 → a.number ≢ 0 → CallLeaves a 0 l c (step_call text c k n) → CallBegun text c k n m l p

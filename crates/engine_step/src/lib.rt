@@ -41,13 +41,10 @@ fn check_picks(image: &Image, picks: &[Pick]) -> Answer
     ensures { result ≡ answer_of (check_picks (low_program image.now) picks.now) }
 {
     let e = book_image::elements(image) as u64;
-    let n = picks.len();
-    let mut j: usize = 0;
-    while j < n {
-        if e <= picks[j] {
+    for (j, pick) in picks.iter().enumerate() {
+        if e <= *pick {
             return text::answer_at(text::LOG_LINE, place_of(j), 0);
         }
-        j += 1;
     }
     text::answer_at(0, 0, 0)
 }
@@ -126,14 +123,8 @@ fn refused_call(answer: Answer) -> BegunCall
         refused: 0,
         node: 0,
     };
-    let begun = Begun {
-        walk: walk,
-        count: 0,
-    };
-    BegunCall {
-        answer: answer,
-        begun: begun,
-    }
+    let begun = Begun { walk, count: 0 };
+    BegunCall { answer, begun }
 }
 
 // Begins the move on the first L records of the lent table, with no marks: their tables have length 0.
@@ -183,7 +174,7 @@ pub fn begin_call(
     let begun = walk_call(image, contents, agent as u32, picks, work);
     BegunCall {
         answer: checked,
-        begun: begun,
+        begun,
     }
 }
 

@@ -9,17 +9,13 @@ use Prim.Native.Nat.{ℕ, suc, ◌+◌, ◌-◌, ◌≤◌, ◌<◌}
 use native.Mathlib.Numerals.{add-one}
 use native.Mathlib.Omega.{arith}
 use native.Mathlib.Decide.{ℕ_discrete}
-use borrow.Author.Tests.{eq-eqb, ne_eqb}
-use lib.ListN.{set}
 use Rattle.text.specs.declared.Line.{Line}
 use Rattle.text.specs.declared.Parsed.{Parsed}
 use Rattle.text.specs.Words.{table_from, table, least_from, least}
 use Rattle.text.specs.Text.{bad_line, line, parsed}
 use Rattle.text.proofs.Fields.{parsed_line}
-use Rattle.order.specs.Log.{Choice, bad_choice}
-use Rattle.order.specs.Table.{end_in}
-use Rattle.order.proofs.Log.{choice_low}
-use Rattle.order_lines.specs.Lines.{first_found, shifted, KindRead, first_pick_put, pick_put, picks_put}
+use Rattle.order.specs.Log.{Choice}
+use Rattle.order_lines.specs.Lines.{first_found, shifted, KindRead, pick_put, picks_put}
 use Rattle.order_lines.proofs.Places.{part_start, part_pass, part_stop, part_end, fault_turn, fault_none, found_some, line_bad, line_good}
 
 -- ---- lines of any kind
@@ -76,17 +72,6 @@ module _ (text : List ℕ) (k n : ℕ) (bad : Line → Line → ℕ → Bool) (r
     }
 
 -- ---- the choice lines
-
--- a choice line that is not at fault is of one of the 64 moves
-pub choice_within : (E m : ℕ) (k l : Line) (i : ℕ) (b : Bool) → m ≤ 64 → b ≡ bad_choice E m k l i → b ≡ false → l.a < 64
-choice_within E m k l i b small e z = omega (arith, (choice_low E m k l i (sym e ∙ z)).0)
-
--- the first pick of a move, as the code puts it in
-pub begun_first : (t : List ℕ) (i a : ℕ) → end_in t a ≡ 0 → set t (128 + a) i ≡ first_pick_put t i a
-begun_first t i a e = rw (eq-eqb (end_in t a) 0 e)
-
-pub begun_later : (t : List ℕ) (i a : ℕ) → end_in t a ≢ 0 → t ≡ first_pick_put t i a
-begun_later t i a n = rw (ne_eqb (end_in t a) 0 n)
 
 -- the table with the n choices of f from choice i on put in
 abbrev pub left : (ℕ → Choice) → ℕ → ℕ → List ℕ → List ℕ

@@ -69,25 +69,23 @@ fn read_bounded(
         d: 0,
     };
     let mut fault = None;
-    let mut i: u32 = 0;
-    while i < n {
+    for i in 0..n {
         let read = text::parse(log, 1 + k + i);
         let l = read.line;
         if !read.ok {
             return LineFaults {
                 ill: Some(1 + k + i),
-                fault: fault,
+                fault,
             };
         }
         let bad = bad_choice(elements, m, before, l, i);
         fault = or_here(fault, bad, 1 + k + i);
         put_pick(order, l, i, bad);
         before = l;
-        i += 1;
     }
     LineFaults {
         ill: None,
-        fault: fault,
+        fault,
     }
 }
 

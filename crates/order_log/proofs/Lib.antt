@@ -3,5 +3,4 @@ pub mod Parts
 pub mod Loops
 pub mod Lines
 pub mod Answers
-pub mod Picks
 pub mod Agents

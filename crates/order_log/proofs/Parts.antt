@@ -1,8 +1,8 @@
 -- What the loops that read a log's lines put into the table, and what pairs that pass have.
 use Rattle.std.specs.Prelude.{None}
-use mathlib.Core.Path.{◌≡◌, sym, ◌∙◌}
+use mathlib.Core.Path.{◌≡◌, ◌∙◌}
 use mathlib.Core.Logic.{◌⊎◌, inl, inr, dite, ◌≢◌}
-use mathlib.Core.Bool.{Bool, true, false, ◌&&◌, ◌||◌}
+use mathlib.Core.Bool.{true, false, ◌&&◌, ◌||◌}
 use mathlib.Core.List.{List}
 use Prim.Native.Nat.{ℕ, zero, suc, ◌+◌, ◌-◌, ◌*◌, ◌%◌, ◌^◌, ◌≤◌, ◌<◌}
 use native.Mathlib.Numerals.{add-one}
@@ -188,7 +188,3 @@ module _ (f : ℕ → Pair) (n : ℕ) where
   pub left_end : (i : ℕ) (t : List ℕ) → n ≤ i → left f n i t ≡ t
   unfolding pairs_put table_from
   left_end i t h = let e : n - i ≡ 0 = omega arith in rw e
-
--- a pair that is not at fault is of two of the 64 moves
-pub pair_within : (m : ℕ) (k l : Line) (i : ℕ) (b : Bool) → m ≤ 64 → b ≡ bad_pair m k l i → b ≡ false → (l.a < 64) × (l.b < 64)
-pair_within m k l i b small e z = let r = pair_below m k l i (sym e ∙ z) in (omega (arith, r.0, r.1), omega (arith, r.1))

@@ -42,14 +42,13 @@ fn read_moves(log: &[u8], agents: u32, m: u32, order: &mut [u64]) -> LineFaults
     ensures { MovesRead agents log.now m order.new result }
 {
     let mut fault = None;
-    let mut i: u32 = 0;
-    while i < m {
+    for i in 0..m {
         let read = text::parse(log, 1 + i);
         let l = read.line;
         if !read.ok {
             return LineFaults {
                 ill: Some(1 + i),
-                fault: fault,
+                fault,
             };
         }
         fault = order_lines::or_here(fault, bad_move(l, agents), 1 + i);
@@ -57,11 +56,10 @@ fn read_moves(log: &[u8], agents: u32, m: u32, order: &mut [u64]) -> LineFaults
         order[order::AGENTS + i as usize] = l.a as u64;
         order[order::FIRST_PICKS + i as usize] = 0;
         order[order::PICK_ENDS + i as usize] = 0;
-        i += 1;
     }
     LineFaults {
         ill: None,
-        fault: fault,
+        fault,
     }
 }
 
@@ -74,7 +72,7 @@ fn put_pair(order: &mut OrderTable, l: Line, bad: bool)
         let a = l.a as usize;
         let b = l.b as usize;
         let behind = order[a] | (1u64 << a);
-        order[b] = order[b] | behind;
+        order[b] |= behind;
     }
 }
 
@@ -91,25 +89,23 @@ fn read_pairs(log: &[u8], m: u32, n: u32, order: &mut OrderTable) -> LineFaults
         d: 0,
     };
     let mut fault = None;
-    let mut i: u32 = 0;
-    while i < n {
+    for i in 0..n {
         let read = text::parse(log, 1 + m + i);
         let l = read.line;
         if !read.ok {
             return LineFaults {
                 ill: Some(1 + m + i),
-                fault: fault,
+                fault,
             };
         }
         let bad = bad_pair(m, before, l, i);
         fault = order_lines::or_here(fault, bad, 1 + m + i);
         put_pair(order, l, bad);
         before = l;
-        i += 1;
     }
     LineFaults {
         ill: None,
-        fault: fault,
+        fault,
     }
 }
 
@@ -117,15 +113,9 @@ fn read_pairs(log: &[u8], m: u32, n: u32, order: &mut OrderTable) -> LineFaults
 fn join_faults(a: LineFaults, b: LineFaults) -> LineFaults
     ensures { result ≡ join_faults a b }
 {
-    let ill = a.ill;
-    let later_ill = b.ill;
-    let fault = a.fault;
-    let later_fault = b.fault;
-    let first_ill = order_lines::first_found(ill, later_ill);
-    let first_fault = order_lines::first_found(fault, later_fault);
     LineFaults {
-        ill: first_ill,
-        fault: first_fault,
+        ill: order_lines::first_found(a.ill, b.ill),
+        fault: order_lines::first_found(a.fault, b.fault),
     }
 }
 
@@ -198,16 +188,14 @@ pub fn check_agents(order: &OrderTable, moves: u32) -> Result<(), Refusal>
     let mut own: [u64; 16] = [0; 16];
     let mut first: u32 = order::MOST_MOVES;
     let mut second: usize = 0;
-    let mut j: usize = 0;
-    while j < m {
+    for j in 0..m {
         let a = (order[order::AGENTS + j] % book::MOST_AGENTS as u64) as usize;
         let i = least_unordered(own[a], order[j]);
         if i < first {
             first = i;
             second = j;
         }
-        own[a] = own[a] | (1u64 << j);
-        j += 1;
+        own[a] |= 1u64 << j;
     }
     text::must(
         first >= order::MOST_MOVES,

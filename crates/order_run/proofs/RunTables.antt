@@ -1,6 +1,5 @@
 -- Refusal 2, the start with no marks, and refusal 17 from the marks.
-use Rattle.std.proofs.Common.{◌≡◌, ℕ, ◌<◌, ◌≤◌, Bool, true, false, leb, List, ◌++◌, length, drop, replicate, sym, refl, ap, ◌∙◌, true≢false, append-nil, arith, le-leb, leb-true}
-use mathlib.Core.Bool.{false≢true}
+use Rattle.std.proofs.Common.{◌≡◌, ℕ, ◌<◌, ◌≤◌, Bool, true, false, leb, List, length, refl, ap, ◌∙◌, append-nil, arith, le-leb, leb-true}
 use borrow.Author.Tests.{lt-leb}
 use lib.Seq.{drop-length}
 use Rattle.text.specs.Words.{Answer}
@@ -15,8 +14,7 @@ use Rattle.order.specs.Run.{Run, readers, writers, touching, order_checked}
 use Rattle.order.specs.declared.Lengths.{Lengths}
 use Rattle.order.specs.Call.{check_lengths}
 use Rattle.order.specs.Table.{OrderTable}
-use Rattle.order_touch.specs.declared.MovePair.{MovePair}
-use Rattle.order_touch.specs.Marked.{unordered_marked, clipped, pair_as}
+use Rattle.order_touch.specs.Marked.{unordered_marked, clipped}
 use Rattle.order_touch.proofs.Fired.{touching_ordered}
 use Rattle.contents_start.specs.Written.{started}
 use Rattle.contents_start.proofs.Entries.{start_is}
@@ -76,10 +74,6 @@ lengths_good n all u e =
 
 -- ---- clearing, and the start
 
--- a list filled with 0 to its end
-pub cleared : (s t : List ℕ) (i : ℕ) → i ≡ length s → t ≡ replicate i 0 ++ drop i s → t ≡ replicate (length s) 0
-cleared s t i e q = q ∙ rw (e, drop-length s) (append-nil (replicate (length s) 0))
-
 -- the start written into a table of just the records needed is the whole table
 pub only_start : (text : List ℕ) (b : Book) → check_book text ≡ good b → (m c : List ℕ) → program_in m ≡ b.program → word m 5 ≡ length b.entries → low_program m ≡ b.program
     → length c ≡ L b.program → started m text c ≡ start b
@@ -102,13 +96,3 @@ order_answer B g s c rs ws o n en ordered marks = ap touch_answer found ∙ go (
     go : (x : PairFound) → touch_answer x ≡ (order_checked B s x).answer
     go no_pair = refl
     go (a_pair i j) = refl
-
--- refusal 17 as the code has it: no pair is found
-pub answer_none : (p : MovePair) (x : PairFound) → p ≡ pair_as x → p.found ≡ false → triple 0 0 0 ≡ touch_answer x
-answer_none p no_pair e f = refl
-answer_none p (a_pair i j) e f = absurd (false≢true (sym f ∙ ap (λ (y : MovePair). y.found) e))
-
--- refusal 17 as the code has it: a pair is found
-pub answer_some : (p : MovePair) (x : PairFound) → p ≡ pair_as x → p.found ≡ true → triple 17 p.first p.second ≡ touch_answer x
-answer_some p no_pair e f = absurd (true≢false (sym f ∙ ap (λ (y : MovePair). y.found) e))
-answer_some p (a_pair i j) e f = rw e

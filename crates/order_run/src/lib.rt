@@ -48,17 +48,6 @@ pub fn check_lent(locations: u32, lent: Lengths) -> Answer
     text::answer_at(0, 0, 0)
 }
 
-// Clears all marks of a table.
-fn no_marks(marks: &mut [u64])
-    ensures { marks.new ≡ replicate (length marks.old) 0 }
-{
-    let mut i: usize = 0;
-    while i < marks.len() {
-        marks[i] = 0;
-        i += 1;
-    }
-}
-
 // Writes the start of a run, with no marks.
 pub fn start_tables(
     book: &[u8],
@@ -71,8 +60,8 @@ pub fn start_tables(
     ensures readers_after { (readers.new ≡ replicate (length readers.old) 0) × (writers.new ≡ replicate (length writers.old) 0) }
 {
     contents_start::write_start(book, image, contents);
-    no_marks(readers);
-    no_marks(writers);
+    readers.fill(0);
+    writers.fill(0);
 }
 
 // Refusal 17, of so many moves, by the order's table and the marks.
@@ -112,7 +101,7 @@ fn refused_checks(answer: Answer) -> CheckedCall
     ensures { result.answer ≡ answer }
 {
     CheckedCall {
-        answer: answer,
+        answer,
         moves: 0,
         locations: 0,
     }
@@ -151,7 +140,7 @@ pub fn check_all(
     CheckedCall {
         answer: short,
         moves: read.moves,
-        locations: locations,
+        locations,
     }
 }
 
@@ -171,15 +160,12 @@ fn add_tallies(s: Tally, t: Tally) -> Tally
 fn run_over(answer: Answer, tally: Tally) -> RunState
     ensures { result ≡ record { more = false; at = 0; moves = 0; result = record { answer = answer; tally = tally } } }
 {
-    let result = TalliedAnswer {
-        answer: answer,
-        tally: tally,
-    };
+    let result = TalliedAnswer { answer, tally };
     RunState {
         more: false,
         at: 0,
         moves: 0,
-        result: result,
+        result,
     }
 }
 
@@ -219,13 +205,13 @@ fn next_move(
         let none = text::answer_at(0, 0, 0);
         let result = TalliedAnswer {
             answer: none,
-            tally: tally,
+            tally,
         };
         return RunState {
             more: true,
             at: i,
-            moves: moves,
-            result: result,
+            moves,
+            result,
         };
     }
     run_over(check_order(readers, writers, order, moves), tally)

@@ -8,7 +8,6 @@ use native.Mathlib.Omega.{arith}
 use native.Mathlib.Decide.{dec_lt}
 use lib.Bits.{bit_and}
 use lib.Count.{count_trailing_zeros}
-use lib.Pow.{pow_pos}
 use lib.ListN.{get_or, get_or-eq_default}
 use Rattle.text.proofs.Words.{and_cases}
 use Rattle.order.specs.Sets.{bit}
@@ -21,10 +20,6 @@ use Rattle.order_touch.specs.declared.MovePair.{MovePair}
 use Rattle.order_touch.specs.Marked.{unordered_marked, clipped, pair_as, TouchSets, LeastTouching}
 
 -- ---- the least first move
-
--- the set of move j alone, as the code shifts it, is not empty
-pub shifted_pos : (j : ℕ) → j < 64 → 1 ≤ (1 * 2 ^ j) % 2 ^ 64
-shifted_pos j h = rw (shl_one j h) (pow_pos j)
 
 module _ (touching predecessors j : ℕ) (fit : touching < 2 ^ 64) (predecessors_fit : predecessors < 2 ^ 64) (small : j < 64) where
   abbrev near : ℕ

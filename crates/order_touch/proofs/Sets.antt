@@ -10,7 +10,7 @@ use native.Mathlib.Omega.{arith}
 use native.Mathlib.Decide.{ℕ_discrete}
 use lib.Dec.{eqb}
 use lib.Bits.{bit_and, bit_or, and_le_l, and_le_r, or_add_and}
-use lib.Count.{count_trailing_zeros, ones}
+use lib.Count.{count_trailing_zeros}
 use lib.ListN.{length, get_or, take, drop, set, length-set, replicate, length-replicate}
 use lib.Seq.{get_or-set_same, get_or-set_other, get_or-take, get_or-drop}
 use borrow.Author.Tests.{eq-eqb, ne_eqb}
@@ -18,7 +18,7 @@ use Rattle.text.specs.Words.{some_below}
 use Rattle.text.proofs.Words.{and_cases}
 use Rattle.order.specs.Sets.{bit}
 use Rattle.order.proofs.Sets.{bit_of_or, bit_empty}
-use Rattle.order.proofs.Masks.{row_none, test_in, test_out, least_in, least_lt, rest, ones_rest, ones_nonempty, ones_none, bit_rest}
+use Rattle.order.proofs.Masks.{row_none, test_in, test_out, least_in, least_lt, rest, bit_rest}
 use Rattle.order_touch.specs.Marked.{touch_by, TouchAdded, TouchSets}
 
 -- of the users of a location those that touch j, if j is one of them
@@ -39,17 +39,6 @@ pub record Sofar (r w : ℕ) (t u : List ℕ) (left : ℕ) : Type 0 where
   pub within : (j : ℕ) → bit left j ≡ true → bit (bit_or r w) j ≡ true
   pub bits : (j i : ℕ) → bit (get_or u j 0) i ≡ (bit (get_or t j 0) i || (bit (bit_or r w) j && not (bit left j)) && bit (others r w j) i)
 
-not_both : (b x : Bool) → ((b && not b) && x) ≡ false
-not_both true x = refl
-not_both false x = refl
-
-pub sofar_start : (r w : ℕ) (t : List ℕ) → Sofar r w t t (bit_or r w)
-sofar_start r w t = record {
-  long = refl;
-  within = λ j e. e;
-  bits = λ j i. sym (ap (λ (x : Bool). bit (get_or t j 0) i || x) (not_both (bit (bit_or r w) j) (bit (others r w j) i)) ∙ or-false (bit (get_or t j 0) i));
-}
-
 -- the user that is taken was left, and is not any more
 taken : (t o : Bool) → ((t || (true && not true) && o) || o) ≡ (t || (true && not (true && not true)) && o)
 taken true o = refl
@@ -57,18 +46,9 @@ taken false true = refl
 taken false false = refl
 
 -- one user more: the least that is left
-module _ (r w : ℕ) (t u : List ℕ) (left n : ℕ) (fit : left < 2 ^ 64) (count : n ≡ ones left) (some : 0 < n) where
-  pub left_some : left ≢ 0
-  left_some = ones_nonempty left (omega arith)
-
-  pub left_lt : count_trailing_zeros 64 left < 64
-  left_lt = least_lt 64 left fit left_some
-
-  pub rest_ones : n - 1 ≡ ones (rest left)
-  rest_ones = omega (arith, ones_rest left left_some)
-
-  pub rest_fit : rest left < 2 ^ 64
-  rest_fit = omega (arith, and_le_l left (left - 1))
+module _ (r w : ℕ) (t u : List ℕ) (left : ℕ) (fit : left < 2 ^ 64) (some : left ≢ 0) where
+  left_lt : count_trailing_zeros 64 left < 64
+  left_lt = least_lt 64 left fit some
 
   module _ (s : Sofar r w t u left) (size : length u ≡ 64) (o : ℕ) (is : o ≡ others r w (count_trailing_zeros 64 left)) where
     abbrev k : ℕ
@@ -126,15 +106,14 @@ touch_bool ri false true false = refl
 touch_bool ri false false true = refl
 touch_bool ri false false false = refl
 
-pub sofar_end : (r w : ℕ) (t u : List ℕ) (left n : ℕ) → n ≡ ones left → n ≡ 0 → Sofar r w t u left → TouchAdded r w t u
-sofar_end r w t u left n e z s = record {
+pub sofar_end : (r w : ℕ) (t u : List ℕ) (left : ℕ) → left ≡ 0 → Sofar r w t u left → TouchAdded r w t u
+sofar_end r w t u left none s = record {
   long = s.long;
   bits = λ j i. s.bits j i ∙ ap (λ (x : Bool). bit (get_or t j 0) i || x) (touch j i);
 }
   where
     touch : (j i : ℕ) → ((bit (bit_or r w) j && not (bit left j)) && bit (others r w j) i) ≡ touch_by r w i j
     touch j i =
-        let none : left ≡ 0 = ones_none left (sym e ∙ z) in
         rw (none, bit_empty j, bit_of_or r w j, others_bit r w j i) (touch_bool (bit r i) (bit w i) (bit r j) (bit w j))
 
 -- where no move writes, nothing touches

@@ -27,16 +27,15 @@ fn add_touching(readers: u64, writers: u64, touching: &mut MoveSets)
 {
     let users = readers | writers;
     let mut left = users;
-    let mut count = u64::count_ones(users);
-    while count > 0 {
+    while left != 0 {
         let j = u64::trailing_zeros(left) as usize;
-        let mut others = writers;
-        if (writers >> j) & 1 == 1 {
-            others = users;
-        }
-        touching[j] = touching[j] | others;
-        left = left & (left - 1);
-        count -= 1;
+        let others = if (writers >> j) & 1 == 1 {
+            users
+        } else {
+            writers
+        };
+        touching[j] |= others;
+        left &= left - 1;
     }
 }
 
@@ -55,10 +54,8 @@ fn all_marks(part: &[u64]) -> u64
     ensures { result ≡ 0 → (k : ℕ) → get_or part.now k 0 ≡ 0 }
 {
     let mut all: u64 = 0;
-    let mut i: usize = 0;
-    while i < part.len() {
-        all = all | part[i];
-        i += 1;
+    for mark in part {
+        all |= *mark;
     }
     all
 }
@@ -68,10 +65,8 @@ fn add_part(readers: &[u64], writers: &[u64], a: usize, b: usize, touching: &mut
     requires { (a ≤ b) × (b ≤ length readers.now) × (b ≤ length writers.now) × TouchSets readers.now writers.now a touching.old }
     ensures { TouchSets readers.now writers.now b touching.new }
 {
-    let mut l = a;
-    while l < b {
+    for l in a..b {
         add_if_written(readers[l], writers[l], touching);
-        l += 1;
     }
 }
 
@@ -81,13 +76,11 @@ fn touching_sets(readers: &[u64], writers: &[u64], n: usize) -> MoveSets
     ensures { TouchSets readers.now writers.now n result }
 {
     let mut touching: MoveSets = [0; 64];
-    let mut a: usize = 0;
-    while a < n {
+    for a in (0..n).step_by(BLOCK) {
         let b = a + text::smaller(n - a, BLOCK);
         if all_marks(&writers[a..b]) != 0 {
             add_part(readers, writers, a, b, &mut touching);
         }
-        a = b;
     }
     touching
 }
@@ -108,19 +101,17 @@ fn least_pair(touching: &MoveSets, order: &OrderTable, m: usize) -> MovePair
 {
     let mut first: u32 = order::MOST_MOVES;
     let mut second: usize = 0;
-    let mut j: usize = 0;
-    while j < m {
+    for j in 0..m {
         let i = least_touching(touching[j], order[j], j);
         if i < first {
             first = i;
             second = j;
         }
-        j += 1;
     }
     if first < order::MOST_MOVES {
         MovePair {
             found: true,
-            first: first,
+            first,
             second: second as u32,
         }
     } else {

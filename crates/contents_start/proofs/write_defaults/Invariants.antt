@@ -1,11 +1,7 @@
 -- `write_defaults` meets its contract.
-use Prim.Native.Nat.{◌-◌, ◌≤◌}
 use Rattle.book.specs.Image.{low_program}
 use Rattle.contents_start.proofs.Defaults.{Filled}
 use Rattle.contents_start.proofs.write_defaults.Given as goal
 
 abbrev pub invariant-loop-f : goal.invariant-loop-f
-invariant-loop-f l = Filled (low_program l.image) l.initial.contents l.first l.f l.contents × (l.f ≤ l.n)
-
-abbrev pub decreases-loop-f : goal.decreases-loop-f
-decreases-loop-f l = l.n - l.f
+invariant-loop-f l = Filled (low_program l.image) l.initial.contents l.first l.f l.contents

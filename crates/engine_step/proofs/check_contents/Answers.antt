@@ -5,15 +5,11 @@ use mathlib.Core.List.{List}
 use Prim.Native.Nat.{ℕ, min}
 use native.Mathlib.Omega.{arith}
 use lib.ListN.{length, take}
-use lib.Seq.{length-take-le}
 use Rattle.text.specs.Words.{answer_of}
 use Rattle.book.specs.Image.{word, low_program}
 use Rattle.engine.specs.Single.{check_contents}
 use Rattle.engine_step.proofs.Checks.{value_bad, values_fine, taken}
 use Rattle.engine_step.proofs.check_contents.Goals as goal
-
-pub slice_bounds-bad_value-end : goal.slice_bounds-bad_value-end
-slice_bounds-bad_value-end c = sym (length-take-le c.smaller-n.result c.args.contents.now (omega (arith, c.smaller-n.ensures)))
 
 pub returns-in-Some : goal.returns-in-Some
 returns-in-Some c = λ strides. let a = c.args in

@@ -1,17 +1,9 @@
 -- `finish_call` meets its contract.
 use Rattle.engine_step.proofs.Stages.{concluded_first}
-use mathlib.Core.Path.{refl, sym, ap, ◌∙◌}
+use mathlib.Core.Path.{ap, ◌∙◌}
 use Prim.Native.Nat.{ℕ, min}
 use lib.ListN.{length}
-use lib.Seq.{length-take-le}
-use native.Mathlib.Omega.{arith}
 use Rattle.engine_step.proofs.finish_call.Goals as goal
-
-pub returns-then-answer-ne0 : goal.returns-then-answer-ne0
-returns-then-answer-ne0 c = record { stops = λ h. (refl, refl); moves = λ z. absurd (c.if-answer-ne0.true z) }
-
-pub slice_bounds-finish_move-end-2 : goal.slice_bounds-finish_move-end-2
-slice_bounds-finish_move-end-2 c = sym (length-take-le c.smaller-n.result c.args.contents.now (omega (arith, c.smaller-n.ensures)))
 
 pub returns : goal.returns
 returns c =

@@ -1,36 +1,30 @@
 -- `read_bounded` meets its contract.
-use Rattle.order_lines.proofs.Loops.{turned_start, turned_stop, turned_turn, turned_end, choice_within, left, left_all, left_turn, left_end}
+use Rattle.order_lines.proofs.Loops.{turned_start, turned_stop, turned_turn, turned_end, left, left_all, left_turn, left_end}
 use Rattle.order.specs.Log.{choice_at}
 use Rattle.order_lines.specs.Lines.{pick_put}
 use Rattle.order.specs.Log.{bad_choice}
-use borrow.Author.Rules.{rules}
 use native.Mathlib.Omega.{arith}
 use mathlib.Core.Path.{refl}
 use borrow.Author.Tests.{not-true, not-false}
 use Rattle.order_lines.proofs.read_bounded.Goals as goal
 
 pub loop-i-init : goal.loop-i-init
-loop-i-init c = (search rules, turned_start _ _ _ _ _ _ _)
+loop-i-init c = turned_start _ _ _ _ _ _ _
 
 pub returns-then-not-read : goal.returns-then-not-read
 returns-then-not-read c = let a = c.args in let l = c.loop-i in let f = choice_at a.k a.log.now in
-    rw (← left_all f a.n a.order.now) (turned_stop a.log.now a.k a.n (bad_choice a.elements a.m) (left f a.n) a.order.now l.i l.order l.before l.fault l.invariant.1 c.loop-i-test.true c.parse-read.result c.parse-read.ensures (not-true c.parse-read.result.ok c.if-not-read.true))
-
-pub put_pick-requires : goal.put_pick-requires
-put_pick-requires c = let a = c.args in let l = c.loop-i in (omega (arith, c.requires.2), λ z. choice_within a.elements a.m l.before c.parse-read.result.line l.i c.bad_choice-bad.result c.requires.0 c.bad_choice-bad.ensures z)
+    rw (← left_all f a.n a.order.now) (turned_stop a.log.now a.k a.n (bad_choice a.elements a.m) (left f a.n) a.order.now l.i l.order l.before l.fault l.invariant c.loop-i-test.true c.parse-read.result c.parse-read.ensures (not-true c.parse-read.result.ok c.if-not-read.true))
 
 pub loop-i-preserved : goal.loop-i-preserved
 loop-i-preserved c =
     let a = c.args in
     let l = c.loop-i in
     let p = c.parse-read in
-    let f = choice_at a.k a.log.now in (
-      omega arith,
-      turned_turn a.log.now a.k a.n (bad_choice a.elements a.m) (left f a.n) a.order.now l.i l.order l.before l.fault l.invariant.1 c.loop-i-test.true p.result p.ensures
-          (λ j x. refl) (not-false p.result.ok c.if-not-read.false) c.bad_choice-bad.result c.bad_choice-bad.ensures c.or_here-fault.result c.or_here-fault.ensures c.put_pick.new.order
-          (pick_put l.order l.i p.result.line.a p.result.line.b) c.put_pick.ensures (λ e. rw e (left_turn f a.n l.i l.order c.loop-i-test.true)),
-    )
+    let f = choice_at a.k a.log.now in
+    turned_turn a.log.now a.k a.n (bad_choice a.elements a.m) (left f a.n) a.order.now l.i l.order l.before l.fault l.invariant c.loop-i-test.true p.result p.ensures
+    (λ j x. refl) (not-false p.result.ok c.if-not-read.false) c.bad_choice-bad.result c.bad_choice-bad.ensures c.or_here-fault.result c.or_here-fault.ensures c.put_pick.new.order
+    (pick_put l.order l.i p.result.line.a p.result.line.b) c.put_pick.ensures (λ e. rw e (left_turn f a.n l.i l.order c.loop-i-test.true))
 
 pub returns : goal.returns
 returns c = let a = c.args in let l = c.loop-i in let f = choice_at a.k a.log.now in
-    rw (← left_all f a.n a.order.now) (turned_end a.log.now a.k a.n (bad_choice a.elements a.m) (left f a.n) a.order.now l.i l.order l.before l.fault l.invariant.1 (omega arith) (left_end f a.n l.i l.order (omega arith)))
+    rw (← left_all f a.n a.order.now) (turned_end a.log.now a.k a.n (bad_choice a.elements a.m) (left f a.n) a.order.now l.i l.order l.before l.fault l.invariant (omega arith) (left_end f a.n l.i l.order (omega arith)))

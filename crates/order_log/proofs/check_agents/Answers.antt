@@ -11,16 +11,7 @@ use Rattle.order_log.proofs.check_agents.Goals as goal
 use Rattle.order_log.proofs.check_agents.Goals.{then-i-first, else-i-first}
 
 pub loop-j-init : goal.loop-j-init
-loop-j-init c = (search rules, search rules, own_start _, best_start _)
-
-pub bounds-order-j : goal.bounds-order-j
-bounds-order-j c = omega (arith, c.smaller-m.ensures)
-
-pub bounds-order-j-in-loop-j : goal.bounds-order-j-in-loop-j
-bounds-order-j-in-loop-j c = omega (arith, c.smaller-m.ensures)
-
-pub overflow_shl-own : goal.overflow_shl-own
-overflow_shl-own c = omega (arith, c.smaller-m.ensures)
+loop-j-init c = (search rules, own_start _, best_start _)
 
 pub loop-j-preserved : goal.loop-j-preserved
 loop-j-preserved c =
@@ -28,11 +19,11 @@ loop-j-preserved c =
     let l = c.loop-j in
     let n = c.least_unordered-i in
     let lim : l.j < 64 = omega (arith, c.smaller-m.ensures) in
-    let hit = own_hit o l.j l.own lim l.invariant.2 n.result n.ensures in
-    let low = own_low o l.j l.own lim l.invariant.2 n.result n.ensures in
+    let hit = own_hit o l.j l.own lim l.invariant.1 n.result n.ensures in
+    let low = own_low o l.j l.own lim l.invariant.1 n.result n.ensures in
     elim c.if-i-first.branch [
-      | then-i-first y ↦ rw (y.first-is, y.second-is) (omega arith, omega arith, own_turn o l.j l.own lim l.invariant.2, best_new (one_agent_unordered_in o) l.j l.first l.second n.result lim l.invariant.3 hit low y.if-i-first.true)
-      | else-i-first y ↦ rw (y.first-is, y.second-is) (omega arith, omega arith, own_turn o l.j l.own lim l.invariant.2, best_old (one_agent_unordered_in o) l.j l.first l.second n.result lim l.invariant.3 hit low y.if-i-first.false)
+      | then-i-first y ↦ rw (y.first-is, y.second-is) (omega arith, own_turn o l.j l.own lim l.invariant.1, best_new (one_agent_unordered_in o) l.j l.first l.second n.result lim l.invariant.2 hit low y.if-i-first.true)
+      | else-i-first y ↦ rw (y.first-is, y.second-is) (omega arith, own_turn o l.j l.own lim l.invariant.1, best_old (one_agent_unordered_in o) l.j l.first l.second n.result lim l.invariant.2 hit low y.if-i-first.false)
     ]
 
 pub returns : goal.returns
@@ -40,4 +31,4 @@ returns c =
     let a = c.args in
     let l = c.loop-j in
     let e : l.j ≡ c.smaller-m.result = omega arith in
-    ten a.order.now c.smaller-m.result l.first l.second a.moves (told c.must.result) c.smaller-m.ensures (rw e at l.invariant.3) c.must.ensures
+    ten a.order.now c.smaller-m.result l.first l.second a.moves (told c.must.result) c.smaller-m.ensures (rw e at l.invariant.2) c.must.ensures

@@ -4,17 +4,7 @@ use native.Mathlib.Nat.{min-eq_left}
 use native.Mathlib.Omega.{arith}
 use Rattle.order_lines.specs.Lines.{ChoiceLinesRead}
 use Rattle.order_log.proofs.Lines.{header_small, lines_joined}
-use borrow.Author.Rules.{rules}
 use Rattle.order_log.proofs.read_lines.Goals as goal
-
-pub read_moves-moves-requires : goal.read_moves-moves-requires
-read_moves-moves-requires c = ((header_small c.args.h c.requires).0, search rules)
-
-pub read_pairs-pairs-requires : goal.read_pairs-pairs-requires
-read_pairs-pairs-requires c = let s = header_small c.args.h c.requires in (s.0, s.1)
-
-pub overflow_add-h : goal.overflow_add-h
-overflow_add-h c = omega (arith, header_small c.args.h c.requires)
 
 pub returns : goal.returns
 returns c =

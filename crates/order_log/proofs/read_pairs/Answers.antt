@@ -4,33 +4,27 @@ use mathlib.Core.Path.{refl}
 use Rattle.order.specs.Log.{bad_pair}
 use Rattle.order_lines.proofs.Loops.{turned_start, turned_stop, turned_turn, turned_end}
 use Rattle.order_log.specs.Read.{pair_at, pair_put}
-use Rattle.order_log.proofs.Parts.{left, left_all, left_turn, left_end, pair_within}
+use Rattle.order_log.proofs.Parts.{left, left_all, left_turn, left_end}
 use native.Mathlib.Omega.{arith}
-use borrow.Author.Rules.{rules}
 use Rattle.order_log.proofs.read_pairs.Goals as goal
 
 pub loop-i-init : goal.loop-i-init
-loop-i-init c = (search rules, turned_start _ _ _ _ _ _ _)
+loop-i-init c = turned_start _ _ _ _ _ _ _
 
 pub returns-then-not-read : goal.returns-then-not-read
 returns-then-not-read c = let a = c.args in let l = c.loop-i in let f = pair_at a.m a.log.now in
-    rw (← left_all f a.n a.order.now) (turned_stop a.log.now a.m a.n (bad_pair a.m) (left f a.n) a.order.now l.i l.order l.before l.fault l.invariant.1 c.loop-i-test.true c.parse-read.result c.parse-read.ensures (not-true c.parse-read.result.ok c.if-not-read.true))
-
-pub put_pair-requires : goal.put_pair-requires
-put_pair-requires c = let l = c.loop-i in λ z. pair_within c.args.m l.before c.parse-read.result.line l.i c.bad_pair-bad.result c.requires.0 c.bad_pair-bad.ensures z
+    rw (← left_all f a.n a.order.now) (turned_stop a.log.now a.m a.n (bad_pair a.m) (left f a.n) a.order.now l.i l.order l.before l.fault l.invariant c.loop-i-test.true c.parse-read.result c.parse-read.ensures (not-true c.parse-read.result.ok c.if-not-read.true))
 
 pub loop-i-preserved : goal.loop-i-preserved
 loop-i-preserved c =
     let a = c.args in
     let l = c.loop-i in
     let p = c.parse-read in
-    let f = pair_at a.m a.log.now in (
-      omega arith,
-      turned_turn a.log.now a.m a.n (bad_pair a.m) (left f a.n) a.order.now l.i l.order l.before l.fault l.invariant.1 c.loop-i-test.true p.result p.ensures
-          (λ j x. refl) (not-false p.result.ok c.if-not-read.false) c.bad_pair-bad.result c.bad_pair-bad.ensures c.or_here-fault.result c.or_here-fault.ensures c.put_pair.new.order
-          (pair_put l.order p.result.line.a p.result.line.b) c.put_pair.ensures (λ e. rw e (left_turn f a.n l.i l.order c.loop-i-test.true)),
-    )
+    let f = pair_at a.m a.log.now in
+    turned_turn a.log.now a.m a.n (bad_pair a.m) (left f a.n) a.order.now l.i l.order l.before l.fault l.invariant c.loop-i-test.true p.result p.ensures
+    (λ j x. refl) (not-false p.result.ok c.if-not-read.false) c.bad_pair-bad.result c.bad_pair-bad.ensures c.or_here-fault.result c.or_here-fault.ensures c.put_pair.new.order
+    (pair_put l.order p.result.line.a p.result.line.b) c.put_pair.ensures (λ e. rw e (left_turn f a.n l.i l.order c.loop-i-test.true))
 
 pub returns : goal.returns
 returns c = let a = c.args in let l = c.loop-i in let f = pair_at a.m a.log.now in
-    rw (← left_all f a.n a.order.now) (turned_end a.log.now a.m a.n (bad_pair a.m) (left f a.n) a.order.now l.i l.order l.before l.fault l.invariant.1 (omega arith) (left_end f a.n l.i l.order (omega arith)))
+    rw (← left_all f a.n a.order.now) (turned_end a.log.now a.m a.n (bad_pair a.m) (left f a.n) a.order.now l.i l.order l.before l.fault l.invariant (omega arith) (left_end f a.n l.i l.order (omega arith)))

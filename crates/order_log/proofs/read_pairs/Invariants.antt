@@ -1,5 +1,4 @@
 -- `read_pairs` meets its contract.
-use Prim.Native.Nat.{◌-◌, ◌≤◌}
 use Rattle.order.specs.Log.{bad_pair}
 use Rattle.order_lines.proofs.Loops.{Turned}
 use Rattle.order_log.specs.Read.{pair_at}
@@ -7,7 +6,4 @@ use Rattle.order_log.proofs.Parts.{left}
 use Rattle.order_log.proofs.read_pairs.Given as goal
 
 abbrev pub invariant-loop-i : goal.invariant-loop-i
-invariant-loop-i l = (l.i ≤ l.n) × Turned l.log l.m l.n (bad_pair l.m) (left (pair_at l.m l.log) l.n) l.initial.order l.i l.order l.before l.fault
-
-abbrev pub decreases-loop-i : goal.decreases-loop-i
-decreases-loop-i l = l.n - l.i
+invariant-loop-i l = Turned l.log l.m l.n (bad_pair l.m) (left (pair_at l.m l.log) l.n) l.initial.order l.i l.order l.before l.fault

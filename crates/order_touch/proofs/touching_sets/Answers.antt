@@ -1,34 +1,35 @@
 -- `touching_sets` meets its contract: what touches in a block is added, or no move writes in it.
+use Rattle.order_touch.specs.Marked.{TouchSets}
 use Rattle.order_touch.proofs.Sets.{all_start, all_unwritten, unwritten}
-use borrow.Author.Rules.{rules}
 use native.Mathlib.Omega.{arith}
+use Prim.Native.Nat.{◌+◌, min}
 use mathlib.Core.Path.{◌≡◌}
 use Rattle.order_touch.proofs.touching_sets.Goals as goal
+use Rattle.order_touch.proofs.touching_sets.Goals.{Joined-all_marks-ne0, then-all_marks-ne0, else-all_marks-ne0}
 
 pub loop-a-init : goal.loop-a-init
-loop-a-init c = (search rules, all_start _ _)
+loop-a-init c = let e : min 0 c.args.n ≡ 0 = omega arith in rw e (all_start _ _)
 
-pub overflow_add-b : goal.overflow_add-b
-overflow_add-b c = omega (arith, c.smaller.ensures)
-
-pub add_part-requires : goal.add_part-requires
-add_part-requires c = let l = c.loop-a in (omega arith, omega (arith, c.smaller.ensures), omega (arith, c.smaller.ensures), l.invariant.1)
-
-pub loop-a-smaller-then-all_marks-ne0 : goal.loop-a-smaller-then-all_marks-ne0
-loop-a-smaller-then-all_marks-ne0 c = omega (arith, c.smaller.ensures)
-
-pub loop-a-preserved-then-all_marks-ne0 : goal.loop-a-preserved-then-all_marks-ne0
-loop-a-preserved-then-all_marks-ne0 c = (omega (arith, c.smaller.ensures), c.add_part.ensures)
-
-pub loop-a-smaller : goal.loop-a-smaller
-loop-a-smaller c = omega (arith, c.smaller.ensures)
-
-pub loop-a-preserved : goal.loop-a-preserved
-loop-a-preserved c = let a = c.args in
+-- what touches is complete up to the block's end
+block_done : (c : Joined-all_marks-ne0) → TouchSets c.args.readers.now c.args.writers.now (c.loop-a.a + c.smaller.result) c.if-all_marks-ne0.touching
+block_done c =
+    let a = c.args in
     let l = c.loop-a in
     let s = c.smaller.result in
-    let none = c.all_marks.ensures (omega (arith, c.if-all_marks-ne0.false)) in
-    (omega (arith, c.smaller.ensures), all_unwritten a.readers.now a.writers.now l.a s l.touching (λ k h. unwritten a.writers.now l.a s k h (none k)) l.invariant.1)
+    let e : min l.a a.n ≡ l.a = omega arith in
+    elim c.if-all_marks-ne0.branch [
+      | then-all_marks-ne0 w ↦ rw w.touching-is w.add_part.ensures
+      | else-all_marks-ne0 w ↦ rw w.touching-is
+          (all_unwritten a.readers.now a.writers.now l.a s l.touching
+          (λ k h. unwritten a.writers.now l.a s k h (c.all_marks.ensures (omega (arith, w.if-all_marks-ne0.false)) k)) (rw e at l.invariant))
+    ]
 
-pub returns : goal.returns
-returns c = let l = c.loop-a in let e : l.a ≡ c.args.n = omega arith in rw e at l.invariant.1
+pub loop-a-preserved : goal.loop-a-preserved
+loop-a-preserved c =
+    let e : min (c.loop-a.a + 64) c.args.n ≡ c.loop-a.a + c.smaller.result = omega (arith, c.smaller.ensures) in
+    rw e (block_done (goal.at.loop-a-preserved c).Joined-all_marks-ne0)
+
+pub returns-after-all_marks-ne0 : goal.returns-after-all_marks-ne0
+returns-after-all_marks-ne0 c =
+    let e : c.args.n ≡ c.loop-a.a + c.smaller.result = omega (arith, c.smaller.ensures) in
+    rw e (block_done (goal.at.returns-after-all_marks-ne0 c).Joined-all_marks-ne0)
