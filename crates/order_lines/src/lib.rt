@@ -83,10 +83,7 @@ fn read_bounded(
         put_pick(order, l, i, bad);
         before = l;
     }
-    LineFaults {
-        ill: None,
-        fault,
-    }
+    LineFaults { ill: None, fault }
 }
 
 // Reads the n choice lines of m moves, which begin after line k; no more lines and moves than a log may have.

@@ -57,10 +57,7 @@ fn read_moves(log: &[u8], agents: u32, m: u32, order: &mut [u64]) -> LineFaults
         order[order::FIRST_PICKS + i as usize] = 0;
         order[order::PICK_ENDS + i as usize] = 0;
     }
-    LineFaults {
-        ill: None,
-        fault,
-    }
+    LineFaults { ill: None, fault }
 }
 
 // Puts a pair into the table, unless its line is at fault: to the predecessors of its later move come those of its earlier one, and that one.
@@ -103,10 +100,7 @@ fn read_pairs(log: &[u8], m: u32, n: u32, order: &mut OrderTable) -> LineFaults
         put_pair(order, l, bad);
         before = l;
     }
-    LineFaults {
-        ill: None,
-        fault,
-    }
+    LineFaults { ill: None, fault }
 }
 
 // What is found in the lines of two kinds, the first before the second.

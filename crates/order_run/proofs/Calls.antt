@@ -1,4 +1,7 @@
 -- A call on tables of any length: the first records are those that its run is made on, and the others stay.
+use Rattle.text.specs.Words.{told}
+use Rattle.engine.specs.Labels.{tallied}
+use Rattle.engine.specs.declared.TalliedResult.{TalliedResult}
 use Rattle.std.proofs.Common.{◌≡◌, ℕ, ◌≤◌, min, true, List, [], ◌++◌, length, take, drop, sym, refl, ap, ◌∙◌, subst, arith, length-take-le}
 use mathlib.Core.Bool.{false≢true}
 use lib.Seq.{length_front, take-append_seam, drop-append_seam}
@@ -87,9 +90,9 @@ module _
           let ec : d ++ drop k C ≡ over_first f.contents lent.contents = put_back d f.contents lent.contents (drop k C) k (ap (λ (v : LogAnswer). v.contents) q.1) (cut_long k C lent.contents d hc pc ld) pc in
           let er : rs ++ drop k R ≡ over_first f.readers lent.readers = put_back rs f.readers lent.readers (drop k R) k (ap (λ (v : LogAnswer). v.readers) q.1) (cut_long k R lent.readers rs hr pr lr) pr in
           let ew : ws ++ drop k W ≡ over_first f.writers lent.writers = put_back ws f.writers lent.writers (drop k W) k (ap (λ (v : LogAnswer). v.writers) q.1) (cut_long k W lent.writers ws hw pw lw) pw in
-          let ea : t.result.answer ≡ f.answer = ap (λ (v : LogAnswer). v.answer) q.1 in
+          let ea : told t.result.answer ≡ f.answer = ap (λ (v : LogAnswer). v.answer) q.1 in
           let et : t.result.tally ≡ f.tally = ap (λ (v : LogAnswer). v.tally) q.1 in
-          let all : answer_with t.result (d ++ drop k C) (rs ++ drop k R) (ws ++ drop k W) ≡ left_past lent f = rw (ec, er, ew, ea, et) in
+          let all : answer_with (tallied t.result) (d ++ drop k C) (rs ++ drop k R) (ws ++ drop k W) ≡ left_past lent f = rw (ec, er, ew, ea, et) in
           (q.0, all ∙ kept.call);
       on = λ y. record {
         g = g;
@@ -109,9 +112,9 @@ module _
 -- the moves are made on the first k records: what they leave there, with the other records, is what the call leaves
 pub ends_call : (lent : Tables) (n : ℕ) (whole : LogAnswer) (m o : List ℕ) (rest : List (List Instruction)) (t : RunState) (C R W : List ℕ) → CallAt lent n whole m o rest t C R W → t.more ≡ true
     → (k : ℕ) → k ≡ min (word m 6) (min (length C) (min (length R) (length W)))
-    → (a : TalliedAnswer) (d rs ws : List ℕ) → length d ≡ length (take k C) → length rs ≡ length (take k R) → length ws ≡ length (take k W)
-    → (P : Type 0) → ((g : Log) (c : List ℕ) → most_instructions ≤ n → RunAt m o g c rest t (take k C) (take k R) (take k W) → (answer_with a d rs ws ≡ run_from (low_program m) g c) × P)
-    → (answer_with a (d ++ drop k C) (rs ++ drop k R) (ws ++ drop k W) ≡ whole) × P
+    → (a : TalliedResult) (d rs ws : List ℕ) → length d ≡ length (take k C) → length rs ≡ length (take k R) → length ws ≡ length (take k W)
+    → (P : Type 0) → ((g : Log) (c : List ℕ) → most_instructions ≤ n → RunAt m o g c rest t (take k C) (take k R) (take k W) → (answer_with (tallied a) d rs ws ≡ run_from (low_program m) g c) × P)
+    → (answer_with (tallied a) (d ++ drop k C) (rs ++ drop k R) (ws ++ drop k W) ≡ whole) × P
 ends_call lent n whole m o rest t C R W h y k ek a d rs ws ld lr lw P does =
     let on = h.on y in
     let K = on.kept in

@@ -1,9 +1,11 @@
 -- The checks before the first move: what passing them shows, and the answer if one of them refuses.
 use Rattle.std.proofs.Common.{◌≡◌, ℕ, ◌≤◌, ◌≢◌, List, [], length, sym, refl, ap, ◌∙◌, subst, arith}
-use Rattle.text.specs.Words.{Answer}
-use Rattle.text.specs.Words.{Checked, good, refused, ◌>>=◌, ◌>>◌, answer_of}
+use Rattle.std.specs.Prelude.{Result, Ok, IfOk}
+use Rattle.std.proofs.lemmas.Result.{IfOk-at_ok, IfOk-weaker}
+use Rattle.text.specs.declared.Refusal.{Refusal}
+use Rattle.text.specs.Words.{Answer, told, Checked, good, refused, ◌>>=◌, ◌>>◌, answer_of}
 use Rattle.text.proofs.Words.{bind_good, then_good, good_same}
-use Rattle.text.proofs.Checks.{bind_stops, then_stops}
+use Rattle.text.proofs.Checks.{bind_stops, then_stops, passing}
 use Rattle.book.specs.Book.{Program, Book, L, start}
 use Rattle.book.specs.Check.{check_book}
 use Rattle.book.specs.Image.{word, low_program}
@@ -18,7 +20,6 @@ use Rattle.order.specs.Lists.{lists_of, call_lists}
 use Rattle.order.specs.Table.{OrderTable}
 use Rattle.order.proofs.Log.{log_read, passed}
 use Rattle.order.proofs.Numbers.{Early, off, all_early}
-use Rattle.order_log.specs.declared.LogRead.{LogRead}
 use Rattle.order_log.specs.Read.{LogIsRead}
 use Rattle.order_log.specs.Agents.{check_agents_in}
 use Rattle.order_log.proofs.Agents.{log_checked}
@@ -153,18 +154,18 @@ module _ (book log : List ℕ) (n : Lengths) where
   -- ---- what the code leaves
 
   -- what the checks leave of a refused call
-  opened_off : (r : CheckedCall) (m o : List ℕ) → image.ImageOf m (check_book book) → r.answer ≡ answer_of all → (answer_of all).number ≢ 0 → CallChecked book log n r m o
+  opened_off : (r : Result CheckedCall Refusal) (m o : List ℕ) → image.ImageOf m (check_book book) → told r ≡ answer_of all → (answer_of all).number ≢ 0 → CallChecked book log n r m o
   opened_off r m o i e z = record { answer = e; held = λ b g f. absurd (z (good_zero (b, g) f)); image = i }
 
   module _ (m : List ℕ) (a : Answer) (ea : a ≡ answer_of (check_book book)) (opened : image.ImageOf m (check_book book)) where
-    pub off_book : (r : CheckedCall) (o : List ℕ) → r.answer ≡ a → a.number ≢ 0 → CallChecked book log n r m o
+    pub off_book : (r : Result CheckedCall Refusal) (o : List ℕ) → told r ≡ a → a.number ≢ 0 → CallChecked book log n r m o
     off_book r o e z =
         let y : (answer_of (check_book book)).number ≢ 0 = λ q. z (ap (λ (x : Answer). x.number) ea ∙ q) in
         let s = book_stops y in
         opened_off r m o opened (e ∙ ea ∙ s) (λ q. y (ap (λ (x : Answer). x.number) s ∙ q))
 
-    module _ (z : a.number ≡ 0) (agents elements : ℕ) (ek : agents ≡ length (low_program m).agents) (ee : elements ≡ (low_program m).E) (o : List ℕ) (c : LogRead)
-        (read : LogIsRead agents elements log o c)
+    module _ (z : a.number ≡ 0) (agents elements : ℕ) (ek : agents ≡ length (low_program m).agents) (ee : elements ≡ (low_program m).E) (o : List ℕ)
+        (c : Result ℕ Refusal) (read : LogIsRead agents elements log o c)
       where
         book_is : (B : Book) × (check_book book ≡ good B)
         book_is = book_good (ap (λ (x : Answer). x.number) (sym ea) ∙ z)
@@ -183,18 +184,18 @@ module _ (book log : List ℕ) (n : Lengths) where
         few : (b : Book) → check_book book ≡ good b → length b.program.agents ≤ 16
         few b e = omega (arith, ek, agents_same b e, held_agents_most m)
 
-        answers : c.answer ≡ answer_of (read_log (length B.program.agents) B.program.E log)
+        answers : told c ≡ answer_of (read_log (length B.program.agents) B.program.E log)
         answers = (reads B book_is.1).answer
 
-        pub off_log : (r : CheckedCall) → r.answer ≡ c.answer → c.answer.number ≢ 0 → CallChecked book log n r m o
+        pub off_log : (r : Result CheckedCall Refusal) → told r ≡ told c → (told c).number ≢ 0 → CallChecked book log n r m o
         off_log r e y =
             let w : (answer_of (read_log (length B.program.agents) B.program.E log)).number ≢ 0 = λ q. y (ap (λ (x : Answer). x.number) answers ∙ q) in
             let s = read_stops B book_is.1 w in
             opened_off r m o opened (e ∙ answers ∙ s) (λ q. w (ap (λ (x : Answer). x.number) s ∙ q))
 
-        module _ (y : c.answer.number ≡ 0) (ten : Answer) (et : ten ≡ answer_of (check_agents_in o c.moves)) where
+        module _ (moves : ℕ) (y : c ≡ Ok moves) (ten : Answer) (et : ten ≡ answer_of (check_agents_in o moves)) where
           log_is : (g : Log) × (read_log (length B.program.agents) B.program.E log ≡ good g)
-          log_is = read_good B book_is.1 (ap (λ (x : Answer). x.number) (sym answers) ∙ y)
+          log_is = read_good B book_is.1 (ap (λ (x : Answer). x.number) (sym answers) ∙ passing y)
 
           abbrev g : Log
           g = log_is.0
@@ -202,28 +203,33 @@ module _ (book log : List ℕ) (n : Lengths) where
           ordered : OrderTable g o
           ordered = (reads B book_is.1).order g log_is.1
 
-          told : ten ≡ answer_of (check_agents_in o (length g.moves))
-          told = et ∙ ap (λ (k : ℕ). answer_of (check_agents_in o k)) ((reads B book_is.1).moves g log_is.1)
+          counted : (b : Book) (e : check_book book ≡ good b) (h : Log) → read_log (length b.program.agents) b.program.E log ≡ good h → moves ≡ length h.moves
+          counted b e h s = IfOk-at_ok _ y ((reads b e).moves h s)
 
-          pub off_agents : (r : CheckedCall) → r.answer ≡ ten → ten.number ≢ 0 → CallChecked book log n r m o
+          ten_told : ten ≡ answer_of (check_agents_in o (length g.moves))
+          ten_told = et ∙ ap (λ (k : ℕ). answer_of (check_agents_in o k)) (counted B book_is.1 g log_is.1)
+
+          pub off_agents : (r : Result CheckedCall Refusal) → told r ≡ ten → ten.number ≢ 0 → CallChecked book log n r m o
           off_agents r e x =
-              let w : (answer_of (check_agents_in o (length g.moves))).number ≢ 0 = λ q. x (ap (λ (a : Answer). a.number) told ∙ q) in
+              let w : (answer_of (check_agents_in o (length g.moves))).number ≢ 0 = λ q. x (ap (λ (a : Answer). a.number) ten_told ∙ q) in
               let s = ten_stops B book_is.1 g log_is.1 o ordered (few B book_is.1) w in
-              opened_off r m o opened (e ∙ told ∙ s) (λ q. w (ap (λ (a : Answer). a.number) s ∙ q))
+              opened_off r m o opened (e ∙ ten_told ∙ s) (λ q. w (ap (λ (a : Answer). a.number) s ∙ q))
 
-          -- what the checks leave when all have answered
+          -- what the checks leave when all have answered; the last of them answered `short`
           pub opened_last : ten.number ≡ 0 → (locations : ℕ) → locations ≡ word m 6 → (short : Answer) → short ≡ answer_of (check_lengths locations n)
-              → CallChecked book log n (record { answer = short; moves = c.moves; locations = locations }) m o
-          opened_last x locations el short lent =
-              let says = ten_good B book_is.1 g log_is.1 o ordered (few B book_is.1) (ap (λ (a : Answer). a.number) (sym told) ∙ x) in
+              → (r : Result CheckedCall Refusal) → told r ≡ short → IfOk r (λ x. x ≡ record { moves = moves; locations = locations }) → CallChecked book log n r m o
+          opened_last x locations el short lent r er fields =
+              let says = ten_good B book_is.1 g log_is.1 o ordered (few B book_is.1) (ap (λ (a : Answer). a.number) (sym ten_told) ∙ x) in
               record {
-                answer = lent ∙ ap (λ (k : ℕ). answer_of (check_lengths k n)) (el ∙ (opened B book_is.1).1) ∙ lent_last B book_is.1 g says;
+                answer = er ∙ lent ∙ ap (λ (k : ℕ). answer_of (check_lengths k n)) (el ∙ (opened B book_is.1).1) ∙ lent_last B book_is.1 g says;
                 held = λ b h e.
                     let p = all_parts b h e in
                     let k = reads b p.0 in
                     let f = log_read b.program log h p.1 in
-                    let o = opened b p.0 in
-                    record { image = low_program_is book m opened b p.0; program = o.0; entries = o.2; locations = (el, o.1); moves = k.moves h f; order = k.order h f };
+                    let w = opened b p.0 in
+                    IfOk-weaker r _ _
+                    (λ v q. rw q (record { image = low_program_is book m opened b p.0; program = w.0; entries = w.2; locations = (el, w.1); moves = counted b p.0 h f; order = k.order h f }))
+                    fields;
                 image = opened;
               }
 

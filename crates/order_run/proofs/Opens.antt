@@ -1,4 +1,10 @@
 -- A call up to its first move: refused by a check, or begun from its start.
+use Rattle.std.specs.Prelude.{Result, Ok, Err}
+use Rattle.std.proofs.lemmas.Result.{IfOk-at_ok}
+use Rattle.text.specs.declared.Refusal.{Refusal}
+use Rattle.text.specs.Words.{told}
+use Rattle.text.proofs.Checks.{passing, refusing}
+use Rattle.engine.specs.Labels.{tallied}
 use Rattle.std.proofs.Common.{◌≡◌, ℕ, min, ◌≢◌, List, ◌++◌, length, take, drop, sym, refl, ap, ◌∙◌, subst, arith, length-take-le}
 use mathlib.Core.Bool.{false≢true}
 use Rattle.text.specs.Words.{Answer}
@@ -65,23 +71,28 @@ module _ (book : List ℕ) (b : Book) (g : Log) (r : CheckedCall) (m o : List �
 
 -- ---- the checks and the start
 
-module _ (book log : List ℕ) (t : Tables) (n : ℕ) (m o : List ℕ) (r : CheckedCall) (opened : CallChecked book log (lengths t n) r m o) where
+module _ (book log : List ℕ) (t : Tables) (n : ℕ) (m o : List ℕ) (r : Result CheckedCall Refusal) (opened : CallChecked book log (lengths t n) r m o) where
   -- a call that a check refuses
-  pub off : (u : RunState) → u ≡ over_with (record { answer = r.answer; tally = no_labels }) → r.answer.number ≢ 0
+  pub off : (refusal : Refusal) → r ≡ Err refusal → (u : RunState) → u ≡ over_with (record { answer = Err refusal; tally = no_labels })
       → CallAt t n (log_call book log t n) m o (call_lists book log t n) u t.contents t.readers t.writers
-  off u e z =
-      let s = call_off book log t n r.answer opened.answer z in
+  off refusal is u e =
+      let s = call_off book log t n (told r) opened.answer (refusing is) in
+      let same : told {A = Unit {0}} (Err refusal) ≡ told r = sym (ap (λ (x : Result CheckedCall Refusal). told x) is) in
       record {
-        over = λ _. (s.0, ap (λ (x : RunState). answer_with x.result t.contents t.readers t.writers) e ∙ s.1);
+        over = λ _. (
+          s.0,
+          ap (λ (x : RunState). answer_with (tallied x.result) t.contents t.readers t.writers) e
+              ∙ ap (λ (a : Answer). answer_with (record { answer = a; tally = no_labels }) t.contents t.readers t.writers) same ∙ s.1,
+        );
         on = λ y. absurd (false≢true (sym (ap (λ (x : RunState). x.more) e) ∙ y));
       }
 
   -- a call that passes its checks starts
-  pub opens : r.answer.number ≡ 0 → (u : RunState) (d rs ws : List ℕ)
-      → ((b : Book) (g : Log) (n : ℕ) → CallPassed book b g r m o t n → CallAt t n (left_past t (run_log b g)) m o (run_lists b g) u d rs ws)
+  pub opens : (v : CheckedCall) → r ≡ Ok v → (u : RunState) (d rs ws : List ℕ)
+      → ((b : Book) (g : Log) (n : ℕ) → CallPassed book b g v m o t n → CallAt t n (left_past t (run_log b g)) m o (run_lists b g) u d rs ws)
       → CallAt t n (log_call book log t n) m o (call_lists book log t n) u d rs ws
-  opens z u d rs ws does =
-      let both = all_good book log (lengths t n) (ap (λ (x : Answer). x.number) (sym opened.answer) ∙ z) in
+  opens v ok u d rs ws does =
+      let both = all_good book log (lengths t n) (ap (λ (x : Answer). x.number) (sym opened.answer) ∙ passing ok) in
       let b = both.0.0 in
       let g = both.0.1 in
       let is : check_all book log (lengths t n) ≡ good (b, g) = both.1 in
@@ -90,7 +101,7 @@ module _ (book log : List ℕ) (t : Tables) (n : ℕ) (m o : List ℕ) (r : Chec
         log = log;
         lent = lengths t n;
         checks = is;
-        holds = opened.held b g is;
+        holds = IfOk-at_ok _ ok (opened.held b g is);
         contents = e.contents;
         readers = e.readers;
         writers = e.writers;

@@ -1,4 +1,8 @@
 -- A log's run on tables of just the records needed: the next move, one that is begun, one that is finished, and the end.
+use Rattle.std.specs.Prelude.{Result}
+use Rattle.text.specs.declared.Refusal.{Refusal}
+use Rattle.text.specs.Words.{told}
+use Rattle.engine.specs.declared.TalliedResult.{TalliedResult}
 use Rattle.std.proofs.Common.{◌≡◌, ℕ, zero, suc, ◌+◌, ◌-◌, ◌%◌, ◌^◌, ◌<◌, ◌≤◌, true, false, ◌≢◌, List, [], ◌∷◌, length, replicate, sym, refl, ap, ◌∙◌, subst, true≢false, add-one, arith}
 use mathlib.Core.Bool.{false≢true}
 use Rattle.text.specs.Words.{Answer}
@@ -72,7 +76,7 @@ module _ (B : Program) (g : Log) (c : List ℕ) where
 
 -- ---- from move to move
 
-abbrev pub over_with : TalliedAnswer → RunState
+abbrev pub over_with : TalliedResult → RunState
 over_with a = record { more = false; at = 0; moves = 0; result = a }
 
 module _ (m o : List ℕ) (g : Log) (c : List ℕ) where
@@ -80,14 +84,14 @@ module _ (m o : List ℕ) (g : Log) (c : List ℕ) where
   A = low_program m
 
   module _ (n i : ℕ) (en : n ≡ length g.moves) (k : Tally) (d rs ws : List ℕ) (to : FiredSoFar m o g c i k d rs ws) where
-    pub turn_on : i < n → (a : Answer) → RunAt m o g c (lists_from A g c (n - i) i) (record { more = true; at = i; moves = n; result = record { answer = a; tally = k } }) d rs ws
+    pub turn_on : i < n → (a : Result (Unit {0}) Refusal) → RunAt m o g c (lists_from A g c (n - i) i) (record { more = true; at = i; moves = n; result = record { answer = a; tally = k } }) d rs ws
     turn_on below a = record {
       over = λ y. absurd (true≢false y);
       next = λ _. record { before = to; at = omega (arith, below, en); moves = en };
       lists = λ _. refl;
     }
 
-    pub turn_over : n ≤ i → (a : Answer) → a ≡ touch_answer (least_pair (unordered_marked o rs ws (clipped rs ws (length rs))) n)
+    pub turn_over : n ≤ i → (a : Result (Unit {0}) Refusal) → told a ≡ touch_answer (least_pair (unordered_marked o rs ws (clipped rs ws (length rs))) n)
         → RunAt m o g c (lists_from A g c (n - i) i) (over_with (record { answer = a; tally = k })) d rs ws
     turn_over past a e =
         let s = to.going.state in
@@ -96,7 +100,7 @@ module _ (m o : List ℕ) (g : Log) (c : List ℕ) where
         record {
           over = λ _. (
             lists_end A g c (n - i) i (omega (arith, past)),
-            ends_ran A g c s d rs ws to.going.tables all (record { answer = a; tally = k }) to.going.tally (e ∙ order_answer A g s d rs ws o n en to.runs.order to.going.tables),
+            ends_ran A g c s d rs ws to.going.tables all (record { answer = told a; tally = k }) to.going.tally (e ∙ order_answer A g s d rs ws o n en to.runs.order to.going.tables),
           );
           next = λ y. absurd (false≢true y);
           lists = λ y. absurd (false≢true y);
@@ -206,8 +210,9 @@ module _ (m o : List ℕ) (g : Log) (c : List ℕ) where
 
         -- the move was refused: the tally of those before it stands
         pub finish_off : a.answer.number ≢ 0
-            → RunAt m o g c (lists_from A g c (t.moves - (t.at + 1)) (t.at + 1)) (over_with (record { answer = a.answer; tally = t.result.tally })) d' rs' ws'
-        finish_off z =
+            → (e : Result (Unit {0}) Refusal) → told e ≡ a.answer
+            → RunAt m o g c (lists_from A g c (t.moves - (t.at + 1)) (t.at + 1)) (over_with (record { answer = e; tally = t.result.tally })) d' rs' ws'
+        finish_off z e says =
             let u = now.before.going.state in
             let v = a.answer in
             let off = moves_off A g c now.before.runs.lawful t.at (input_in o t.at) t.result.tally w.old.contents w.old.readers w.old.writers now.before.going here a d' rs' ws' effect z in
@@ -218,7 +223,7 @@ module _ (m o : List ℕ) (g : Log) (c : List ℕ) where
             record {
               over = λ _. (
                 lists_off A g c (t.moves - (t.at + 1)) (t.at + 1) v.number v.p v.q u last,
-                ends_halted A g c u d' rs' ws' off.1 (record { answer = v; tally = t.result.tally }) now.before.going.tally all,
+                rw says (ends_halted A g c u d' rs' ws' off.1 (record { answer = v; tally = t.result.tally }) now.before.going.tally all),
               );
               next = λ q. absurd (false≢true q);
               lists = λ q. absurd (false≢true q);

@@ -5,6 +5,7 @@ use Rattle.book.specs.Image.{word, low_program}
 use Rattle.engine.specs.declared.Instruction.{Instruction}
 use Rattle.engine.specs.declared.Tally.{Tally}
 use Rattle.engine.specs.Rule.{most_instructions}
+use Rattle.engine.specs.Labels.{tallied}
 use Rattle.engine_fire.specs.Effect.{AfterWalk}
 use Rattle.engine_fire.specs.declared.Begun.{Begun}
 use Rattle.engine_fire.specs.Count.{instructions_given}
@@ -37,7 +38,7 @@ pub record MoveNext (m o : List ℕ) (g : Log) (c : List ℕ) (t : RunState) (d 
 
 -- how far a run is: a move is next, or the run is over; rest is the instructions that the moves from here on give
 pub record RunAt (m o : List ℕ) (g : Log) (c : List ℕ) (rest : List (List Instruction)) (t : RunState) (d rs ws : List ℕ) : Type 0 where
-  pub over : t.more ≡ false → (rest ≡ []) × (answer_with t.result d rs ws ≡ run_from (low_program m) g c)
+  pub over : t.more ≡ false → (rest ≡ []) × (answer_with (tallied t.result) d rs ws ≡ run_from (low_program m) g c)
   pub next : t.more ≡ true → MoveNext m o g c t d rs ws
   pub lists : t.more ≡ true → rest ≡ lists_from (low_program m) g c (t.moves - t.at) t.at
 
@@ -71,5 +72,5 @@ pub record CallGoesOn (lent : Tables) (n : ℕ) (whole : LogAnswer) (m o : List 
 -- How far a call is: a move is next, or the run is over. n instruction records are lent, and `whole` is what the call is to answer; rest is the instructions
 -- that the moves from here on give
 pub record CallAt (lent : Tables) (n : ℕ) (whole : LogAnswer) (m o : List ℕ) (rest : List (List Instruction)) (t : RunState) (d rs ws : List ℕ) : Type 0 where
-  pub over : t.more ≡ false → (rest ≡ []) × (answer_with t.result d rs ws ≡ whole)
+  pub over : t.more ≡ false → (rest ≡ []) × (answer_with (tallied t.result) d rs ws ≡ whole)
   pub on : t.more ≡ true → CallGoesOn lent n whole m o rest t d rs ws

@@ -2,7 +2,7 @@
 #![tactic(auto)]
 
 ghost use Rattle.std.specs.Prelude.{◌≡◌, ◌+◌, ◌-◌, ◌%◌, ◌^◌, ◌<◌, ◌≤◌, min, false, length, take, drop, replicate};
-ghost use Rattle.text.specs.Words.{answer_of};
+ghost use Rattle.text.specs.Words.{answer_of, told};
 ghost use Rattle.order.specs.Pairs.{least_pair};
 ghost use Rattle.order.specs.Call.{check_lengths};
 ghost use Rattle.contents_start.specs.Written.{started};
@@ -20,32 +20,32 @@ ghost use Rattle.engine.specs.Tables.{tables};
 ghost use Rattle.order_run.specs.Promised.{NextMove, StartedOn, NextBegun, NextFinished, CallStarted, CallPrepared};
 
 use book::Image;
-use engine::{TalliedAnswer, Tally, Work};
+use engine::{TalliedResult, Tally, Work};
 use engine_fire::Begun;
 use order::{Lengths, OrderTable};
-use text::{Answer, Value};
+use text::{Reason, Refusal, Value};
 
 // Refusal 2, lowest table first, where there are so many locations.
-pub fn check_lent(locations: u32, lent: Lengths) -> Answer
-    ensures { result ≡ answer_of (check_lengths locations lent) }
+pub fn check_lent(locations: u32, lent: Lengths) -> Result<(), Refusal>
+    ensures { told result ≡ answer_of (check_lengths locations lent) }
 {
     if lent.contents < locations as usize {
-        return text::answer_at(text::LENT_SHORT, locations, text::CONTENTS_TABLE);
+        return text::refused(Reason::LentShort, locations, text::CONTENTS_TABLE);
     }
     if lent.readers < locations as usize {
-        return text::answer_at(text::LENT_SHORT, locations, text::READERS_TABLE);
+        return text::refused(Reason::LentShort, locations, text::READERS_TABLE);
     }
     if lent.writers < locations as usize {
-        return text::answer_at(text::LENT_SHORT, locations, text::WRITERS_TABLE);
+        return text::refused(Reason::LentShort, locations, text::WRITERS_TABLE);
     }
     if lent.instructions < engine::MOST_INSTRUCTIONS {
-        return text::answer_at(
-            text::LENT_SHORT,
+        return text::refused(
+            Reason::LentShort,
             engine::MOST_INSTRUCTIONS as u32,
             text::INSTRUCTIONS_TABLE,
         );
     }
-    text::answer_at(0, 0, 0)
+    Ok(())
 }
 
 // Writes the start of a run, with no marks.
@@ -65,14 +65,18 @@ pub fn start_tables(
 }
 
 // Refusal 17, of so many moves, by the order's table and the marks.
-pub fn check_order(readers: &[u64], writers: &[u64], order: &OrderTable, moves: u32) -> Answer
-    ensures { result ≡ touch_answer (least_pair (unordered_marked order.now readers.now writers.now (clipped readers.now writers.now (length readers.now))) moves) }
+pub fn check_order(
+    readers: &[u64],
+    writers: &[u64],
+    order: &OrderTable,
+    moves: u32,
+) -> Result<(), Refusal>
+    ensures { told result ≡ touch_answer (least_pair (unordered_marked order.now readers.now writers.now (clipped readers.now writers.now (length readers.now))) moves) }
 {
-    let pair = order_touch::least_touching_pair(readers, writers, order, moves, readers.len());
-    if !pair.found {
-        return text::answer_at(0, 0, 0);
+    match order_touch::least_touching_pair(readers, writers, order, moves, readers.len()) {
+        None => Ok(()),
+        Some(pair) => text::refused(Reason::UnorderedTouch, pair.first, pair.second),
     }
-    text::answer_at(text::UNORDERED_TOUCH, pair.first, pair.second)
 }
 
 // ---- how far a run is
@@ -83,29 +87,17 @@ pub struct RunState {
     pub more: bool,
     pub at: u32,
     pub moves: u32,
-    pub result: TalliedAnswer,
+    pub result: TalliedResult,
 }
 
-// The answer of the checks before the first move; when they pass, how many moves and locations there are.
+// A call that passed the checks before its first move: how many moves and locations there are.
 #[derive(Clone, Copy)]
 pub struct CheckedCall {
-    pub answer: Answer,
     pub moves: u32,
     pub locations: u32,
 }
 
 // ---- the checks
-
-// A call that its checks refuse.
-fn refused_checks(answer: Answer) -> CheckedCall
-    ensures { result.answer ≡ answer }
-{
-    CheckedCall {
-        answer,
-        moves: 0,
-        locations: 0,
-    }
-}
 
 // All checks before the first move, in the order of SPECIFICATION 8.2: the book, the log, the moves of one agent, the lengths lent.
 pub fn check_all(
@@ -114,34 +106,20 @@ pub fn check_all(
     lent: Lengths,
     image: &mut Image,
     order: &mut OrderTable,
-) -> CheckedCall
+) -> Result<CheckedCall, Refusal>
     ensures { CallChecked book.now log.now lent result image.new order.new }
 {
-    let opened = book_check::check_into(book, image);
-    if opened.number != 0 {
-        return refused_checks(opened);
-    }
-    let read = order_log::read_log(
+    book_check::check_into(book, image)?;
+    let moves = order_log::read_log(
         log,
         book_image::agents(image) as u32,
         book_image::elements(image) as u32,
         order,
-    );
-    let listed = read.answer;
-    if listed.number != 0 {
-        return refused_checks(listed);
-    }
-    let unordered = order_log::check_agents(order, read.moves);
-    if unordered.number != 0 {
-        return refused_checks(unordered);
-    }
+    )?;
+    order_log::check_agents(order, moves)?;
     let locations = book_image::locations(image);
-    let short = check_lent(locations, lent);
-    CheckedCall {
-        answer: short,
-        moves: read.moves,
-        locations,
-    }
+    check_lent(locations, lent)?;
+    Ok(CheckedCall { moves, locations })
 }
 
 // ---- from move to move
@@ -157,10 +135,10 @@ fn add_tallies(s: Tally, t: Tally) -> Tally
 }
 
 // A run that is over, with its answer and its tally.
-fn run_over(answer: Answer, tally: Tally) -> RunState
+fn run_over(answer: Result<(), Refusal>, tally: Tally) -> RunState
     ensures { result ≡ record { more = false; at = 0; moves = 0; result = record { answer = answer; tally = tally } } }
 {
-    let result = TalliedAnswer { answer, tally };
+    let result = TalliedResult { answer, tally };
     RunState {
         more: false,
         at: 0,
@@ -202,9 +180,8 @@ fn next_move(
     ensures result_bound { moves_left result ≤ 65 - i }
 {
     if (i as usize) < text::smaller(moves as usize, order::MOST_MOVES as usize) {
-        let none = text::answer_at(0, 0, 0);
-        let result = TalliedAnswer {
-            answer: none,
+        let result = TalliedResult {
+            answer: Ok(()),
             tally,
         };
         return RunState {
@@ -298,9 +275,8 @@ pub fn finish_next(
     let walk = s.walk;
     let done = engine_fire::finish_move(image, contents, readers, writers, bit, list, walk, i);
     let so_far = t.result;
-    let answer = done.answer;
-    if answer.number != 0 {
-        return run_over(answer, so_far.tally);
+    if let Err(refusal) = done.answer {
+        return run_over(Err(refusal), so_far.tally);
     }
     let next = number_after(i);
     let tally = add_tallies(so_far.tally, done.tally);
@@ -361,10 +337,8 @@ pub fn prepare(
         writers: writers.len(),
         instructions: lent,
     };
-    let checked = check_all(book, log, lengths, image, order);
-    let answer = checked.answer;
-    if answer.number != 0 {
-        return run_over(answer, engine_fire::no_labels());
+    match check_all(book, log, lengths, image, order) {
+        Ok(checked) => start_run(book, contents, readers, writers, image, order, checked),
+        Err(refusal) => run_over(Err(refusal), engine_fire::no_labels()),
     }
-    start_run(book, contents, readers, writers, image, order, checked)
 }

@@ -1,4 +1,5 @@
 -- The least first move that is unordered with a second one and touches it, and the least pair of moves by the marks.
+use Rattle.std.specs.Prelude.{Option, None, Some}
 use mathlib.Core.Path.{◌≡◌, sym, ap, ◌∙◌}
 use mathlib.Core.Logic.{dite}
 use mathlib.Core.Bool.{Bool, true, false, not, ◌&&◌, true≢false}
@@ -48,10 +49,10 @@ module _ (touching predecessors j : ℕ) (fit : touching < 2 ^ 64) (predecessors
 -- ---- the least pair, as the code gives it
 
 module _ (f : ℕ → ℕ → Bool) where
-  pub pair_found : (m a b : ℕ) → Best f m a b → a < 64 → ◌≡◌ {A = MovePair} (record { found = true; first = a; second = b }) (pair_as (least_pair f m))
+  pub pair_found : (m a b : ℕ) → Best f m a b → a < 64 → ◌≡◌ {A = Option MovePair} (Some (record { first = a; second = b })) (pair_as (least_pair f m))
   pair_found m a b s h = let e = best_found f m a b s h in rw e
 
-  pub pair_none : (m a b : ℕ) → m ≤ 64 → Best f m a b → 64 ≤ a → ◌≡◌ {A = MovePair} (record { found = false; first = 0; second = 0 }) (pair_as (least_pair f m))
+  pub pair_none : (m a b : ℕ) → m ≤ 64 → Best f m a b → 64 ≤ a → ◌≡◌ {A = Option MovePair} None (pair_as (least_pair f m))
   pair_none m a b small s h = let e = best_none f m a b small s h in rw e
 
 -- ---- pairs by the marks
@@ -76,7 +77,7 @@ module _ (order rs ws u : List ℕ) (n : ℕ) (a : TouchSets rs ws n u) where
       (λ i j p. let e : gathered i j ≡ true = same i j ∙ p.2 in (p.0, omega (arith, p.1, second_small i j e), e))
 
 -- what the code finds is the least pair by the marks: the locations clipped to the tables, and the moves to 64
-pub all_found : (order rs ws u : List ℕ) (n k x m : ℕ) (r : MovePair) → n ≡ clipped rs ws k → TouchSets rs ws n u → x ≡ min m 64
+pub all_found : (order rs ws u : List ℕ) (n k x m : ℕ) (r : Option MovePair) → n ≡ clipped rs ws k → TouchSets rs ws n u → x ≡ min m 64
     → r ≡ pair_as (least_pair (λ i j. not (ordered_by order i j) && bit (get_or u j 0) i) x)
     → r ≡ pair_as (least_pair (unordered_marked order rs ws (clipped rs ws k)) m)
 all_found order rs ws u n k x m r e a f g =

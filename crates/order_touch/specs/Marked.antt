@@ -1,6 +1,6 @@
 -- Refusal 17 from marks: of the pairs of moves that the order leaves unordered, the least that touches at a location, by the bits of its two marks
 -- (SPECIFICATION 5.5, 7.3).
-use Rattle.std.specs.Prelude.{◌≡◌, Bool, true, false, ◌&&◌, ◌||◌, not, List, ℕ, ◌<◌, ◌≤◌, min, length, get_or}
+use Rattle.std.specs.Prelude.{Option, None, Some, ◌≡◌, Bool, true, false, ◌&&◌, ◌||◌, not, List, ℕ, ◌<◌, ◌≤◌, min, length, get_or}
 use Rattle.text.specs.Words.{some_below}
 use Rattle.order.specs.Sets.{bit}
 use Rattle.order.specs.Pairs.{ordered_by, PairFound, no_pair, a_pair}
@@ -23,9 +23,9 @@ abbrev pub clipped : List ℕ → List ℕ → ℕ → ℕ
 clipped rs ws n = min n (min (length rs) (length ws))
 
 -- the pair found, as the code gives it
-abbrev pub pair_as : PairFound → MovePair
-pair_as no_pair = record { found = false; first = 0; second = 0 }
-pair_as (a_pair i j) = record { found = true; first = i; second = j }
+abbrev pub pair_as : PairFound → Option MovePair
+pair_as no_pair = None
+pair_as (a_pair i j) = Some (record { first = i; second = j })
 
 -- ---- what the code holds on the way
 

@@ -11,10 +11,9 @@ use order::{MoveSets, OrderTable};
 // How many locations a step passes over, if no move writes them.
 const BLOCK: usize = 64;
 
-// A pair of moves, if one is found; otherwise both numbers are 0.
+// A pair of moves.
 #[derive(Clone, Copy)]
 pub struct MovePair {
-    pub found: bool,
     pub first: u32,
     pub second: u32,
 }
@@ -95,7 +94,7 @@ fn least_touching(touching: u64, predecessors: u64, j: usize) -> u32
 }
 
 // The least pair of the first m moves that touch and are unordered, by its first move and then its second; `touching` has what touches each move.
-fn least_pair(touching: &MoveSets, order: &OrderTable, m: usize) -> MovePair
+fn least_pair(touching: &MoveSets, order: &OrderTable, m: usize) -> Option<MovePair>
     requires { m ≤ 64 }
     ensures { result ≡ pair_as (least_pair (λ i j. not (ordered_by order.now i j) && bit (get_or touching.now j 0) i) m) }
 {
@@ -109,17 +108,12 @@ fn least_pair(touching: &MoveSets, order: &OrderTable, m: usize) -> MovePair
         }
     }
     if first < order::MOST_MOVES {
-        MovePair {
-            found: true,
+        Some(MovePair {
             first,
             second: second as u32,
-        }
+        })
     } else {
-        MovePair {
-            found: false,
-            first: 0,
-            second: 0,
-        }
+        None
     }
 }
 
@@ -131,7 +125,7 @@ pub fn least_touching_pair(
     order: &OrderTable,
     moves: u32,
     locations: usize,
-) -> MovePair
+) -> Option<MovePair>
     ensures { result ≡ pair_as (least_pair (unordered_marked order.now readers.now writers.now (clipped readers.now writers.now locations)) moves) }
 {
     let n = text::smaller(locations, text::smaller(readers.len(), writers.len()));

@@ -1,18 +1,23 @@
 -- `prepare` meets its contract.
-use Rattle.std.proofs.Common.{ap, ◌∙◌}
+use Rattle.std.proofs.Common.{Err, ap, ◌∙◌}
 use Rattle.engine.specs.declared.Tally.{Tally}
 use Rattle.order_run.proofs.Stages.{over_with}
 use Rattle.order_run.proofs.Opens.{off, opens}
 use Rattle.engine.specs.Tables.{tables}
 use Rattle.order_run.proofs.prepare.Goals as goal
 
-pub returns-then-answer-ne0 : goal.returns-then-answer-ne0
-returns-then-answer-ne0 c =
+pub returns-in-Err : goal.returns-in-Err
+returns-in-Err c =
     let a = c.args in
-    let k = c.check_all-checked in
+    let k = c.check_all in
     off a.book.now a.log.now (tables a.contents.now a.readers.now a.writers.now) a.lent k.new.image k.new.order
-    k.result k.ensures c.run_over.result
-    (c.run_over.ensures ∙ ap (λ (t : Tally). over_with (record { answer = k.result.answer; tally = t })) c.no_labels.ensures) c.if-answer-ne0.true
+    k.result k.ensures c.in-Err.refusal c.in-Err.is c.run_over.result
+    (c.run_over.ensures ∙ ap (λ (t : Tally). over_with (record { answer = Err c.in-Err.refusal; tally = t })) c.no_labels.ensures)
 
-pub returns : goal.returns
-returns c = let a = c.args in let k = c.check_all-checked in let s = c.start_run in opens a.book.now a.log.now (tables a.contents.now a.readers.now a.writers.now) a.lent k.new.image k.new.order k.result k.ensures c.if-answer-ne0.false s.result s.new.contents s.new.readers s.new.writers s.ensures
+pub returns-in-Ok : goal.returns-in-Ok
+returns-in-Ok c =
+    let a = c.args in
+    let k = c.check_all in
+    let s = c.start_run in
+    opens a.book.now a.log.now (tables a.contents.now a.readers.now a.writers.now) a.lent k.new.image k.new.order
+    k.result k.ensures c.in-Ok.checked c.in-Ok.is s.result s.new.contents s.new.readers s.new.writers s.ensures
