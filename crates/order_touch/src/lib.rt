@@ -26,6 +26,7 @@ fn add_touching(readers: u64, writers: u64, touching: &mut MoveSets)
 {
     let users = readers | writers;
     let mut left = users;
+    // The users are taken from the set one by one, the least first, until none is left.
     while left != 0 {
         let j = u64::trailing_zeros(left) as usize;
         let others = if (writers >> j) & 1 == 1 {

@@ -8,8 +8,7 @@ use native.Mathlib.Omega.{arith}
 use lib.ListN.{length, take, drop, length-replicate, length-drop, length-append}
 use lib.Seq.{take_all, take-append_seam}
 use borrow.Author.Tests.{ne_eqb}
-use Rattle.text.specs.Words.{Answer}
-use Rattle.text.specs.Words.{Checked, good, refused, answer_of}
+use Rattle.text.specs.Words.{Answer, Checked, good, refused, answer_of}
 use Rattle.text.specs.Text.{written}
 use Rattle.book.specs.declared.Header.{Header}
 use Rattle.book.specs.Book.{Program, Book, L, start}
@@ -145,15 +144,6 @@ module _ (book log : List ℕ) (m o : List ℕ) (r : CheckedCall) (opened : Call
 module _ (book log : List ℕ) (m o : List ℕ) (r : CheckedCall) (opened : CallChecked book log own_tables r m o) (out : List ℕ) (k : PrintedRun) (after : List ℕ) where
   abbrev checks : Checked (Book × Log)
   checks = check_all book log own_tables
-
-  -- what is printed of an input that is refused by its checks
-  pub parts_refused : r.answer.number ≢ 0 → Shown (written (first_line r.answer 0)) no_labels out k after
-      → Shown (print_checked checks) (tally_checked checks) out k after
-  parts_refused z s = go checks opened.answer
-    where
-      go : (c : Checked (Book × Log)) → r.answer ≡ answer_of c → Shown (print_checked c) (tally_checked c) out k after
-      go (refused n p q) e = subst (λ (a : Answer). Shown (written (first_line a 0)) no_labels out k after) e s
-      go (good x) e = absurd (z (ap (λ (a : Answer). a.number) e))
 
   -- what is printed of an input that passes its checks, on tables of n records
   pub parts_passed : r.answer.number ≡ 0 → (n : ℕ) → (r.locations ≤ n)

@@ -54,11 +54,9 @@ fn print_function(image: &Image, contents: &[Value], k: u32, n: u32, out: &mut [
     let all = book_image::size(book_image::elements(image), f.arity);
     let first = f.first as usize;
     let mut lines = n;
-    let mut i: u32 = 0;
-    while i < all {
+    for i in 0..all {
         let v = text::fetch(contents, first + i as usize);
         lines = print_location(f, k, i, v, lines, out);
-        i += 1;
     }
     lines
 }
@@ -69,10 +67,8 @@ fn print_contents(image: &Image, contents: &[Value], out: &mut [u8]) -> u32
 {
     let all = book_image::functions(image) as u32;
     let mut lines: u32 = 0;
-    let mut k: u32 = 0;
-    while k < all {
+    for k in 0..all {
         lines = print_function(image, contents, k, lines, out);
-        k += 1;
     }
     lines
 }
@@ -146,7 +142,7 @@ fn print_refusal(answer: Answer, tally: Tally, output: &mut [u8]) -> PrintedRun
     text_write::write_line(output, 0, l);
     PrintedRun {
         bytes: text::LINE,
-        tally: tally,
+        tally,
     }
 }
 
@@ -186,54 +182,26 @@ fn report_on(
     let tally = ended.tally;
     if answer.number == 0 {
         let bytes = print_image(image, contents, answer, output);
-        return PrintedRun {
-            bytes: bytes,
-            tally: tally,
-        };
+        return PrintedRun { bytes, tally };
     }
     print_refusal(answer, tally, output)
 }
 
-// Makes the moves and prints the answer on tables of 256 records. Most books have few locations, and small tables are soon cleared.
-fn report_small(
+// Makes the moves and prints the answer on tables of N records.
+fn report_with<const N: usize>(
     book: &[u8],
     image: &Image,
     order: &OrderTable,
     checked: CheckedCall,
     output: &mut [u8],
 ) -> PrintedRun
-    requires { most_output ≤ length output.old }
-    ensures { CallPrinted book.now checked image.now order.now (blank_tables 256) output.old result output.new }
+    requires room { most_output ≤ length output.old }
+    requires few { N ≤ 2048 }
+    ensures { CallPrinted book.now checked image.now order.now (blank_tables N) output.old result output.new }
 {
-    let mut contents = [0u16; 256];
-    let mut readers = [0u64; 256];
-    let mut writers = [0u64; 256];
-    report_on(
-        book,
-        &mut contents,
-        &mut readers,
-        &mut writers,
-        image,
-        order,
-        checked,
-        output,
-    )
-}
-
-// Makes the moves and prints the answer on tables of 2,048 records.
-fn report_large(
-    book: &[u8],
-    image: &Image,
-    order: &OrderTable,
-    checked: CheckedCall,
-    output: &mut [u8],
-) -> PrintedRun
-    requires { most_output ≤ length output.old }
-    ensures { CallPrinted book.now checked image.now order.now (blank_tables 2048) output.old result output.new }
-{
-    let mut contents = [0u16; report::RECORDS];
-    let mut readers = [0u64; report::RECORDS];
-    let mut writers = [0u64; report::RECORDS];
+    let mut contents = [0u16; N];
+    let mut readers = [0u64; N];
+    let mut writers = [0u64; N];
     report_on(
         book,
         &mut contents,
@@ -264,10 +232,11 @@ fn report_parts(book: &[u8], log: &[u8], output: &mut [u8]) -> PrintedRun
     if answer.number != 0 {
         return print_refusal(answer, engine_fire::no_labels(), output);
     }
+    // Most books have few locations, and small tables are soon cleared.
     if checked.locations <= 256 {
-        return report_small(book, &image, &order, checked, output);
+        return report_with::<256>(book, &image, &order, checked, output);
     }
-    report_large(book, &image, &order, checked, output)
+    report_with::<{ report::RECORDS }>(book, &image, &order, checked, output)
 }
 
 // Prints the answer to an input, split into its book and its log.

@@ -1,7 +1,5 @@
 -- `print_function` meets its contract.
-use mathlib.Core.Path.{◌≡◌}
 use Prim.Native.Nat.{◌≤◌, ◌-◌, ◌+◌}
-use lib.ListN.{length}
 use Rattle.book.specs.Image.{program_in}
 use Rattle.book.specs.Sum.{Strided}
 use Rattle.report.specs.Report.{part_lines}
@@ -10,8 +8,5 @@ use Rattle.report_print.proofs.print_function.Given as goal
 
 abbrev pub invariant-loop-i : goal.invariant-loop-i
 invariant-loop-i l =
-    (l.i ≤ l.all) × (length l.out ≡ length l.initial.out) × (l.lines ≤ l.n + l.i)
+    (l.lines ≤ l.n + l.i)
     × (Strided (program_in l.image) → Left l.n (part_lines (program_in l.image) l.contents l.k 0 l.all) l.initial.out l.lines (part_lines (program_in l.image) l.contents l.k l.i (l.all - l.i)) l.out)
-
-abbrev pub decreases-loop-i : goal.decreases-loop-i
-decreases-loop-i l = l.all - l.i

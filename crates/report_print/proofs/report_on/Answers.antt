@@ -8,9 +8,6 @@ returns-then-answer-eq0 c = λ b g p.
     let q = c.run_from_own_list-ended in
     run_shown _ b g _ _ _ _ p q.result q.new.contents q.new.readers q.new.writers (q.ensures _ _ _ (c.start_run-t.ensures b g 2048 p.passed)) _ c.requires k.new.output k.result k.ensures
 
-pub print_refusal-requires : goal.print_refusal-requires
-print_refusal-requires c = c.requires
-
 pub returns : goal.returns
 returns c = λ b g p.
     let k = c.print_refusal in
