@@ -1,5 +1,4 @@
 -- `none_at` meets its contract.
-use Rattle.std.specs.Prelude.{None, Some}
 use Rattle.text.specs.Words.{none_at}
 use Rattle.text.proofs.Checks.{none_here}
 use Rattle.text.proofs.none_at.Goals as goal

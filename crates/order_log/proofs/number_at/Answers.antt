@@ -1,8 +1,0 @@
--- `number_at` meets its contract.
-use mathlib.Core.Path.{sym}
-use lib.ListN.{get_or-eq_default}
-use native.Mathlib.Omega.{arith}
-use Rattle.order_log.proofs.number_at.Goals as goal
-
-pub returns-else-i-s : goal.returns-else-i-s
-returns-else-i-s c = sym (get_or-eq_default c.args.s.now 0 {n = c.args.i} (omega arith))
