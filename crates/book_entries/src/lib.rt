@@ -1,7 +1,7 @@
 // Refusals 1 and 8 on the contents lines of a book, in one pass over its text and the image of its program.
 #![tactic(auto)]
 
-ghost use Rattle.std.specs.Prelude.{◌≡◌, ◌&&◌, ◌||◌, not, ◌+◌, ◌-◌, ◌<◌, ◌≤◌, eqb, ltb, leb};
+ghost use Rattle.std.specs.Prelude.{◌≡◌, ◌&&◌, ◌||◌, not, ◌+◌, ◌-◌, ◌<◌, eqb, ltb, leb};
 ghost use Rattle.text.specs.Words.{least_from};
 ghost use Rattle.text.specs.Text.{bad_line};
 ghost use Rattle.book.specs.Book.{true_element, relation, dynamic, default};
@@ -84,7 +84,7 @@ fn add_to_roll(roll: &mut [u8], x: Entry)
     ensures { roll.new ≡ roll_with x roll.old }
 {
     if x.function == 0 {
-        text::put_byte(roll, x.arg1 as usize, 1);
+        text::put(roll, x.arg1 as usize, 1);
     }
 }
 
@@ -92,9 +92,9 @@ fn add_to_roll(roll: &mut [u8], x: Entry)
 fn no_trace(roll: &[u8], x: Entry) -> bool
     ensures { result ≡ untraced_by roll.now x }
 {
-    let a = text::byte_at(roll, x.arg1 as usize);
-    let b = text::byte_at(roll, x.arg2 as usize);
-    let v = text::byte_at(roll, x.value as usize);
+    let a = text::fetch(roll, x.arg1 as usize);
+    let b = text::fetch(roll, x.arg2 as usize);
+    let v = text::fetch(roll, x.value as usize);
     (x.function == 0) | ((a == 0) & (b == 0) & (v == 0))
 }
 

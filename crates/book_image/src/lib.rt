@@ -31,10 +31,10 @@ pub fn row(image: &Image, r: u32) -> Line
 {
     let at = r as usize * 4;
     Line {
-        a: text::word_at(image, at),
-        b: text::word_at(image, at + 1),
-        c: text::word_at(image, at + 2),
-        d: text::word_at(image, at + 3),
+        a: text::fetch(image, at),
+        b: text::fetch(image, at + 1),
+        c: text::fetch(image, at + 2),
+        d: text::fetch(image, at + 3),
     }
 }
 
@@ -44,10 +44,10 @@ pub fn store(image: &mut Image, r: u32, l: Line)
     ensures { (image.new ≡ stored r l image.old) × (length image.old ≡ image_length) }
 {
     let at = r as usize * 4;
-    text::put_word(image, at, l.a);
-    text::put_word(image, at + 1, l.b);
-    text::put_word(image, at + 2, l.c);
-    text::put_word(image, at + 3, l.d);
+    text::put(image, at, l.a);
+    text::put(image, at + 1, l.b);
+    text::put(image, at + 2, l.c);
+    text::put(image, at + 3, l.d);
 }
 
 // n, or `most` if n is past it.
@@ -62,8 +62,8 @@ pub fn store_node(image: &mut Image, n: u32, y: Node)
     ensures { image.new ≡ node_stored n y image.old }
 {
     let at = NODE_WORDS + n as usize * 2;
-    text::put_word(image, at, cap(y.kind, 4095) * ABOVE_A + cap(y.a, 1048575));
-    text::put_word(image, at + 1, cap(y.b, 65535) * ABOVE_C + cap(y.c, 65535));
+    text::put(image, at, cap(y.kind, 4095) * ABOVE_A + cap(y.a, 1048575));
+    text::put(image, at + 1, cap(y.b, 65535) * ABOVE_C + cap(y.c, 65535));
 }
 
 // The header with each number that is past its bound at the bound.

@@ -23,8 +23,8 @@ fn add_use(s: &mut [u8], on: bool, x: u32)
     ensures { s.new ≡ use_added on x s.old }
 {
     if on {
-        let k = text::byte_at(s, x as usize);
-        text::put_byte(s, x as usize, one_more(k));
+        let k = text::fetch(s, x as usize);
+        text::put(s, x as usize, one_more(k));
     }
 }
 
@@ -46,7 +46,7 @@ fn count_roots(image: &Image, n: u32, s: &mut [u8])
     let mut i: u32 = 0;
     while i < n {
         let a = book_image::agent_at(image, i);
-        text::put_byte(s, a.root as usize, 1);
+        text::put(s, a.root as usize, 1);
         i += 1;
     }
 }
@@ -70,7 +70,7 @@ fn not_once(s: &[u8], n: u32) -> Option<u32>
 {
     let mut i: u32 = 0;
     while i < n {
-        if !(text::byte_at(s, i as usize) == 1) {
+        if !(text::fetch(s, i as usize) == 1) {
             return Some(i);
         }
         i += 1;
@@ -145,7 +145,7 @@ fn put_if(s: &mut [u16], on: bool, x: u32, v: u16)
     ensures { s.new ≡ put_if on x v s.old }
 {
     if on {
-        text::put_half(s, x as usize, v);
+        text::put(s, x as usize, v);
     }
 }
 
@@ -170,7 +170,7 @@ fn give_all(image: &Image, s: &mut [u16])
     while k < n {
         let m = n - (k + 1);
         let y = book_image::node_at(image, m);
-        let v = scope_below(text::half_at(s, m as usize));
+        let v = scope_below(text::fetch(s, m as usize));
         let w = in_binder(y, in_forall(y, v));
         give_operands(&table, s, y, v, w);
         k += 1;
@@ -203,7 +203,7 @@ fn misplaced_at<'a>(image: &'a Image, s: &'a [u16], i: u32) -> bool
     ensures { result ≡ misplaced_at (program_in image.now) s.now i }
 {
     let y = book_image::node_at(image, i);
-    let v = text::half_at(s, i as usize);
+    let v = text::fetch(s, i as usize);
     is_misplaced(y, v / 1024 + 1, v / 256 % 4, v % 256)
 }
 

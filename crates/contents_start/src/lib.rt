@@ -1,7 +1,7 @@
 // The start of a run, written into a contents table: each location's default, then the book's entries.
 #![tactic(auto)]
 
-ghost use Rattle.std.specs.Prelude.{◌≡◌, ◌≤◌, set};
+ghost use Rattle.std.specs.Prelude.{◌≡◌, ◌≤◌};
 ghost use Rattle.book.specs.Image.{low_program};
 ghost use Rattle.book_parts.specs.Part.{put_in};
 ghost use Rattle.contents_start.specs.Written.{function_filled, defaults_in, entry_put, entries_put, entry_lines, started};
@@ -34,15 +34,6 @@ fn write_defaults(image: &Image, contents: &mut [Value])
     }
 }
 
-// Puts v at place i of a part; past its end nothing is put.
-fn store_value(part: &mut [Value], i: usize, v: Value)
-    ensures { part.new ≡ set part.old i v }
-{
-    if i < part.len() {
-        part[i] = v;
-    }
-}
-
 // Puts v at location l of the part from `first` up to `end`, as far as the table goes.
 fn store_in_part(contents: &mut [Value], first: usize, end: usize, l: usize, v: Value)
     requires { (first ≤ end) × (first ≤ l) }
@@ -51,7 +42,7 @@ fn store_in_part(contents: &mut [Value], first: usize, end: usize, l: usize, v: 
     let n = contents.len();
     let a = text::smaller(first, n);
     let b = text::smaller(end, n);
-    store_value(&mut contents[a..b], l - first, v);
+    text::put(&mut contents[a..b], l - first, v);
 }
 
 // Puts the value of a contents line at its location.

@@ -1,7 +1,7 @@
 // The log: its text read once into the table of its order and picks, with refusals 1 and 9; and refusal 10 by sets of moves.
 #![tactic(auto)]
 
-ghost use Rattle.std.specs.Prelude.{◌≡◌, true, false, ◌-◌, ◌%◌, ◌^◌, ◌<◌, ◌≤◌, length, get_or, take, drop, if◌then◌else◌};
+ghost use Rattle.std.specs.Prelude.{◌≡◌, true, false, ◌-◌, ◌%◌, ◌^◌, ◌<◌, ◌≤◌, length, take, drop, if◌then◌else◌};
 ghost use Rattle.text.specs.Words.{answer_of, told};
 ghost use Rattle.order.specs.Log.{log_header_ok, bad_move, bad_pair};
 ghost use Rattle.order.specs.Table.{agent_in, picks_in};
@@ -199,18 +199,11 @@ pub fn check_agents(order: &OrderTable, moves: u32) -> Result<(), Refusal>
     )
 }
 
-// The number at an index of a list, 0 past its end.
-fn number_at(s: &[u64], i: usize) -> u64
-    ensures { result ≡ get_or s.now i 0 }
-{
-    if i < s.len() { s[i] } else { 0 }
-}
-
 // The agent of move i, 0 past the table.
 pub fn agent_of_move(order: &OrderTable, i: u32) -> u32
     ensures { result ≡ agent_in order.now i % 2 ^ 32 }
 {
-    (number_at(order, order::AGENTS + i as usize) % 4294967296) as u32
+    (text::fetch(order, order::AGENTS + i as usize) % 4294967296) as u32
 }
 
 // The part of the table that has a move's picks, from `first` up to `end`.
@@ -224,8 +217,8 @@ pub struct PickPart {
 pub fn picks_of_move(order: &OrderTable, i: u32) -> PickPart
     ensures { (result.first ≤ result.end) × (result.end ≤ 512) × (take (result.end - result.first) (drop result.first order.now) ≡ picks_in order.now i) }
 {
-    let a = number_at(order, order::FIRST_PICKS + i as usize);
-    let b = number_at(order, order::PICK_ENDS + i as usize);
+    let a = text::fetch(order, order::FIRST_PICKS + i as usize);
+    let b = text::fetch(order, order::PICK_ENDS + i as usize);
     let first = text::smaller(a as usize, order::MOST_PICKS as usize);
     let end = text::smaller(b as usize, order::MOST_PICKS as usize);
     if first < end {

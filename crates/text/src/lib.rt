@@ -433,54 +433,46 @@ pub fn smaller(a: usize, b: usize) -> usize
     if a < b { a } else { b }
 }
 
-// The element at index i of a list, 0 past its end.
-pub fn fetch(s: &[Value], i: usize) -> Value
-    ensures { result ≡ get_or s.now i 0 }
-{
-    if i < s.len() { s[i] } else { 0 }
+// A type of unsigned numbers, which lists hold.
+pub trait Unsigned: Copy {
+    const ZERO: Self;
+
+    ghost ZERO: { Self };
 }
 
-// The byte at index i of a list, 0 past its end.
-pub fn byte_at(s: &[u8], i: usize) -> u8
-    ensures { result ≡ get_or s.now i 0 }
-{
-    if i < s.len() { s[i] } else { 0 }
+impl Unsigned for u8 {
+    const ZERO: u8 = 0;
+
+    ghost ZERO = { 0 };
 }
 
-// x put at index i of a list of bytes; past its end nothing is put.
-pub fn put_byte(s: &mut [u8], i: usize, x: u8)
-    ensures { s.new ≡ set s.old i x }
-{
-    if i < s.len() {
-        s[i] = x;
-    }
+impl Unsigned for u16 {
+    const ZERO: u16 = 0;
+
+    ghost ZERO = { 0 };
 }
 
-// The sixteen bits at index i of a list, 0 past its end.
-pub fn half_at(s: &[u16], i: usize) -> u16
-    ensures { result ≡ get_or s.now i 0 }
-{
-    if i < s.len() { s[i] } else { 0 }
+impl Unsigned for u32 {
+    const ZERO: u32 = 0;
+
+    ghost ZERO = { 0 };
 }
 
-// x put at index i of a list of sixteen-bit numbers; past its end nothing is put.
-pub fn put_half(s: &mut [u16], i: usize, x: u16)
-    ensures { s.new ≡ set s.old i x }
-{
-    if i < s.len() {
-        s[i] = x;
-    }
+impl Unsigned for u64 {
+    const ZERO: u64 = 0;
+
+    ghost ZERO = { 0 };
 }
 
-// The word of 32 bits at index i of a list, 0 past its end.
-pub fn word_at(s: &[u32], i: usize) -> u32
-    ensures { result ≡ get_or s.now i 0 }
+// The number at index i of a list, 0 past its end.
+pub fn fetch<T: Unsigned>(s: &[T], i: usize) -> T
+    ensures { result ≡ get_or s.now i T.ZERO }
 {
-    if i < s.len() { s[i] } else { 0 }
+    if i < s.len() { s[i] } else { T::ZERO }
 }
 
-// x put at index i of a list of words; past its end nothing is put.
-pub fn put_word(s: &mut [u32], i: usize, x: u32)
+// x put at index i of a list; past its end nothing is put.
+pub fn put<T: Copy>(s: &mut [T], i: usize, x: T)
     ensures { s.new ≡ set s.old i x }
 {
     if i < s.len() {

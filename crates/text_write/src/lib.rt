@@ -7,16 +7,11 @@ ghost use Rattle.text_write.specs.Bytes.{put_bytes};
 
 use text::Line;
 
-// The byte b put at index at + k; past the end nothing is put.
+// The byte b put at index at + k; past the end nothing is put. A sum that is too large for its type is past the end as well.
 fn put(out: &mut [u8], at: usize, k: usize, b: u8)
     ensures { out.new ≡ set out.old (at + k) b }
 {
-    let n = out.len();
-    if k < n {
-        if at < n - k {
-            out[at + k] = b;
-        }
-    }
+    text::put(out, at.saturating_add(k), b);
 }
 
 // The byte in the column of n that counts p, a power of ten: a digit, or a blank before the number.

@@ -14,7 +14,7 @@ pub give_operands-requires : goal.give_operands-requires
 give_operands-requires c = refl
 
 pub loop-k-preserved : goal.loop-k-preserved
-loop-k-preserved c = let a = c.args in let l = c.loop-k in (search rules, c.give_operands.auto.s ∙ l.invariant.1, rw (all_given_step (program_in a.image.now) to_ab to_c a.s.now l.k) (c.give_operands.ensures ∙ rw (c.in_binder-w.ensures, c.in_forall.ensures, c.scope_below-v.ensures, c.half_at.ensures, c.node_at-y.ensures, c.nodes-n.ensures, l.invariant.2)))
+loop-k-preserved c = let a = c.args in let l = c.loop-k in (search rules, c.give_operands.auto.s ∙ l.invariant.1, rw (all_given_step (program_in a.image.now) to_ab to_c a.s.now l.k) (c.give_operands.ensures ∙ rw (c.in_binder-w.ensures, c.in_forall.ensures, c.scope_below-v.ensures, c.fetch.ensures, c.node_at-y.ensures, c.nodes-n.ensures, l.invariant.2)))
 
 pub shape_of-s : goal.shape_of-s
 shape_of-s c = c.loop-k.invariant.1

@@ -3,4 +3,4 @@ use mathlib.Core.Path.{◌∙◌}
 use Rattle.book_scopes.proofs.misplaced_at.Goals as goal
 
 pub returns : goal.returns
-returns c = c.is_misplaced.ensures ∙ rw (c.half_at-v.ensures, c.node_at-y.ensures)
+returns c = c.is_misplaced.ensures ∙ rw (c.fetch-v.ensures, c.node_at-y.ensures)

@@ -2,4 +2,4 @@
 use Rattle.book_scopes.proofs.put_if.Goals as goal
 
 pub returns-then-on : goal.returns-then-on
-returns-then-on c = rw c.if-on.true c.put_half.ensures
+returns-then-on c = rw c.if-on.true c.put.ensures

@@ -10,4 +10,4 @@ returns c =
     let a = c.args in
     let e : a.first + (a.l - a.first) ≡ a.l = omega (arith, c.requires.1) in
     rw e at
-    (put_back a.first a.end (a.l - a.first) a.v a.contents.now c.requires.0 c.smaller-a.result c.smaller-b.result c.smaller-a.ensures c.smaller-b.ensures c.store_value.new.part c.store_value.ensures)
+    (put_back a.first a.end (a.l - a.first) a.v a.contents.now c.requires.0 c.smaller-a.result c.smaller-b.result c.smaller-a.ensures c.smaller-b.ensures c.put.new.s c.put.ensures)

@@ -1,5 +1,5 @@
 -- `book_bytes` meets its contract.
-use Rattle.std.specs.Prelude.{Option}
+use Rattle.std.specs.Prelude.{Option, ℕ}
 use mathlib.Core.Path.{◌∙◌, ap}
 use borrow.Author.Tests.{not-true, not-false}
 use Rattle.text.specs.Words.{none_at, answer_of}
