@@ -17,12 +17,6 @@ use Rattle.engine_walk.specs.Walk.{outcome}
 use Rattle.engine_emit.proofs.Steps.{reached_walking, reached_refused}
 use Rattle.engine_fire.specs.Count.{instructions_given}
 
-pub given_none : (s : Progress) → s.refused ≢ 0 → 0 ≡ instructions_given s
-given_none s h = rw (ne_eqb s.refused 0 h)
-
-pub given_some : (s : Progress) (n : ℕ) → s.refused ≡ 0 → n ≡ min s.len 256 → n ≡ instructions_given s
-given_some s n h e = rw (eq-eqb s.refused 0 h) e
-
 pub given_few : (s : Progress) → instructions_given s ≤ 256
 given_few s = dite (ℕ_discrete s.refused 0)
     (λ (h : s.refused ≡ 0). rw (eq-eqb s.refused 0 h) (omega arith))
