@@ -21,7 +21,7 @@ use Rattle.engine.specs.Move.{label_of, released, other}
 use Rattle.engine_instruction.specs.Code.{decode_of, items}
 use Rattle.engine_instruction.specs.Given.{any}
 use Rattle.engine_clash.specs.LeastClash.{held_place, values_given, values_given_by, least_clash}
-use Rattle.engine_clash.specs.Steps.{releases, location_of, slot_of, Last, Linked, Chain, least_with_update}
+use Rattle.engine_clash.specs.Steps.{releases, location_of, slot_of, Last, Linked, least_with_update}
 use Rattle.engine_instruction.proofs.Laws.{or_assoc}
 use Rattle.engine_clash.proofs.Laws.{other_any, has_any}
 use Rattle.engine_clash.proofs.Best.{bad_one, best_le, best_here, least_clash_by}
@@ -39,45 +39,6 @@ one_slot c d e = ap (λ (l : ℕ). l % 512) e
 pub record Down (list : List ℕ) (c p i : ℕ) : Type 0 where
   pub low : i ≤ p
   pub skips : (k : ℕ) → i ≤ k → k < p → location_of (get_or list k 0) ≡ location_of c → ⊥
-
-pub down_start : (list : List ℕ) (c p : ℕ) → Down list c p p
-down_start list c p = record { low = omega arith; skips = λ k h g. absurd (omega arith) }
-
-module _ {list : List ℕ} {c p i : ℕ} (down : Down list c p i) where
-  pub down_here : location_of (get_or list (i - 1) 0) ≡ location_of c → Last location_of list c p i
-  down_here e = record { low = down.low; same = λ g. e; skips = down.skips }
-
-  pub down_end : i ≤ 0 → Last location_of list c p 0
-  down_end h = record { low = omega arith; same = λ g. absurd (omega arith); skips = λ k g. down.skips k (omega arith) }
-
-  module _ (apart : location_of (get_or list (i - 1) 0) ≡ location_of c → ⊥) where
-    -- on down to q, if no update from there up to i - 1 has the location of c
-    down_to : (q : ℕ) → q < i → ((k : ℕ) → q ≤ k → k < i - 1 → location_of (get_or list k 0) ≡ location_of c → ⊥) → Down list c p q
-    down_to q less between = record { low = omega (arith, down.low); skips = λ k h g e. past k h g e (ltb k i) refl }
-      where
-        past : (k : ℕ) → q ≤ k → k < p → location_of (get_or list k 0) ≡ location_of c → (b : Bool) → ltb k i ≡ b → ⊥
-        past k h g e true r =
-            dite (ℕ_discrete k (i - 1)) (λ (s : k ≡ i - 1). apart (rw s at e))
-            (λ (s : ¬ (k ≡ i - 1)). between k h (omega (arith, s, ltb-true k i r)) e)
-        past k h g e false r = down.skips k (omega (arith, ltb-false k i r)) g e
-
-    pub down_one : 0 < i → Down list c p (i - 1)
-    down_one more = down_to (i - 1) (omega arith) (λ k h g. absurd (omega arith))
-
--- down a chain each update has the slot of c
-module _ {list prior : List ℕ} {c p i : ℕ} (chain : Chain list prior c p) (down : Down list c p i) (more : 0 < i) where
-  link : Last slot_of list (get_or list (i - 1) 0) (i - 1) (get_or prior (i - 1) 0)
-  link = chain.links (i - 1) (omega (arith, down.low))
-
-  pub link_less : get_or prior (i - 1) 0 < i
-  link_less = omega (arith, link.low)
-
-  module _ (here : slot_of (get_or list (i - 1) 0) ≡ slot_of c) where
-    pub link_same : 0 < get_or prior (i - 1) 0 → slot_of (get_or list (get_or prior (i - 1) 0 - 1) 0) ≡ slot_of c
-    link_same h = link.same h ∙ here
-
-    pub link_down : (location_of (get_or list (i - 1) 0) ≡ location_of c → ⊥) → Down list c p (get_or prior (i - 1) 0)
-    link_down apart = down_to down apart (get_or prior (i - 1) 0) link_less (λ k h g e. link.skips k h g (one_slot (get_or list k 0) c e ∙ sym here))
 
 -- ---- the pass
 
@@ -218,14 +179,6 @@ module _ {list : List ℕ} {j s : ℕ} {last prior : List ℕ} (so_far : Tables 
 
   before : Last slot_of list x j p
   before = rw at_slot (so_far.last_is x)
-
-  pub tables_chain : j ≤ length list → j ≤ 256 → Chain list prior x p
-  tables_chain inside room =
-      record {
-        inside = (omega (arith, before.low), omega (arith, before.low));
-        links = λ i g. so_far.links i (omega (arith, before.low));
-        same = before.same;
-      }
 
   -- the last update at a location, searched among those with its slot, is the last of all
   pub tables_held : {i : ℕ} → Last location_of list x p i → Last location_of list x j i

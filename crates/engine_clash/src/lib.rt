@@ -88,16 +88,7 @@ fn gives_other(s: HeldPlace, w: Value, what: Instruction) -> bool
 fn some_gives_other(list: &[u64], len: usize, s: HeldPlace, w: Value) -> bool
     ensures { result ≡ any (λ i. other w (values_given s i)) (items list.now len) }
 {
-    let n = text::smaller(len, list.len());
-    let mut j: usize = 0;
-    while j < n {
-        let what = engine_instruction::decode(list[j]);
-        if gives_other(s, w, what) {
-            return true;
-        }
-        j = j + 1;
-    }
-    false
+    list.iter().take(len).any(|code| gives_other(s, w, engine_instruction::decode(*code)))
 }
 
 // The instruction releases the label x.
@@ -105,10 +96,7 @@ fn releases(what: Instruction, x: Value) -> bool
     ensures { result ≡ has (label_of what []) x }
 {
     match what {
-        Instruction::Update {
-            location: _,
-            value: _,
-        } => false,
+        Instruction::Update { .. } => false,
         Instruction::Release { label } => label == x,
     }
 }
@@ -117,16 +105,9 @@ fn releases(what: Instruction, x: Value) -> bool
 fn is_released(list: &[u64], len: usize, x: Value) -> bool
     ensures { result ≡ has (released (items list.now len)) x }
 {
-    let n = text::smaller(len, list.len());
-    let mut j: usize = 0;
-    while j < n {
-        let what = engine_instruction::decode(list[j]);
-        if releases(what, x) {
-            return true;
-        }
-        j = j + 1;
-    }
-    false
+    list.iter()
+        .take(len)
+        .any(|code| releases(engine_instruction::decode(*code), x))
 }
 
 // ---- all instructions
@@ -136,8 +117,8 @@ fn sets_released(list: &[u64], len: usize, what: Instruction) -> bool
     ensures { result ≡ sets_released (released (items list.now len)) what }
 {
     match what {
-        Instruction::Update { location: _, value } => is_released(list, len, value),
-        Instruction::Release { label: _ } => false,
+        Instruction::Update { value, .. } => is_released(list, len, value),
+        Instruction::Release { .. } => false,
     }
 }
 
@@ -170,13 +151,10 @@ fn least_with(
 pub fn least_of_all(image: &Image, contents: &[Value], list: &[u64], len: usize, most: u32) -> u32
     ensures { result ≡ least_clash (low_program image.now) contents.now (items list.now len) (items list.now len) most }
 {
-    let n = text::smaller(len, list.len());
     let mut least = most;
-    let mut j: usize = 0;
-    while j < n {
-        let what = engine_instruction::decode(list[j]);
+    for code in list.iter().take(len) {
+        let what = engine_instruction::decode(*code);
         least = least_with(image, contents, list, len, what, least);
-        j = j + 1;
     }
     least
 }
@@ -214,12 +192,10 @@ fn last_before(list: &[u64], p: usize, code: u64) -> usize
     requires { p ≤ length list.now }
     ensures { Last location_of list.now code p result }
 {
-    let mut i = p;
-    while 0 < i {
-        if list[i - 1] / 65536 == code / 65536 {
-            return i;
+    for i in (0..p).rev() {
+        if list[i] / 65536 == code / 65536 {
+            return i + 1;
         }
-        i = i - 1;
     }
     0
 }
@@ -244,14 +220,12 @@ fn least_of_few(image: &Image, contents: &[Value], list: &[u64], n: usize, most:
     ensures { result ≡ least_clash (low_program image.now) contents.now (items list.now n) (items list.now n) most }
 {
     let mut least = most as u64;
-    let mut j: usize = 0;
-    while j < n {
+    for j in 0..n {
         let code = list[j];
         if engine_instruction::RELEASES <= code {
             return least_of_all(image, contents, list, n, most);
         }
         least = least_with_update(list, last_before(list, j, code), code, least);
-        j = j + 1;
     }
     least as u32
 }
@@ -271,8 +245,7 @@ pub fn least_clash(image: &Image, contents: &[Value], list: &[u64], len: usize, 
     let mut last = [0u16; 512];
     let mut prior = [0u16; engine::MOST_INSTRUCTIONS];
     let mut least = most as u64;
-    let mut j: usize = 0;
-    while j < n {
+    for j in 0..n {
         let code = list[j];
         if engine_instruction::RELEASES <= code {
             return least_of_all(image, contents, list, len, most);
@@ -282,7 +255,6 @@ pub fn least_clash(image: &Image, contents: &[Value], list: &[u64], len: usize, 
         least = least_with_update(list, last_at_slot(list, &prior, p, code), code, least);
         prior[j] = p;
         last[s] = j as u16 + 1;
-        j = j + 1;
     }
     least as u32
 }

@@ -24,9 +24,6 @@ module _ (B : Program) where
   abbrev pub Whole : Part → Type 0
   Whole p = (k : ℕ) → p.first ≤ k → k < p.end → part_of B k ≡ p
 
-  pub none_held : Whole (record { first = 0; end = 0 })
-  none_held k h l = absurd (omega arith)
-
   pub next_held : (held : Part) (l : ℕ) → Whole held → part_after B held l ≡ part_of B l
   next_held held l w = go (leb held.first l) refl (ltb l held.end) refl
     where
@@ -89,13 +86,3 @@ module _ (first end at : ℕ) (c : List ℕ) (reached : first ≤ at) (e : ℕ) 
   held_inside h =
       get_or-take (e - first) (drop first c) (at - first) 0 (omega arith) ∙ get_or-drop first c (at - first) 0
       ∙ ap (λ (z : ℕ). get_or c z 0) (add-sub_of_le reached)
-
-  -- a location past the part or past the table gets nothing
-  pub put_outside : (v : ℕ) (s : List ℕ) → e ≤ at → (length c ≤ at → set s at v ≡ s) → s ≡ put_in first end at v s
-  put_outside v s h out = go (ltb at end) refl
-    where
-      go : (t : Bool) → ltb at end ≡ t → s ≡ put_in first end at v s
-      go true f =
-          let k = ltb-true at end f in
-          rw (between_inside first end at reached k) (sym (out (omega arith)))
-      go false f = rw (between_after first end at (ltb-false at end f))

@@ -176,21 +176,18 @@ fn put_values(
     ensures readers_after { readers.new ≡ marked bit (put_reads (low_program image.now).P (L (low_program image.now)) (items list.now len) contents.old) readers.old }
     ensures writers_after { writers.new ≡ put_marked bit (min (L (low_program image.now)) (length contents.old)) (items list.now len) writers.old }
 {
-    let n = text::smaller(len, list.len());
     let p = book_parts::permanent(image);
     let e = book_image::elements(image);
     let mut part = Part { first: 0, end: 0 };
     let mut tally = no_labels();
-    let mut j: usize = 0;
-    while j < n {
-        let what = engine_instruction::decode(list[j]);
+    for code in list.iter().take(len) {
+        let what = engine_instruction::decode(*code);
         let at = engine_instruction::own_location(what) as usize;
         let v = engine_instruction::own_value(what);
         tally = count_label(contents, e, at, v, tally);
         part = part_at(image, part, at);
         mark_put(contents, readers, part.end, at, v, p, bit);
         put_in_part(contents, writers, part.first, part.end, at, v, bit);
-        j = j + 1;
     }
     tally
 }
@@ -271,10 +268,7 @@ pub fn begin_move(
 {
     let walk = engine_walk::walk_move(image, contents, readers, bit, list, agent, picks);
     let count = instructions_given(walk, list);
-    Begun {
-        walk: walk,
-        count: count,
-    }
+    Begun { walk, count }
 }
 
 // The answer to a move that is refused: it has issued and returned no label.

@@ -37,10 +37,8 @@ fn write_records(list: &mut [Record], from: &[u64], n: usize)
     ensures { list.new ≡ records_written (items from.now n) list.old }
 {
     let m = least(n, list.len(), from.len());
-    let mut i: usize = 0;
-    while i < m {
+    for i in 0..m {
         list[i] = record_of(from[i]);
-        i = i + 1;
     }
 }
 
@@ -49,10 +47,8 @@ fn read_records(list: &[Record], to: &mut [u64], n: usize)
     ensures { items to.new (through n list.now to.old) ≡ map what_of (take (through n list.now to.old) list.now) }
 {
     let m = least(n, list.len(), to.len());
-    let mut i: usize = 0;
-    while i < m {
+    for i in 0..m {
         to[i] = number_of(list[i]);
-        i = i + 1;
     }
 }
 

@@ -1,4 +1,3 @@
-pub mod InPlace
 pub mod Parts
 pub mod Labels
 pub mod Members

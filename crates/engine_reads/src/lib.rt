@@ -20,10 +20,8 @@ use text::Value;
 pub fn mask_marks(readers: &mut [u64], mask: u64)
     ensures { readers.new ≡ map (λ v. bit_and v mask) readers.old }
 {
-    let mut i: usize = 0;
-    while i < readers.len() {
-        readers[i] = readers[i] & mask;
-        i += 1;
+    for mark in readers.iter_mut() {
+        *mark &= mask;
     }
 }
 
@@ -31,10 +29,8 @@ pub fn mask_marks(readers: &mut [u64], mask: u64)
 fn mark_part(part: &mut [u64], bit: u64)
     ensures { part.new ≡ map (λ v. bit_or v bit) part.old }
 {
-    let mut i: usize = 0;
-    while i < part.len() {
-        part[i] = part[i] | bit;
-        i += 1;
+    for mark in part.iter_mut() {
+        *mark |= bit;
     }
 }
 
@@ -60,15 +56,13 @@ pub fn lowest_label(
     ensures { Runs (low_program image.now) contents.now bit (lowest from ((low_program image.now).E - from)) (found_below (low_program image.now).E result) readers.old readers.new }
 {
     let e = book_image::elements(image);
-    let mut x = from;
-    while x < e {
+    for x in from..e {
         engine_term::mark(readers, bit, x as usize);
         if text::fetch(contents, x as usize) == 2 {
             return x;
         }
-        x += 1;
     }
-    x
+    e
 }
 
 // Location x, which is Reserve's if x is an element, is dynamic.
@@ -137,12 +131,10 @@ pub fn read_universe(
 pub fn next_member(contents: &[Value], first: u32, e: Value, from: Value) -> Value
     ensures { (from ≤ result) × (result ≡ next_passing (member contents.now first) from (e - from)) }
 {
-    let mut y = from;
-    while y < e {
+    for y in from..e {
         if text::fetch(contents, first as usize + y as usize) == 2 {
             return y;
         }
-        y += 1;
     }
-    y
+    from.max(e)
 }

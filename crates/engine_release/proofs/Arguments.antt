@@ -1,34 +1,18 @@
--- The places of a function that have x as first or as second argument, by the function's stride s.
-use mathlib.Core.Path.{◌≡◌, refl, sym, ap, ◌∙◌}
+-- The places of a function that have x as second argument, by the function's stride s.
+use mathlib.Core.Path.{◌≡◌, refl, ap, ◌∙◌}
 use mathlib.Core.Bool.{Bool, true, false}
 use Prim.Native.Nat.{ℕ, ◌+◌, ◌-◌, ◌*◌, ◌/◌, ◌%◌, ◌≤◌, ◌<◌}
 use native.Mathlib.Nat.{mod-lt, div-add-mod', mul-add-mod_self_right, mod-eq_of_lt, add-mul, one-mul}
 use native.Mathlib.Omega.{arith}
-use borrow.Author.Tests.{ne_eqb, ltb-true, ltb-false}
+use borrow.Author.Tests.{ltb-true, ltb-false}
 use lib.Dec.{ltb}
-use Rattle.text.specs.Words.{has}
-use Rattle.book.specs.Sum.{arguments_by}
-use Rattle.engine_instruction.proofs.Laws.{and_none}
-use Rattle.engine_instruction.proofs.Strides.{has_by}
 
 module _ (s : ℕ) (some : 0 < s) where
-  -- a place with x as first argument is one of the s places from x × s on
-  pub first_from : (x k : ℕ) → k / s ≡ x → (x * s ≤ k) × (k < x * s + s)
-  first_from x k e =
-      let q : x * s + k % s ≡ k = rw e at (div-add-mod' k s) in
-      (omega (arith, q), omega (arith, q, mod-lt k some))
-
   -- the remainder of k, from what k is
   remainder : (q m k : ℕ) → k ≡ q * s + m → m < s → k % s ≡ m
   remainder q m k e h = ap (λ (n : ℕ). n % s) e ∙ mul-add-mod_self_right q s m ∙ mod-eq_of_lt h
 
   module _ (x i k : ℕ) (on : i ≤ k) where
-    -- places from i on, before one whose second argument is x, in the row of i
-    pub before_second : i % s ≤ x → x < s → k < i + (x - i % s) → k % s ≡ x → ⊥
-    before_second h l m e =
-        let r : k % s ≡ i % s + (k - i) = remainder (i / s) (i % s + (k - i)) k (omega (arith, div-add-mod' i s)) (omega arith) in
-        omega (arith, r, e)
-
     -- places from i on, before one whose second argument is x, in the next row
     pub before_next : x < i % s → k < i + (s - i % s) + x → k % s ≡ x → ⊥
     before_next l m e = go (ltb k (i + (s - i % s))) refl
@@ -46,7 +30,3 @@ module _ (s : ℕ) (some : 0 < s) where
             let t : k - (i + (s - i % s)) < s = omega (arith, mod-lt i some) in
             let r : k % s ≡ k - (i + (s - i % s)) = remainder (i / s + 1) (k - (i + (s - i % s))) k (next n) t in
             omega (arith, r, e)
-
--- where neither argument is x, x is none of the arguments
-pub none_by : (arity a b x : ℕ) → (a ≡ x → ⊥) → (b ≡ x → ⊥) → has (arguments_by arity a b) x ≡ false
-none_by arity a b x h l = sym (has_by arity a b x) ∙ rw (ne_eqb a x h, ne_eqb b x l, and_none, and_none)

@@ -3,3 +3,4 @@ pub mod ByPlace
 pub mod Arguments
 pub mod Upto
 pub mod Runs
+pub mod Items

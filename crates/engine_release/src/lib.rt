@@ -98,14 +98,12 @@ fn pass_values(part: &[Value], x: Value, i: usize, stop: usize) -> usize
     requires { (i ≤ stop) × (stop ≤ length part.now) }
     ensures { (i ≤ result) × (result ≤ stop) × ((k : ℕ) → i ≤ k → k < result → eqb (get_or part.now k 0) x ≡ false) }
 {
-    let mut k = i;
-    while k < stop {
+    for k in i..stop {
         if part[k] == x {
             return k;
         }
-        k = k + 1;
     }
-    k
+    stop
 }
 
 // A place from i on up to which the label's release clears none: most of a part is passed over.
@@ -194,20 +192,18 @@ fn clear_label(
     let p = book_parts::permanent(image);
     let n = book_image::functions(image);
     let mut first: u32 = 0;
-    let mut g: u16 = 0;
-    while g < n {
+    for g in 0..n {
         let own = book_parts::part_from(image, g, first);
         let f = own.function;
         let r = Released {
             label: x,
             permanent: p,
             function: f,
-            first: first,
-            bit: bit,
+            first,
+            bit,
         };
         clear_function(contents, readers, writers, r, own.end);
         first = own.end as u32;
-        g = g + 1;
     }
 }
 
@@ -224,14 +220,8 @@ fn clear_instruction(
     ensures writers_after { writers.new ≡ instruction_marked bit (low_program image.now) what contents.old writers.old }
     ensures readers_after { readers.new ≡ marked bit (instruction_reads (low_program image.now) what contents.old) readers.old }
 {
-    match what {
-        Instruction::Update {
-            location: _,
-            value: _,
-        } => {}
-        Instruction::Release { label } => {
-            clear_label(image, contents, readers, writers, label, bit);
-        }
+    if let Instruction::Release { label } = what {
+        clear_label(image, contents, readers, writers, label, bit);
     }
 }
 
@@ -249,11 +239,8 @@ pub fn clear_released(
     ensures writers_after { writers.new ≡ all_marked bit (low_program image.now) (items list.now len) contents.old writers.old }
     ensures readers_after { readers.new ≡ marked bit (all_reads (low_program image.now) (items list.now len) contents.old) readers.old }
 {
-    let n = text::smaller(len, list.len());
-    let mut j: usize = 0;
-    while j < n {
-        let what = engine_instruction::decode(list[j]);
+    for code in list.iter().take(len) {
+        let what = engine_instruction::decode(*code);
         clear_instruction(image, contents, readers, writers, what, bit);
-        j = j + 1;
     }
 }

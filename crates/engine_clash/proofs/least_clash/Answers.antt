@@ -2,30 +2,13 @@
 use native.Mathlib.Omega.{arith}
 use Rattle.book.specs.Image.{low_program}
 use Rattle.engine_instruction.proofs.Laws.{take_min}
-use Rattle.engine_clash.proofs.Rivals.{looked_start, looked_next, looked_best, tables_start, tables_chain, tables_held, tables_next}
+use Rattle.engine_clash.proofs.Rivals.{looked_start, looked_next, looked_best, tables_start, tables_held, tables_next}
 use Rattle.engine_clash.proofs.least_clash.Goals as goal
-
-pub returns-then-n-le-FEW : goal.returns-then-n-le-FEW
-returns-then-n-le-FEW c =
-    let a = c.args in
-    rw (← take_min a.list.now c.smaller-n.result a.len c.smaller-n.ensures) c.least_of_few.ensures
-
-pub returns-then-n-gt-MOST_INSTRUCTIONS : goal.returns-then-n-gt-MOST_INSTRUCTIONS
-returns-then-n-gt-MOST_INSTRUCTIONS c = c.least_of_all.ensures
 
 pub loop-j-init : goal.loop-j-init
 loop-j-init c =
     let a = c.args in
     (looked_start a.list.now c.smaller-n.result a.most, tables_start a.list.now)
-
-pub returns-then-code-ge-RELEASES : goal.returns-then-code-ge-RELEASES
-returns-then-code-ge-RELEASES c = c.least_of_all-then-code-ge-RELEASES.ensures
-
-pub last_at_slot-requires : goal.last_at_slot-requires
-last_at_slot-requires c = tables_chain c.loop-j.invariant.1 c.slot-s.ensures.0 (omega arith) (omega arith)
-
-pub least_with_update-least-requires : goal.least_with_update-least-requires
-least_with_update-least-requires c = let k = tables_held c.loop-j.invariant.1 c.slot-s.ensures.0 c.last_at_slot.ensures in omega arith
 
 pub loop-j-preserved : goal.loop-j-preserved
 loop-j-preserved c =

@@ -1,10 +1,6 @@
 -- `least_clash` meets its contract.
-use Prim.Native.Nat.{◌-◌}
 use Rattle.engine_clash.proofs.Rivals.{Looked, Tables}
 use Rattle.engine_clash.proofs.least_clash.Given as goal
 
 abbrev pub invariant-loop-j : goal.invariant-loop-j
 invariant-loop-j l = Looked l.list l.n l.most l.j l.least × Tables l.list l.j l.last l.prior
-
-abbrev pub decreases-loop-j : goal.decreases-loop-j
-decreases-loop-j l = l.n - l.j

@@ -1,10 +1,6 @@
 -- `least_of_few` meets its contract.
-use Prim.Native.Nat.{◌-◌}
 use Rattle.engine_clash.proofs.Rivals.{Looked}
 use Rattle.engine_clash.proofs.least_of_few.Given as goal
 
 abbrev pub invariant-loop-j : goal.invariant-loop-j
 invariant-loop-j l = Looked l.list l.n l.most l.j l.least
-
-abbrev pub decreases-loop-j : goal.decreases-loop-j
-decreases-loop-j l = l.n - l.j

@@ -3,8 +3,7 @@ use mathlib.Core.Path.{◌∙◌}
 use Prim.Native.Nat.{◌<◌}
 use lib.Bits.{bit_or}
 use lib.ListN.{get_or}
-use lib.Seq.{set_out}
-use Rattle.engine_fire.proofs.Own.{put_inside, held_inside, put_outside}
+use Rattle.engine_fire.proofs.Own.{put_inside, held_inside}
 use Rattle.engine_fire.proofs.mark_in.Goals as goal
 
 pub returns-then-at-e : goal.returns-then-at-e
@@ -15,10 +14,3 @@ returns-then-at-e c =
     let h : a.at < e.result = c.if-at-e.true in
     put_inside a.first a.end a.at a.writers.now c.requires e.result e.ensures (bit_or (get_or a.writers.now a.at 0) a.bit) h r.new.readers
     (r.ensures ∙ rw (held_inside a.first a.end a.at a.writers.now c.requires e.result e.ensures h))
-
-pub returns-else-at-e : goal.returns-else-at-e
-returns-else-at-e c =
-    let a = c.args in
-    let e = c.smaller-e in
-    let v = bit_or (get_or a.writers.now a.at 0) a.bit in
-    put_outside a.first a.end a.at a.writers.now c.requires e.result e.ensures v a.writers.now c.if-at-e.false (λ h. set_out a.writers.now a.at v h)

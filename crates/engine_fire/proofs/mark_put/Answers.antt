@@ -1,17 +1,10 @@
 -- `mark_put` meets its contract.
-use mathlib.Core.Path.{◌∙◌}
-use Prim.Native.Nat.{◌<◌, ◌≤◌, min}
+use Prim.Native.Nat.{◌≤◌, min}
 use native.Mathlib.Omega.{arith}
-use borrow.Author.Tests.{lt-ltb, le-ltb}
+use borrow.Author.Tests.{le-ltb}
 use lib.ListN.{length}
 use Rattle.engine_term.specs.Marks.{marked}
 use Rattle.engine_fire.proofs.mark_put.Goals as goal
-
-pub returns-then-at-e : goal.returns-then-at-e
-returns-then-at-e c =
-    let a = c.args in
-    let inside : a.at < min a.end (length a.contents.now) = omega (arith, c.if-at-e.true, c.smaller-e.ensures) in
-    c.mark_taken.ensures ∙ rw (lt-ltb a.at (min a.end (length a.contents.now)) inside)
 
 pub returns-else-at-e : goal.returns-else-at-e
 unfolding marked

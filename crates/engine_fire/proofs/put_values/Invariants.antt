@@ -1,7 +1,5 @@
--- `put_values` meets its contract.
-use mathlib.Core.Path.{◌≡◌}
-use Prim.Native.Nat.{◌+◌, ◌-◌, ◌≤◌, min}
-use lib.ListN.{length, drop}
+-- Putting the values of the instructions left, after those before, is putting the values of all.
+use Rattle.std.proofs.Common.{◌≡◌, ◌+◌, ◌≤◌, min, length}
 use Rattle.book.specs.Book.{L}
 use Rattle.book.specs.Image.{low_program}
 use Rattle.engine_term.specs.Marks.{marked}
@@ -10,15 +8,19 @@ use Rattle.engine_fire.specs.Steps.{puts, put_marked, put_reads, put_issued, put
 use Rattle.engine_fire.proofs.Own.{Whole}
 use Rattle.engine_fire.proofs.put_values.Given as goal
 
-abbrev pub invariant-loop-j : goal.invariant-loop-j
-invariant-loop-j l =
-    (puts (L (low_program l.image)) (drop l.j (items l.list l.len)) l.contents ≡ puts (L (low_program l.image)) (items l.list l.len) l.initial.contents)
-    × (marked l.bit (put_reads (low_program l.image).P (L (low_program l.image)) (drop l.j (items l.list l.len)) l.contents) l.readers ≡ marked l.bit (put_reads (low_program l.image).P (L (low_program l.image)) (items l.list l.len) l.initial.contents) l.initial.readers)
-    × (put_marked l.bit (min (L (low_program l.image)) (length l.initial.contents)) (drop l.j (items l.list l.len)) l.writers ≡ put_marked l.bit (min (L (low_program l.image)) (length l.initial.contents)) (items l.list l.len) l.initial.writers)
-    × (length l.contents ≡ length l.initial.contents) × (length l.readers ≡ length l.initial.readers) × (length l.writers ≡ length l.initial.writers) × Whole (low_program l.image) l.part
-    × (l.tally.issued + put_issued (low_program l.image).E (drop l.j (items l.list l.len)) ≡ put_issued (low_program l.image).E (items l.list l.len))
-    × (l.tally.returned + put_returned (low_program l.image).E (L (low_program l.image)) (drop l.j (items l.list l.len)) l.contents ≡ put_returned (low_program l.image).E (L (low_program l.image)) (items l.list l.len) l.initial.contents)
-    × (l.tally.issued ≤ l.j) × (l.tally.returned ≤ l.j)
-
-abbrev pub decreases-loop-j : goal.decreases-loop-j
-decreases-loop-j l = l.n - l.j
+abbrev pub invariant-loop-code : goal.invariant-loop-code
+invariant-loop-code l =
+    let B = low_program l.image in
+    let all = items l.list l.len in
+    let left = items l.code-iterator.iter.rest.now l.code-iterator.n in
+    let start = l.initial.contents in
+    record {
+      contents_left : puts (L B) left l.contents ≡ puts (L B) all start;
+      readers_left : marked l.bit (put_reads B.P (L B) left l.contents) l.readers ≡ marked l.bit (put_reads B.P (L B) all start) l.initial.readers;
+      writers_left : put_marked l.bit (min (L B) (length start)) left l.writers ≡ put_marked l.bit (min (L B) (length start)) all l.initial.writers;
+      part_whole : Whole B l.part;
+      issued_left : l.tally.issued + put_issued B.E left ≡ put_issued B.E all;
+      returned_left : l.tally.returned + put_returned B.E (L B) left l.contents ≡ put_returned B.E (L B) all start;
+      issued_few : l.tally.issued + l.code-iterator.n ≤ l.len;
+      returned_few : l.tally.returned + l.code-iterator.n ≤ l.len;
+    }

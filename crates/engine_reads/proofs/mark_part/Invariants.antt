@@ -1,14 +1,6 @@
--- `mark_part` meets its contract.
-use mathlib.Core.Path.{◌≡◌}
-use mathlib.Core.List.{map}
-use Prim.Native.Nat.{◌-◌, ◌≤◌}
-use lib.Bits.{bit_or}
-use lib.ListN.{length, take, drop}
+-- The marks before the index are changed, and the others are as they were.
+use Rattle.std.proofs.Common.{◌≡◌, ◌++◌, map, take, drop, bit_or}
 use Rattle.engine_reads.proofs.mark_part.Given as goal
 
-abbrev pub invariant-loop-i : goal.invariant-loop-i
-invariant-loop-i l =
-    (length l.part ≡ length l.initial.part) × (l.i ≤ length l.initial.part) × (take l.i l.part ≡ map (λ v. bit_or v l.bit) (take l.i l.initial.part)) × (drop l.i l.part ≡ drop l.i l.initial.part)
-
-abbrev pub decreases-loop-i : goal.decreases-loop-i
-decreases-loop-i l = length l.initial.part - l.i
+abbrev pub invariant-loop-mark : goal.invariant-loop-mark
+invariant-loop-mark l = l.part ≡ map (λ v. bit_or v l.bit) (take l.mark-index l.initial.part) ++ drop l.mark-index l.initial.part

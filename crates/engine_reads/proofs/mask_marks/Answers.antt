@@ -1,39 +1,7 @@
 -- `mask_marks` meets its contract.
-use mathlib.Core.Path.{refl, sym, ◌∙◌}
-use native.Mathlib.Omega.{arith}
-use borrow.Author.Rules.{rules}
-use lib.Bits.{bit_and}
-use lib.ListN.{length-set}
-use lib.Seq.{take_all}
-use Rattle.engine_reads.proofs.InPlace.{done_next, left_next}
+use Rattle.std.proofs.Common.{rules, bit_and}
+use Rattle.std.proofs.lemmas.List.Edits.{map_over_more}
 use Rattle.engine_reads.proofs.mask_marks.Goals as goal
 
-pub loop-i-init : goal.loop-i-init
-loop-i-init c = (refl, search rules, refl, refl)
-
-pub bounds-readers-i : goal.bounds-readers-i
-bounds-readers-i c = omega arith
-
-pub bounds-readers-i-in-loop-i : goal.bounds-readers-i-in-loop-i
-bounds-readers-i-in-loop-i c = omega arith
-
-pub overflow_add-i : goal.overflow_add-i
-overflow_add-i c = omega arith
-
-pub loop-i-smaller : goal.loop-i-smaller
-loop-i-smaller c = omega arith
-
-pub loop-i-preserved : goal.loop-i-preserved
-loop-i-preserved c =
-    let a = c.args in
-    let l = c.loop-i in
-    let v = l.invariant in
-    let h = c.loop-i-test.true in
-    (simp length-set v.0, omega arith, done_next (λ x. bit_and x a.mask) a.readers.now l.readers l.i v.0 h v.2 v.3, left_next (λ x. bit_and x a.mask) a.readers.now l.readers l.i v.0 h v.2 v.3)
-
-pub returns : goal.returns
-returns c =
-    let a = c.args in
-    let l = c.loop-i in
-    let h = c.loop-i-test.false in
-    sym (take_all l.i l.readers h) ∙ l.invariant.2 ∙ rw (take_all l.i a.readers.now (omega arith))
+pub loop-mark-preserved : goal.loop-mark-preserved
+loop-mark-preserved c = search (rules, map_over_more (λ v. bit_and v c.args.mask))
