@@ -20,50 +20,41 @@ use Rattle.engine.specs.Single.{pick_place, bad_pick, check_picks, check_agent, 
 use Rattle.engine_step.specs.Call.{check_call}
 use Rattle.engine_step.proofs.UpToTen.{UpToTen, accepts, agent_numbered, picks_numbered, lengths_numbered}
 
-abbrev pub Refusal : ℕ → ℕ → ℕ → Answer
-Refusal n p q = record { number = n; p = p; q = q }
+abbrev pub refusal_at : ℕ → ℕ → ℕ → Answer
+refusal_at n p q = record { number = n; p = p; q = q }
 
 -- ---- one check
 
 module _ (B : Program) (k : ℕ) where
-  pub agent_there : k < length B.agents → Refusal 0 0 0 ≡ answer_of (check_agent B k)
+  pub agent_there : k < length B.agents → refusal_at 0 0 0 ≡ answer_of (check_agent B k)
   unfolding check_agent must
   agent_there h = rw (lt-ltb k (length B.agents) h)
 
-  pub agent_missing : length B.agents ≤ k → Refusal 9 0 0 ≡ answer_of (check_agent B k)
+  pub agent_missing : length B.agents ≤ k → refusal_at 9 0 0 ≡ answer_of (check_agent B k)
   unfolding check_agent must
   agent_missing h = rw (le-ltb k (length B.agents) h)
 
 module _ (B : Program) (ys : List ℕ) where
-  pub pick_bad : (j : ℕ) → Some j ≡ least (bad_pick B ys) (length ys) → Refusal 9 (pick_place j) 0 ≡ answer_of (check_picks B ys)
+  pub pick_bad : (j : ℕ) → Some j ≡ least (bad_pick B ys) (length ys) → refusal_at 9 (pick_place j) 0 ≡ answer_of (check_picks B ys)
   unfolding check_picks
   pick_bad j e = rw (← e)
 
-  pub picks_fine : None ≡ least (bad_pick B ys) (length ys) → Refusal 0 0 0 ≡ answer_of (check_picks B ys)
+  pub picks_fine : None ≡ least (bad_pick B ys) (length ys) → refusal_at 0 0 0 ≡ answer_of (check_picks B ys)
   unfolding check_picks
   picks_fine e = rw (← e)
 
 module _ (locations : ℕ) (c : List ℕ) (n : ℕ) where
-  pub contents_short : length c < locations → Refusal 2 locations 0 ≡ answer_of (check_step_lengths locations c n)
+  pub contents_short : length c < locations → refusal_at 2 locations 0 ≡ answer_of (check_step_lengths locations c n)
   unfolding must ◌>>◌
   contents_short h = rw (lt-leb locations (length c) h)
 
-  pub list_short : locations ≤ length c → n < 256 → Refusal 2 256 3 ≡ answer_of (check_step_lengths locations c n)
+  pub list_short : locations ≤ length c → n < 256 → refusal_at 2 256 3 ≡ answer_of (check_step_lengths locations c n)
   unfolding must ◌>>◌
   list_short h g = rw (le-leb locations (length c) h, lt-leb 256 n g)
 
-  pub both_lent : locations ≤ length c → 256 ≤ n → Refusal 0 0 0 ≡ answer_of (check_step_lengths locations c n)
+  pub both_lent : locations ≤ length c → 256 ≤ n → refusal_at 0 0 0 ≡ answer_of (check_step_lengths locations c n)
   unfolding must ◌>>◌
   both_lent h g = rw (le-leb locations (length c) h, le-leb 256 n g)
-
-module _ (B : Program) (c : List ℕ) where
-  pub value_bad : (l : ℕ) → least (bad_value B c) (L B) ≡ Some l → Refusal 8 l 0 ≡ answer_of (check_contents B c)
-  unfolding check_contents none_at
-  value_bad l e = rw (e, zero-add l)
-
-  pub values_fine : least (bad_value B c) (L B) ≡ None → Refusal 0 0 0 ≡ answer_of (check_contents B c)
-  unfolding check_contents none_at
-  values_fine e = rw e
 
 -- the first k records of a table, as far as it goes
 pub taken : (k n : ℕ) (c : List ℕ) → n ≡ min k (length c) → take n c ≡ take k c

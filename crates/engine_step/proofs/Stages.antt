@@ -1,12 +1,16 @@
 -- The call in two stages, begun and finished: what each shows of it, and what the list between them holds.
+use Rattle.std.specs.Prelude.{Result, Ok, Err}
+use Rattle.std.specs.Result.{IsErr, is_ok}
 use mathlib.Core.Path.{◌≡◌, refl, sym, ap, subst, ◌∙◌}
+use mathlib.Core.Bool.{true≢false}
+use Rattle.text.specs.declared.Refusal.{Refusal}
 use mathlib.Core.Logic.{◌≢◌, dite}
 use mathlib.Core.List.{List, [], ◌++◌}
 use Prim.Native.Nat.{ℕ, ◌≤◌, min}
 use native.Mathlib.Decide.{ℕ_discrete}
 use native.Mathlib.Omega.{arith}
 use lib.ListN.{length, take, drop}
-use Rattle.text.specs.Words.{Answer}
+use Rattle.text.specs.Words.{Answer, told}
 use Rattle.book.specs.Book.{Program, L}
 use Rattle.book.specs.Sum.{Strided}
 use Rattle.book.specs.Image.{word, low_program}
@@ -21,31 +25,29 @@ use Rattle.engine_fire.specs.Effect.{move_answer}
 use Rattle.engine.specs.Labels.{TalliedAnswer}
 use Rattle.engine_fire.specs.Finish.{MoveFinished}
 use Rattle.engine_fire.proofs.Count.{given_few, made_of, same_outcome}
-use Rattle.engine_step.specs.declared.BegunCall.{BegunCall}
+use Rattle.engine_fire.specs.declared.Begun.{Begun}
 use Rattle.engine_step.specs.Leaves.{CallLeaves}
-use Rattle.engine_step.specs.Stages.{MoveWalked, CallBegun, CallFinished}
+use Rattle.engine_step.specs.Stages.{given, MoveWalked, CallMoves, CallBegun, CallFinished}
 use Rattle.engine_step.proofs.Fired.{moved_step}
 use Rattle.engine_step.proofs.Whole.{Cleared}
 use Rattle.engine.specs.Tables.{tables}
 
 -- ---- the call begun
 
-module _ (text c : List ℕ) (k : Input) (n : ℕ) (m l : List ℕ) (p : BegunCall) where
-  pub halted_call : (a : Answer) → p.answer ≡ a → p.begun.count ≡ 0 → a.number ≢ 0 → CallLeaves a 0 l c (step_call text c k n) → CallBegun text c k n m l p
-  halted_call a e z h t = record {
-    stops = λ _. (z, subst (λ (b : Answer). CallLeaves b 0 l c (step_call text c k n)) (sym e) t);
-    moves = λ y. absurd (h (ap (λ (b : Answer). b.number) (sym e) ∙ y));
-  }
+module _ (text c : List ℕ) (k : Input) (n : ℕ) (m l : List ℕ) where
+  pub halted_call : (p : Result Begun Refusal) (a : Answer) → told p ≡ a → IsErr p → CallLeaves a 0 l c (step_call text c k n) → CallBegun text c k n m l p
+  halted_call (Ok s) a e r t = absurd (true≢false (sym r))
+  halted_call (Err f) a e r t = record { stops = subst (λ (b : Answer). CallLeaves b 0 l c (step_call text c k n)) (sym e) t; moves = tt }
 
-  pub begun_call : p.answer.number ≡ 0 → Cleared text c k n m → MoveWalked (low_program m) (take (word m 6) c) k l p.begun → CallBegun text c k n m l p
-  begun_call z e w = record {
-    stops = λ h. absurd (h z);
-    moves = λ _. record {
+  pub begun_call : (s : Begun) → Cleared text c k n m → MoveWalked (low_program m) (take (word m 6) c) k l s → CallBegun text c k n m l (Ok s)
+  begun_call s e w = record {
+    stops = tt;
+    moves = record {
       lent = e.passed.records;
       lawful = e.lawful;
       locations = e.locations;
       long = e.passed.long;
-      walked = subst (λ (i : ℕ). MoveWalked (low_program m) (take i c) k l p.begun) e.locations w;
+      walked = subst (λ (i : ℕ). MoveWalked (low_program m) (take i c) k l s) e.locations w;
       whole = e.moved;
     };
   }
@@ -59,37 +61,36 @@ step_instructions B c k = go (move B (take (L B) c) k)
     go (fires f) = refl
     go (move_refused a q) = refl
 
-module _ (text c : List ℕ) (k : Input) (n : ℕ) (m l : List ℕ) (p : BegunCall) (h : CallBegun text c k n m l p) where
+module _ (text c : List ℕ) (k : Input) (n : ℕ) (m l : List ℕ) where
   abbrev A : Program
   A = low_program m
 
   -- the list has the instructions of the call
-  pub call_made : items l p.begun.count ≡ (step_call text c k n).instructions
-  call_made = dite (ℕ_discrete p.answer.number 0)
-      (λ (z : p.answer.number ≡ 0).
-      let w = h.moves z in
+  pub call_made : (p : Result Begun Refusal) → CallBegun text c k n m l p → items l (given p) ≡ (step_call text c k n).instructions
+  call_made (Ok s) h =
+      let w = h.moves in
       let o = w.walked in
-      ap (items l) o.count ∙ made_of p.begun.walk l o.room ∙ ap made_by (o.walk.outcome (placed A w.lawful)) ∙ sym (step_instructions A c k) ∙ ap (λ (s : Stepped). s.instructions) w.whole)
-      (λ (z : p.answer.number ≢ 0). ap (items l) (h.stops z).0 ∙ (h.stops z).1.instructions)
+      ap (items l) o.count ∙ made_of s.walk l o.room ∙ ap made_by (o.walk.outcome (placed A w.lawful)) ∙ sym (step_instructions A c k) ∙ ap (λ (s : Stepped). s.instructions) w.whole
+  call_made (Err e) h = h.stops.instructions
 
   -- with the call's answer and contents, all that the call leaves is known
-  call_tells : (a : Answer) (d : List ℕ) → (a ≡ (step_call text c k n).answer) × (d ≡ (step_call text c k n).contents)
-      → CallLeaves a p.begun.count l d (step_call text c k n)
-  call_tells a d s = record { answer = s.0; instructions = call_made; contents = s.1 }
+  call_tells : (p : Result Begun Refusal) → CallBegun text c k n m l p → (a : Answer) (d : List ℕ)
+      → (a ≡ (step_call text c k n).answer) × (d ≡ (step_call text c k n).contents) → CallLeaves a (given p) l d (step_call text c k n)
+  call_tells p h a d s = record { answer = s.0; instructions = call_made p h; contents = s.1 }
 
-  pub call_few : (p.begun.count ≤ 256) × (p.begun.count ≤ n)
-  call_few = dite (ℕ_discrete p.answer.number 0)
-      (λ (z : p.answer.number ≡ 0). let w = h.moves z in (omega (arith, w.walked.count, given_few p.begun.walk), omega (arith, w.walked.count, given_few p.begun.walk, w.lent)))
-      (λ (z : p.answer.number ≢ 0). (omega (arith, (h.stops z).0), omega (arith, (h.stops z).0)))
+  pub call_few : (p : Result Begun Refusal) → CallBegun text c k n m l p → (given p ≤ 256) × (given p ≤ n)
+  call_few (Ok s) h = let w = h.moves in (omega (arith, w.walked.count, given_few s.walk), omega (arith, w.walked.count, given_few s.walk, w.lent))
+  call_few (Err e) h = (omega arith, omega arith)
 
   -- any list that holds the same instructions will do
-  pub call_through : (l' : List ℕ) → length l' ≡ 256 → items l' p.begun.count ≡ items l p.begun.count → CallBegun text c k n m l' p
-  call_through l' e q = record {
-    stops = λ z. let s = h.stops z in (s.0, record { answer = s.1.answer; instructions = s.1.instructions; contents = s.1.contents });
-    moves = λ z.
-        let w = h.moves z in
+  pub call_through : (p : Result Begun Refusal) → CallBegun text c k n m l p
+      → (l' : List ℕ) → length l' ≡ 256 → items l' (given p) ≡ items l (given p) → CallBegun text c k n m l' p
+  call_through (Ok s) h l' e q = record {
+    stops = tt;
+    moves =
+        let w = h.moves in
         let o = w.walked in
-        let i : outcome p.begun.walk l' ≡ outcome p.begun.walk l = same_outcome p.begun.walk l l' o.room e (rw o.count at q) in
+        let i : outcome s.walk l' ≡ outcome s.walk l = same_outcome s.walk l l' o.room e (rw o.count at q) in
         record {
           lent = w.lent;
           lawful = w.lawful;
@@ -99,31 +100,40 @@ module _ (text c : List ℕ) (k : Input) (n : ℕ) (m l : List ℕ) (p : BegunCa
           whole = w.whole;
         };
   }
+  call_through (Err f) h l' e q = record {
+    stops = let s = h.stops in record { answer = s.answer; instructions = s.instructions; contents = s.contents };
+    moves = tt;
+  }
 
   -- ---- the call finished
 
-  concluded_moves : p.answer.number ≡ 0 → (r : Answer) (d : List ℕ) → CallFinished m c l p r d → (r ≡ (step_move A c k).answer) × (d ≡ (step_move A c k).contents)
+  concluded_moves : (s : Begun) → CallMoves text c k n m l s → (r : Answer) (d : List ℕ) → CallFinished m c l (Ok s) r d
+      → (r ≡ (step_move A c k).answer) × (d ≡ (step_move A c k).contents)
   unfolding move
-  concluded_moves z r d s =
-      let w = h.moves z in
+  concluded_moves b w r d s =
       let t : (r ≡ move_answer 0 (move A (take (L A) c) k)) × (d ≡ contents_after (take (L A) c) (move A (take (L A) c) k) ++ drop (L A) c) =
-      rw (w.locations, w.walked.walk.outcome (placed A w.lawful)) at (s.moves z w.lawful.strides (walk_reads A (take (L A) c) k)) in
+      rw (w.locations, w.walked.walk.outcome (placed A w.lawful)) at (s.moves w.lawful.strides (walk_reads A (take (L A) c) k)) in
       moved_step A c k w.long r d t.0 t.1
 
   -- the answer, the instructions and the contents are those that the call leaves
-  pub call_concluded : (r : Answer) (d : List ℕ) → CallFinished m c l p r d → CallLeaves r p.begun.count l d (step_call text c k n)
-  call_concluded r d s = dite (ℕ_discrete p.answer.number 0)
-      (λ (z : p.answer.number ≡ 0).
-      let t = concluded_moves z r d s in
-      let e = (h.moves z).whole in
-      call_tells r d (t.0 ∙ ap (λ (x : Stepped). x.answer) e, t.1 ∙ ap (λ (x : Stepped). x.contents) e))
-      (λ (z : p.answer.number ≢ 0). let t = (h.stops z).1 in let q = s.stops z in call_tells r d (q.0 ∙ t.answer, q.1 ∙ t.contents))
+  pub call_concluded : (p : Result Begun Refusal) → CallBegun text c k n m l p → (r : Answer) (d : List ℕ) → CallFinished m c l p r d
+      → CallLeaves r (given p) l d (step_call text c k n)
+  call_concluded (Ok b) h r d s =
+      let t = concluded_moves b h.moves r d s in
+      let e = h.moves.whole in
+      call_tells (Ok b) h r d (t.0 ∙ ap (λ (x : Stepped). x.answer) e, t.1 ∙ ap (λ (x : Stepped). x.contents) e)
+  call_concluded (Err f) h r d s = let t = h.stops in let q = s.stops in call_tells (Err f) h r d (q.0 ∙ t.answer, q.1 ∙ t.contents)
+
+-- a call that was refused stays so, with its contents
+pub refused_stays : (m c l : List ℕ) (p : Result Begun Refusal) (e : Refusal) → p ≡ Err e → (r : Answer) → r ≡ told p → CallFinished m c l p r c
+refused_stays m c l (Ok b) e h r q = absurd (true≢false (ap (λ (x : Result Begun Refusal). is_ok x) h))
+refused_stays m c l (Err f) e h r q = record { stops = (q, refl); moves = tt }
 
 -- what `finish_move` says of the first j records of the table, said of the whole
-pub concluded_first : (m c l : List ℕ) (p : BegunCall) (j : ℕ) → j ≡ min (word m 6) (length c) → p.answer.number ≡ 0 → (r : TalliedAnswer) (d rs ws : List ℕ)
-    → (Strided (low_program m) → MoveFinished (low_program m) 1 0 (outcome p.begun.walk l) (tables (take j c) [] []) r (tables d rs ws)) → CallFinished m c l p r.answer (d ++ drop j c)
-concluded_first m c l p j e z r d rs ws does = record {
-  stops = λ h. absurd (h z);
-  moves = λ y strides ls.
+pub concluded_first : (m c l : List ℕ) (b : Begun) (j : ℕ) → j ≡ min (word m 6) (length c) → (r : TalliedAnswer) (d rs ws : List ℕ)
+    → (Strided (low_program m) → MoveFinished (low_program m) 1 0 (outcome b.walk l) (tables (take j c) [] []) r (tables d rs ws)) → CallFinished m c l (Ok b) r.answer (d ++ drop j c)
+concluded_first m c l b j e r d rs ws does = record {
+  stops = tt;
+  moves = λ strides ls.
       rw (← take_min c j (word m 6) e, ← drop_min c j (word m 6) e) ((does strides).answer ls, ap (λ (x : List ℕ). x ++ drop j c) ((does strides).contents ls));
 }

@@ -1,6 +1,7 @@
 -- The single-move call in two stages, between which the move's instructions go through the lent list.
-use Rattle.std.specs.Prelude.{◌≡◌, ◌≢◌, List, [], ◌++◌, ℕ, ◌≤◌, length, take, drop}
-use Rattle.text.specs.Words.{Answer}
+use Rattle.std.specs.Prelude.{Result, Ok, Err, IfOk, OnErr, ◌≡◌, List, [], ◌++◌, ℕ, ◌≤◌, length, take, drop}
+use Rattle.text.specs.declared.Refusal.{Refusal}
+use Rattle.text.specs.Words.{Answer, told}
 use Rattle.book.specs.Book.{Program, L}
 use Rattle.book.specs.Sum.{Strided}
 use Rattle.book.specs.Image.{word, low_program}
@@ -14,7 +15,6 @@ use Rattle.engine_fire.specs.declared.Begun.{Begun}
 use Rattle.engine_fire.specs.Outcome.{contents_after}
 use Rattle.engine_fire.specs.Count.{instructions_given}
 use Rattle.engine_fire.specs.Effect.{move_answer}
-use Rattle.engine_step.specs.declared.BegunCall.{BegunCall}
 use Rattle.engine_step.specs.Leaves.{CallLeaves}
 
 -- the move with input k is begun in the contents c, with no marks: its walk ended as s says, with its instructions in the list l
@@ -32,16 +32,21 @@ pub record CallMoves (text c : List ℕ) (k : Input) (n : ℕ) (m l : List ℕ) 
   pub walked : MoveWalked (low_program m) (take (L (low_program m)) c) k l s
   pub whole : step_move (low_program m) c k ≡ step_call text c k n
 
+-- how many instructions a call gave: none if it was refused
+abbrev pub given : Result Begun Refusal → ℕ
+given (Ok s) = s.count
+given (Err e) = 0
+
 -- a call that is begun: it is refused by its checks, or its move is begun
-pub record CallBegun (text c : List ℕ) (k : Input) (n : ℕ) (m l : List ℕ) (p : BegunCall) : Type 0 where
-  pub stops : p.answer.number ≢ 0 → (p.begun.count ≡ 0) × CallLeaves p.answer 0 l c (step_call text c k n)
-  pub moves : p.answer.number ≡ 0 → CallMoves text c k n m l p.begun
+pub record CallBegun (text c : List ℕ) (k : Input) (n : ℕ) (m l : List ℕ) (p : Result Begun Refusal) : Type 0 where
+  pub stops : OnErr p (CallLeaves (told p) 0 l c (step_call text c k n))
+  pub moves : IfOk p (λ s. CallMoves text c k n m l s)
 
 -- A call that is finished, however it was begun: an answer that refuses stays, and the contents with it; else the move is settled by its walk's end and
 -- the list l, on the first records of the table c, as many as the image m says are the book's locations, if each function has the stride of its arity.
-pub record CallFinished (m c l : List ℕ) (p : BegunCall) (r : Answer) (d : List ℕ) : Type 0 where
-  pub stops : p.answer.number ≢ 0 → (r ≡ p.answer) × (d ≡ c)
-  pub moves : p.answer.number ≡ 0 → Strided (low_program m) → (ls : List ℕ) → (
-      let o = settle (low_program m) (take (word m 6) c) ls (outcome p.begun.walk l) in
+pub record CallFinished (m c l : List ℕ) (p : Result Begun Refusal) (r : Answer) (d : List ℕ) : Type 0 where
+  pub stops : OnErr p ((r ≡ told p) × (d ≡ c))
+  pub moves : IfOk p (λ s. Strided (low_program m) → (ls : List ℕ) → (
+      let o = settle (low_program m) (take (word m 6) c) ls (outcome s.walk l) in
       (r ≡ move_answer 0 o) × (d ≡ contents_after (take (word m 6) c) o ++ drop (word m 6) c)
-      )
+      ))

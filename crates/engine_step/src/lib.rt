@@ -3,20 +3,19 @@
 #![tactic(auto)]
 
 ghost use Rattle.std.specs.Prelude.{◌≡◌, take};
-ghost use Rattle.text.specs.Words.{answer_of};
+ghost use Rattle.text.specs.Words.{answer_of, told};
 ghost use Rattle.book.specs.Sum.{Strided};
 ghost use Rattle.book.specs.Image.{word, low_program};
 ghost use Rattle.engine.specs.Move.{input};
 ghost use Rattle.engine.specs.Single.{pick_place, check_agent, check_picks, check_step_lengths, check_contents};
 ghost use Rattle.engine_step.specs.Call.{check_call};
-ghost use Rattle.engine_step.specs.Stages.{MoveWalked, CallBegun, CallFinished};
+ghost use Rattle.engine_step.specs.Stages.{given, MoveWalked, CallBegun, CallFinished};
 ghost use Rattle.engine_step.specs.Entry.{StepMade, StepMadeOwn};
 
 use book::Image;
 use engine::{Pick, Record, Work};
-use engine_emit::Progress;
 use engine_fire::Begun;
-use text::{Answer, Value};
+use text::{Reason, Refusal, Value};
 
 // The place of pick j: its index + 1, but no more than C's one number holds.
 fn place_of(j: usize) -> u32
@@ -26,57 +25,54 @@ fn place_of(j: usize) -> u32
 }
 
 // Refusal 9: no such agent.
-fn check_agent(image: &Image, agent: usize) -> Answer
-    ensures { result ≡ answer_of (check_agent (low_program image.now) agent) }
+fn check_agent(image: &Image, agent: usize) -> Result<(), Refusal>
+    ensures { told result ≡ answer_of (check_agent (low_program image.now) agent) }
 {
     if agent < book_image::agents(image) as usize {
-        text::answer_at(0, 0, 0)
+        Ok(())
     } else {
-        text::answer_at(text::LOG_LINE, 0, 0)
+        text::refused(Reason::LogLine, 0, 0)
     }
 }
 
 // Refusal 9 for the picks: the least that is no element.
-fn check_picks(image: &Image, picks: &[Pick]) -> Answer
-    ensures { result ≡ answer_of (check_picks (low_program image.now) picks.now) }
+fn check_picks(image: &Image, picks: &[Pick]) -> Result<(), Refusal>
+    ensures { told result ≡ answer_of (check_picks (low_program image.now) picks.now) }
 {
     let e = book_image::elements(image) as u64;
     for (j, pick) in picks.iter().enumerate() {
         if e <= *pick {
-            return text::answer_at(text::LOG_LINE, place_of(j), 0);
+            return text::refused(Reason::LogLine, place_of(j), 0);
         }
     }
-    text::answer_at(0, 0, 0)
+    Ok(())
 }
 
 // Refusal 2: the contents table is too short, or else the list of instructions.
-fn check_lent(image: &Image, contents: &[Value], lent: usize) -> Answer
-    ensures { result ≡ answer_of (check_step_lengths (word image.now 6) contents.now lent) }
+fn check_lent(image: &Image, contents: &[Value], lent: usize) -> Result<(), Refusal>
+    ensures { told result ≡ answer_of (check_step_lengths (word image.now 6) contents.now lent) }
 {
     let locations = book_image::locations(image);
     if contents.len() < locations as usize {
-        return text::answer_at(text::LENT_SHORT, locations, text::CONTENTS_TABLE);
+        return text::refused(Reason::LentShort, locations, text::CONTENTS_TABLE);
     }
     if lent < engine::MOST_INSTRUCTIONS {
-        return text::answer_at(
-            text::LENT_SHORT,
+        return text::refused(
+            Reason::LentShort,
             engine::MOST_INSTRUCTIONS as u32,
             text::INSTRUCTIONS_TABLE,
         );
     }
-    text::answer_at(0, 0, 0)
+    Ok(())
 }
 
 // Refusal 8 of a lent table, on as many records as there are locations.
-fn check_contents(image: &Image, contents: &[Value]) -> Answer
-    ensures { Strided (low_program image.now) → result ≡ answer_of (check_contents (low_program image.now) (take (word image.now 6) contents.now)) }
+fn check_contents(image: &Image, contents: &[Value]) -> Result<(), Refusal>
+    ensures { Strided (low_program image.now) → told result ≡ answer_of (check_contents (low_program image.now) (take (word image.now 6) contents.now)) }
 {
     let n = text::smaller(book_image::locations(image) as usize, contents.len());
     let found = contents_check::bad_value(image, &contents[..n]);
-    match found {
-        Some(l) => text::answer_at(text::CONTENTS_RULE, l, 0),
-        None => text::answer_at(0, 0, 0),
-    }
+    text::none_at(Reason::ContentsRule, 0, found)
 }
 
 // Refusal 9 for the agent and for the picks, then refusal 2, then refusal 8, which reads the whole table.
@@ -86,46 +82,16 @@ pub fn check_call(
     agent: usize,
     picks: &[Pick],
     lent: usize,
-) -> Answer
-    ensures { Strided (low_program image.now) → result ≡ answer_of (check_call (low_program image.now) (word image.now 6) contents.now (input agent picks.now) lent) }
+) -> Result<(), Refusal>
+    ensures { Strided (low_program image.now) → told result ≡ answer_of (check_call (low_program image.now) (word image.now 6) contents.now (input agent picks.now) lent) }
 {
-    let nine = check_agent(image, agent);
-    if nine.number != 0 {
-        return nine;
-    }
-    let other = check_picks(image, picks);
-    if other.number != 0 {
-        return other;
-    }
-    let two = check_lent(image, contents, lent);
-    if two.number != 0 {
-        return two;
-    }
+    check_agent(image, agent)?;
+    check_picks(image, picks)?;
+    check_lent(image, contents, lent)?;
     check_contents(image, contents)
 }
 
 // ---- the call in stages: the checks and the move begun, then the move finished; in between its instructions may go through a lent list
-
-// A call up to the lent list: the answer of its checks, and its move begun if they pass.
-#[derive(Clone, Copy)]
-pub struct BegunCall {
-    pub answer: Answer,
-    pub begun: Begun,
-}
-
-// A call that its checks refuse: no move is begun.
-fn refused_call(answer: Answer) -> BegunCall
-    ensures { (result.answer ≡ answer) × (result.begun.count ≡ 0) }
-{
-    let walk = Progress {
-        len: 0,
-        label: 0,
-        refused: 0,
-        node: 0,
-    };
-    let begun = Begun { walk, count: 0 };
-    BegunCall { answer, begun }
-}
 
 // Begins the move on the first L records of the lent table, with no marks: their tables have length 0.
 fn walk_call(
@@ -160,34 +126,24 @@ pub fn begin_call(
     lent: usize,
     image: &mut Image,
     work: &mut Work,
-) -> BegunCall
+) -> Result<Begun, Refusal>
     ensures { CallBegun book.now contents.now (input agent picks.now) lent image.new work.new result }
 {
-    let opened = book_check::check_into(book, image);
-    if opened.number != 0 {
-        return refused_call(opened);
-    }
-    let checked = check_call(image, contents, agent, picks, lent);
-    if checked.number != 0 {
-        return refused_call(checked);
-    }
-    let begun = walk_call(image, contents, agent as u32, picks, work);
-    BegunCall {
-        answer: checked,
-        begun,
-    }
+    book_check::check_into(book, image)?;
+    check_call(image, contents, agent, picks, lent)?;
+    Ok(walk_call(image, contents, agent as u32, picks, work))
 }
 
-// Finishes the move, by the instructions that came back from the lent list.
-pub fn finish_call(contents: &mut [Value], image: &Image, work: &Work, p: BegunCall) -> Answer
-    ensures { CallFinished image.now contents.old work.now p result contents.new }
+// Finishes the move, by the instructions that came back from the lent list; a call that was refused stays refused.
+pub fn finish_call(
+    contents: &mut [Value],
+    image: &Image,
+    work: &Work,
+    call: Result<Begun, Refusal>,
+) -> Result<(), Refusal>
+    ensures { CallFinished image.now contents.old work.now call (told result) contents.new }
 {
-    let answer = p.answer;
-    if answer.number != 0 {
-        return answer;
-    }
-    let begun = p.begun;
-    let walk = begun.walk;
+    let walk = call?.walk;
     let all = book_image::locations(image) as usize;
     let n = text::smaller(all, contents.len());
     let mut readers = [0u64; 1];
@@ -205,6 +161,16 @@ pub fn finish_call(contents: &mut [Value], image: &Image, work: &Work, p: BegunC
     done.answer
 }
 
+// How many instructions a call gave: none if it was refused.
+fn given(call: Result<Begun, Refusal>) -> usize
+    ensures { result ≡ given call }
+{
+    match call {
+        Ok(begun) => begun.count,
+        Err(_) => 0,
+    }
+}
+
 // ---- the entry
 
 // The single-move entry: a book, a contents table, an agent, its picks, and a list of instruction records. The
@@ -215,16 +181,15 @@ pub fn step(
     agent: usize,
     picks: &[Pick],
     instructions: &mut [Record],
-) -> Answer
-    ensures { StepMade book.now contents.old (input agent picks.now) instructions.old result contents.new instructions.new }
+) -> Result<(), Refusal>
+    ensures { StepMade book.now contents.old (input agent picks.now) instructions.old (told result) contents.new instructions.new }
 {
     let lent = instructions.len();
     let mut image = [0u32; 2248];
     let mut work = [0u64; engine::MOST_INSTRUCTIONS];
-    let p = begin_call(book, contents, agent, picks, lent, &mut image, &mut work);
-    let count = p.begun.count;
-    engine_list::pass(instructions, &mut work, count);
-    finish_call(contents, &image, &work, p)
+    let call = begin_call(book, contents, agent, picks, lent, &mut image, &mut work);
+    engine_list::pass(instructions, &mut work, given(call));
+    finish_call(contents, &image, &work, call)
 }
 
 // The single-move entry with a list of `lent` records of its own. It has 256 at most; a longer list makes no difference.
@@ -234,8 +199,8 @@ pub fn step_own_list(
     agent: usize,
     picks: &[Pick],
     lent: usize,
-) -> Answer
-    ensures { StepMadeOwn book.now contents.old (input agent picks.now) lent result contents.new }
+) -> Result<(), Refusal>
+    ensures { StepMadeOwn book.now contents.old (input agent picks.now) lent (told result) contents.new }
 {
     let none = engine_list::blank();
     let mut list = [none; engine::MOST_INSTRUCTIONS];

@@ -1,5 +1,6 @@
 -- `check_picks` meets its contract.
-use mathlib.Core.Path.{◌≡◌, ◌∙◌}
+use mathlib.Core.Path.{◌≡◌, ap, ◌∙◌}
+use Rattle.text.specs.Words.{told}
 use mathlib.Core.Bool.{true, false}
 use native.Mathlib.Omega.{arith}
 use lib.ListN.{length, get_or}
@@ -19,7 +20,7 @@ returns-then-e-pick c =
     let j = c.loop-j.j in
     let e = (elements_held _ _ c.elements-e.ensures).0 in
     let h : bad_pick B ys j ≡ true = rw (le-ltb (get_or ys j 0) B.E (omega (arith, e, c.if-e-pick.true))) in
-    c.answer_at.ensures ∙ rw c.place_of.ensures (pick_bad B ys j (least_stop (bad_pick B ys) (length ys) j c.loop-j-test.true h c.loop-j.invariant))
+    ap told c.refused.ensures ∙ rw c.place_of.ensures (pick_bad B ys j (least_stop (bad_pick B ys) (length ys) j c.loop-j-test.true h c.loop-j.invariant))
 
 pub loop-j-preserved : goal.loop-j-preserved
 loop-j-preserved c =
@@ -37,4 +38,4 @@ returns c =
     let B = low_program a.image.now in
     let ys = a.picks.now in
     let l = c.loop-j in
-    c.answer_at-2.ensures ∙ picks_fine B ys (least_end (bad_pick B ys) (length ys) l.j c.loop-j-test.false l.invariant)
+    picks_fine B ys (least_end (bad_pick B ys) (length ys) l.j c.loop-j-test.false l.invariant)

@@ -1,15 +1,27 @@
 -- `finish_call` meets its contract.
-use Rattle.engine_step.proofs.Stages.{concluded_first}
-use mathlib.Core.Path.{ap, ◌∙◌}
+use Rattle.std.proofs.Common.{◌≡◌, Ok, Err, ap, sym, refl, subst, ◌∙◌}
+use Rattle.std.specs.Prelude.{Result}
+use Rattle.engine_fire.specs.declared.Begun.{Begun}
+use Rattle.text.specs.declared.Refusal.{Refusal}
+use Rattle.text.specs.Words.{told}
+use Rattle.text.proofs.Checks.{refused_alike}
+use Rattle.engine.specs.Labels.{tallied}
+use Rattle.engine_step.specs.Stages.{CallFinished}
+use Rattle.engine_step.proofs.Stages.{refused_stays, concluded_first}
 use Prim.Native.Nat.{ℕ, min}
 use lib.ListN.{length}
 use Rattle.engine_step.proofs.finish_call.Goals as goal
+
+pub returns-in_err-walk : goal.returns-in_err-walk
+returns-in_err-walk c =
+    let a = c.args in
+    refused_stays a.image.now a.contents.now a.work.now a.call _ c.in_err-walk.was _ (refused_alike _ c.in_err-walk.was c.from_residual.ensures.1)
 
 pub returns : goal.returns
 returns c =
     let a = c.args in
     let n = c.smaller-n in
     let m = c.finish_move-done in
-    concluded_first a.image.now a.contents.now a.work.now a.p n.result
-    (n.ensures ∙ ap (λ (x : ℕ). min x (length a.contents.now)) c.locations-all.ensures) c.if-answer-ne0.false m.result m.new.contents
-    m.new.readers m.new.writers m.ensures
+    let e : n.result ≡ min _ (length a.contents.now) = n.ensures ∙ ap (λ (x : ℕ). min x (length a.contents.now)) c.locations-all.ensures in
+    rw c.in_ok-walk.was
+    (concluded_first a.image.now a.contents.now a.work.now c.in_ok-walk.field-0 n.result e (tallied m.result) m.new.contents m.new.readers m.new.writers m.ensures)
