@@ -180,6 +180,7 @@ fn last_at_slot(list: &[u64], prior: &[u16; engine::MOST_INSTRUCTIONS], p: u16, 
     requires { Chain list.now prior.now code p }
     ensures { Last location_of list.now code p result }
 {
+    // A while, since each step goes to where `prior` says.
     let mut i = p as usize;
     while 0 < i {
         if list[i - 1] / 65536 == code / 65536 {
