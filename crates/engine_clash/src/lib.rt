@@ -84,11 +84,13 @@ fn gives_other(s: HeldPlace, w: Value, what: Instruction) -> bool
     }
 }
 
-// Some instruction of the list gives the location of s a value other than w.
+// Some instruction of the list gives the location of s a value other than w. Each instruction of a move may come here for each: a slice is gone over with
+// one count, `take` with two.
 fn some_gives_other(list: &[u64], len: usize, s: HeldPlace, w: Value) -> bool
     ensures { result ≡ any (λ i. other w (values_given s i)) (items list.now len) }
 {
-    list.iter().take(len).any(|code| gives_other(s, w, engine_instruction::decode(*code)))
+    let n = text::smaller(len, list.len());
+    list[..n].iter().any(|code| gives_other(s, w, engine_instruction::decode(*code)))
 }
 
 // The instruction releases the label x.
@@ -101,12 +103,13 @@ fn releases(what: Instruction, x: Value) -> bool
     }
 }
 
-// Some instruction of the list releases the label x.
+// Some instruction of the list releases the label x; a slice is gone over with one count, `take` with two.
 fn is_released(list: &[u64], len: usize, x: Value) -> bool
     ensures { result ≡ has (released (items list.now len)) x }
 {
-    list.iter()
-        .take(len)
+    let n = text::smaller(len, list.len());
+    list[..n]
+        .iter()
         .any(|code| releases(engine_instruction::decode(*code), x))
 }
 
@@ -177,6 +180,7 @@ fn last_at_slot(list: &[u64], prior: &[u16; engine::MOST_INSTRUCTIONS], p: u16, 
     requires { Chain list.now prior.now code p }
     ensures { Last location_of list.now code p result }
 {
+    // A while, since each step goes to where `prior` says.
     let mut i = p as usize;
     while 0 < i {
         if list[i - 1] / 65536 == code / 65536 {

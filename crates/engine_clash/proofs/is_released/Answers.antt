@@ -1,6 +1,7 @@
 -- `is_released` meets its contract.
-use Rattle.std.proofs.Common.{◌∙◌, rules, tests, sym, Bool, []}
-use Rattle.std.proofs.lemmas.Iterator.{YieldsList-from_slice, YieldsList-from_take}
+use Rattle.std.proofs.Common.{◌∙◌, rules, tests, take, sym, Bool, []}
+use Rattle.std.proofs.lemmas.Iterator.{YieldsList-from_slice}
+use Rattle.engine_instruction.proofs.Laws.{take_min}
 use Rattle.std.proofs.lemmas.Iterator.Search.{any_from_yields_List}
 use Rattle.text.specs.Words.{has}
 use Rattle.engine.specs.declared.Instruction.{Instruction}
@@ -14,6 +15,6 @@ returns c =
     let a = c.args in
     let gives : Instruction → Bool = λ i. has (label_of i []) a.x in
     any_from_yields_List (λ x. gives (decode_of x)) _ _ c.any.result c.any.ensures.ran
-    (YieldsList-from_take a.len (YieldsList-from_slice a.list.now cc) cc)
+    (YieldsList-from_slice (take a.len a.list.now) (c.iter.ensures.rest ∙ take_min a.list.now c.smaller-n.result a.len c.smaller-n.ensures))
     (λ x b q k. search (rules, tests))
     ∙ any_items gives a.list.now a.len ∙ sym (has_any a.x (items a.list.now a.len))

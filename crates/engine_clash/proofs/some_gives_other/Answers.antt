@@ -1,6 +1,7 @@
 -- `some_gives_other` meets its contract.
-use Rattle.std.proofs.Common.{◌∙◌, rules, tests, Bool}
-use Rattle.std.proofs.lemmas.Iterator.{YieldsList-from_slice, YieldsList-from_take}
+use Rattle.std.proofs.Common.{◌∙◌, rules, tests, take, Bool}
+use Rattle.std.proofs.lemmas.Iterator.{YieldsList-from_slice}
+use Rattle.engine_instruction.proofs.Laws.{take_min}
 use Rattle.std.proofs.lemmas.Iterator.Search.{any_from_yields_List}
 use Rattle.engine.specs.declared.Instruction.{Instruction}
 use Rattle.engine.specs.Move.{other}
@@ -14,6 +15,6 @@ returns c =
     let a = c.args in
     let gives : Instruction → Bool = λ i. other a.w (values_given a.s i) in
     any_from_yields_List (λ x. gives (decode_of x)) _ _ c.any.result c.any.ensures.ran
-    (YieldsList-from_take a.len (YieldsList-from_slice a.list.now cc) cc)
+    (YieldsList-from_slice (take a.len a.list.now) (c.iter.ensures.rest ∙ take_min a.list.now c.smaller-n.result a.len c.smaller-n.ensures))
     (λ x b q k. search (rules, tests))
     ∙ any_items gives a.list.now a.len
