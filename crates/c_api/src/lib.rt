@@ -1,13 +1,15 @@
 // What C can call; include/rental.h declares it. An answer comes in one number.
 #![tactic(auto)]
 
-ghost use Rattle.std.specs.Prelude.{◌≡◌, ◌≤◌, length};
+ghost use Rattle.std.specs.Prelude.{◌≡◌, length};
+ghost use Rattle.text.specs.Words.{told};
+ghost use Rattle.book.specs.Check.{packed as packed_check};
 ghost use Rattle.engine.specs.Move.{input};
 ghost use Rattle.c_api.specs.Packed.{packed_answer, tally_words, CheckPacked, MovePacked, RunPacked, InputPrinted};
 ghost use Rattle.engine.specs.Tables.{tables};
 
 use engine::{Pick, Tally};
-use text::{Answer, Value};
+use text::{Refusal, Value};
 
 // The check of a book, as number × 2^32 + p. Each refusal of a book has q 0. C has number and p back by
 // shift and mask.
@@ -15,16 +17,27 @@ use text::{Answer, Value};
 pub extern "C" fn rental_check_book(book: &[u8]) -> u64
     ensures { CheckPacked book.now result }
 {
-    let a = book_check::check_book(book);
-    a.number as u64 * 4294967296 + a.p as u64
+    packed_check(book_check::check_book(book))
+}
+
+// The answer of a book check in one number, number × 2^32 + p.
+fn packed_check(answer: Result<(), Refusal>) -> u64
+    ensures { result ≡ packed_check (told answer) }
+{
+    match answer {
+        Ok(()) => 0,
+        Err(r) => r.reason.number() as u64 * 4294967296 + r.p as u64,
+    }
 }
 
 // An answer in one number, number × 2^48 + p × 2^24 + q. The numbers end at 19, so nothing wraps.
-fn packed(a: Answer) -> u64
-    requires { a.number ≤ 19 }
-    ensures { result ≡ packed_answer a }
+fn packed(answer: Result<(), Refusal>) -> u64
+    ensures { result ≡ packed_answer (told answer) }
 {
-    a.number as u64 * 281474976710656 + a.p as u64 * 16777216 + a.q as u64
+    match answer {
+        Ok(()) => 0,
+        Err(r) => r.reason.number() as u64 * 281474976710656 + r.p as u64 * 16777216 + r.q as u64,
+    }
 }
 
 // The single-move entry, as number × 2^48 + p × 2^24 + q; `lent` is how many instruction records there are.

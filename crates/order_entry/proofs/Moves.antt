@@ -1,4 +1,5 @@
 -- The moves of a run made one after the other: how far the run is in the loop, and what is known at its end.
+use Rattle.engine.specs.declared.TalliedResult.{TalliedResult}
 use Rattle.std.proofs.Common.{◌≡◌, ℕ, ◌+◌, ◌-◌, ◌≤◌, min, Bool, true, false, List, ◌∷◌, ◌++◌, length, take, drop, take-append-drop, sym, ap, subst, refl, ◌∙◌, arith}
 use Rattle.std.proofs.lemmas.Bool.{false≢true}
 use Rattle.book.specs.Image.{word, low_program}
@@ -11,7 +12,7 @@ use Rattle.order.specs.Log.{Log}
 use Rattle.order.specs.Lists.{lists_from}
 use Rattle.order.specs.Run.{LogAnswer}
 use Rattle.engine.specs.Tables.{Tables}
-use Rattle.engine.specs.Labels.{TalliedAnswer}
+use Rattle.engine.specs.Labels.{TalliedAnswer, tallied}
 use Rattle.engine_list.specs.Written.{records_written, all_records_written, through, PassedThrough}
 use Rattle.engine_list.proofs.Laws.{none_left}
 use Rattle.order_run.specs.declared.RunState.{RunState}
@@ -31,7 +32,7 @@ later_lists m t g c = lists_from (low_program m) g c (t.moves - (t.at + 1)) (t.a
 
 -- how far the run is at t, with these tables and records, if it was at t₀ at the start of the loop: the moves that are left write what is left to write
 pub record SoFar (m o : List ℕ) (t₀ : RunState) (C R D : List ℕ) (Y : List Record) (t : RunState) (cs rs ws : List ℕ) (zs : List Record) : Type 0 where
-  pub none : t₀.more ≡ false → (answer_with t.result cs rs ws ≡ answer_with t₀.result C R D) × (zs ≡ Y) × (t.more ≡ false)
+  pub none : t₀.more ≡ false → (answer_with (tallied t.result) cs rs ws ≡ answer_with (tallied t₀.result) C R D) × (zs ≡ Y) × (t.more ≡ false)
   pub run : (g : Log) (c : List ℕ) (rest : List (List Instruction)) → most_instructions ≤ length Y → RunAt m o g c rest t₀ C R D
       → (left : List (List Instruction)) × RunAt m o g c left t cs rs ws × (all_records_written left zs ≡ all_records_written rest Y)
 
@@ -68,7 +69,7 @@ module _ (m o : List ℕ) (t₀ : RunState) (C R D : List ℕ) (Y : List Record)
 
   -- what the loop leaves is what the contract says
   pub ends_so_far : (t : RunState) (cs rs ws : List ℕ) (zs : List Record) → SoFar m o t₀ C R D Y t cs rs ws zs → t.more ≡ false
-      → MovesMade m o t₀ C R D Y t.result cs rs ws zs
+      → MovesMade m o t₀ C R D Y (tallied t.result) cs rs ws zs
   ends_so_far t cs rs ws zs so off = record {
     none = λ e. ((so.none e).0, (so.none e).1);
     run = λ g c rest room h.
@@ -82,20 +83,20 @@ module _ (m o : List ℕ) (t₀ : RunState) (C R D : List ℕ) (Y : List Record)
 unchanged : (k : ℕ) (C d : List ℕ) → d ≡ take k C → d ++ drop k C ≡ C
 unchanged k C d e = ap (λ (y : List ℕ). y ++ drop k C) e ∙ take-append-drop k C
 
-module _ (m o : List ℕ) (t : RunState) (C R D : List ℕ) (Y : List Record) (k : ℕ) (r : TalliedAnswer) (cs rs ws : List ℕ) (zs : List Record) where
+module _ (m o : List ℕ) (t : RunState) (C R D : List ℕ) (Y : List Record) (k : ℕ) (r : TalliedResult) (cs rs ws : List ℕ) (zs : List Record) where
   -- the moves made on the first k records of each table, with the other records as they were, are the whole call's
-  pub of_all_records : MovesMade m o t (take k C) (take k R) (take k D) Y r cs rs ws zs → k ≡ min (word m 6) (min (length C) (min (length R) (length D)))
+  pub of_all_records : MovesMade m o t (take k C) (take k R) (take k D) Y (tallied r) cs rs ws zs → k ≡ min (word m 6) (min (length C) (min (length R) (length D)))
       → length cs ≡ length (take k C) → length rs ≡ length (take k R) → length ws ≡ length (take k D)
       → (lent : Tables) (whole : LogAnswer) (rest : List (List Instruction)) → CallAt lent (length Y) whole m o rest t C R D
-      → (answer_with r (cs ++ drop k C) (rs ++ drop k R) (ws ++ drop k D) ≡ whole) × (zs ≡ all_records_written rest Y)
+      → (answer_with (tallied r) (cs ++ drop k C) (rs ++ drop k R) (ws ++ drop k D) ≡ whole) × (zs ≡ all_records_written rest Y)
   of_all_records said ek lc lr lw lent whole rest h = by_turn t.more refl
     where
-      by_turn : (v : Bool) → t.more ≡ v → (answer_with r (cs ++ drop k C) (rs ++ drop k R) (ws ++ drop k D) ≡ whole) × (zs ≡ all_records_written rest Y)
+      by_turn : (v : Bool) → t.more ≡ v → (answer_with (tallied r) (cs ++ drop k C) (rs ++ drop k R) (ws ++ drop k D) ≡ whole) × (zs ≡ all_records_written rest Y)
       by_turn true y = ends_call lent (length Y) whole m o rest t C R D h y k ek r cs rs ws lc lr lw (zs ≡ all_records_written rest Y) (λ g c few stage. said.run g c rest few stage)
       by_turn false y =
           let q = said.none y in
           let e = h.over y in
-          let same : answer_with r (cs ++ drop k C) (rs ++ drop k R) (ws ++ drop k D) ≡ answer_with t.result C R D = rw (
+          let same : answer_with (tallied r) (cs ++ drop k C) (rs ++ drop k R) (ws ++ drop k D) ≡ answer_with (tallied t.result) C R D = rw (
             ap (λ (v : LogAnswer). v.answer) q.0,
             ap (λ (v : LogAnswer). v.tally) q.0,
             unchanged k C cs (ap (λ (v : LogAnswer). v.contents) q.0),

@@ -3,7 +3,7 @@ use Rattle.std.specs.Prelude.{◌≡◌, false, List, ℕ, ◌≤◌, length}
 use Rattle.book.specs.Image.{low_program}
 use Rattle.engine.specs.declared.Instruction.{Instruction}
 use Rattle.engine.specs.declared.Record.{Record}
-use Rattle.engine.specs.Labels.{TalliedAnswer}
+use Rattle.engine.specs.Labels.{TalliedAnswer, tallied}
 use Rattle.engine.specs.Rule.{most_instructions}
 use Rattle.order.specs.Log.{Log}
 use Rattle.order.specs.Run.{run_from}
@@ -15,7 +15,7 @@ use Rattle.order_run.specs.Stages.{RunAt}
 -- the moves from the state t on are made, on the tables d, rs, ws and the records ys: the answer is r, and these tables and records are left
 pub record MovesMade (m o : List ℕ) (t : RunState) (d rs ws : List ℕ) (ys : List Record) (r : TalliedAnswer) (d' rs' ws' : List ℕ) (zs : List Record) : Type 0 where
   -- if no move is next, the answer of t stands, and nothing is written
-  pub none : t.more ≡ false → (answer_with r d' rs' ws' ≡ answer_with t.result d rs ws) × (zs ≡ ys)
+  pub none : t.more ≡ false → (answer_with r d' rs' ws' ≡ answer_with (tallied t.result) d rs ws) × (zs ≡ ys)
   -- of a run that is so far: its answer and its tables, and the records got the instructions of each walked move in turn
   pub run : (g : Log) (c : List ℕ) (rest : List (List Instruction)) → most_instructions ≤ length ys → RunAt m o g c rest t d rs ws
       → (answer_with r d' rs' ws' ≡ run_from (low_program m) g c) × (zs ≡ all_records_written rest ys)

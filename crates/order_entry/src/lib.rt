@@ -3,11 +3,12 @@
 #![tactic(auto)]
 
 ghost use Rattle.order_entry.specs.LogRun.{LogRun, LogRunOwn};
+ghost use Rattle.engine.specs.Labels.{tallied};
 ghost use Rattle.engine.specs.Tables.{tables};
 ghost use Rattle.order_entry.specs.Promised.{MadeOn, RunToEnd, RunToEndOwn};
 
 use book::Image;
-use engine::{Record, TalliedAnswer};
+use engine::{Record, TalliedResult};
 use order::OrderTable;
 use order_run::RunState;
 use text::Value;
@@ -22,8 +23,8 @@ fn make_moves(
     image: &Image,
     order: &OrderTable,
     first: RunState,
-) -> TalliedAnswer
-    ensures { MadeOn image.now order.now first (tables contents.old readers.old writers.old) instructions.old result (tables contents.new readers.new writers.new) instructions.new }
+) -> TalliedResult
+    ensures { MadeOn image.now order.now first (tables contents.old readers.old writers.old) instructions.old (tallied result) (tables contents.new readers.new writers.new) instructions.new }
 {
     let mut work = [0u64; engine::MOST_INSTRUCTIONS];
     let mut t = first;
@@ -45,8 +46,8 @@ pub fn run_from(
     image: &Image,
     order: &OrderTable,
     first: RunState,
-) -> TalliedAnswer
-    ensures { RunToEnd image.now order.now first (tables contents.old readers.old writers.old) instructions.old result (tables contents.new readers.new writers.new) instructions.new }
+) -> TalliedResult
+    ensures { RunToEnd image.now order.now first (tables contents.old readers.old writers.old) instructions.old (tallied result) (tables contents.new readers.new writers.new) instructions.new }
 {
     let n = order_run::records_used(image, contents.len(), readers.len(), writers.len());
     make_moves(
@@ -68,8 +69,8 @@ pub fn run(
     readers: &mut [u64],
     writers: &mut [u64],
     instructions: &mut [Record],
-) -> TalliedAnswer
-    ensures { LogRun book.now log.now (tables contents.old readers.old writers.old) instructions.old result (tables contents.new readers.new writers.new) instructions.new }
+) -> TalliedResult
+    ensures { LogRun book.now log.now (tables contents.old readers.old writers.old) instructions.old (tallied result) (tables contents.new readers.new writers.new) instructions.new }
 {
     let lent = instructions.len();
     let mut image = [0u32; 2248];
@@ -90,8 +91,8 @@ pub fn run_own_list(
     readers: &mut [u64],
     writers: &mut [u64],
     lent: usize,
-) -> TalliedAnswer
-    ensures { LogRunOwn book.now log.now (tables contents.old readers.old writers.old) lent result (tables contents.new readers.new writers.new) }
+) -> TalliedResult
+    ensures { LogRunOwn book.now log.now (tables contents.old readers.old writers.old) lent (tallied result) (tables contents.new readers.new writers.new) }
 {
     let none = engine_list::blank();
     let mut list = [none; engine::MOST_INSTRUCTIONS];
@@ -108,8 +109,8 @@ pub fn run_from_own_list(
     image: &Image,
     order: &OrderTable,
     first: RunState,
-) -> TalliedAnswer
-    ensures { RunToEndOwn image.now order.now first (tables contents.old readers.old writers.old) lent result (tables contents.new readers.new writers.new) }
+) -> TalliedResult
+    ensures { RunToEndOwn image.now order.now first (tables contents.old readers.old writers.old) lent (tallied result) (tables contents.new readers.new writers.new) }
 {
     let none = engine_list::blank();
     let mut list = [none; engine::MOST_INSTRUCTIONS];

@@ -1,4 +1,9 @@
 -- What is printed is the text of the definition: the contents that a run leaves, the book in the image, and the checks of an input.
+use Rattle.std.specs.Prelude.{Result, Ok, Err}
+use Rattle.std.proofs.lemmas.Result.{IfOk-at_ok}
+use Rattle.text.specs.declared.Refusal.{Refusal}
+use Rattle.text.specs.Words.{told, told_refused}
+use Rattle.text.proofs.Checks.{passing, reason_numbered}
 use mathlib.Core.Path.{◌≡◌, refl, sym, ap, subst, ◌∙◌}
 use mathlib.Core.Logic.{◌≢◌}
 use mathlib.Core.List.{List, ◌++◌, append-nil}
@@ -133,32 +138,41 @@ module _ (book : List ℕ) (b : Book) (g : Log) (r : CheckedCall) (m o : List �
 
 -- ---- a book and a log
 
-module _ (book log : List ℕ) (m o : List ℕ) (r : CheckedCall) (opened : CallChecked book log own_tables r m o) where
+module _ (book log : List ℕ) (m o : List ℕ) (r : Result CheckedCall Refusal) (opened : CallChecked book log own_tables r m o) where
   -- an input that passes its checks has no more locations than the call's own tables have records
-  pub parts_few : r.answer.number ≡ 0 → r.locations ≤ 2048
-  parts_few z =
-      let both = all_good book log own_tables (ap (λ (a : Answer). a.number) (sym opened.answer) ∙ z) in
-      let h = opened.held both.0.0 both.0.1 both.1 in
+  pub parts_few : (v : CheckedCall) → r ≡ Ok v → v.locations ≤ 2048
+  parts_few v ok =
+      let both = all_good book log own_tables (ap (λ (a : Answer). a.number) (sym opened.answer) ∙ passing ok) in
+      let h = IfOk-at_ok _ ok (opened.held both.0.0 both.0.1 both.1) in
       omega (arith, h.locations.0, h.locations.1, (enough book log own_tables both.0.0 both.0.1 both.1).contents)
 
-module _ (book log : List ℕ) (m o : List ℕ) (r : CheckedCall) (opened : CallChecked book log own_tables r m o) (out : List ℕ) (k : PrintedRun) (after : List ℕ) where
+module _ (book log : List ℕ) (m o : List ℕ) (r : Result CheckedCall Refusal) (opened : CallChecked book log own_tables r m o) (out : List ℕ) (k : PrintedRun) (after : List ℕ) where
   abbrev checks : Checked (Book × Log)
   checks = check_all book log own_tables
 
-  -- what is printed of an input that passes its checks, on tables of n records
-  pub parts_passed : r.answer.number ≡ 0 → (n : ℕ) → (r.locations ≤ n)
-      → ((b : Book) (g : Log) → Reported book b g r m o (blank_tables n) → Shown (print_answer b.program (run_log b g)) (run_log b g).tally out k after)
+  -- what is printed of an input that is refused by its checks
+  pub parts_refused : (e : Refusal) → r ≡ Err e → Shown (written (first_line (told_refused e) 0)) no_labels out k after
       → Shown (print_checked checks) (tally_checked checks) out k after
-  parts_passed z n few does =
-      let both = all_good book log own_tables (ap (λ (a : Answer). a.number) (sym opened.answer) ∙ z) in
+  parts_refused e is s = go checks (sym (ap (λ (x : Result CheckedCall Refusal). told x) is) ∙ opened.answer)
+    where
+      go : (c : Checked (Book × Log)) → told_refused e ≡ answer_of c → Shown (print_checked c) (tally_checked c) out k after
+      go (refused n p q) w = subst (λ (a : Answer). Shown (written (first_line a 0)) no_labels out k after) w s
+      go (good x) w = absurd (omega (arith, (reason_numbered e.reason).0, ap (λ (a : Answer). a.number) w))
+
+  -- what is printed of an input that passes its checks, on tables of n records
+  pub parts_passed : (v : CheckedCall) → r ≡ Ok v → (n : ℕ) → (v.locations ≤ n)
+      → ((b : Book) (g : Log) → Reported book b g v m o (blank_tables n) → Shown (print_answer b.program (run_log b g)) (run_log b g).tally out k after)
+      → Shown (print_checked checks) (tally_checked checks) out k after
+  parts_passed v ok n few does =
+      let both = all_good book log own_tables (ap (λ (a : Answer). a.number) (sym opened.answer) ∙ passing ok) in
       let b = both.0.0 in
       let g = both.0.1 in
       let is : checks ≡ good (b, g) = both.1 in
-      let h = opened.held b g is in
+      let h = IfOk-at_ok _ ok (opened.held b g is) in
       let l : L b.program ≤ n = omega (arith, h.locations.0, h.locations.1, few) in
       let long = length-replicate {A = ℕ} n 0 in
       let parts = all_parts book log own_tables b g is in
-      let q : Reported book b g r m o (blank_tables n) = record {
+      let q : Reported book b g v m o (blank_tables n) = record {
         passed = record {
           log = log;
           lent = own_tables;

@@ -1,4 +1,6 @@
 -- Where the book of an input ends, by the tests of its header; the checks of the input are those of its two parts.
+use Rattle.std.specs.Option.{is_some}
+use mathlib.Core.Bool.{true≢false, false≢true}
 use Rattle.std.specs.Prelude.{Option, None, Some}
 use Rattle.std.specs.Prelude.{if◌then◌else◌}
 use mathlib.Core.Path.{◌≡◌, refl, sym, ◌∙◌}
@@ -38,15 +40,15 @@ by_tests true true o n h = refl
 by_tests true false o n h = refl
 by_tests false b o n h = refl
 
-bounds_refused : (o : Option ℕ) (n : ℕ) (h : Header) → (answer_of (none_at 3 0 0 o)).number ≢ 0 → n ≡ called_for n (none_at 3 0 0 o >> good h)
+bounds_refused : (o : Option ℕ) (n : ℕ) (h : Header) → is_some o ≡ true → n ≡ called_for n (none_at 3 0 0 o >> good h)
 unfolding none_at ◌>>◌
-bounds_refused None n h z = absurd (z refl)
+bounds_refused None n h z = absurd (false≢true z)
 bounds_refused (Some i) n h z = refl
 
-bounds_passed : (o : Option ℕ) (n : ℕ) (h : Header) → (answer_of (none_at 3 0 0 o)).number ≡ 0 → min (25 * line_count h) n ≡ called_for n (none_at 3 0 0 o >> good h)
+bounds_passed : (o : Option ℕ) (n : ℕ) (h : Header) → is_some o ≡ false → min (25 * line_count h) n ≡ called_for n (none_at 3 0 0 o >> good h)
 unfolding none_at ◌>>◌
 bounds_passed None n h z = refl
-bounds_passed (Some i) n h z = absurd (omega arith)
+bounds_passed (Some i) n h z = absurd (true≢false z)
 
 module _ (text : List ℕ) where
   abbrev of_bounds : Line → Line → Checked Header
@@ -71,14 +73,14 @@ module _ (text : List ℕ) where
           let b = and_cases x.ok y.ok formed in
           length_by_tests ∙ rw (formed, parsed_line text 0 x ex b.0, parsed_line text 1 y ey b.1)
 
-      module _ (a : Answer) (ea : a ≡ answer_of (none_at 3 0 0 (least (bad_field x.line y.line) 8))) where
-        pub length_unbounded : a.number ≢ 0 → length text ≡ book_length text
+      module _ (o : Option ℕ) {b : Bool} (eo : o ≡ least (bad_field x.line y.line) 8) (eb : b ≡ is_some o) where
+        pub length_unbounded : b ≡ true → length text ≡ book_length text
         length_unbounded z =
-            bounds_refused (least (bad_field x.line y.line) 8) (length text) (header_of x.line y.line) (rw ea at z) ∙ sym length_formed
+            bounds_refused (least (bad_field x.line y.line) 8) (length text) (header_of x.line y.line) (rw eo at (sym eb ∙ z)) ∙ sym length_formed
 
-        pub length_bounded : a.number ≡ 0 → min (25 * line_count (header_of x.line y.line)) (length text) ≡ book_length text
+        pub length_bounded : b ≡ false → min (25 * line_count (header_of x.line y.line)) (length text) ≡ book_length text
         length_bounded z =
-            bounds_passed (least (bad_field x.line y.line) 8) (length text) (header_of x.line y.line) (rw ea at z) ∙ sym length_formed
+            bounds_passed (least (bad_field x.line y.line) 8) (length text) (header_of x.line y.line) (rw eo at (sym eb ∙ z)) ∙ sym length_formed
 
   -- ---- the checks of the two parts
 

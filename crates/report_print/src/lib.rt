@@ -7,6 +7,7 @@ ghost use Rattle.book.specs.Image.{program_in, word};
 ghost use Rattle.report.specs.Report.{contents_lines, own_tables, first_line, print_checked, rental, tally_checked, input_tally};
 ghost use Rattle.report_print.specs.Print.{line_for, location_lines, lines_printed, Prints, most_output, FunctionPrinted};
 ghost use Rattle.report_print.specs.Split.{book_length};
+ghost use Rattle.text.specs.Words.{told, told_refused};
 ghost use Rattle.text.specs.Text.{written};
 ghost use Rattle.order.specs.Call.{check_all};
 ghost use Rattle.report_print.specs.Shown.{Shown, fitting, fitting_tally};
@@ -17,7 +18,7 @@ use book::{Function, Image};
 use engine::Tally;
 use order::{Lengths, OrderTable};
 use order_run::CheckedCall;
-use text::{Answer, Line, Value};
+use text::{Line, Reason, Refusal, Value};
 
 // The line of location i of function k, which is f and holds v there. Arguments are divided out only for locations that are printed.
 fn line_of(f: Function, k: u32, i: u32, v: Value) -> Line
@@ -73,30 +74,42 @@ fn print_contents(image: &Image, contents: &[Value], out: &mut [u8]) -> u32
     lines
 }
 
-// Prints the whole text of an answer: its first line, and when accepted the contents. Gives how many bytes it has; those past it stay.
-pub fn print_answer(image: &Image, contents: &[Value], answer: Answer, out: &mut [u8]) -> usize
-    ensures { Strided (program_in image.now) → Prints (program_in image.now) answer contents.now out.old result out.new }
+// The first line of an answer, with so many contents lines after it.
+fn first_line(answer: Result<(), Refusal>, count: u32) -> Line
+    ensures { result ≡ first_line (told answer) count }
 {
-    if answer.number == 0 {
-        let n = print_contents(image, contents, out);
-        let l = Line {
-            a: answer.number,
-            b: answer.p,
-            c: answer.q,
-            d: n,
-        };
-        text_write::write_line(out, 0, l);
-        text::LINE + text::LINE * n as usize
-    } else {
-        let l = Line {
-            a: answer.number,
-            b: answer.p,
-            c: answer.q,
-            d: 0,
-        };
-        text_write::write_line(out, 0, l);
-        text::LINE
+    match answer {
+        Ok(()) => Line {
+            a: 0,
+            b: 0,
+            c: 0,
+            d: count,
+        },
+        Err(refusal) => Line {
+            a: refusal.reason.number(),
+            b: refusal.p,
+            c: refusal.q,
+            d: count,
+        },
     }
+}
+
+// Prints the whole text of an answer: its first line, and when accepted the contents. Gives how many bytes it has; those past it stay.
+pub fn print_answer(
+    image: &Image,
+    contents: &[Value],
+    answer: Result<(), Refusal>,
+    out: &mut [u8],
+) -> usize
+    ensures { Strided (program_in image.now) → Prints (program_in image.now) (told answer) contents.now out.old result out.new }
+{
+    if answer.is_err() {
+        text_write::write_line(out, 0, first_line(answer, 0));
+        return text::LINE;
+    }
+    let n = print_contents(image, contents, out);
+    text_write::write_line(out, 0, first_line(answer, n));
+    text::LINE + text::LINE * n as usize
 }
 
 // How many bytes of an input are its book, by its header; all, if the header is refused.
@@ -111,8 +124,7 @@ pub fn book_bytes(input: &[u8]) -> usize
     }
     let k = first.line;
     let l = second.line;
-    let bounds = text::none_at(text::HEADER_BOUNDS, 0, book_header::bad_header(k, l));
-    if bounds.number != 0 {
+    if book_header::bad_header(k, l).is_some() {
         return n;
     }
     let lines = 2 + k.c as usize + k.d as usize + l.a as usize + l.b as usize;
@@ -129,17 +141,11 @@ pub struct PrintedRun {
 }
 
 // Prints the line of a refusal; the moves before it have this tally.
-fn print_refusal(answer: Answer, tally: Tally, output: &mut [u8]) -> PrintedRun
+fn print_refusal(refusal: Refusal, tally: Tally, output: &mut [u8]) -> PrintedRun
     requires { most_output ≤ length output.old }
-    ensures { Shown (written (first_line answer 0)) tally output.old result output.new }
+    ensures { Shown (written (first_line (told_refused refusal) 0)) tally output.old result output.new }
 {
-    let l = Line {
-        a: answer.number,
-        b: answer.p,
-        c: answer.q,
-        d: 0,
-    };
-    text_write::write_line(output, 0, l);
+    text_write::write_line(output, 0, first_line(Err(refusal), 0));
     PrintedRun {
         bytes: text::LINE,
         tally,
@@ -147,8 +153,13 @@ fn print_refusal(answer: Answer, tally: Tally, output: &mut [u8]) -> PrintedRun
 }
 
 // Prints an answer with the contents of the image's program, which stand in front of the table.
-fn print_image(image: &Image, contents: &[Value], answer: Answer, output: &mut [u8]) -> usize
-    ensures { Strided (program_in image.now) → Prints (program_in image.now) answer (take (min (word image.now 6) (length contents.now)) contents.now) output.old result output.new }
+fn print_image(
+    image: &Image,
+    contents: &[Value],
+    answer: Result<(), Refusal>,
+    output: &mut [u8],
+) -> usize
+    ensures { Strided (program_in image.now) → Prints (program_in image.now) (told answer) (take (min (word image.now 6) (length contents.now)) contents.now) output.old result output.new }
 {
     let n = text::smaller(book_image::locations(image) as usize, contents.len());
     print_answer(image, &contents[..n], answer, output)
@@ -178,13 +189,12 @@ fn report_on(
         order,
         t,
     );
-    let answer = ended.answer;
     let tally = ended.tally;
-    if answer.number == 0 {
-        let bytes = print_image(image, contents, answer, output);
-        return PrintedRun { bytes, tally };
+    if let Err(refusal) = ended.answer {
+        return print_refusal(refusal, tally, output);
     }
-    print_refusal(answer, tally, output)
+    let bytes = print_image(image, contents, Ok(()), output);
+    PrintedRun { bytes, tally }
 }
 
 // Makes the moves and prints the answer on tables of N records.
@@ -227,16 +237,17 @@ fn report_parts(book: &[u8], log: &[u8], output: &mut [u8]) -> PrintedRun
         writers: report::RECORDS,
         instructions: report::RECORDS,
     };
-    let checked = order_run::check_all(book, log, lent, &mut image, &mut order);
-    let answer = checked.answer;
-    if answer.number != 0 {
-        return print_refusal(answer, engine_fire::no_labels(), output);
+    match order_run::check_all(book, log, lent, &mut image, &mut order) {
+        Err(refusal) => print_refusal(refusal, engine_fire::no_labels(), output),
+        Ok(checked) => {
+            // Most books have few locations, and small tables are soon cleared.
+            if checked.locations <= 256 {
+                report_with::<256>(book, &image, &order, checked, output)
+            } else {
+                report_with::<{ report::RECORDS }>(book, &image, &order, checked, output)
+            }
+        }
     }
-    // Most books have few locations, and small tables are soon cleared.
-    if checked.locations <= 256 {
-        return report_with::<256>(book, &image, &order, checked, output);
-    }
-    report_with::<{ report::RECORDS }>(book, &image, &order, checked, output)
 }
 
 // Prints the answer to an input, split into its book and its log.
@@ -245,8 +256,8 @@ fn report_input(input: &[u8], output: &mut [u8]) -> PrintedRun
     ensures { Shown (rental input.now) (input_tally input.now) output.old result output.new }
 {
     if input.len() > report::MOST_INPUT {
-        let long = Answer {
-            number: text::LENT_SHORT,
+        let long = Refusal {
+            reason: Reason::LentShort,
             p: 60000,
             q: text::INPUT_TABLE,
         };
@@ -262,10 +273,9 @@ pub fn report(input: &[u8], output: &mut [u8]) -> PrintedRun
     ensures { Shown (fitting (rental input.now) output.old) (fitting_tally (input_tally input.now) output.old) output.old result output.new }
 {
     if output.len() < 51225 {
-        let none = engine_fire::no_labels();
         return PrintedRun {
             bytes: 0,
-            tally: none,
+            tally: engine_fire::no_labels(),
         };
     }
     report_input(input, output)

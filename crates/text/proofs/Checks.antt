@@ -1,6 +1,6 @@
 -- How checks end: with a fact about what they give, or with one about their refusal's number and place.
 use Rattle.std.specs.Prelude.{Option, None, Some, Result, Ok, Err}
-use Rattle.std.specs.Result.{IsErrAnd}
+use Rattle.std.specs.Result.{IsErrAnd, is_err}
 use mathlib.Core.Path.{◌≡◌, refl, sym, ap, ◌∙◌}
 use mathlib.Core.Bool.{Bool, true, false}
 use mathlib.Core.Logic.{◌≢◌}
@@ -154,6 +154,22 @@ module _ (o : Option Reason) {b : Bool} where
       go : (o : Option Reason) → is_some o ≡ false → refusal_number o ≡ 0
       go None e = refl
       go (Some r) e = absurd (true≢false e)
+
+-- whether a result is refused, by the number that it tells; b is the test
+module _ {A : Type 0} (r : Result A Refusal) {b : Bool} where
+  pub err_numbered : b ≡ is_err r → b ≡ true → (told r).number ≢ 0
+  err_numbered e t = go r (sym e ∙ t)
+    where
+      go : (r : Result A Refusal) → is_err r ≡ true → (told r).number ≢ 0
+      go (Ok a) h = absurd (false≢true h)
+      go (Err d) h = refusing {A = A} {r = Err d} refl
+
+  pub ok_numbered : b ≡ is_err r → b ≡ false → (told r).number ≡ 0
+  ok_numbered e t = go r (sym e ∙ t)
+    where
+      go : (r : Result A Refusal) → is_err r ≡ false → (told r).number ≡ 0
+      go (Ok a) h = refl
+      go (Err d) h = absurd (true≢false h)
 
 -- ---- refusals and answers that fit one number
 

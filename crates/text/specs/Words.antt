@@ -53,10 +53,14 @@ pub record Answer : Type 0 where
   pub p : ℕ
   pub q : ℕ
 
+-- the answer that a refusal of the code tells
+abbrev pub told_refused : Refusal → Answer
+told_refused r = record { number = number_of r.reason; p = r.p; q = r.q }
+
 -- the answer that the code's result tells
 abbrev pub told : {A : Type 0} → Result A Refusal → Answer
 told (Ok a) = record { number = 0; p = 0; q = 0 }
-told (Err r) = record { number = number_of r.reason; p = r.p; q = r.q }
+told (Err r) = told_refused r
 
 -- what a check answers: a value, or a refusal with its number and its place (p, q)
 pub data Checked (A : Type 0) : Type 0 where

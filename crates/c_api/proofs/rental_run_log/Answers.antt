@@ -1,6 +1,6 @@
 -- `rental_run_log` meets its contract.
 use mathlib.Core.Path.{ap, ◌∙◌}
-use native.Mathlib.Omega.{arith}
+use Rattle.text.specs.Words.{told}
 use Rattle.order.specs.Run.{LogAnswer}
 use Rattle.order.specs.Call.{log_call}
 use Rattle.order.proofs.Numbers.{log_small}
@@ -9,18 +9,12 @@ use Rattle.c_api.proofs.Unpacked.{back}
 use Rattle.engine.specs.Tables.{tables}
 use Rattle.c_api.proofs.rental_run_log.Goals as goal
 
-pub packed-requires : goal.packed-requires
-packed-requires c =
-    let a = c.args in
-    let e = c.run_own_list-ended.ensures.answer in
-    omega (arith, ap (λ (x : LogAnswer). x.answer.number) e, (log_small a.book.now a.log.now (tables a.contents.now a.readers.now a.writers.now) a.lent).number)
-
 pub returns : goal.returns
 returns c =
     let a = c.args in
     let s = c.run_own_list-ended in
     let t = tables a.contents.now a.readers.now a.writers.now in
-    let r = back _ s.result.answer (log_call a.book.now a.log.now t a.lent).answer (log_small a.book.now a.log.now t a.lent)
+    let r = back _ (told s.result.answer) (log_call a.book.now a.log.now t a.lent).answer (log_small a.book.now a.log.now t a.lent)
     c.packed.ensures (ap (λ (x : LogAnswer). x.answer) s.ensures.answer) in
     record {
       packed = r.0;

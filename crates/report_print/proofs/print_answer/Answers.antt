@@ -1,10 +1,27 @@
 -- `print_answer` meets its contract.
+use Rattle.std.proofs.Common.{◌∙◌, ap}
+use Rattle.text.specs.declared.Line.{Line}
+use Rattle.text.specs.Text.{written}
+use Rattle.text.specs.Words.{told}
+use Rattle.text.proofs.Checks.{err_numbered, ok_numbered}
+use Rattle.text_write.specs.Bytes.{put_bytes}
 use Rattle.book.specs.Image.{program_in}
 use Rattle.report_print.proofs.Lines.{prints_accepted, prints_refused}
 use Rattle.report_print.proofs.print_answer.Goals as goal
 
-pub returns-then-answer-eq0 : goal.returns-then-answer-eq0
-returns-then-answer-eq0 c = λ strided. let a = c.args in let p = c.print_contents-n in let w = c.write_line in prints_accepted (program_in a.image.now) a.answer a.contents.now a.out.now p.new.out w.new.out p.result c.if-answer-eq0.true (p.ensures strided).0 (p.ensures strided).1 w.ensures
+pub returns-then-is_err : goal.returns-then-is_err
+returns-then-is_err c =
+    λ strided.
+    let a = c.args in
+    let w = c.write_line in
+    prints_refused (program_in a.image.now) (told a.answer) a.contents.now a.out.now w.new.out (err_numbered a.answer c.is_err.ensures.value c.if-is_err.true)
+    (w.ensures ∙ ap (λ (l : Line). put_bytes 0 (written l) a.out.now) c.first_line.ensures)
 
-pub returns-else-answer-eq0 : goal.returns-else-answer-eq0
-returns-else-answer-eq0 c = λ strided. let a = c.args in let w = c.write_line-else-answer-eq0 in prints_refused (program_in a.image.now) a.answer a.contents.now a.out.now w.new.out c.if-answer-eq0.false w.ensures
+pub returns : goal.returns
+returns c =
+    λ strided.
+    let a = c.args in
+    let p = c.print_contents-n in
+    let w = c.write_line-2 in
+    prints_accepted (program_in a.image.now) (told a.answer) a.contents.now a.out.now p.new.out w.new.out p.result (ok_numbered a.answer c.is_err.ensures.value c.if-is_err.false)
+    (p.ensures strided).0 (p.ensures strided).1 (w.ensures ∙ ap (λ (l : Line). put_bytes 0 (written l) p.new.out) c.first_line-2.ensures)
