@@ -26,8 +26,8 @@ fn fill_function(contents: &mut [Value], first: usize, end: usize, v: Value)
     ensures { contents.new ≡ function_filled first end v contents.old }
 {
     let n = contents.len();
-    let a = text::smaller(first, n);
-    let b = text::smaller(end, n);
+    let a = first.min(n);
+    let b = end.min(n);
     fill_part(&mut contents[a..b], v);
 }
 
@@ -53,8 +53,8 @@ fn store_in_part(contents: &mut [Value], first: usize, end: usize, l: usize, v: 
     ensures { contents.new ≡ put_in first end l v contents.old }
 {
     let n = contents.len();
-    let a = text::smaller(first, n);
-    let b = text::smaller(end, n);
+    let a = first.min(n);
+    let b = end.min(n);
     text::put(&mut contents[a..b], l - first, v);
 }
 

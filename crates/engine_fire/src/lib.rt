@@ -69,7 +69,7 @@ fn mark_in(writers: &mut [u64], first: usize, end: usize, at: usize, bit: u64)
     requires { first ≤ at }
     ensures { writers.new ≡ put_in first end at (bit_or (get_or writers.old at 0) bit) writers.old }
 {
-    let e = text::smaller(end, writers.len());
+    let e = end.min(writers.len());
     if at < e {
         engine_term::mark(&mut writers[first..e], bit, at - first);
     }
@@ -89,7 +89,7 @@ fn put_in_part(
     ensures contents_after { contents.new ≡ put_in first end at v contents.old }
     ensures writers_after { writers.new ≡ put_in first end at (mark bit (ltb at (length contents.old)) (get_or writers.old at 0)) writers.old }
 {
-    let e = text::smaller(end, contents.len());
+    let e = end.min(contents.len());
     if at < e {
         put_value(&mut contents[first..e], at - first, v);
         mark_in(writers, first, end, at, bit);
@@ -108,7 +108,7 @@ fn mark_put(
 )
     ensures { readers.new ≡ marked bit (if ltb at (min end (length contents.now)) then taken_reads p (get_or contents.now at 0) v else []) readers.old }
 {
-    let e = text::smaller(end, contents.len());
+    let e = end.min(contents.len());
     if at < e {
         engine_release::mark_taken(readers, p, contents[at], v, bit);
     }
@@ -175,7 +175,7 @@ fn put_values(
     ensures readers_after { readers.new ≡ marked bit (put_reads (low_program image.now).P (L (low_program image.now)) (items list.now len) contents.old) readers.old }
     ensures writers_after { writers.new ≡ put_marked bit (min (L (low_program image.now)) (length contents.old)) (items list.now len) writers.old }
 {
-    let n = text::smaller(len, list.len());
+    let n = len.min(list.len());
     let p = book_parts::permanent(image);
     let e = book_image::elements(image);
     let mut part = Part { first: 0, end: 0 };
@@ -253,7 +253,7 @@ fn instructions_given(s: Progress, list: &[u64]) -> usize
     if s.refused != 0 {
         return 0;
     }
-    text::smaller(s.len as usize, list.len())
+    (s.len as usize).min(list.len())
 }
 
 // Begins an agent's move: its rule is walked with these picks, and what the walk reads is marked.

@@ -120,7 +120,7 @@ pub fn book_bytes(input: &[u8]) -> usize
         return n;
     }
     let lines = 2 + k.c as usize + k.d as usize + l.a as usize + l.b as usize;
-    text::smaller(text::LINE * lines, n)
+    (text::LINE * lines).min(n)
 }
 
 // ---- the whole answer to an input
@@ -154,7 +154,7 @@ fn print_refusal(answer: Answer, tally: Tally, output: &mut [u8]) -> PrintedRun
 fn print_image(image: &Image, contents: &[Value], answer: Answer, output: &mut [u8]) -> usize
     ensures { Strided (program_in image.now) → Prints (program_in image.now) answer (take (min (word image.now 6) (length contents.now)) contents.now) output.old result output.new }
 {
-    let n = text::smaller(book_image::locations(image) as usize, contents.len());
+    let n = (book_image::locations(image) as usize).min(contents.len());
     print_answer(image, &contents[..n], answer, output)
 }
 

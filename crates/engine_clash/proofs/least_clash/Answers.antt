@@ -8,7 +8,7 @@ use Rattle.engine_clash.proofs.least_clash.Goals as goal
 pub returns-then-n-le-FEW : goal.returns-then-n-le-FEW
 returns-then-n-le-FEW c =
     let a = c.args in
-    rw (← take_min a.list.now c.smaller-n.result a.len c.smaller-n.ensures) c.least_of_few.ensures
+    rw (← take_min a.list.now c.min-n.result a.len c.min-n.ensures) c.least_of_few.ensures
 
 pub returns-then-n-gt-MOST_INSTRUCTIONS : goal.returns-then-n-gt-MOST_INSTRUCTIONS
 returns-then-n-gt-MOST_INSTRUCTIONS c = c.least_of_all.ensures
@@ -16,7 +16,7 @@ returns-then-n-gt-MOST_INSTRUCTIONS c = c.least_of_all.ensures
 pub loop-j-init : goal.loop-j-init
 loop-j-init c =
     let a = c.args in
-    (looked_start a.list.now c.smaller-n.result a.most, tables_start a.list.now)
+    (looked_start a.list.now c.min-n.result a.most, tables_start a.list.now)
 
 pub returns-then-code-ge-RELEASES : goal.returns-then-code-ge-RELEASES
 returns-then-code-ge-RELEASES c = c.least_of_all-then-code-ge-RELEASES.ensures
@@ -37,5 +37,5 @@ loop-j-preserved c =
 pub returns : goal.returns
 returns c =
     let a = c.args in
-    let n = c.smaller-n in
+    let n = c.min-n in
     rw (← take_min a.list.now n.result a.len n.ensures) (looked_best (low_program a.image.now) a.contents.now (omega (arith, n.ensures)) c.loop-j-test.false c.loop-j.invariant.0)

@@ -15,8 +15,8 @@ loop-j-init c = refl
 
 pub loop-j-preserved : goal.loop-j-preserved
 unfolding least_clash
-loop-j-preserved c = let a = c.args in let B = low_program a.image.now in let n = c.smaller-n in let l = c.loop-j in let is = items a.list.now a.len in let d = items_cons a.list.now a.len n.result n.ensures l.j c.loop-j-test.true in let q : c.least_with-least.result ≡ least_with B a.contents.now is (decode_of (get_or a.list.now l.j 0)) l.least = c.least_with-least.ensures ∙ rw c.decode-what.ensures in ap (least_clash B a.contents.now is (drop (l.j + 1) is)) q ∙ sym (ap (λ (xs : List Instruction). least_clash B a.contents.now is xs l.least) d) ∙ l.invariant
+loop-j-preserved c = let a = c.args in let B = low_program a.image.now in let n = c.min-n in let l = c.loop-j in let is = items a.list.now a.len in let d = items_cons a.list.now a.len n.result n.ensures l.j c.loop-j-test.true in let q : c.least_with-least.result ≡ least_with B a.contents.now is (decode_of (get_or a.list.now l.j 0)) l.least = c.least_with-least.ensures ∙ rw c.decode-what.ensures in ap (least_clash B a.contents.now is (drop (l.j + 1) is)) q ∙ sym (ap (λ (xs : List Instruction). least_clash B a.contents.now is xs l.least) d) ∙ l.invariant
 
 pub returns : goal.returns
 unfolding least_clash
-returns c = let a = c.args in let B = low_program a.image.now in let n = c.smaller-n in let l = c.loop-j in let is = items a.list.now a.len in let d = items_end a.list.now a.len n.result n.ensures l.j c.loop-j-test.false in sym (ap (λ (xs : List Instruction). least_clash B a.contents.now is xs l.least) d) ∙ l.invariant
+returns c = let a = c.args in let B = low_program a.image.now in let n = c.min-n in let l = c.loop-j in let is = items a.list.now a.len in let d = items_end a.list.now a.len n.result n.ensures l.j c.loop-j-test.false in sym (ap (λ (xs : List Instruction). least_clash B a.contents.now is xs l.least) d) ∙ l.invariant

@@ -7,4 +7,4 @@ pub returns-then-s-ne0 : goal.returns-then-s-ne0
 returns-then-s-ne0 c = given_none c.args.s c.if-s-ne0.true
 
 pub returns : goal.returns
-returns c = let a = c.args in given_some a.s c.smaller.result c.if-s-ne0.false (omega (arith, c.smaller.ensures, c.requires))
+returns c = let a = c.args in given_some a.s c.min.result c.if-s-ne0.false (omega (arith, c.min.ensures, c.requires))

@@ -10,7 +10,7 @@ use Rattle.engine_fire.proofs.mark_in.Goals as goal
 pub returns-then-at-e : goal.returns-then-at-e
 returns-then-at-e c =
     let a = c.args in
-    let e = c.smaller-e in
+    let e = c.min-e in
     let r = c.mark in
     let h : a.at < e.result = c.if-at-e.true in
     put_inside a.first a.end a.at a.writers.now c.requires e.result e.ensures (bit_or (get_or a.writers.now a.at 0) a.bit) h r.new.readers
@@ -19,6 +19,6 @@ returns-then-at-e c =
 pub returns-else-at-e : goal.returns-else-at-e
 returns-else-at-e c =
     let a = c.args in
-    let e = c.smaller-e in
+    let e = c.min-e in
     let v = bit_or (get_or a.writers.now a.at 0) a.bit in
     put_outside a.first a.end a.at a.writers.now c.requires e.result e.ensures v a.writers.now c.if-at-e.false (λ h. set_out a.writers.now a.at v h)

@@ -10,12 +10,12 @@ use Rattle.engine_fire.proofs.mark_put.Goals as goal
 pub returns-then-at-e : goal.returns-then-at-e
 returns-then-at-e c =
     let a = c.args in
-    let inside : a.at < min a.end (length a.contents.now) = omega (arith, c.if-at-e.true, c.smaller-e.ensures) in
+    let inside : a.at < min a.end (length a.contents.now) = omega (arith, c.if-at-e.true, c.min-e.ensures) in
     c.mark_taken.ensures ∙ rw (lt-ltb a.at (min a.end (length a.contents.now)) inside)
 
 pub returns-else-at-e : goal.returns-else-at-e
 unfolding marked
 returns-else-at-e c =
     let a = c.args in
-    let outside : min a.end (length a.contents.now) ≤ a.at = omega (arith, c.if-at-e.false, c.smaller-e.ensures) in
+    let outside : min a.end (length a.contents.now) ≤ a.at = omega (arith, c.if-at-e.false, c.min-e.ensures) in
     rw (le-ltb a.at (min a.end (length a.contents.now)) outside)

@@ -13,7 +13,7 @@ use Rattle.engine_fire.proofs.put_in_part.Goals as goal
 pub returns-then-at-e : goal.returns-then-at-e
 returns-then-at-e c =
     let a = c.args in
-    let e = c.smaller-e in
+    let e = c.min-e in
     let r = c.put_value in
     let h : a.at < e.result = c.if-at-e.true in
     let k : a.at < length a.contents.now = omega (arith, e.ensures, h) in record { contents_after = put_inside a.first a.end a.at a.contents.now c.requires e.result e.ensures a.v h r.new.part r.ensures; writers_after = c.mark_in.ensures ∙ rw (lt-ltb a.at (length a.contents.now) k) }
@@ -21,7 +21,7 @@ returns-then-at-e c =
 pub returns-else-at-e : goal.returns-else-at-e
 returns-else-at-e c =
     let a = c.args in
-    let e = c.smaller-e in
+    let e = c.min-e in
     let n = length a.contents.now in
     let m = get_or a.writers.now a.at 0 in record {
       contents_after = put_outside a.first a.end a.at a.contents.now c.requires e.result e.ensures a.v a.contents.now c.if-at-e.false (λ h. set_out a.contents.now a.at a.v h);

@@ -41,14 +41,14 @@ put_in_part-requires c =
     rw h (part_starts B at).0
 
 pub overflow_add-j : goal.overflow_add-j
-overflow_add-j c = omega (arith, c.loop-j-test.true, c.smaller-n.ensures, c.ranges)
+overflow_add-j c = omega (arith, c.loop-j-test.true, c.min-n.ensures, c.ranges)
 
 pub loop-j-preserved : goal.loop-j-preserved
 unfolding puts put_marked put_reads put_issued put_returned
 loop-j-preserved c =
     let a = c.args in
     let B = low_program a.image.now in
-    let n = c.smaller-n in
+    let n = c.min-n in
     let l = c.loop-j in
     let is = items a.list.now a.len in
     let w = decode_of (get_or a.list.now l.j 0) in
@@ -102,7 +102,7 @@ unfolding puts put_marked put_reads marked put_issued put_returned
 returns c =
     let a = c.args in
     let B = low_program a.image.now in
-    let n = c.smaller-n in
+    let n = c.min-n in
     let l = c.loop-j in
     let d = items_end a.list.now a.len n.result n.ensures l.j c.loop-j-test.false in
     let gives : put_issued B.E (drop l.j (items a.list.now a.len)) ≡ 0 = ap (put_issued B.E) d in

@@ -20,7 +20,7 @@ unfolding all_cleared all_marked all_reads
 loop-j-preserved c =
     let a = c.args in
     let B = low_program a.image.now in
-    let n = c.smaller-n in
+    let n = c.min-n in
     let l = c.loop-j in
     let step = c.clear_instruction in
     let what = c.decode-what.ensures in
@@ -55,6 +55,6 @@ unfolding all_cleared all_marked all_reads marked
 returns c =
     let a = c.args in
     let B = low_program a.image.now in
-    let n = c.smaller-n in
+    let n = c.min-n in
     let l = c.loop-j in
     let d = items_end a.list.now a.len n.result n.ensures l.j c.loop-j-test.false in record { contents_after = sym (ap (λ (xs : List Instruction). all_cleared B xs l.contents) d) ∙ l.invariant.0; writers_after = sym (ap (λ (xs : List Instruction). all_marked a.bit B xs l.contents l.writers) d) ∙ l.invariant.1; readers_after = sym (ap (λ (xs : List Instruction). marked a.bit (all_reads B xs l.contents) l.readers) d) ∙ l.invariant.2 }

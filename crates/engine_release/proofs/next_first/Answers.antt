@@ -9,7 +9,7 @@ overflow_mul-from c = let a = c.args in record { fits = omega (arith, product 42
 
 pub returns-then-i-from : goal.returns-then-i-from
 returns-then-i-from c = let a = c.args in
-    let s = c.smaller.ensures in
+    let s = c.min.ensures in
     (omega (arith, c.requires.1, s, c.if-i-from.true), omega (arith, s), λ k h m e. omega (arith, (first_from a.f.stride c.requires.0 a.x k e).0, s))
 
 pub overflow_add-from : goal.overflow_add-from

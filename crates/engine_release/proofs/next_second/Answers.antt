@@ -11,7 +11,7 @@ returns-then-s-y c = let a = c.args in
 pub returns-then-here-y : goal.returns-then-here-y
 returns-then-here-y c = let a = c.args in
     let here = c.take_apart-here.ensures.1 in
-    let s = c.smaller.ensures in
+    let s = c.min.ensures in
     (omega (arith, c.requires.1, s), omega (arith, s), λ k h m e. before_second a.f.stride c.requires.0 a.x a.i k h (omega (arith, here, c.if-here-y.true)) (omega (arith, c.if-s-y.false)) (omega (arith, here, s)) e)
 
 pub overflow_sub-s : goal.overflow_sub-s
@@ -20,5 +20,5 @@ overflow_sub-s c = omega (arith, mod-lt c.args.i c.requires.0, c.take_apart-here
 pub returns : goal.returns
 returns c = let a = c.args in
     let here = c.take_apart-here.ensures.1 in
-    let s = c.smaller-2.ensures in
+    let s = c.min-2.ensures in
     (omega (arith, c.requires.1, s), omega (arith, s), λ k h m e. before_next a.f.stride c.requires.0 a.x a.i k h (omega (arith, here, c.if-here-y.false)) (omega (arith, here, s)) e)

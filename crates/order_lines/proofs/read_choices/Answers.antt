@@ -2,4 +2,4 @@
 use Rattle.order_lines.proofs.read_choices.Goals as goal
 
 pub returns : goal.returns
-returns c = rw (← c.smaller-moves.ensures, ← c.smaller-after.ensures, ← c.smaller-lines.ensures) c.read_bounded.ensures
+returns c = rw (← c.min-moves.ensures, ← c.min-after.ensures, ← c.min-lines.ensures) c.read_bounded.ensures

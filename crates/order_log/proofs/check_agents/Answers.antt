@@ -13,20 +13,20 @@ pub loop-j-init : goal.loop-j-init
 loop-j-init c = (search rules, search rules, own_start _, best_start _)
 
 pub bounds-order-j : goal.bounds-order-j
-bounds-order-j c = omega (arith, c.smaller-m.ensures)
+bounds-order-j c = omega (arith, c.min-m.ensures)
 
 pub bounds-order-j-in-loop-j : goal.bounds-order-j-in-loop-j
-bounds-order-j-in-loop-j c = omega (arith, c.smaller-m.ensures)
+bounds-order-j-in-loop-j c = omega (arith, c.min-m.ensures)
 
 pub overflow_shl-own : goal.overflow_shl-own
-overflow_shl-own c = omega (arith, c.smaller-m.ensures)
+overflow_shl-own c = omega (arith, c.min-m.ensures)
 
 pub loop-j-preserved : goal.loop-j-preserved
 loop-j-preserved c =
     let o = c.args.order.now in
     let l = c.loop-j in
     let n = c.least_unordered-i in
-    let lim : l.j < 64 = omega (arith, c.smaller-m.ensures) in
+    let lim : l.j < 64 = omega (arith, c.min-m.ensures) in
     let hit = own_hit o l.j l.own lim l.invariant.2 n.result n.ensures in
     let low = own_low o l.j l.own lim l.invariant.2 n.result n.ensures in
     elim c.if-i-first.branch [
@@ -38,5 +38,5 @@ pub returns : goal.returns
 returns c =
     let a = c.args in
     let l = c.loop-j in
-    let e : l.j ≡ c.smaller-m.result = omega arith in
-    ten a.order.now c.smaller-m.result l.first l.second a.moves c.must.result c.smaller-m.ensures (rw e at l.invariant.3) c.must.ensures
+    let e : l.j ≡ c.min-m.result = omega arith in
+    ten a.order.now c.min-m.result l.first l.second a.moves c.must.result c.min-m.ensures (rw e at l.invariant.3) c.must.ensures

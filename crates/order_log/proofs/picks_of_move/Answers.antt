@@ -11,8 +11,8 @@ returns-then-first-end c =
     let t = c.args.order.now in
     let i = c.args.i in
     let long = c.fetch-arg-1.given in
-    let a : c.smaller-first.result ≡ min (first_in t i) 256 = rw (← c.fetch-a.ensures) c.smaller-first.ensures in
-    let b : c.smaller-end.result ≡ min (end_in t i) 256 = rw (← c.fetch-b.ensures) c.smaller-end.ensures in
+    let a : c.min-first.result ≡ min (first_in t i) 256 = rw (← c.fetch-a.ensures) c.min-first.ensures in
+    let b : c.min-end.result ≡ min (end_in t i) 256 = rw (← c.fetch-b.ensures) c.min-end.ensures in
     (omega arith, omega arith, rw (a, b) (part_some t (first_in t i) (end_in t i) long (rw (a, b) at c.if-first-end.true)))
 
 pub returns : goal.returns
@@ -20,6 +20,6 @@ returns c =
     let t = c.args.order.now in
     let i = c.args.i in
     let long = c.fetch-arg-1.given in
-    let a : c.smaller-first.result ≡ min (first_in t i) 256 = rw (← c.fetch-a.ensures) c.smaller-first.ensures in
-    let b : c.smaller-end.result ≡ min (end_in t i) 256 = rw (← c.fetch-b.ensures) c.smaller-end.ensures in
+    let a : c.min-first.result ≡ min (first_in t i) 256 = rw (← c.fetch-a.ensures) c.min-first.ensures in
+    let b : c.min-end.result ≡ min (end_in t i) 256 = rw (← c.fetch-b.ensures) c.min-end.ensures in
     (omega arith, omega arith, part_none t (first_in t i) (end_in t i) long (rw (a, b) at c.if-first-end.false))

@@ -13,4 +13,4 @@ pub returns-then-bounds-ne0 : goal.returns-then-bounds-ne0
 returns-then-bounds-ne0 c = length_unbounded c.args.input.now c.parse-first.result c.parse-second.result c.parse-first.ensures c.parse-second.ensures (not-false _ c.if-not-first-second.false-raw) c.none_at-bounds.result (c.none_at-bounds.ensures ∙ ap (λ (f : Option ℕ). answer_of (none_at 3 0 0 f)) c.bad_header.ensures) c.if-bounds-ne0.true
 
 pub returns : goal.returns
-returns c = c.smaller.ensures ∙ length_bounded c.args.input.now c.parse-first.result c.parse-second.result c.parse-first.ensures c.parse-second.ensures (not-false _ c.if-not-first-second.false-raw) c.none_at-bounds.result (c.none_at-bounds.ensures ∙ ap (λ (f : Option ℕ). answer_of (none_at 3 0 0 f)) c.bad_header.ensures) c.if-bounds-ne0.false
+returns c = c.min.ensures ∙ length_bounded c.args.input.now c.parse-first.result c.parse-second.result c.parse-first.ensures c.parse-second.ensures (not-false _ c.if-not-first-second.false-raw) c.none_at-bounds.result (c.none_at-bounds.ensures ∙ ap (λ (f : Option ℕ). answer_of (none_at 3 0 0 f)) c.bad_header.ensures) c.if-bounds-ne0.false

@@ -5,7 +5,7 @@ use mathlib.Core.Path.{sym}
 use Rattle.report_print.proofs.print_image.Goals as goal
 
 pub slice_bounds-print_answer-end : goal.slice_bounds-print_answer-end
-slice_bounds-print_answer-end c = sym (length-take-le c.smaller-n.result c.args.contents.now (omega (arith, c.smaller-n.ensures)))
+slice_bounds-print_answer-end c = sym (length-take-le c.min-n.result c.args.contents.now (omega (arith, c.min-n.ensures)))
 
 pub returns : goal.returns
-returns c = λ strided. rw (← c.locations.ensures, ← c.smaller-n.ensures) (c.print_answer.ensures strided)
+returns c = λ strided. rw (← c.locations.ensures, ← c.min-n.ensures) (c.print_answer.ensures strided)
