@@ -47,10 +47,10 @@ fn arguments_fit(x: Entry, f: Function) -> bool
 fn value_fits(x: Entry, f: Function) -> bool
     ensures { result ≡ relation f && eqb x.value true_element || not (relation f) && not (eqb x.value (default f)) }
 {
-    if (f.kind == 1) | (f.kind == 3) {
+    if book_parts::is_relation(f) {
         x.value == 2
     } else {
-        !(x.value == 0)
+        x.value != 0
     }
 }
 
@@ -58,18 +58,14 @@ fn value_fits(x: Entry, f: Function) -> bool
 fn static_fits(p: u32, x: Entry, f: Function) -> bool
     ensures { result ≡ dynamic f || ltb x.arg1 p && ltb x.arg2 p && ltb x.value p }
 {
-    if 2 <= f.kind {
-        true
-    } else {
-        (x.arg1 < p) & (x.arg2 < p) & (x.value < p)
-    }
+    book_parts::is_dynamic(f) || ((x.arg1 < p) & (x.arg2 < p) & (x.value < p))
 }
 
 // The entry, if it is one of Reserve, has a label as argument; p elements are permanent.
 fn reserve_fits(p: u32, x: Entry) -> bool
     ensures { result ≡ not (eqb x.function 0) || leb p x.arg1 }
 {
-    if x.function == 0 { p <= x.arg1 } else { true }
+    x.function != 0 || p <= x.arg1
 }
 
 // The entry fits its function f, p elements being permanent.
@@ -157,6 +153,7 @@ fn check_entry_lines<'a>(
 }
 
 // Refusals 1 and 8: the least contents line that is ill-formed, or else the least at fault. Most books have few elements, and a small table is soon cleared.
+// A helper generic in the table's length would be no plainer: its contract is longer than the two lines that it saves.
 pub fn check_entries<'a>(text: &'a [u8], image: &'a Image) -> LineFaults
     ensures { Strided (program_in image.now) → result ≡ faults_from (program_in image.now) text.now (first_entry_in image.now) (entry_count_in image.now) }
 {

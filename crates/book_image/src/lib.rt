@@ -1,9 +1,9 @@
 // The image of a program, and the one way to read it: its counts, its functions, nodes and agents, and how many locations it has.
 #![tactic(auto)]
 
-ghost use Rattle.std.specs.Prelude.{◌≡◌, ◌+◌, ◌≤◌, length};
+ghost use Rattle.std.specs.Prelude.{◌≡◌, ◌+◌, length};
 ghost use Rattle.book.specs.Book.{size, stride, no_function, no_node, function_at, node_at, agent_at};
-ghost use Rattle.book.specs.Image.{image_length, word, image_row, capped, program_in, first_entry_in, entry_count_in, FitsImage, capped_header, stored, node_stored};
+ghost use Rattle.book.specs.Image.{image_length, word, image_row, program_in, first_entry_in, entry_count_in, FitsImage, capped_header, stored, node_stored};
 
 use book::{Agent, Function, Header, Image, Node};
 use text::{Line, Value};
@@ -50,20 +50,13 @@ pub fn store(image: &mut Image, r: u32, l: Line)
     text::put(image, at + 3, l.d);
 }
 
-// n, or `most` if n is past it.
-pub fn cap(n: u32, most: u32) -> u32
-    ensures { (result ≡ capped n most) × (result ≤ most) }
-{
-    if n < most { n } else { most }
-}
-
 // Puts y as node n. A field that has too few bits becomes the largest number that they hold.
 pub fn store_node(image: &mut Image, n: u32, y: Node)
     ensures { image.new ≡ node_stored n y image.old }
 {
     let at = NODE_WORDS + n as usize * 2;
-    text::put(image, at, cap(y.kind, 4095) * ABOVE_A + cap(y.a, 1048575));
-    text::put(image, at + 1, cap(y.b, 65535) * ABOVE_C + cap(y.c, 65535));
+    text::put(image, at, y.kind.min(4095) * ABOVE_A + y.a.min(1048575));
+    text::put(image, at + 1, y.b.min(65535) * ABOVE_C + y.c.min(65535));
 }
 
 // The header with each number that is past its bound at the bound.
@@ -71,12 +64,12 @@ pub fn capped(h: Header) -> Header
     ensures { (result ≡ capped_header h) × FitsImage result }
 {
     Header {
-        elements: cap(h.elements, book::MOST_ELEMENTS),
-        permanent: cap(h.permanent, book::MOST_ELEMENTS),
-        functions: cap(h.functions, book::MOST_FUNCTIONS),
-        nodes: cap(h.nodes, book::MOST_NODES),
-        agents: cap(h.agents, book::MOST_AGENTS),
-        contents: cap(h.contents, book::MOST_CONTENTS),
+        elements: h.elements.min(book::MOST_ELEMENTS),
+        permanent: h.permanent.min(book::MOST_ELEMENTS),
+        functions: h.functions.min(book::MOST_FUNCTIONS),
+        nodes: h.nodes.min(book::MOST_NODES),
+        agents: h.agents.min(book::MOST_AGENTS),
+        contents: h.contents.min(book::MOST_CONTENTS),
     }
 }
 
@@ -86,7 +79,7 @@ pub fn capped(h: Header) -> Header
 pub fn elements(image: &Image) -> Value
     ensures { result ≡ (program_in image.now).E }
 {
-    cap(image[0], book::MOST_ELEMENTS) as Value
+    image[0].min(book::MOST_ELEMENTS) as Value
 }
 
 // P, the number of permanent elements.
@@ -100,28 +93,28 @@ pub fn permanent(image: &Image) -> u32
 pub fn functions(image: &Image) -> u16
     ensures { result ≡ length (program_in image.now).functions }
 {
-    cap(image[2], book::MOST_FUNCTIONS) as u16
+    image[2].min(book::MOST_FUNCTIONS) as u16
 }
 
 // N, the number of nodes.
 pub fn nodes(image: &Image) -> u16
     ensures { result ≡ length (program_in image.now).nodes }
 {
-    cap(image[3], book::MOST_NODES) as u16
+    image[3].min(book::MOST_NODES) as u16
 }
 
 // A, the number of agents.
 pub fn agents(image: &Image) -> u16
     ensures { result ≡ length (program_in image.now).agents }
 {
-    cap(image[4], book::MOST_AGENTS) as u16
+    image[4].min(book::MOST_AGENTS) as u16
 }
 
 // C, the number of contents lines.
 pub fn entries(image: &Image) -> u32
     ensures { result ≡ entry_count_in image.now }
 {
-    cap(image[5], book::MOST_CONTENTS)
+    image[5].min(book::MOST_CONTENTS)
 }
 
 // The line of the text at which the contents lines start.
@@ -209,7 +202,7 @@ pub fn node_at(image: &Image, n: u32) -> Node
 pub fn agent_at(image: &Image, i: u32) -> Agent
     ensures { result ≡ agent_at (program_in image.now) i }
 {
-    if i < cap(image[4], book::MOST_AGENTS) {
+    if i < image[4].min(book::MOST_AGENTS) {
         let at = (AGENT_ROWS as usize + i as usize) * 4;
         Agent {
             root: image[at],

@@ -9,7 +9,7 @@ ghost use Rattle.book.specs.Image.{image_row, program_in};
 ghost use Rattle.book_nodes.specs.Fits.{sorts_in, fits_plain, fits_function, fits_node, fits_target};
 
 use book::{Function, Image};
-use text::{Line};
+use text::Line;
 
 // The three operand sorts of each node kind from 0 to 28: 0 no such kind, 1 unused, 2 permanent element, 3 variable,
 // 4 to 6 function of arity 0 to 2, 7 universe, 8 dynamic universe, 9 term, 10 rule, 11 a term that names a dynamic location.
@@ -133,7 +133,7 @@ fn fits_function(s: u8, x: u32, count: u32, f: Function) -> bool
     ((s == 4) & named & (f.arity == 0))
         | ((s == 5) & named & (f.arity == 1))
         | ((s == 6) & named & (f.arity == 2))
-        | ((s == 7) & named & (f.arity == 1) & ((f.kind == 1) | (f.kind == 3)))
+        | ((s == 7) & named & (f.arity == 1) & book_parts::is_relation(f))
         | ((s == 8) & named & (f.arity == 1) & (f.kind == 3))
 }
 
@@ -148,7 +148,7 @@ fn fits_node(s: u8, x: u32, n: u32, kind: u32) -> bool
 fn fits_target(s: u8, x: u32, n: u32, kind: u32, g: Function) -> bool
     ensures { result ≡ fits_target s x n kind g }
 {
-    (s == 11) & (x < n) & ((4 <= kind) & (kind <= 6)) & (2 <= g.kind)
+    (s == 11) & (x < n) & ((4 <= kind) & (kind <= 6)) & book_parts::is_dynamic(g)
 }
 
 // x fits the sort s, any but 1 (unused), 9 (a term) and 10 (a rule), as an operand of node n. Only what the sort asks about is loaded.

@@ -11,7 +11,7 @@ ghost use Rattle.contents_check.specs.Part.{Held, Faultless, SkippedTo, Part};
 
 use book::{Function, Image};
 use book_parts::Arguments;
-use text::{Value};
+use text::Value;
 
 // ---- Refusal 8
 
@@ -79,7 +79,7 @@ fn skip_value(contents: &[Value], v: u32, l: u32, end: u32) -> u32
     requires { l ≤ end }
     ensures { SkippedTo contents.now v l end result }
 {
-    let n = text::smaller(end as usize, contents.len());
+    let n = (end as usize).min(contents.len());
     let mut k = l as usize;
     while k < n {
         if contents[k] as u32 != v {
@@ -91,7 +91,14 @@ fn skip_value(contents: &[Value], v: u32, l: u32, end: u32) -> u32
 }
 
 // The least location at fault of f's part, counted from its first. Nearly all hold a value that is not at fault, and only the others are checked in full.
-fn bad_part(contents: &[Value], e: Value, p: Value, f: Function, first: u32, end: u32) -> Option<u32>
+fn bad_part(
+    contents: &[Value],
+    e: Value,
+    p: Value,
+    f: Function,
+    first: u32,
+    end: u32,
+) -> Option<u32>
     requires { first ≤ end }
     ensures value { (B : Program) → Part B e p f first end → result ≡ least (λ i. bad_value B contents.now (first + i)) (size e f.arity) }
     ensures by_index { (i : ℕ) → result ≡ Some i → first + i < end }

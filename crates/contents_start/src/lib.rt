@@ -15,8 +15,8 @@ fn fill_function(contents: &mut [Value], first: usize, end: usize, v: Value)
     ensures { contents.new ≡ function_filled first end v contents.old }
 {
     let n = contents.len();
-    let a = text::smaller(first, n);
-    let b = text::smaller(end, n);
+    let a = first.min(n);
+    let b = end.min(n);
     contents[a..b].fill(v);
 }
 
@@ -40,8 +40,8 @@ fn store_in_part(contents: &mut [Value], first: usize, end: usize, l: usize, v: 
     ensures { contents.new ≡ put_in first end l v contents.old }
 {
     let n = contents.len();
-    let a = text::smaller(first, n);
-    let b = text::smaller(end, n);
+    let a = first.min(n);
+    let b = end.min(n);
     text::put(&mut contents[a..b], l - first, v);
 }
 

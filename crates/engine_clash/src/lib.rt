@@ -89,7 +89,7 @@ fn gives_other(s: HeldPlace, w: Value, what: Instruction) -> bool
 fn some_gives_other(list: &[u64], len: usize, s: HeldPlace, w: Value) -> bool
     ensures { result ≡ any (λ i. other w (values_given s i)) (items list.now len) }
 {
-    let n = text::smaller(len, list.len());
+    let n = len.min(list.len());
     list[..n].iter().any(|code| gives_other(s, w, engine_instruction::decode(*code)))
 }
 
@@ -107,7 +107,7 @@ fn releases(what: Instruction, x: Value) -> bool
 fn is_released(list: &[u64], len: usize, x: Value) -> bool
     ensures { result ≡ has (released (items list.now len)) x }
 {
-    let n = text::smaller(len, list.len());
+    let n = len.min(list.len());
     list[..n]
         .iter()
         .any(|code| releases(engine_instruction::decode(*code), x))
@@ -239,7 +239,7 @@ fn least_of_few(image: &Image, contents: &[Value], list: &[u64], n: usize, most:
 pub fn least_clash(image: &Image, contents: &[Value], list: &[u64], len: usize, most: u32) -> u32
     ensures { result ≡ least_clash (low_program image.now) contents.now (items list.now len) (items list.now len) most }
 {
-    let n = text::smaller(len, list.len());
+    let n = len.min(list.len());
     if n <= FEW {
         return least_of_few(image, contents, list, n, most);
     }

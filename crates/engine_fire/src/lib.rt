@@ -70,7 +70,7 @@ fn mark_in(writers: &mut [u64], first: usize, end: usize, at: usize, bit: u64)
     requires { first ≤ at }
     ensures { writers.new ≡ put_in first end at (bit_or (get_or writers.old at 0) bit) writers.old }
 {
-    let e = text::smaller(end, writers.len());
+    let e = end.min(writers.len());
     if at < e {
         engine_term::mark(&mut writers[first..e], bit, at - first);
     }
@@ -90,7 +90,7 @@ fn put_in_part(
     ensures contents_after { contents.new ≡ put_in first end at v contents.old }
     ensures writers_after { writers.new ≡ put_in first end at (mark bit (ltb at (length contents.old)) (get_or writers.old at 0)) writers.old }
 {
-    let e = text::smaller(end, contents.len());
+    let e = end.min(contents.len());
     if at < e {
         put_value(&mut contents[first..e], at - first, v);
         mark_in(writers, first, end, at, bit);
@@ -109,7 +109,7 @@ fn mark_put(
 )
     ensures { readers.new ≡ marked bit (if ltb at (min end (length contents.now)) then taken_reads p (get_or contents.now at 0) v else []) readers.old }
 {
-    let e = text::smaller(end, contents.len());
+    let e = end.min(contents.len());
     if at < e {
         engine_release::mark_taken(readers, p, contents[at], v, bit);
     }
@@ -251,7 +251,7 @@ fn instructions_given(s: Progress, list: &[u64]) -> usize
     if s.refused.is_some() {
         return 0;
     }
-    text::smaller(s.len as usize, list.len())
+    (s.len as usize).min(list.len())
 }
 
 // Begins an agent's move: its rule is walked with these picks, and what the walk reads is marked.

@@ -29,7 +29,7 @@ fn number_of(r: Record) -> u64
 fn least(a: usize, b: usize, c: usize) -> usize
     ensures { result ≡ min a (min b c) }
 {
-    text::smaller(a, text::smaller(b, c))
+    a.min(b.min(c))
 }
 
 // Writes the first n numbers into the first records of the list; every other record stays as it was.

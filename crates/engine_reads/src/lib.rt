@@ -38,8 +38,8 @@ fn mark_part(part: &mut [u64], bit: u64)
 fn mark_between(readers: &mut [u64], bit: u64, first: usize, end: usize)
     ensures { readers.new ≡ marked bit (table_from (λ l. l) first (end - first)) readers.old }
 {
-    let stop = text::smaller(end, readers.len());
-    let start = text::smaller(first, stop);
+    let stop = end.min(readers.len());
+    let start = first.min(stop);
     mark_part(&mut readers[start..stop], bit);
 }
 

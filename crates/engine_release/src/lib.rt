@@ -57,7 +57,7 @@ fn next_first(f: Function, x: Value, i: usize, n: usize) -> usize
     let s = f.stride as usize;
     let from = x as usize * s;
     if i < from {
-        return text::smaller(from, n);
+        return from.min(n);
     }
     if i < from + s {
         return i;
@@ -77,9 +77,9 @@ fn next_second(f: Function, x: Value, i: usize, n: usize) -> usize
     }
     let here = book_parts::take_apart(f, i);
     if here.second <= y {
-        return text::smaller(i + (y - here.second), n);
+        return (i + (y - here.second)).min(n);
     }
-    text::smaller(i + (s - here.second) + y, n)
+    (i + (s - here.second) + y).min(n)
 }
 
 // A place from i on up to which none has x as argument, at most n.
@@ -169,11 +169,11 @@ fn clear_function(
 {
     let first = r.first as usize;
     let n = contents.len();
-    let a = text::smaller(first, n);
-    let b = text::smaller(end, n);
+    let a = first.min(n);
+    let b = end.min(n);
     let m = writers.len();
-    let p = text::smaller(first, m);
-    let q = text::smaller(end, m);
+    let p = first.min(m);
+    let q = end.min(m);
     clear_part(&mut contents[a..b], readers, &mut writers[p..q], r);
 }
 

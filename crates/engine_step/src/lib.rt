@@ -70,7 +70,7 @@ fn check_lent(image: &Image, contents: &[Value], lent: usize) -> Result<(), Refu
 fn check_contents(image: &Image, contents: &[Value]) -> Result<(), Refusal>
     ensures { Strided (low_program image.now) → told result ≡ answer_of (check_contents (low_program image.now) (take (word image.now 6) contents.now)) }
 {
-    let n = text::smaller(book_image::locations(image) as usize, contents.len());
+    let n = (book_image::locations(image) as usize).min(contents.len());
     let found = contents_check::bad_value(image, &contents[..n]);
     text::none_at(Reason::ContentsRule, 0, found)
 }
@@ -104,7 +104,7 @@ fn walk_call(
     ensures { MoveWalked (low_program image.now) (take (word image.now 6) contents.now) (input agent picks.now) work.new result }
 {
     let all = book_image::locations(image) as usize;
-    let n = text::smaller(all, contents.len());
+    let n = all.min(contents.len());
     let mut readers = [0u64; 1];
     engine_fire::begin_move(
         image,
@@ -145,7 +145,7 @@ pub fn finish_call(
 {
     let walk = call?.walk;
     let all = book_image::locations(image) as usize;
-    let n = text::smaller(all, contents.len());
+    let n = all.min(contents.len());
     let mut readers = [0u64; 1];
     let mut writers = [0u64; 1];
     let done = engine_fire::finish_move(
@@ -204,6 +204,6 @@ pub fn step_own_list(
 {
     let none = engine_list::blank();
     let mut list = [none; engine::MOST_INSTRUCTIONS];
-    let n = text::smaller(lent, engine::MOST_INSTRUCTIONS);
+    let n = lent.min(engine::MOST_INSTRUCTIONS);
     step(book, contents, agent, picks, &mut list[..n])
 }

@@ -96,7 +96,7 @@ pub fn run_own_list(
 {
     let none = engine_list::blank();
     let mut list = [none; engine::MOST_INSTRUCTIONS];
-    let n = text::smaller(lent, engine::MOST_INSTRUCTIONS);
+    let n = lent.min(engine::MOST_INSTRUCTIONS);
     run(book, log, contents, readers, writers, &mut list[..n])
 }
 
@@ -114,7 +114,7 @@ pub fn run_from_own_list(
 {
     let none = engine_list::blank();
     let mut list = [none; engine::MOST_INSTRUCTIONS];
-    let n = text::smaller(lent, engine::MOST_INSTRUCTIONS);
+    let n = lent.min(engine::MOST_INSTRUCTIONS);
     run_from(
         contents,
         readers,

@@ -97,9 +97,9 @@ pub fn read_choices(
 ) -> LineFaults
     ensures { ChoiceLinesRead elements log.now (min m 64) (min k 2080) (min n 256) order.old order.new result }
 {
-    let moves = text::smaller(m as usize, order::MOST_MOVES as usize) as u32;
+    let moves = m.min(order::MOST_MOVES);
     let most = order::MOST_MOVES + order::MOST_PAIRS;
-    let after = text::smaller(k as usize, most as usize) as u32;
-    let lines = text::smaller(n as usize, order::MOST_PICKS as usize) as u32;
+    let after = k.min(most);
+    let lines = n.min(order::MOST_PICKS);
     read_bounded(log, elements, moves, after, lines, order)
 }

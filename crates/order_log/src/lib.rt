@@ -178,7 +178,7 @@ fn least_unordered(own: u64, predecessors: u64) -> u32
 pub fn check_agents(order: &OrderTable, moves: u32) -> Result<(), Refusal>
     ensures { told result ≡ answer_of (check_agents_in order.now moves) }
 {
-    let m = text::smaller(moves as usize, order::MOST_MOVES as usize);
+    let m = moves.min(order::MOST_MOVES) as usize;
     let mut own: [u64; 16] = [0; 16];
     let mut first: u32 = order::MOST_MOVES;
     let mut second: usize = 0;
@@ -219,8 +219,8 @@ pub fn picks_of_move(order: &OrderTable, i: u32) -> PickPart
 {
     let a = text::fetch(order, order::FIRST_PICKS + i as usize);
     let b = text::fetch(order, order::PICK_ENDS + i as usize);
-    let first = text::smaller(a as usize, order::MOST_PICKS as usize);
-    let end = text::smaller(b as usize, order::MOST_PICKS as usize);
+    let first = (a as usize).min(order::MOST_PICKS as usize);
+    let end = (b as usize).min(order::MOST_PICKS as usize);
     if first < end {
         return PickPart {
             first: order::PICKS + first,

@@ -179,7 +179,7 @@ fn next_move(
     ensures next_move { NextMove order.now moves i tally readers.now writers.now result }
     ensures result_bound { moves_left result ≤ 65 - i }
 {
-    if (i as usize) < text::smaller(moves as usize, order::MOST_MOVES as usize) {
+    if (i as usize) < (moves as usize).min(order::MOST_MOVES as usize) {
         let result = TalliedResult {
             answer: Ok(()),
             tally,
@@ -290,8 +290,8 @@ pub fn records_used(image: &Image, contents: usize, readers: usize, writers: usi
     ensures { result ≡ min (word image.now 6) (min contents (min readers writers)) }
 {
     let all = book_image::locations(image) as usize;
-    let two = text::smaller(readers, writers);
-    text::smaller(all, text::smaller(contents, two))
+    let two = readers.min(writers);
+    all.min(contents.min(two))
 }
 
 // The start of a call that passed its checks: contents written and marks cleared; move 0 is next.

@@ -77,7 +77,7 @@ fn touching_sets(readers: &[u64], writers: &[u64], n: usize) -> MoveSets
 {
     let mut touching: MoveSets = [0; 64];
     for a in (0..n).step_by(BLOCK) {
-        let b = a + text::smaller(n - a, BLOCK);
+        let b = a + (n - a).min(BLOCK);
         if all_marks(&writers[a..b]) != 0 {
             add_part(readers, writers, a, b, &mut touching);
         }
@@ -129,11 +129,11 @@ pub fn least_touching_pair(
 ) -> Option<MovePair>
     ensures { result ≡ pair_as (least_pair (unordered_marked order.now readers.now writers.now (clipped readers.now writers.now locations)) moves) }
 {
-    let n = text::smaller(locations, text::smaller(readers.len(), writers.len()));
+    let n = locations.min(readers.len().min(writers.len()));
     let touching = touching_sets(readers, writers, n);
     least_pair(
         &touching,
         order,
-        text::smaller(moves as usize, order::MOST_MOVES as usize),
+        (moves as usize).min(order::MOST_MOVES as usize),
     )
 }

@@ -128,7 +128,7 @@ pub fn book_bytes(input: &[u8]) -> usize
         return n;
     }
     let lines = 2 + k.c as usize + k.d as usize + l.a as usize + l.b as usize;
-    text::smaller(text::LINE * lines, n)
+    (text::LINE * lines).min(n)
 }
 
 // ---- the whole answer to an input
@@ -161,7 +161,7 @@ fn print_image(
 ) -> usize
     ensures { Strided (program_in image.now) → Prints (program_in image.now) (told answer) (take (min (word image.now 6) (length contents.now)) contents.now) output.old result output.new }
 {
-    let n = text::smaller(book_image::locations(image) as usize, contents.len());
+    let n = (book_image::locations(image) as usize).min(contents.len());
     print_answer(image, &contents[..n], answer, output)
 }
 

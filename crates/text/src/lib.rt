@@ -1,7 +1,7 @@
 // The text of books and logs: its lines read and checked; and small functions over lists that many crates use.
 #![tactic(auto)]
 
-ghost use Rattle.std.specs.Prelude.{◌≡◌, true, ◌&&◌, not, [], ◌∷◌, ◌+◌, ◌-◌, ◌*◌, ◌<◌, ◌≤◌, ◌%◌, Err, min, eqb, length, take, drop, get_or, set};
+ghost use Rattle.std.specs.Prelude.{◌≡◌, true, ◌&&◌, not, [], ◌∷◌, ◌+◌, ◌-◌, ◌*◌, ◌<◌, ◌≤◌, ◌%◌, Err, eqb, length, take, drop, get_or, set};
 ghost use Rattle.text.specs.Words.{least, least_from, none_at, must, answer_of, told};
 ghost use Rattle.text.specs.Refusals.{number_of};
 ghost use Rattle.text.specs.Text.{unread, zero_digit, digit, field_ok, value_of, well_formed, line_bytes, line, bad_line, parsed};
@@ -426,13 +426,6 @@ pub fn read_line(text: &[u8], first: u32, i: u32) -> Line
 // An element, as contents, instructions and labels hold it.
 pub type Value = u16;
 
-// The smaller of two numbers.
-pub fn smaller(a: usize, b: usize) -> usize
-    ensures { result ≡ min a b }
-{
-    if a < b { a } else { b }
-}
-
 // A type of unsigned numbers, which lists hold.
 pub trait Unsigned: Copy {
     const ZERO: Self;
@@ -480,7 +473,7 @@ pub fn put<T: Copy>(s: &mut [T], i: usize, x: T)
     }
 }
 
-// The low sixteen bits of a number.
+// The low sixteen bits of a number. The remainder is taken since `as` must lose nothing.
 pub fn low(x: u32) -> u16
     ensures { result ≡ x % 65536 }
 {

@@ -1,5 +1,4 @@
 -- `fault_at` meets its contract.
-use Rattle.std.specs.Prelude.{None, Some}
 use Rattle.book_entries.proofs.Pass.{ill, at_fault}
 use mathlib.Core.Path.{refl, sym, ◌∙◌}
 use Rattle.book_entries.proofs.fault_at.Goals as goal

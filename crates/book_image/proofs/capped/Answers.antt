@@ -1,5 +1,10 @@
 -- `capped` meets its contract.
+use native.Mathlib.Omega.{arith}
+use Rattle.book_image.proofs.Bounds.{min_capped}
 use Rattle.book_image.proofs.capped.Goals as goal
 
 pub returns : goal.returns
-returns c = (rw (c.cap-6.ensures.0, c.cap-5.ensures.0, c.cap-4.ensures.0, c.cap-3.ensures.0, c.cap-2.ensures.0, c.cap.ensures.0), record { elements = c.cap.ensures.1; permanent = c.cap-2.ensures.1; functions = c.cap-3.ensures.1; nodes = c.cap-4.ensures.1; agents = c.cap-5.ensures.1; contents = c.cap-6.ensures.1 })
+returns c = (
+  simp (c.min.ensures, c.min-2.ensures, c.min-3.ensures, c.min-4.ensures, c.min-5.ensures, c.min-6.ensures, min_capped),
+  record { elements = omega arith; permanent = omega arith; functions = omega arith; nodes = omega arith; agents = omega arith; contents = omega arith },
+)

@@ -1,5 +1,4 @@
 -- `bad_value` meets its contract.
-use Rattle.std.specs.Prelude.{Some}
 use Prim.Native.Nat.{◌<◌}
 use native.Mathlib.Omega.{arith}
 use lib.ListN.{length}

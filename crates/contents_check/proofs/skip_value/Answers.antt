@@ -19,7 +19,7 @@ loop-k-preserved c =
     let l = c.loop-k in
     record {
       from = omega (arith, l.invariant.from);
-      to = omega (arith, c.loop-k-test.true, c.smaller-n.ensures);
+      to = omega (arith, c.loop-k-test.true, c.min-n.ensures);
       held = λ k a b. dite (ℕ_discrete k l.k) (λ (q : k ≡ l.k). rw q c.if-contents-k.false) (λ (q : ¬ (k ≡ l.k)). l.invariant.held k a (omega arith));
     }
 

@@ -5,4 +5,4 @@ use Rattle.contents_start.proofs.fill_function.Goals as goal
 pub returns : goal.returns
 returns c =
     let a = c.args in
-    run_is a.first a.end a.v c.smaller-a.result c.smaller-b.result a.contents.now _ c.requires c.smaller-a.ensures c.smaller-b.ensures (c.fill.ensures.after (λ y e. e))
+    run_is a.first a.end a.v c.min-a.result c.min-b.result a.contents.now _ c.requires c.min-a.ensures c.min-b.ensures (c.fill.ensures.after (λ y e. e))

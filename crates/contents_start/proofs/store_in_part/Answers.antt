@@ -10,4 +10,4 @@ returns c =
     let a = c.args in
     let e : a.first + (a.l - a.first) ≡ a.l = omega (arith, c.requires.1) in
     rw e at
-    (put_back a.first a.end (a.l - a.first) a.v a.contents.now c.requires.0 c.smaller-a.result c.smaller-b.result c.smaller-a.ensures c.smaller-b.ensures c.put.new.s c.put.ensures)
+    (put_back a.first a.end (a.l - a.first) a.v a.contents.now c.requires.0 c.min-a.result c.min-b.result c.min-a.ensures c.min-b.ensures c.put.new.s c.put.ensures)

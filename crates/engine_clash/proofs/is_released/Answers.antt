@@ -15,6 +15,6 @@ returns c =
     let a = c.args in
     let gives : Instruction → Bool = λ i. has (label_of i []) a.x in
     any_from_yields_List (λ x. gives (decode_of x)) _ _ c.any.result c.any.ensures.ran
-    (YieldsList-from_slice (take a.len a.list.now) (c.iter.ensures.rest ∙ take_min a.list.now c.smaller-n.result a.len c.smaller-n.ensures))
+    (YieldsList-from_slice (take a.len a.list.now) (c.iter.ensures.rest ∙ take_min a.list.now c.min-n.result a.len c.min-n.ensures))
     (λ x b q k. search (rules, tests))
     ∙ any_items gives a.list.now a.len ∙ sym (has_any a.x (items a.list.now a.len))

@@ -8,7 +8,7 @@ use Rattle.engine_clash.proofs.least_clash.Goals as goal
 pub loop-j-init : goal.loop-j-init
 loop-j-init c =
     let a = c.args in
-    (looked_start a.list.now c.smaller-n.result a.most, tables_start a.list.now)
+    (looked_start a.list.now c.min-n.result a.most, tables_start a.list.now)
 
 pub loop-j-preserved : goal.loop-j-preserved
 loop-j-preserved c =
@@ -20,5 +20,5 @@ loop-j-preserved c =
 pub returns : goal.returns
 returns c =
     let a = c.args in
-    let n = c.smaller-n in
+    let n = c.min-n in
     rw (← take_min a.list.now n.result a.len n.ensures) (looked_best (low_program a.image.now) a.contents.now (omega (arith, n.ensures)) c.loop-j-test.false c.loop-j.invariant.0)

@@ -9,7 +9,7 @@ use Rattle.engine_fire.proofs.mark_in.Goals as goal
 pub returns-then-at-e : goal.returns-then-at-e
 returns-then-at-e c =
     let a = c.args in
-    let e = c.smaller-e in
+    let e = c.min-e in
     let r = c.mark in
     let h : a.at < e.result = c.if-at-e.true in
     put_inside a.first a.end a.at a.writers.now c.requires e.result e.ensures (bit_or (get_or a.writers.now a.at 0) a.bit) h r.new.readers

@@ -10,5 +10,5 @@ pub returns-else-at-e : goal.returns-else-at-e
 unfolding marked
 returns-else-at-e c =
     let a = c.args in
-    let outside : min a.end (length a.contents.now) ≤ a.at = omega (arith, c.if-at-e.false, c.smaller-e.ensures) in
+    let outside : min a.end (length a.contents.now) ≤ a.at = omega (arith, c.if-at-e.false, c.min-e.ensures) in
     rw (le-ltb a.at (min a.end (length a.contents.now)) outside)

@@ -17,8 +17,8 @@ unfolding check_contents
 returns c =
     λ strides.
     let a = c.args in
-    let n = c.smaller-n.result in
-    let e : n ≡ min (word a.image.now 6) (length a.contents.now) = omega (arith, c.smaller-n.ensures, c.locations.ensures) in
+    let n = c.min-n.result in
+    let e : n ≡ min (word a.image.now 6) (length a.contents.now) = omega (arith, c.min-n.ensures, c.locations.ensures) in
     c.none_at.ensures
     ∙ ap (λ (x : Option ℕ). answer_of (none_at 8 0 0 x)) (c.bad_value-found.ensures strides)
     ∙ ap (λ (x : List ℕ). answer_of (check_contents (low_program a.image.now) x)) (taken _ n a.contents.now e)

@@ -20,7 +20,7 @@ returns-in_err-walk c =
 pub returns : goal.returns
 returns c =
     let a = c.args in
-    let n = c.smaller-n in
+    let n = c.min-n in
     let m = c.finish_move-done in
     let e : n.result ≡ min _ (length a.contents.now) = n.ensures ∙ ap (λ (x : ℕ). min x (length a.contents.now)) c.locations-all.ensures in
     rw c.in_ok-walk.was

@@ -16,4 +16,4 @@ own book c i n ys r d zs s e =
     record { answer = s.answer ∙ ap (λ (x : Stepped). x.answer) same; contents = s.contents ∙ ap (λ (x : Stepped). x.contents) same }
 
 pub returns : goal.returns
-returns c = own _ _ _ c.args.lent _ _ _ _ c.step.ensures (omega (arith, c.smaller-n.ensures, length-take {A = Record}))
+returns c = own _ _ _ c.args.lent _ _ _ _ c.step.ensures (omega (arith, c.min-n.ensures, length-take {A = Record}))

@@ -16,4 +16,4 @@ own m o s t n ys r u zs said e = λ lent whole rest h.
     (said lent whole rest (subst (λ (k : ℕ). CallAt lent k whole m o rest s t.contents t.readers t.writers) (sym e) (call_shorter lent n whole m o rest s t.contents t.readers t.writers h))).0
 
 pub returns : goal.returns
-returns c = own _ _ _ _ c.args.lent _ _ _ _ c.run_from.ensures (omega (arith, c.smaller-n.ensures, length-take {A = Record}))
+returns c = own _ _ _ _ c.args.lent _ _ _ _ c.run_from.ensures (omega (arith, c.min-n.ensures, length-take {A = Record}))

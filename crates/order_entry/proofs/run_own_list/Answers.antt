@@ -20,4 +20,4 @@ own book log lent n ys r left zs s e = record {
 }
 
 pub returns : goal.returns
-returns c = own _ _ _ c.args.lent _ _ _ _ c.run.ensures (omega (arith, c.smaller-n.ensures, length-take {A = Record}))
+returns c = own _ _ _ c.args.lent _ _ _ _ c.run.ensures (omega (arith, c.min-n.ensures, length-take {A = Record}))

@@ -18,7 +18,7 @@ loop-j-preserved c =
     let o = c.args.order.now in
     let l = c.loop-j in
     let n = c.least_unordered-i in
-    let lim : l.j < 64 = omega (arith, c.smaller-m.ensures) in
+    let lim : l.j < 64 = omega (arith, c.min-m.ensures) in
     let hit = own_hit o l.j l.own lim l.invariant.1 n.result n.ensures in
     let low = own_low o l.j l.own lim l.invariant.1 n.result n.ensures in
     elim c.if-i-first.branch [
@@ -30,5 +30,5 @@ pub returns : goal.returns
 returns c =
     let a = c.args in
     let l = c.loop-j in
-    let e : l.j ≡ c.smaller-m.result = omega arith in
-    ten a.order.now c.smaller-m.result l.first l.second a.moves (told c.must.result) c.smaller-m.ensures (rw e at l.invariant.2) c.must.ensures
+    let e : l.j ≡ c.min-m.result = omega arith in
+    ten a.order.now c.min-m.result l.first l.second a.moves (told c.must.result) c.min-m.ensures (rw e at l.invariant.2) c.must.ensures

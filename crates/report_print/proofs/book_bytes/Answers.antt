@@ -11,4 +11,4 @@ pub returns-then-is_some : goal.returns-then-is_some
 returns-then-is_some c = length_unbounded c.args.input.now c.parse-first.result c.parse-second.result c.parse-first.ensures c.parse-second.ensures (not-false _ c.if-not-first-second.false-raw) c.bad_header.result c.bad_header.ensures c.is_some.ensures c.if-is_some.true
 
 pub returns : goal.returns
-returns c = c.smaller.ensures ∙ length_bounded c.args.input.now c.parse-first.result c.parse-second.result c.parse-first.ensures c.parse-second.ensures (not-false _ c.if-not-first-second.false-raw) c.bad_header.result c.bad_header.ensures c.is_some.ensures c.if-is_some.false
+returns c = c.min.ensures ∙ length_bounded c.args.input.now c.parse-first.result c.parse-second.result c.parse-first.ensures c.parse-second.ensures (not-false _ c.if-not-first-second.false-raw) c.bad_header.result c.bad_header.ensures c.is_some.ensures c.if-is_some.false
