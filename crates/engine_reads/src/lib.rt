@@ -12,6 +12,7 @@ ghost use Rattle.engine_term.specs.Marks.{marked_if_dynamic, marked, Has, Placed
 ghost use Rattle.engine_reads.specs.Marking.{found_below, universe_marked, member, next_passing};
 
 use book::{Function, Image};
+use engine_term::Frame;
 use text::Value;
 
 // ---- marks of a part
@@ -46,19 +47,13 @@ fn mark_between(readers: &mut [u64], bit: u64, first: usize, end: usize)
 // ---- labels and Reserve
 
 // The lowest label on the roll from `from` on, or E; Reserve is marked as read at the labels tried.
-pub fn lowest_label(
-    image: &Image,
-    contents: &[Value],
-    readers: &mut [u64],
-    bit: u64,
-    from: Value,
-) -> Value
-    ensures { Runs (low_program image.now) contents.now bit (lowest from ((low_program image.now).E - from)) (found_below (low_program image.now).E result) readers.old readers.new }
+pub fn lowest_label(frame: &Frame, readers: &mut [u64], from: Value) -> Value
+    ensures { Runs (low_program frame.now.image.now) frame.now.contents.now frame.now.bit (lowest from ((low_program frame.now.image.now).E - from)) (found_below (low_program frame.now.image.now).E result) readers.old readers.new }
 {
-    let e = book_image::elements(image);
+    let e = book_image::elements(frame.image);
     for x in from..e {
-        engine_term::mark(readers, bit, x as usize);
-        if text::fetch(contents, x as usize) == 2 {
+        engine_term::mark(readers, frame.bit, x as usize);
+        if text::fetch(frame.contents, x as usize) == 2 {
             return x;
         }
     }
@@ -76,26 +71,20 @@ fn is_reserve_dynamic(image: &Image, x: Value) -> bool
 }
 
 // Marks Reserve at x as read.
-fn mark_reserve(image: &Image, readers: &mut [u64], bit: u64, x: Value)
-    ensures { Placed (low_program image.now) → readers.new ≡ marked_if_dynamic (low_program image.now) bit x readers.old }
+fn mark_reserve(frame: &Frame, readers: &mut [u64], x: Value)
+    ensures { Placed (low_program frame.now.image.now) → readers.new ≡ marked_if_dynamic (low_program frame.now.image.now) frame.now.bit x readers.old }
 {
-    if is_reserve_dynamic(image, x) {
-        engine_term::mark(readers, bit, x as usize);
+    if is_reserve_dynamic(frame.image, x) {
+        engine_term::mark(readers, frame.bit, x as usize);
     }
 }
 
 // The value of Reserve at x, which is marked as read.
-pub fn read_reserve(
-    image: &Image,
-    contents: &[Value],
-    readers: &mut [u64],
-    bit: u64,
-    x: Value,
-) -> Value
-    ensures { Runs (low_program image.now) contents.now bit (read (reserve x)) result readers.old readers.new }
+pub fn read_reserve(frame: &Frame, readers: &mut [u64], x: Value) -> Value
+    ensures { Runs (low_program frame.now.image.now) frame.now.contents.now frame.now.bit (read (reserve x)) result readers.old readers.new }
 {
-    mark_reserve(image, readers, bit, x);
-    text::fetch(contents, x as usize)
+    mark_reserve(frame, readers, x);
+    text::fetch(frame.contents, x as usize)
 }
 
 // ---- universes
@@ -111,18 +100,11 @@ pub fn mark_universe(readers: &mut [u64], bit: u64, f: Function, e: Value)
 }
 
 // The value of the universe u at x, which is marked as read; of a number that is no element it is false, and nothing is read.
-pub fn read_universe(
-    image: &Image,
-    contents: &[Value],
-    readers: &mut [u64],
-    bit: u64,
-    u: u16,
-    x: Value,
-) -> Value
-    ensures { Has (low_program image.now) u 1 → Runs (low_program image.now) contents.now bit (universe_at (low_program image.now) u x) result readers.old readers.new }
+pub fn read_universe(frame: &Frame, readers: &mut [u64], u: u16, x: Value) -> Value
+    ensures { Has (low_program frame.now.image.now) u 1 → Runs (low_program frame.now.image.now) frame.now.contents.now frame.now.bit (universe_at (low_program frame.now.image.now) u x) result readers.old readers.new }
 {
-    if x < book_image::elements(image) {
-        return engine_term::read(image, contents, readers, bit, u, 0, x);
+    if x < book_image::elements(frame.image) {
+        return frame.read(readers, u, 0, x);
     }
     1
 }

@@ -12,6 +12,16 @@ ghost use Rattle.engine_term.specs.Marks.{mark_one, dynamic_of, Placed, SumAt, R
 use book::{Function, Image};
 use text::Value;
 
+// What a rule is walked in, and a term evaluated in: the image, the contents, the move's bit, and the bindings, which are the values of the eight variables
+// and then the agent's element.
+#[derive(Clone, Copy)]
+pub struct Frame<'a> {
+    pub image: &'a Image,
+    pub contents: &'a [Value],
+    pub bit: u64,
+    pub bindings: [Value; 9],
+}
+
 // A location as the word that an instruction has for it. Those of a checked book fit.
 fn location_word(at: usize) -> u32
     ensures { result ≡ at % 4294967296 }
@@ -45,41 +55,6 @@ pub fn mark(readers: &mut [u64], bit: u64, at: usize)
     if at < readers.len() {
         readers[at] = readers[at] | bit;
     }
-}
-
-// Marks location `at`, which is f's at x and y, if it is dynamic.
-fn mark_if_dynamic(
-    image: &Image,
-    readers: &mut [u64],
-    bit: u64,
-    f: Function,
-    x: Value,
-    y: Value,
-    at: usize,
-)
-    ensures { readers.new ≡ (if dynamic_of (low_program image.now) f x y at then mark_one bit at readers.old else readers.old) }
-{
-    if is_dynamic_at(image, f, x, y, at) {
-        mark(readers, bit, at);
-    }
-}
-
-// The value at the sum of function f at x and y, which is marked as read.
-pub fn read(
-    image: &Image,
-    contents: &[Value],
-    readers: &mut [u64],
-    bit: u64,
-    f: u16,
-    x: Value,
-    y: Value,
-) -> Value
-    ensures { (l : ℕ) → SumAt (low_program image.now) f x y l → Runs (low_program image.now) contents.now bit (read l) result readers.old readers.new }
-{
-    let row = book_image::function_at(image, f as u32);
-    let at = book_parts::location(row, x as u32, y as u32);
-    mark_if_dynamic(image, readers, bit, row, x, y, at);
-    text::fetch(contents, at)
 }
 
 // The sum of function f at x and y, as an instruction has it.
@@ -202,109 +177,106 @@ fn operate(p: Value, k: u16, x: Value, y: Value) -> Value
     }
 }
 
-// The value of variable a; the bindings are the values of the eight variables and then the agent's element.
-fn variable(bindings: &[Value; 9], a: u16) -> Value
-    ensures { result ≡ get_or (variables_of bindings.now) a undef }
-{
-    if a < 8 { bindings[a as usize] } else { 0 }
-}
+impl Frame<'_> {
+    // Marks location `at`, which is f's at x and y, if it is dynamic.
+    fn mark_if_dynamic(&self, readers: &mut [u64], f: Function, x: Value, y: Value, at: usize)
+        ensures { readers.new ≡ (if dynamic_of (low_program self.now.image.now) f x y at then mark_one self.now.bit at readers.old else readers.old) }
+    {
+        if is_dynamic_at(self.image, f, x, y, at) {
+            mark(readers, self.bit, at);
+        }
+    }
 
-// The value of the term at node n, at most `depth` nodes deep; what it reads is marked. A unary function's argument is given as the second, since its
-// stride is 1: so no product is made.
-#[cycle(argument_eval)]
-pub fn eval(
-    image: &Image,
-    contents: &[Value],
-    readers: &mut [u64],
-    bit: u64,
-    bindings: &[Value; 9],
-    depth: usize,
-    n: u16,
-) -> Value
-    ensures { Runs (low_program image.now) contents.now bit (value_at image.now bindings.now depth n) result readers.old readers.new }
-{
-    if depth == 0 {
-        return 0;
+    // The value at the sum of function f at x and y, which is marked as read.
+    pub fn read(&self, readers: &mut [u64], f: u16, x: Value, y: Value) -> Value
+        ensures { (l : ℕ) → SumAt (low_program self.now.image.now) f x y l → Runs (low_program self.now.image.now) self.now.contents.now self.now.bit (read l) result readers.old readers.new }
+    {
+        let row = book_image::function_at(self.image, f as u32);
+        let at = book_parts::location(row, x as u32, y as u32);
+        self.mark_if_dynamic(readers, row, x, y, at);
+        text::fetch(self.contents, at)
     }
-    let less = depth - 1;
-    let node = book_parts::node(image, n);
-    let k = node.kind;
-    match k {
-        1 => node.a,
-        2 => variable(bindings, node.a),
-        3 => bindings[8],
-        4 => read(image, contents, readers, bit, node.a, 0, 0),
-        5 => {
-            let x = eval(image, contents, readers, bit, bindings, less, node.b);
-            read(image, contents, readers, bit, node.a, 0, x)
-        }
-        6 => {
-            let x = argument(image, contents, readers, bit, bindings, less, node.b);
-            let y = argument(image, contents, readers, bit, bindings, less, node.c);
-            read(image, contents, readers, bit, node.a, x, y)
-        }
-        8 => not(eval(image, contents, readers, bit, bindings, less, node.a)),
-        7..=13 => {
-            let x = eval(image, contents, readers, bit, bindings, less, node.a);
-            let y = eval(image, contents, readers, bit, bindings, less, node.b);
-            operate(book_parts::permanent(image), k, x, y)
-        }
-        _ => 0,
-    }
-}
 
-// The same, with a variable's value looked up without a call: most arguments are variables.
-#[cycle(argument_eval)]
-fn argument(
-    image: &Image,
-    contents: &[Value],
-    readers: &mut [u64],
-    bit: u64,
-    bindings: &[Value; 9],
-    depth: usize,
-    n: u16,
-) -> Value
-    ensures { Runs (low_program image.now) contents.now bit (value_at image.now bindings.now depth n) result readers.old readers.new }
-{
-    if depth == 0 {
-        return 0;
+    // The value of variable a.
+    fn variable(&self, a: u16) -> Value
+        ensures { result ≡ get_or (variables_of self.now.bindings) a undef }
+    {
+        if a < 8 { self.bindings[a as usize] } else { 0 }
     }
-    let node = book_parts::node(image, n);
-    if node.kind == 2 {
-        return variable(bindings, node.a);
-    }
-    eval(image, contents, readers, bit, bindings, depth, n)
-}
 
-// The location that the term at node n names, at most `depth` nodes deep; what its arguments read is marked.
-pub fn target_location(
-    image: &Image,
-    contents: &[Value],
-    readers: &mut [u64],
-    bit: u64,
-    bindings: &[Value; 9],
-    depth: usize,
-    n: u16,
-) -> u32
-    ensures { Runs (low_program image.now) contents.now bit (target_at image.now bindings.now depth n) result readers.old readers.new }
-{
-    if depth == 0 {
-        return 0;
+    // The value of the term at node n, at most `depth` nodes deep; what it reads is marked. A unary function's argument is given as the second, since
+    // its stride is 1: so no product is made.
+    #[cycle(argument_eval)]
+    pub fn eval(&self, readers: &mut [u64], depth: usize, n: u16) -> Value
+        ensures { Runs (low_program self.now.image.now) self.now.contents.now self.now.bit (value_at self.now.image.now self.now.bindings depth n) result readers.old readers.new }
+    {
+        if depth == 0 {
+            return 0;
+        }
+        let less = depth - 1;
+        let node = book_parts::node(self.image, n);
+        let k = node.kind;
+        match k {
+            1 => node.a,
+            2 => self.variable(node.a),
+            3 => self.bindings[8],
+            4 => self.read(readers, node.a, 0, 0),
+            5 => {
+                let x = self.eval(readers, less, node.b);
+                self.read(readers, node.a, 0, x)
+            }
+            6 => {
+                let x = self.argument(readers, less, node.b);
+                let y = self.argument(readers, less, node.c);
+                self.read(readers, node.a, x, y)
+            }
+            8 => not(self.eval(readers, less, node.a)),
+            7..=13 => {
+                let x = self.eval(readers, less, node.a);
+                let y = self.eval(readers, less, node.b);
+                operate(book_parts::permanent(self.image), k, x, y)
+            }
+            _ => 0,
+        }
     }
-    let less = depth - 1;
-    let node = book_parts::node(image, n);
-    let k = node.kind;
-    match k {
-        4 => location(image, node.a, 0, 0),
-        5 => {
-            let x = argument(image, contents, readers, bit, bindings, less, node.b);
-            location(image, node.a, 0, x)
+
+    // The same, with a variable's value looked up without a call: most arguments are variables.
+    #[cycle(argument_eval)]
+    fn argument(&self, readers: &mut [u64], depth: usize, n: u16) -> Value
+        ensures { Runs (low_program self.now.image.now) self.now.contents.now self.now.bit (value_at self.now.image.now self.now.bindings depth n) result readers.old readers.new }
+    {
+        if depth == 0 {
+            return 0;
         }
-        6 => {
-            let x = argument(image, contents, readers, bit, bindings, less, node.b);
-            let y = argument(image, contents, readers, bit, bindings, less, node.c);
-            location(image, node.a, x, y)
+        let node = book_parts::node(self.image, n);
+        if node.kind == 2 {
+            return self.variable(node.a);
         }
-        _ => 0,
+        self.eval(readers, depth, n)
+    }
+
+    // The location that the term at node n names, at most `depth` nodes deep; what its arguments read is marked.
+    pub fn target_location(&self, readers: &mut [u64], depth: usize, n: u16) -> u32
+        ensures { Runs (low_program self.now.image.now) self.now.contents.now self.now.bit (target_at self.now.image.now self.now.bindings depth n) result readers.old readers.new }
+    {
+        if depth == 0 {
+            return 0;
+        }
+        let less = depth - 1;
+        let node = book_parts::node(self.image, n);
+        let k = node.kind;
+        match k {
+            4 => location(self.image, node.a, 0, 0),
+            5 => {
+                let x = self.argument(readers, less, node.b);
+                location(self.image, node.a, 0, x)
+            }
+            6 => {
+                let x = self.argument(readers, less, node.b);
+                let y = self.argument(readers, less, node.c);
+                location(self.image, node.a, x, y)
+            }
+            _ => 0,
+        }
     }
 }

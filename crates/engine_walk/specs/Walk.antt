@@ -1,4 +1,4 @@
--- What a walk came to, the walk of the rule at a node, and what the functions of the walk promise, in one frame.
+-- What a walk came to, the walk of the rule at a node, and what the functions of the walk promise, in one frame (`Frame`, the struct of engine_term).
 use Rattle.std.specs.Prelude.{List, [], ℕ, set}
 use Rattle.book.specs.Book.{node_at}
 use Rattle.engine.specs.Reader.{Reader}
@@ -7,6 +7,7 @@ use Rattle.engine.specs.Rule.{Rule, assign, bind, for_all, import, release, choo
 use Rattle.engine_term.specs.Bindings.{variables_of, agent_of}
 use Rattle.book.specs.Image.{low_program}
 use Rattle.book_parts.specs.declared.StoredNode.{StoredNode}
+use Rattle.engine_term.specs.declared.Frame.{Frame}
 use Rattle.engine_term.specs.Marks.{Runs}
 use Rattle.engine_emit.specs.declared.Progress.{Progress}
 use Rattle.engine_emit.specs.Emit.{picks_left, walk_from, reached}
@@ -45,17 +46,7 @@ release_rule m d n x = release n (term_at (node_at (low_program m)) d x.a)
 abbrev pub choose_rule : List ℕ → ℕ → ℕ → StoredNode → Rule
 choose_rule m d n x = choose n x.a x.b (rule_from (node_at (low_program m)) d x.c)
 
--- ---- the frame of the walk's functions
-
--- what a rule is walked in: the image, the contents, the move's bit, and the bindings, which have the variables and the agent's element
-pub record Frame : Type 0 where
-  pub image : List ℕ
-  pub contents : List ℕ
-  pub bit : ℕ
-  pub bindings : List ℕ
-
-abbrev pub frame : List ℕ → List ℕ → ℕ → List ℕ → Frame
-frame image contents bit bindings = record { image = image; contents = contents; bit = bit; bindings = bindings }
+-- ---- what the walk's functions promise, in a frame, from state to state
 
 -- how far a walk is: the picks left, its progress, the list with its instructions, and the reader marks
 pub record WalkState : Type 0 where
@@ -73,17 +64,17 @@ state_with ys s list readers = record { picks = ys; progress = s; list = list; r
 
 -- this computation leads from x to y
 abbrev pub Leads : Frame → Reader Walked → WalkState → WalkState → Type 0
-Leads f w x y = Runs (low_program f.image) f.contents f.bit w (reached y.picks y.progress y.list) x.readers y.readers
+Leads f w x y = Runs (low_program f.image.now) f.contents.now f.bit w (reached y.picks y.progress y.list) x.readers y.readers
 
 -- the rule is walked from x, where the walk is not refused, to y
 abbrev pub RuleWalked : Frame → Rule → WalkState → WalkState → Type 0
 RuleWalked f r x y =
-    Leads f (walk (low_program f.image) (agent_of f.bindings) r (variables_of f.bindings) (walk_from x.picks x.progress x.list)) x y
+    Leads f (walk (low_program f.image.now) (agent_of f.bindings) r (variables_of f.bindings) (walk_from x.picks x.progress x.list)) x y
 
 -- the rule at node n is walked, at most d nodes down, unless the walk is refused at x
 abbrev pub NodeWalked : Frame → ℕ → ℕ → WalkState → WalkState → Type 0
-NodeWalked f d n x y = Leads f (after (reached x.picks x.progress x.list) (walk_at f.image f.bindings d n)) x y
+NodeWalked f d n x y = Leads f (after (reached x.picks x.progress x.list) (walk_at f.image.now f.bindings d n)) x y
 
 -- the body of the binder b is walked, at most d nodes down, with its variable at v, unless the walk is refused at x
 abbrev pub BodyWalked : Frame → ℕ → StoredNode → ℕ → WalkState → WalkState → Type 0
-BodyWalked f d b v x y = Leads f (after (reached x.picks x.progress x.list) (body_at f.image f.bindings d b.c b.a v)) x y
+BodyWalked f d b v x y = Leads f (after (reached x.picks x.progress x.list) (body_at f.image.now f.bindings d b.c b.a v)) x y

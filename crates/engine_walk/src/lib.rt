@@ -10,12 +10,13 @@ ghost use Rattle.engine_term.specs.Marks.{Has};
 ghost use Rattle.book.specs.Image.{low_program};
 ghost use Rattle.engine_emit.specs.Emit.{reached};
 ghost use Rattle.engine_walk.specs.WalkMarks.{bits_cleared, WalkMarked};
-ghost use Rattle.engine_walk.specs.Walk.{outcome, assign_rule, let_rule, forall_rule, import_rule, release_rule, choose_rule, frame, state, state_with, RuleWalked, NodeWalked, BodyWalked};
+ghost use Rattle.engine_walk.specs.Walk.{outcome, assign_rule, let_rule, forall_rule, import_rule, release_rule, choose_rule, state, state_with, RuleWalked, NodeWalked, BodyWalked};
 
 use book::Image;
 use book_parts::StoredNode;
 use engine::{Pick, Work};
 use engine_emit::Progress;
+use engine_term::Frame;
 use text::Value;
 
 // Puts variable a of the bindings at x.
@@ -36,64 +37,55 @@ fn branch(x: Value, b: u16, c: u16) -> u16
 
 // Kind 21, a set: the location that node a names gets the value of term b.
 fn walk_assign(
-    image: &Image,
-    contents: &[Value],
+    frame: &Frame,
     readers: &mut [u64],
-    bit: u64,
     list: &mut Work,
-    bindings: &[Value; 9],
     depth: usize,
     s: Progress,
     n: u16,
     node: StoredNode,
 ) -> Progress
     requires { refusal_number s.refused ≡ 0 }
-    ensures { (ys : List ℕ) → RuleWalked (frame image.now contents.now bit bindings.now) (assign_rule image.now depth n node) (state_with ys s list.old readers.old) (state_with ys result list.new readers.new) }
+    ensures { (ys : List ℕ) → RuleWalked frame.now (assign_rule frame.now.image.now depth n node) (state_with ys s list.old readers.old) (state_with ys result list.new readers.new) }
 {
-    let at = engine_term::target_location(image, contents, readers, bit, bindings, depth, node.a);
-    let x = engine_term::eval(image, contents, readers, bit, bindings, depth, node.b);
-    let f = engine_emit::target_function(image, depth, node.a);
-    engine_emit::emit_update(image, list, s, n, f, at, x)
+    let at = frame.target_location(readers, depth, node.a);
+    let x = frame.eval(readers, depth, node.b);
+    let f = engine_emit::target_function(frame.image, depth, node.a);
+    engine_emit::emit_update(frame.image, list, s, n, f, at, x)
 }
 
 // Kind 27, a release: the label that term a gives goes back to the roll.
 fn walk_release(
-    image: &Image,
-    contents: &[Value],
+    frame: &Frame,
     readers: &mut [u64],
-    bit: u64,
     list: &mut Work,
-    bindings: &[Value; 9],
     depth: usize,
     s: Progress,
     n: u16,
     node: StoredNode,
 ) -> Progress
     requires { refusal_number s.refused ≡ 0 }
-    ensures { (ys : List ℕ) → RuleWalked (frame image.now contents.now bit bindings.now) (release_rule image.now depth n node) (state_with ys s list.old readers.old) (state_with ys result list.new readers.new) }
+    ensures { (ys : List ℕ) → RuleWalked frame.now (release_rule frame.now.image.now depth n node) (state_with ys s list.old readers.old) (state_with ys result list.new readers.new) }
 {
-    let x = engine_term::eval(image, contents, readers, bit, bindings, depth, node.a);
-    let v = engine_reads::read_reserve(image, contents, readers, bit, x);
-    engine_emit::emit_release(image, list, s, n, x, v)
+    let x = frame.eval(readers, depth, node.a);
+    let v = engine_reads::read_reserve(frame, readers, x);
+    engine_emit::emit_release(frame.image, list, s, n, x, v)
 }
 
 // Walks the rule at node n, at most `depth` nodes deep; after a refusal nothing more is done.
 // The second rule of a both and the branch of an if take the place of node n in the loop, with no call; each other kind ends the loop.
 #[cycle(walk_walk_body_walk_choose_walk_forall_walk_import_walk_let)]
 fn walk(
-    image: &Image,
-    contents: &[Value],
+    frame: &Frame,
     readers: &mut [u64],
-    bit: u64,
     list: &mut Work,
     picks: &[Pick],
     used: &mut [usize; 1],
-    bindings: &[Value; 9],
     depth: usize,
     s: Progress,
     n: u16,
 ) -> Progress
-    ensures { NodeWalked (frame image.now contents.now bit bindings.now) depth n (state picks.now used.old s list.old readers.old) (state picks.now used.new result list.new readers.new) }
+    ensures { NodeWalked frame.now depth n (state picks.now used.old s list.old readers.old) (state picks.now used.new result list.new readers.new) }
 {
     let mut left = depth;
     let mut at = n;
@@ -102,41 +94,25 @@ fn walk(
         if r.refused.is_some() {
             return r;
         }
-        let node = book_parts::node(image, at);
+        let node = book_parts::node(frame.image, at);
         let less = left - 1;
         let k = node.kind;
         match k {
             20..=28 => match k {
-                21 => return walk_assign(
-                    image, contents, readers, bit, list, bindings, less, r, at, node,
-                ),
+                21 => return walk_assign(frame, readers, list, less, r, at, node),
                 22 => {
-                    r = walk(
-                        image, contents, readers, bit, list, picks, used, bindings, less, r, node.a,
-                    );
+                    r = walk(frame, readers, list, picks, used, less, r, node.a);
                     at = node.b;
                 }
                 23 => {
-                    let x = engine_term::eval(
-                        image, contents, readers, bit, bindings, less, node.a,
-                    );
+                    let x = frame.eval(readers, less, node.a);
                     at = branch(x, node.b, node.c);
                 }
-                24 => return walk_let(
-                    image, contents, readers, bit, list, picks, used, bindings, less, r, node,
-                ),
-                25 => return walk_forall(
-                    image, contents, readers, bit, list, picks, used, bindings, less, r, node,
-                ),
-                26 => return walk_import(
-                    image, contents, readers, bit, list, picks, used, bindings, less, r, at, node,
-                ),
-                27 => return walk_release(
-                    image, contents, readers, bit, list, bindings, less, r, at, node,
-                ),
-                28 => return walk_choose(
-                    image, contents, readers, bit, list, picks, used, bindings, less, r, at, node,
-                ),
+                24 => return walk_let(frame, readers, list, picks, used, less, r, node),
+                25 => return walk_forall(frame, readers, list, picks, used, less, r, node),
+                26 => return walk_import(frame, readers, list, picks, used, less, r, at, node),
+                27 => return walk_release(frame, readers, list, less, r, at, node),
+                28 => return walk_choose(frame, readers, list, picks, used, less, r, at, node),
                 _ => return r,
             },
             _ => return r,
@@ -149,83 +125,68 @@ fn walk(
 // Walks the c of a binder that binds variable a, with a at x.
 #[cycle(walk_walk_body_walk_choose_walk_forall_walk_import_walk_let)]
 fn walk_body(
-    image: &Image,
-    contents: &[Value],
+    frame: &Frame,
     readers: &mut [u64],
-    bit: u64,
     list: &mut Work,
     picks: &[Pick],
     used: &mut [usize; 1],
-    bindings: &[Value; 9],
     depth: usize,
     s: Progress,
     node: StoredNode,
     x: Value,
 ) -> Progress
-    ensures { BodyWalked (frame image.now contents.now bit bindings.now) depth node x (state picks.now used.old s list.old readers.old) (state picks.now used.new result list.new readers.new) }
+    ensures { BodyWalked frame.now depth node x (state picks.now used.old s list.old readers.old) (state picks.now used.new result list.new readers.new) }
 {
-    let mut inner = *bindings;
-    bind_variable(&mut inner, node.a, x);
-    walk(
-        image, contents, readers, bit, list, picks, used, &inner, depth, s, node.c,
-    )
+    let mut inner = *frame;
+    bind_variable(&mut inner.bindings, node.a, x);
+    walk(&inner, readers, list, picks, used, depth, s, node.c)
 }
 
 // Kind 24, a let: the body c is walked with variable a at the value of term b.
 #[cycle(walk_walk_body_walk_choose_walk_forall_walk_import_walk_let)]
 fn walk_let(
-    image: &Image,
-    contents: &[Value],
+    frame: &Frame,
     readers: &mut [u64],
-    bit: u64,
     list: &mut Work,
     picks: &[Pick],
     used: &mut [usize; 1],
-    bindings: &[Value; 9],
     depth: usize,
     s: Progress,
     node: StoredNode,
 ) -> Progress
     requires { refusal_number s.refused ≡ 0 }
-    ensures { RuleWalked (frame image.now contents.now bit bindings.now) (let_rule image.now depth node) (state picks.now used.old s list.old readers.old) (state picks.now used.new result list.new readers.new) }
+    ensures { RuleWalked frame.now (let_rule frame.now.image.now depth node) (state picks.now used.old s list.old readers.old) (state picks.now used.new result list.new readers.new) }
 {
-    let x = engine_term::eval(image, contents, readers, bit, bindings, depth, node.b);
-    walk_body(
-        image, contents, readers, bit, list, picks, used, bindings, depth, s, node, x,
-    )
+    let x = frame.eval(readers, depth, node.b);
+    walk_body(frame, readers, list, picks, used, depth, s, node, x)
 }
 
 // Kind 25, a forall: the body c is walked with variable a at each member of the universe b, ascending.
 #[cycle(walk_walk_body_walk_choose_walk_forall_walk_import_walk_let)]
 fn walk_forall(
-    image: &Image,
-    contents: &[Value],
+    frame: &Frame,
     readers: &mut [u64],
-    bit: u64,
     list: &mut Work,
     picks: &[Pick],
     used: &mut [usize; 1],
-    bindings: &[Value; 9],
     depth: usize,
     s: Progress,
     node: StoredNode,
 ) -> Progress
     requires { refusal_number s.refused ≡ 0 }
-    ensures { Has (low_program image.now) node.b 1 → RuleWalked (frame image.now contents.now bit bindings.now) (forall_rule image.now depth node) (state picks.now used.old s list.old readers.old) (state picks.now used.new result list.new readers.new) }
+    ensures { Has (low_program frame.now.image.now) node.b 1 → RuleWalked frame.now (forall_rule frame.now.image.now depth node) (state picks.now used.old s list.old readers.old) (state picks.now used.new result list.new readers.new) }
 {
-    let e = book_image::elements(image);
-    let f = book_image::function_at(image, node.b as u32);
-    engine_reads::mark_universe(readers, bit, f, e);
+    let e = book_image::elements(frame.image);
+    let f = book_image::function_at(frame.image, node.b as u32);
+    engine_reads::mark_universe(readers, frame.bit, f, e);
     let mut r = s;
-    let mut y = engine_reads::next_member(contents, f.first, e, 0);
+    let mut y = engine_reads::next_member(frame.contents, f.first, e, 0);
     while y < e {
-        r = walk_body(
-            image, contents, readers, bit, list, picks, used, bindings, depth, r, node, y,
-        );
+        r = walk_body(frame, readers, list, picks, used, depth, r, node, y);
         if r.refused.is_some() {
             return r;
         }
-        y = engine_reads::next_member(contents, f.first, e, y + 1);
+        y = engine_reads::next_member(frame.contents, f.first, e, y + 1);
     }
     r
 }
@@ -233,55 +194,45 @@ fn walk_forall(
 // Kind 26, an import: the lowest label of the roll is put into the universe b, and the body c is walked with variable a at it.
 #[cycle(walk_walk_body_walk_choose_walk_forall_walk_import_walk_let)]
 fn walk_import(
-    image: &Image,
-    contents: &[Value],
+    frame: &Frame,
     readers: &mut [u64],
-    bit: u64,
     list: &mut Work,
     picks: &[Pick],
     used: &mut [usize; 1],
-    bindings: &[Value; 9],
     depth: usize,
     s: Progress,
     n: u16,
     node: StoredNode,
 ) -> Progress
     requires { refusal_number s.refused ≡ 0 }
-    ensures { Has (low_program image.now) node.b 1 → RuleWalked (frame image.now contents.now bit bindings.now) (import_rule image.now depth n node) (state picks.now used.old s list.old readers.old) (state picks.now used.new result list.new readers.new) }
+    ensures { Has (low_program frame.now.image.now) node.b 1 → RuleWalked frame.now (import_rule frame.now.image.now depth n node) (state picks.now used.old s list.old readers.old) (state picks.now used.new result list.new readers.new) }
 {
-    let x = engine_reads::lowest_label(image, contents, readers, bit, s.label);
-    let at = engine_term::location(image, node.b, 0, x);
-    let t = engine_emit::import_label(image, list, s, n, at, x);
-    walk_body(
-        image, contents, readers, bit, list, picks, used, bindings, depth, t, node, x,
-    )
+    let x = engine_reads::lowest_label(frame, readers, s.label);
+    let at = engine_term::location(frame.image, node.b, 0, x);
+    let t = engine_emit::import_label(frame.image, list, s, n, at, x);
+    walk_body(frame, readers, list, picks, used, depth, t, node, x)
 }
 
 // Kind 28, a choose: the move's next pick must be in the universe b, and the body c is walked with variable a at it.
 #[cycle(walk_walk_body_walk_choose_walk_forall_walk_import_walk_let)]
 fn walk_choose(
-    image: &Image,
-    contents: &[Value],
+    frame: &Frame,
     readers: &mut [u64],
-    bit: u64,
     list: &mut Work,
     picks: &[Pick],
     used: &mut [usize; 1],
-    bindings: &[Value; 9],
     depth: usize,
     s: Progress,
     n: u16,
     node: StoredNode,
 ) -> Progress
     requires { refusal_number s.refused ≡ 0 }
-    ensures { Has (low_program image.now) node.b 1 → RuleWalked (frame image.now contents.now bit bindings.now) (choose_rule image.now depth n node) (state picks.now used.old s list.old readers.old) (state picks.now used.new result list.new readers.new) }
+    ensures { Has (low_program frame.now.image.now) node.b 1 → RuleWalked frame.now (choose_rule frame.now.image.now depth n node) (state picks.now used.old s list.old readers.old) (state picks.now used.new result list.new readers.new) }
 {
-    let x = engine_emit::next_pick(image, picks, used);
-    let v = engine_reads::read_universe(image, contents, readers, bit, node.b, x);
+    let x = engine_emit::next_pick(frame.image, picks, used);
+    let v = engine_reads::read_universe(frame, readers, node.b, x);
     let t = engine_emit::take_pick(picks, used, s, n, v);
-    walk_body(
-        image, contents, readers, bit, list, picks, used, bindings, depth, t, node, x,
-    )
+    walk_body(frame, readers, list, picks, used, depth, t, node, x)
 }
 
 // Takes a refused move's bit, and the higher ones, out of all marks; the moves before it have lower bits.
@@ -313,11 +264,14 @@ pub fn walk_move(
         refused: None,
         node: 0,
     };
-    let bindings = [0, 0, 0, 0, 0, 0, 0, 0, text::low(who.element)];
+    let frame = Frame {
+        image,
+        contents,
+        bit,
+        bindings: [0, 0, 0, 0, 0, 0, 0, 0, text::low(who.element)],
+    };
     let mut used = [0usize; 1];
-    let w = walk(
-        image, contents, readers, bit, list, picks, &mut used, &bindings, 32, s, root,
-    );
+    let w = walk(&frame, readers, list, picks, &mut used, 32, s, root);
     let r = engine_emit::all_used(picks, &used, w, root);
     if r.refused.is_some() {
         clear_marks(readers, bit);

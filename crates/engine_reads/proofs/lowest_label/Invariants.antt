@@ -7,5 +7,5 @@ use Rattle.engine_reads.proofs.lowest_label.Given as goal
 
 abbrev pub invariant-loop-x : goal.invariant-loop-x
 invariant-loop-x l =
-    (value_in l.contents (lowest l.x (l.e - l.x)) ≡ value_in l.contents (lowest l.from (l.e - l.from)))
-    × (marked l.bit (locations_read l.contents (lowest l.x (l.e - l.x))) l.readers ≡ marked l.bit (locations_read l.contents (lowest l.from (l.e - l.from))) l.initial.readers)
+    (value_in l.frame.contents.now (lowest l.x (l.e - l.x)) ≡ value_in l.frame.contents.now (lowest l.from (l.e - l.from)))
+    × (marked l.frame.bit (locations_read l.frame.contents.now (lowest l.x (l.e - l.x))) l.readers ≡ marked l.frame.bit (locations_read l.frame.contents.now (lowest l.from (l.e - l.from))) l.initial.readers)

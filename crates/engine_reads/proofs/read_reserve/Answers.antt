@@ -4,4 +4,4 @@ use Rattle.engine_term.proofs.Marking.{runs_read}
 use Rattle.engine_reads.proofs.read_reserve.Goals as goal
 
 pub returns : goal.returns
-returns c = let a = c.args in runs_read (low_program a.image.now) a.contents.now a.bit a.x c.fetch.result _ _ (λ p. c.fetch.ensures) c.mark_reserve.ensures
+returns c = let a = c.args in let f = a.frame.now in runs_read (low_program f.image.now) f.contents.now f.bit a.x c.fetch.result _ _ (λ p. c.fetch.ensures) c.mark_reserve.ensures

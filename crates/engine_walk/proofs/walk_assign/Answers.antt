@@ -17,12 +17,13 @@ pub returns : goal.returns
 unfolding walk
 returns c =
     let a = c.args in
-    let m = a.image.now in
+    let f = a.frame.now in
+    let m = f.image.now in
     let B = low_program m in
-    let s = a.bindings.now in
+    let s = f.bindings in
     let t = term_at (node_at B) a.depth a.node.a in
     λ ys.
     let w = walk_from ys a.s a.list.now in
-    runs_bind B a.contents.now a.bit (target_at m s a.depth a.node.a) (λ l. value_at m s a.depth a.node.b >>= λ v. done (refuse_if (not_boolean B t v) non_boolean a.n w then emit a.n (Update l v))) _ _ _ _ _ c.target_location-at.ensures
-    (runs_bind B a.contents.now a.bit (value_at m s a.depth a.node.b) (λ v. done (refuse_if (not_boolean B t v) non_boolean a.n w then emit a.n (Update c.target_location-at.result v))) _ _ _ _ _ c.eval-x.ensures
-    (runs_value B a.contents.now a.bit _ _ _ (c.emit_update.ensures ys ∙ rw (reached_walking ys a.s a.list.now c.requires, c.target_function-f.ensures))))
+    runs_bind B f.contents.now f.bit (target_at m s a.depth a.node.a) (λ l. value_at m s a.depth a.node.b >>= λ v. done (refuse_if (not_boolean B t v) non_boolean a.n w then emit a.n (Update l v))) _ _ _ _ _ c.target_location-at.ensures
+    (runs_bind B f.contents.now f.bit (value_at m s a.depth a.node.b) (λ v. done (refuse_if (not_boolean B t v) non_boolean a.n w then emit a.n (Update c.target_location-at.result v))) _ _ _ _ _ c.eval-x.ensures
+    (runs_value B f.contents.now f.bit _ _ _ (c.emit_update.ensures ys ∙ rw (reached_walking ys a.s a.list.now c.requires, c.target_function-f.ensures))))

@@ -16,11 +16,12 @@ pub returns : goal.returns
 unfolding walk
 returns c =
     let a = c.args in
-    let m = a.image.now in
+    let f = a.frame.now in
+    let m = f.image.now in
     let B = low_program m in
     λ ys.
     let w = walk_from ys a.s a.list.now in
     let y = c.eval-x.result in
-    runs_bind B a.contents.now a.bit (value_at m a.bindings.now a.depth a.node.a) (λ y. read (reserve y) >>= λ v. done (refuse_if (unreleasable B y v) not_releasable a.n w then emit a.n (Release y))) _ _ _ _ _ c.eval-x.ensures
-    (runs_bind B a.contents.now a.bit (read (reserve y)) (λ v. done (refuse_if (unreleasable B y v) not_releasable a.n w then emit a.n (Release y))) _ _ _ _ _ c.read_reserve-v.ensures
-    (runs_value B a.contents.now a.bit _ _ _ (c.emit_release.ensures ys ∙ rw (reached_walking ys a.s a.list.now c.requires))))
+    runs_bind B f.contents.now f.bit (value_at m f.bindings a.depth a.node.a) (λ y. read (reserve y) >>= λ v. done (refuse_if (unreleasable B y v) not_releasable a.n w then emit a.n (Release y))) _ _ _ _ _ c.eval-x.ensures
+    (runs_bind B f.contents.now f.bit (read (reserve y)) (λ v. done (refuse_if (unreleasable B y v) not_releasable a.n w then emit a.n (Release y))) _ _ _ _ _ c.read_reserve-v.ensures
+    (runs_value B f.contents.now f.bit _ _ _ (c.emit_release.ensures ys ∙ rw (reached_walking ys a.s a.list.now c.requires))))

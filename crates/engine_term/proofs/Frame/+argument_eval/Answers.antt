@@ -12,22 +12,24 @@ use Rattle.book.specs.Image.{low_program}
 use Rattle.engine_term.proofs.Values.{join_kind}
 use Rattle.engine_term.proofs.Marking.{runs_done, runs_given, runs_value, runs_bind}
 use Rattle.engine_term.proofs.Leaves.{named_none, named_one, named_two, at_none, at_one, at_two}
-use Rattle.engine_term.proofs.+argument_eval.Goals as goal
-use Rattle.engine_term.proofs.+argument_eval.Goals.{eval-in-7-1, eval-in_default+else-k-lt1+then-k-lt14}
+use Rattle.engine_term.proofs.Frame.+argument_eval.Goals as goal
+use Rattle.engine_term.proofs.Frame.+argument_eval.Goals.{eval-in-7-1, eval-in_default+else-k-lt1+then-k-lt14}
 
 pub argument-returns-then-depth-eq0 : goal.argument-returns-then-depth-eq0
 unfolding value
 argument-returns-then-depth-eq0 t c =
     let a = c.args in
-    rw (term_zero (node_at (low_program a.image.now)) a.depth a.n c.if-depth-eq0.true) (runs_done (low_program a.image.now) a.contents.now a.bit 0 a.readers.now)
+    let f = a.self.now in
+    rw (term_zero (node_at (low_program f.image.now)) a.depth a.n c.if-depth-eq0.true) (runs_done (low_program f.image.now) f.contents.now f.bit 0 a.readers.now)
 
 pub argument-returns-then-node-eq2 : goal.argument-returns-then-node-eq2
 unfolding value
 argument-returns-then-node-eq2 t c =
     let a = c.args in
+    let f = a.self.now in
     let x = stored_node c.node-node.result in
-    rw (term_variable (node_at (low_program a.image.now)) a.depth a.n x c.if-depth-eq0.false c.node-node.ensures c.if-node-eq2.true)
-    (runs_value (low_program a.image.now) a.contents.now a.bit _ _ a.readers.now c.variable.ensures)
+    rw (term_variable (node_at (low_program f.image.now)) a.depth a.n x c.if-depth-eq0.false c.node-node.ensures c.if-node-eq2.true)
+    (runs_value (low_program f.image.now) f.contents.now f.bit _ _ a.readers.now c.variable.ensures)
 
 pub argument-returns : goal.argument-returns
 argument-returns t c = c.eval.ensures
@@ -36,107 +38,118 @@ pub eval-returns-then-depth-eq0 : goal.eval-returns-then-depth-eq0
 unfolding value
 eval-returns-then-depth-eq0 t c =
     let a = c.args in
-    rw (term_zero (node_at (low_program a.image.now)) a.depth a.n c.if-depth-eq0.true) (runs_done (low_program a.image.now) a.contents.now a.bit 0 a.readers.now)
+    let f = a.self.now in
+    rw (term_zero (node_at (low_program f.image.now)) a.depth a.n c.if-depth-eq0.true) (runs_done (low_program f.image.now) f.contents.now f.bit 0 a.readers.now)
 
 pub eval-returns-in-1 : goal.eval-returns-in-1
 unfolding value
 eval-returns-in-1 t c =
     let a = c.args in
+    let f = a.self.now in
     let x = stored_node c.node-node.result in
-    rw (term_element (node_at (low_program a.image.now)) a.depth a.n x c.if-depth-eq0.false c.node-node.ensures c.in-1.is)
-    (runs_done (low_program a.image.now) a.contents.now a.bit x.a a.readers.now)
+    rw (term_element (node_at (low_program f.image.now)) a.depth a.n x c.if-depth-eq0.false c.node-node.ensures c.in-1.is)
+    (runs_done (low_program f.image.now) f.contents.now f.bit x.a a.readers.now)
 
 pub eval-returns-in-2 : goal.eval-returns-in-2
 unfolding value
 eval-returns-in-2 t c =
     let a = c.args in
+    let f = a.self.now in
     let x = stored_node c.node-node.result in
-    rw (term_variable (node_at (low_program a.image.now)) a.depth a.n x c.if-depth-eq0.false c.node-node.ensures c.in-2.is)
-    (runs_value (low_program a.image.now) a.contents.now a.bit _ _ a.readers.now c.variable.ensures)
+    rw (term_variable (node_at (low_program f.image.now)) a.depth a.n x c.if-depth-eq0.false c.node-node.ensures c.in-2.is)
+    (runs_value (low_program f.image.now) f.contents.now f.bit _ _ a.readers.now c.variable.ensures)
 
 pub eval-returns-in-3 : goal.eval-returns-in-3
 unfolding value
 eval-returns-in-3 t c =
     let a = c.args in
+    let f = a.self.now in
     let x = stored_node c.node-node.result in
-    rw (term_agent (node_at (low_program a.image.now)) a.depth a.n x c.if-depth-eq0.false c.node-node.ensures c.in-3.is)
-    (runs_done (low_program a.image.now) a.contents.now a.bit (agent_of a.bindings.now) a.readers.now)
+    rw (term_agent (node_at (low_program f.image.now)) a.depth a.n x c.if-depth-eq0.false c.node-node.ensures c.in-3.is)
+    (runs_done (low_program f.image.now) f.contents.now f.bit (agent_of f.bindings) a.readers.now)
 
 pub eval-returns-in-4 : goal.eval-returns-in-4
 unfolding value
 eval-returns-in-4 t c =
     let a = c.args in
-    let B = low_program a.image.now in
+    let f = a.self.now in
+    let B = low_program f.image.now in
     let x = stored_node c.node-node.result in
     rw (term_none (node_at B) a.depth a.n x c.if-depth-eq0.false c.node-node.ensures c.in-4.is)
-    (runs_given B a.contents.now a.bit _ _ _ _ (λ p.
+    (runs_given B f.contents.now f.bit _ _ _ _ (λ p.
     c.read.ensures (location B x.a 0 0) (at_none B x.a (named_none B p a.n x c.node-node.ensures c.in-4.is))))
 
 pub eval-returns-in-5 : goal.eval-returns-in-5
 unfolding value
 eval-returns-in-5 t c =
     let a = c.args in
-    let m = a.image.now in
+    let f = a.self.now in
+    let m = f.image.now in
     let B = low_program m in
     let x = stored_node c.node-node.result in
     rw (term_one (node_at B) a.depth a.n x c.if-depth-eq0.false c.node-node.ensures c.in-5.is)
-    (runs_bind B a.contents.now a.bit (value_at m a.bindings.now (a.depth - 1) x.b) (λ y. read (location B x.a y 0)) _ _ _ _ _ c.eval-x.ensures
-    (runs_given B a.contents.now a.bit _ _ _ _ (λ p.
+    (runs_bind B f.contents.now f.bit (value_at m f.bindings (a.depth - 1) x.b) (λ y. read (location B x.a y 0)) _ _ _ _ _ c.eval-x.ensures
+    (runs_given B f.contents.now f.bit _ _ _ _ (λ p.
     c.read-in-5.ensures _ (at_one B x.a c.eval-x.result (named_one B p a.n x c.node-node.ensures c.in-5.is)))))
 
 pub eval-returns-in-6 : goal.eval-returns-in-6
 unfolding value
 eval-returns-in-6 t c =
     let a = c.args in
-    let m = a.image.now in
+    let f = a.self.now in
+    let m = f.image.now in
     let B = low_program m in
     let x = stored_node c.node-node.result in
-    let s = a.bindings.now in
+    let s = f.bindings in
     let d = a.depth - 1 in
     rw (term_two (node_at B) a.depth a.n x c.if-depth-eq0.false c.node-node.ensures c.in-6.is)
-    (runs_bind B a.contents.now a.bit (value_at m s d x.b) (λ y. value_at m s d x.c >>= λ z. read (location B x.a y z)) _ _ _ _ _ c.argument-x.ensures
-    (runs_bind B a.contents.now a.bit (value_at m s d x.c) (λ z. read (location B x.a c.argument-x.result z)) _ _ _ _ _ c.argument-y.ensures
-    (runs_given B a.contents.now a.bit _ _ _ _ (λ p.
+    (runs_bind B f.contents.now f.bit (value_at m s d x.b) (λ y. value_at m s d x.c >>= λ z. read (location B x.a y z)) _ _ _ _ _ c.argument-x.ensures
+    (runs_bind B f.contents.now f.bit (value_at m s d x.c) (λ z. read (location B x.a c.argument-x.result z)) _ _ _ _ _ c.argument-y.ensures
+    (runs_given B f.contents.now f.bit _ _ _ _ (λ p.
     c.read-in-6.ensures _ (at_two B x.a c.argument-x.result c.argument-y.result (named_two B p a.n x c.node-node.ensures c.in-6.is))))))
 
 pub eval-returns-in-8 : goal.eval-returns-in-8
 unfolding value
 eval-returns-in-8 t c =
     let a = c.args in
-    let m = a.image.now in
+    let f = a.self.now in
+    let m = f.image.now in
     let B = low_program m in
     let x = stored_node c.node-node.result in
     rw (term_not (node_at B) a.depth a.n x c.if-depth-eq0.false c.node-node.ensures c.in-8.is)
-    (runs_bind B a.contents.now a.bit (value_at m a.bindings.now (a.depth - 1) x.a) (λ y. done (negate y)) _ _ _ _ _ c.eval.ensures
-    (runs_value B a.contents.now a.bit _ _ _ c.not.ensures))
+    (runs_bind B f.contents.now f.bit (value_at m f.bindings (a.depth - 1) x.a) (λ y. done (negate y)) _ _ _ _ _ c.eval.ensures
+    (runs_value B f.contents.now f.bit _ _ _ c.not.ensures))
 
 pub eval-returns-in_default : goal.eval-returns-in_default
 unfolding value
 eval-returns-in_default t c =
     let a = c.args in
-    rw (no_term_at (node_at (low_program a.image.now)) a.depth a.n (stored_node c.node-node.result) c.if-depth-eq0.false c.node-node.ensures (inl (omega arith)))
-    (runs_done (low_program a.image.now) a.contents.now a.bit 0 a.readers.now)
+    let f = a.self.now in
+    rw (no_term_at (node_at (low_program f.image.now)) a.depth a.n (stored_node c.node-node.result) c.if-depth-eq0.false c.node-node.ensures (inl (omega arith)))
+    (runs_done (low_program f.image.now) f.contents.now f.bit 0 a.readers.now)
 
 pub eval-returns-in_default-2 : goal.eval-returns-in_default-2
 unfolding value
 eval-returns-in_default-2 t c =
     let a = c.args in
-    rw (no_term_at (node_at (low_program a.image.now)) a.depth a.n (stored_node c.node-node.result) c.if-depth-eq0.false c.node-node.ensures (inr (omega arith)))
-    (runs_done (low_program a.image.now) a.contents.now a.bit 0 a.readers.now)
+    let f = a.self.now in
+    rw (no_term_at (node_at (low_program f.image.now)) a.depth a.n (stored_node c.node-node.result) c.if-depth-eq0.false c.node-node.ensures (inr (omega arith)))
+    (runs_done (low_program f.image.now) f.contents.now f.bit 0 a.readers.now)
 
 pub eval-returns-in-7-to-13 : goal.eval-returns-in-7-to-13
 unfolding value
 eval-returns-in-7-to-13 t c =
     let a = c.args in
-    let m = a.image.now in
+    let f = a.self.now in
+    let m = f.image.now in
     let B = low_program m in
     let x = stored_node c.node-node.result in
-    let s = a.bindings.now in
+    let s = f.bindings in
     let d = a.depth - 1 in
     let k : (7 ≤ x.kind) × (x.kind < 14) × ((x.kind ≡ 8) → ⊥) = elim c.in-7-to-13-1.branch [ eval-in-7-1 w ↦ (omega arith, omega arith, λ e. omega arith) | eval-in_default+else-k-lt1+then-k-lt14 w ↦ (omega arith, omega arith, λ e. omega arith) ] in
     let j = join_kind x.kind k.0 k.1 k.2 in
     let e : c.operate.result ≡ apply B.P j.0 c.eval-x-in-7-to-13.result c.eval-y.result = c.operate.ensures ∙ rw (j.1, c.permanent.ensures) in
     rw (term_join (node_at B) a.depth a.n x c.if-depth-eq0.false c.node-node.ensures x.kind j.0 refl j.1)
-    (runs_bind B a.contents.now a.bit (value_at m s d x.a) (λ y. value_at m s d x.b >>= λ z. done (apply B.P j.0 y z)) _ _ _ _ _ c.eval-x-in-7-to-13.ensures
-    (runs_bind B a.contents.now a.bit (value_at m s d x.b) (λ z. done (apply B.P j.0 c.eval-x-in-7-to-13.result z)) _ _ _ _ _ c.eval-y.ensures
-    (runs_value B a.contents.now a.bit _ _ _ e)))
+    (runs_bind B f.contents.now f.bit (value_at m s d x.a) (λ y. value_at m s d x.b >>= λ z. done (apply B.P j.0 y z)) _ _ _ _ _ c.eval-x-in-7-to-13.ensures
+    (runs_bind B f.contents.now f.bit (value_at m s d x.b) (λ z. done (apply B.P j.0 c.eval-x-in-7-to-13.result z)) _ _ _ _ _ c.eval-y.ensures
+    (runs_value B f.contents.now f.bit _ _ _ e)))
