@@ -2,14 +2,12 @@
 use Rattle.std.specs.Prelude.{if◌then◌else◌}
 use mathlib.Core.Path.{◌≡◌, refl, sym, ap, ap₂, ◌∙◌}
 use mathlib.Core.Bool.{Bool, true, false, ◌&&◌, ◌||◌, or-true, or-false}
-use mathlib.Core.List.{List, [], ◌∷◌, ◌++◌, map}
-use Prim.Native.Nat.{ℕ, zero, suc, ◌+◌, ◌<◌}
-use native.Mathlib.Numerals.{add-one}
-use native.Mathlib.Omega.{arith}
+use mathlib.Core.List.{List, [], ◌∷◌, ◌++◌}
+use Prim.Native.Nat.{ℕ}
 use borrow.Author.Tests.{eq-eqb}
 use lib.Dec.{eqb, leb}
 use Rattle.std.specs.List.{list_any}
-use lib.ListN.{length, get_or, take}
+use lib.ListN.{get_or}
 use Rattle.text.specs.Words.{has}
 use Rattle.book.specs.declared.Function.{Function}
 use Rattle.book.specs.Book.{Program, dynamic, place}
@@ -18,7 +16,7 @@ use Rattle.book_parts.specs.declared.Arguments.{Arguments}
 use Rattle.engine.specs.declared.Instruction.{Instruction}
 use Rattle.engine.specs.declared.Instruction.TheVariants.{Update, Release}
 use Rattle.engine.specs.Move.{given, values, label_of, released, other}
-use Rattle.engine_instruction.specs.Code.{decode_of, items}
+use Rattle.engine_instruction.specs.Code.{decode_of, decoded}
 use Rattle.engine_instruction.specs.Given.{own, gets, any, clears_by}
 use Rattle.engine_instruction.proofs.Laws.{other_append}
 use Rattle.engine_instruction.proofs.Strides.{has_by, clears_strided}
@@ -89,23 +87,8 @@ unfolding any released
 has_any x [] = refl
 has_any x (i ∷ is) = has_label x i (released is) ∙ ap (λ (b : Bool). has (label_of i []) x || b) (has_any x is)
 
--- some of the first n numbers stands for an instruction that passes a test, by the library's word for it
-pub any_items : (p : Instruction → Bool) (list : List ℕ) (n : ℕ) → list_any (λ c. p (decode_of c)) (take n list) ≡ any p (items list n)
+-- some number of a list stands for an instruction that passes a test, by the library's word for it
+pub any_decoded : (p : Instruction → Bool) (list : List ℕ) → list_any (λ c. p (decode_of c)) list ≡ any p (decoded list)
 unfolding any
-any_items p list n = go (take n list)
-  where
-    go : (cs : List ℕ) → list_any (λ c. p (decode_of c)) cs ≡ any p (map decode_of cs)
-    go [] = refl
-    go (c ∷ cs) = ap (λ (b : Bool). p (decode_of c) || b) (go cs)
-
--- ---- a list that is gone over up to a length
-
--- the number in front of a list stands for the first of its instructions
-pub items_front : (xs ys : List ℕ) (x n m : ℕ) → (xs ≡ x ∷ ys) × (m + 1 ≡ n) → items xs n ≡ decode_of x ∷ items ys m
-items_front xs ys x n m e = rw (e.0, ← e.1, add-one)
-
--- a list that is gone over has no instructions left
-pub items_none : (xs : List ℕ) (n : ℕ) → (0 < n → length xs ≡ 0) → items xs n ≡ []
-items_none xs zero e = refl
-items_none [] (suc n) e = refl
-items_none (x ∷ xs) (suc n) e = absurd (omega (arith, e (omega arith)))
+any_decoded p [] = refl
+any_decoded p (c ∷ cs) = ap (λ (b : Bool). p (decode_of c) || b) (any_decoded p cs)

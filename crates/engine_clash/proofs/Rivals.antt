@@ -11,14 +11,14 @@ use native.Mathlib.Decide.{ℕ_discrete}
 use borrow.Author.Tests.{eqb-true, eqb-false, leb-true, leb-false, ltb-true, ltb-false, eq-eqb, ne_eqb, lt-ltb, not-true}
 use lib.Dec.{eqb, ltb, leb}
 use lib.ListN.{length, get_or, take, set, replicate, length-set, length-replicate, get_or-replicate}
-use lib.Seq.{take-suc, get_or-set_same, get_or-set_other}
+use lib.Seq.{take-suc, take_all, get_or-set_same, get_or-set_other}
 use Rattle.text.specs.Words.{has, some_below}
 use Rattle.text.proofs.Words.{and_cases, refuted, some_below_true, some_below_from}
 use Rattle.book.specs.Book.{Program}
 use Rattle.engine.specs.declared.Instruction.{Instruction}
 use Rattle.engine.specs.declared.Instruction.TheVariants.{Update}
 use Rattle.engine.specs.Move.{label_of, released, other}
-use Rattle.engine_instruction.specs.Code.{decode_of, items}
+use Rattle.engine_instruction.specs.Code.{decode_of, decoded, items}
 use Rattle.engine_instruction.specs.Given.{any}
 use Rattle.engine_clash.specs.LeastClash.{held_place, values_given, values_given_by, least_clash}
 use Rattle.engine_clash.specs.Steps.{releases, location_of, slot_of, Last, Linked, least_with_update}
@@ -42,19 +42,19 @@ pub record Down (list : List ℕ) (c p i : ℕ) : Type 0 where
 
 -- ---- the pass
 
-module _ (list : List ℕ) (n : ℕ) where
+module _ (list : List ℕ) where
   abbrev code : ℕ → ℕ
   code k = get_or list k 0
 
   abbrev at : ℕ → ℕ
   at k = location_of (code k)
 
-  -- two of the first n updates give location l different values
+  -- two of the updates give location l different values
   pub record Rivals (l : ℕ) : Type 0 where
     pub one : ℕ
     pub two : ℕ
-    pub one_in : one < n
-    pub two_in : two < n
+    pub one_in : one < length list
+    pub two_in : two < length list
     pub one_at : at one ≡ l
     pub two_at : at two ≡ l
     pub differ : code one ≡ code two → ⊥
@@ -75,7 +75,7 @@ module _ (list : List ℕ) (n : ℕ) where
         found = λ i k h. absurd (omega arith);
       }
 
-  module _ {b j least i : ℕ} (so_far : Looked b j least) (more : j < n) (held : Last location_of list (code j) j i) (update : code j < releases) where
+  module _ {b j least i : ℕ} (so_far : Looked b j least) (more : j < length list) (held : Last location_of list (code j) j i) (update : code j < releases) where
     abbrev left : ℕ
     left = least_with_update list i (code j) least
 
@@ -241,69 +241,74 @@ any_some p list zero h = refl
 any_some p list (suc n) h =
     rw (take-suc list n 0) (any_snoc p (take n list) (get_or list n 0) ∙ ap (λ (b : Bool). b || p (decode_of (get_or list n 0))) (any_some p list n (omega arith)))
 
-module _ (B : Program) (c : List ℕ) {list : List ℕ} {n b j least : ℕ} (fits : n ≤ length list) (over : n ≤ j) (done : Looked list n b j least) where
+-- an instruction of the list that passes a test stands at one of its places
+any_place : (p : Instruction → Bool) (list : List ℕ) → any p (decoded list) ≡ some_below (λ k. p (decode_of (get_or list k 0))) (length list)
+any_place p list =
+    ap (λ (l : List ℕ). any p (decoded l)) (sym (take_all (length list) list (omega arith))) ∙ any_some p list (length list) (omega arith)
+
+module _ (B : Program) (c : List ℕ) {list : List ℕ} {b j least : ℕ} (over : length list ≤ j) (done : Looked list b j least) where
   abbrev all : List Instruction
-  all = items list n
+  all = decoded list
 
   abbrev val : ℕ → ℕ
   val k = get_or list k 0 % 65536
 
-  is_update : (k : ℕ) → k < n → decode_of (get_or list k 0) ≡ Update (at list n k) (val k)
+  is_update : (k : ℕ) → k < length list → decode_of (get_or list k 0) ≡ Update (at list k) (val k)
   unfolding decode_of
   is_update k h = rw (lt-ltb (get_or list k 0) releases (done.updates k (omega arith)))
 
   none_released : (x : ℕ) → has (released all) x ≡ false
   none_released x =
-      has_any x all ∙ any_some (λ i. has (label_of i []) x) list n fits
-      ∙ refuted (some_below (λ k. has (label_of (decode_of (get_or list k 0)) []) x) n)
+      has_any x all ∙ any_place (λ i. has (label_of i []) x) list
+      ∙ refuted (some_below (λ k. has (label_of (decode_of (get_or list k 0)) []) x) (length list))
       (λ e.
-      let s = some_below_true (λ k. has (label_of (decode_of (get_or list k 0)) []) x) n e in
+      let s = some_below_true (λ k. has (label_of (decode_of (get_or list k 0)) []) x) (length list) e in
       false≢true (sym (ap (λ (i : Instruction). has (label_of i []) x) (is_update s.0 s.1)) ∙ s.2))
 
   -- an update gives a location a value other than w
-  gives_other : (l w k : ℕ) → k < n → other w (values_given (held_place B c l) (decode_of (get_or list k 0))) ≡ eqb (at list n k) l && not (eqb (val k) w)
+  gives_other : (l w k : ℕ) → k < length list → other w (values_given (held_place B c l) (decode_of (get_or list k 0))) ≡ eqb (at list k) l && not (eqb (val k) w)
   unfolding values_given other
-  gives_other l w k h = rw (is_update k h) (go (eqb (at list n k) l))
+  gives_other l w k h = rw (is_update k h) (go (eqb (at list k) l))
     where
       go : (b : Bool) → other w (if b then val k ∷ [] else []) ≡ b && not (eqb (val k) w)
       go true = or-false (not (eqb (val k) w))
       go false = refl
 
-  others : (l w : ℕ) → other w (values_given_by (held_place B c l) all) ≡ some_below (λ k. other w (values_given (held_place B c l) (decode_of (get_or list k 0)))) n
-  others l w = other_any w (held_place B c l) all ∙ any_some (λ i. other w (values_given (held_place B c l) i)) list n fits
+  others : (l w : ℕ) → other w (values_given_by (held_place B c l) all) ≡ some_below (λ k. other w (values_given (held_place B c l) (decode_of (get_or list k 0)))) (length list)
+  others l w = other_any w (held_place B c l) all ∙ any_place (λ i. other w (values_given (held_place B c l) i)) list
 
-  rivals_clash : (l : ℕ) → Rivals list n l → any (bad_one B c all l) all ≡ true
+  rivals_clash : (l : ℕ) → Rivals list l → any (bad_one B c all l) all ≡ true
   rivals_clash l r =
-      any_some (bad_one B c all l) list n fits
-      ∙ some_below_from (λ k. bad_one B c all l (decode_of (get_or list k 0))) n r.one r.one_in
-      (rw (is_update r.one r.one_in, eq-eqb (at list n r.one) l r.one_at, two) refl)
+      any_place (bad_one B c all l) list
+      ∙ some_below_from (λ k. bad_one B c all l (decode_of (get_or list k 0))) (length list) r.one r.one_in
+      (rw (is_update r.one r.one_in, eq-eqb (at list r.one) l r.one_at, two) refl)
     where
       apart : val r.two ≡ val r.one → ⊥
       apart e = r.differ (omega (arith, e, r.one_at, r.two_at))
 
-      two : other (val r.one) (values_given_by (held_place B c (at list n r.one)) all) ≡ true
+      two : other (val r.one) (values_given_by (held_place B c (at list r.one)) all) ≡ true
       two =
-          others (at list n r.one) (val r.one)
-          ∙ some_below_from (λ k. other (val r.one) (values_given (held_place B c (at list n r.one)) (decode_of (get_or list k 0)))) n r.two r.two_in
-          (gives_other (at list n r.one) (val r.one) r.two r.two_in
-          ∙ rw (eq-eqb (at list n r.two) (at list n r.one) (r.two_at ∙ sym r.one_at), ne_eqb (val r.two) (val r.one) apart))
+          others (at list r.one) (val r.one)
+          ∙ some_below_from (λ k. other (val r.one) (values_given (held_place B c (at list r.one)) (decode_of (get_or list k 0)))) (length list) r.two r.two_in
+          (gives_other (at list r.one) (val r.one) r.two r.two_in
+          ∙ rw (eq-eqb (at list r.two) (at list r.one) (r.two_at ∙ sym r.one_at), ne_eqb (val r.two) (val r.one) apart))
 
-  clash_rivals : (l : ℕ) → any (bad_one B c all l) all ≡ true → Rivals list n l
+  clash_rivals : (l : ℕ) → any (bad_one B c all l) all ≡ true → Rivals list l
   clash_rivals l e =
-      let s = some_below_true (λ k. bad_one B c all l (decode_of (get_or list k 0))) n (sym (any_some (bad_one B c all l) list n fits) ∙ e) in
+      let s = some_below_true (λ k. bad_one B c all l (decode_of (get_or list k 0))) (length list) (sym (any_place (bad_one B c all l) list) ∙ e) in
       let k = s.0 in
-      let t = and_cases (eqb (at list n k) l) (other (val k) (values_given_by (held_place B c (at list n k)) all) || has (released all) (val k)) (sym (ap (bad_one B c all l) (is_update k s.1)) ∙ s.2) in
-      let u : other (val k) (values_given_by (held_place B c (at list n k)) all) ≡ true = sym (or-false (other (val k) (values_given_by (held_place B c (at list n k)) all))) ∙ (rw (none_released (val k)) at t.1) in
-      let v = some_below_true (λ i. other (val k) (values_given (held_place B c (at list n k)) (decode_of (get_or list i 0)))) n (sym (others (at list n k) (val k)) ∙ u) in
+      let t = and_cases (eqb (at list k) l) (other (val k) (values_given_by (held_place B c (at list k)) all) || has (released all) (val k)) (sym (ap (bad_one B c all l) (is_update k s.1)) ∙ s.2) in
+      let u : other (val k) (values_given_by (held_place B c (at list k)) all) ≡ true = sym (or-false (other (val k) (values_given_by (held_place B c (at list k)) all))) ∙ (rw (none_released (val k)) at t.1) in
+      let v = some_below_true (λ i. other (val k) (values_given (held_place B c (at list k)) (decode_of (get_or list i 0)))) (length list) (sym (others (at list k) (val k)) ∙ u) in
       let i = v.0 in
-      let w = and_cases (eqb (at list n i) (at list n k)) (not (eqb (val i) (val k))) (sym (gives_other (at list n k) (val k) i v.1) ∙ v.2) in
-      let same : at list n k ≡ l = eqb-true (at list n k) l t.0 in
+      let w = and_cases (eqb (at list i) (at list k)) (not (eqb (val i) (val k))) (sym (gives_other (at list k) (val k) i v.1) ∙ v.2) in
+      let same : at list k ≡ l = eqb-true (at list k) l t.0 in
       record {
         one = i;
         two = k;
         one_in = v.1;
         two_in = s.1;
-        one_at = eqb-true (at list n i) (at list n k) w.0 ∙ same;
+        one_at = eqb-true (at list i) (at list k) w.0 ∙ same;
         two_at = same;
         differ = λ q. eqb-false (val i) (val k) (not-true (eqb (val i) (val k)) w.1) (ap (λ (x : ℕ). x % 65536) q);
       }

@@ -5,7 +5,7 @@ ghost use Rattle.std.specs.Prelude.{◌≡◌, [], ◌<◌, ◌≤◌, length, i
 ghost use Rattle.text.specs.Words.{has};
 ghost use Rattle.book.specs.Image.{low_program};
 ghost use Rattle.engine.specs.Move.{label_of, released, other};
-ghost use Rattle.engine_instruction.specs.Code.{items};
+ghost use Rattle.engine_instruction.specs.Code.{decoded};
 ghost use Rattle.engine_instruction.specs.Given.{any};
 ghost use Rattle.engine_clash.specs.LeastClash.{held_place, clears_held, values_given, sets_released, least_with, least_clash};
 ghost use Rattle.engine_clash.specs.Steps.{location_of, slot_of, Last, Chain, least_with_update};
@@ -84,13 +84,11 @@ fn gives_other(s: HeldPlace, w: Value, what: Instruction) -> bool
     }
 }
 
-// Some instruction of the list gives the location of s a value other than w. Each instruction of a move may come here for each: a slice is gone over with
-// one count, `take` with two.
-fn some_gives_other(list: &[u64], len: usize, s: HeldPlace, w: Value) -> bool
-    ensures { result ≡ any (λ i. other w (values_given s i)) (items list.now len) }
+// Some instruction of the list gives the location of s a value other than w.
+fn some_gives_other(list: &[u64], s: HeldPlace, w: Value) -> bool
+    ensures { result ≡ any (λ i. other w (values_given s i)) (decoded list.now) }
 {
-    let n = len.min(list.len());
-    list[..n].iter().any(|code| gives_other(s, w, engine_instruction::decode(*code)))
+    list.iter().any(|code| gives_other(s, w, engine_instruction::decode(*code)))
 }
 
 // The instruction releases the label x.
@@ -103,61 +101,52 @@ fn releases(what: Instruction, x: Value) -> bool
     }
 }
 
-// Some instruction of the list releases the label x; a slice is gone over with one count, `take` with two.
-fn is_released(list: &[u64], len: usize, x: Value) -> bool
-    ensures { result ≡ has (released (items list.now len)) x }
+// Some instruction of the list releases the label x.
+fn is_released(list: &[u64], x: Value) -> bool
+    ensures { result ≡ has (released (decoded list.now)) x }
 {
-    let n = len.min(list.len());
-    list[..n]
-        .iter()
+    list.iter()
         .any(|code| releases(engine_instruction::decode(*code), x))
 }
 
 // ---- all instructions
 
 // The instruction is an update whose value is a label that the list releases.
-fn sets_released(list: &[u64], len: usize, what: Instruction) -> bool
-    ensures { result ≡ sets_released (released (items list.now len)) what }
+fn sets_released(list: &[u64], what: Instruction) -> bool
+    ensures { result ≡ sets_released (released (decoded list.now)) what }
 {
     match what {
-        Instruction::Update { value, .. } => is_released(list, len, value),
+        Instruction::Update { value, .. } => is_released(list, value),
         Instruction::Release { .. } => false,
     }
 }
 
 // The own location of the instruction, if it is less than `best` and clashes; else `best`.
-fn least_with(
-    image: &Image,
-    contents: &[Value],
-    list: &[u64],
-    len: usize,
-    what: Instruction,
-    best: u32,
-) -> u32
-    ensures { result ≡ least_with (low_program image.now) contents.now (items list.now len) what best }
+fn least_with(image: &Image, contents: &[Value], list: &[u64], what: Instruction, best: u32) -> u32
+    ensures { result ≡ least_with (low_program image.now) contents.now (decoded list.now) what best }
 {
     let at = engine_instruction::own_location(what);
     if best <= at {
         return best;
     }
     let s = held_place(image, contents, at);
-    if some_gives_other(list, len, s, engine_instruction::own_value(what)) {
+    if some_gives_other(list, s, engine_instruction::own_value(what)) {
         return at;
     }
-    if sets_released(list, len, what) {
+    if sets_released(list, what) {
         return at;
     }
     best
 }
 
 // The least location that clashes, or `most`: each instruction is compared with all.
-pub fn least_of_all(image: &Image, contents: &[Value], list: &[u64], len: usize, most: u32) -> u32
-    ensures { result ≡ least_clash (low_program image.now) contents.now (items list.now len) (items list.now len) most }
+pub fn least_of_all(image: &Image, contents: &[Value], list: &[u64], most: u32) -> u32
+    ensures { result ≡ least_clash (low_program image.now) contents.now (decoded list.now) (decoded list.now) most }
 {
     let mut least = most;
-    for code in list.iter().take(len) {
+    for code in list {
         let what = engine_instruction::decode(*code);
-        least = least_with(image, contents, list, len, what, least);
+        least = least_with(image, contents, list, what, least);
     }
     least
 }
@@ -218,16 +207,15 @@ fn least_with_update(list: &[u64], i: usize, code: u64, least: u64) -> u64
     code / 65536
 }
 
-// The least location that clashes among the first n updates, or `most`, found without tables.
-fn least_of_few(image: &Image, contents: &[Value], list: &[u64], n: usize, most: u32) -> u32
-    requires { n ≤ length list.now }
-    ensures { result ≡ least_clash (low_program image.now) contents.now (items list.now n) (items list.now n) most }
+// The least location that clashes, or `most`, found without tables.
+fn least_of_few(image: &Image, contents: &[Value], list: &[u64], most: u32) -> u32
+    ensures { result ≡ least_clash (low_program image.now) contents.now (decoded list.now) (decoded list.now) most }
 {
     let mut least = most as u64;
-    for j in 0..n {
+    for j in 0..list.len() {
         let code = list[j];
         if engine_instruction::RELEASES <= code {
-            return least_of_all(image, contents, list, n, most);
+            return least_of_all(image, contents, list, most);
         }
         least = least_with_update(list, last_before(list, j, code), code, least);
     }
@@ -236,15 +224,15 @@ fn least_of_few(image: &Image, contents: &[Value], list: &[u64], n: usize, most:
 
 // The least location that clashes, or `most`. Without a release it is enough to compare each update with the last one before it at its location.
 // Counted from 1, the code's `last` has the last update at each slot, and its `prior` the one before each update at its slot.
-pub fn least_clash(image: &Image, contents: &[Value], list: &[u64], len: usize, most: u32) -> u32
-    ensures { result ≡ least_clash (low_program image.now) contents.now (items list.now len) (items list.now len) most }
+pub fn least_clash(image: &Image, contents: &[Value], list: &[u64], most: u32) -> u32
+    ensures { result ≡ least_clash (low_program image.now) contents.now (decoded list.now) (decoded list.now) most }
 {
-    let n = len.min(list.len());
+    let n = list.len();
     if n <= FEW {
-        return least_of_few(image, contents, list, n, most);
+        return least_of_few(image, contents, list, most);
     }
     if engine::MOST_INSTRUCTIONS < n {
-        return least_of_all(image, contents, list, len, most);
+        return least_of_all(image, contents, list, most);
     }
     let mut last = [0u16; 512];
     let mut prior = [0u16; engine::MOST_INSTRUCTIONS];
@@ -252,7 +240,7 @@ pub fn least_clash(image: &Image, contents: &[Value], list: &[u64], len: usize, 
     for j in 0..n {
         let code = list[j];
         if engine_instruction::RELEASES <= code {
-            return least_of_all(image, contents, list, len, most);
+            return least_of_all(image, contents, list, most);
         }
         let s = slot(code);
         let p = last[s];

@@ -10,7 +10,7 @@ use Rattle.book.specs.Sum.{Strided}
 use Rattle.book.specs.Image.{low_program}
 use Rattle.engine.specs.declared.Instruction.{Instruction}
 use Rattle.engine.specs.declared.Tally.{Tally}
-use Rattle.engine_instruction.specs.Code.{items}
+use Rattle.engine_instruction.specs.Code.{decoded}
 use Rattle.engine_clash.specs.LeastClash.{least_clash}
 use Rattle.engine_clash.proofs.Best.{best_least, best_none}
 use Rattle.text.specs.Refusals.{clash}
@@ -22,11 +22,11 @@ use Rattle.engine_fire.specs.Steps.{fire_tally}
 use Rattle.engine_fire.specs.Outcome.{move_by, tally_by, write_marked, read_marked, contents_after, readers_after, writers_after, Settled}
 use Rattle.engine.specs.Tables.{Tables}
 
-module _ (image list : List ℕ) (n bit : ℕ) (t : Tables) where
+module _ (image list : List ℕ) (bit : ℕ) (t : Tables) where
   abbrev f : List ℕ → move.Fired
-  f ls = move_by image t.contents list n ls
+  f ls = move_by image t.contents list ls
 
-  pub clash_settled : (l : ℕ) → clash_by image t.contents list n ≡ Some l → Settled image list n bit t (Clash l) t
+  pub clash_settled : (l : ℕ) → clash_by image t.contents list ≡ Some l → Settled image list bit t (Clash l) t
   unfolding fire_or_clash
   clash_settled l e =
       record {
@@ -41,10 +41,10 @@ module _ (image list : List ℕ) (n bit : ℕ) (t : Tables) where
       q ls = rw e
 
   pub fire_settled :
-      clash_by image t.contents list n ≡ None → (k : Tally) → k ≡ fire_tally (low_program image) (items list n) t.contents → (u : Tables) →
-      u.contents ≡ fire (updates_by image t.contents list n) t.contents →
-      u.readers ≡ read_marked bit (low_program image) (items list n) t.contents t.readers →
-      u.writers ≡ write_marked bit (length t.contents) (updates_by image t.contents list n) t.writers → Settled image list n bit t (Fired k) u
+      clash_by image t.contents list ≡ None → (k : Tally) → k ≡ fire_tally (low_program image) (decoded list) t.contents → (u : Tables) →
+      u.contents ≡ fire (updates_by image t.contents list) t.contents →
+      u.readers ≡ read_marked bit (low_program image) (decoded list) t.contents t.readers →
+      u.writers ≡ write_marked bit (length t.contents) (updates_by image t.contents list) t.writers → Settled image list bit t (Fired k) u
   unfolding fire_or_clash
   fire_settled e k c u h r w =
       record {
@@ -60,16 +60,16 @@ module _ (image list : List ℕ) (n bit : ℕ) (t : Tables) where
 
 -- ---- what the code finds
 
-module _ (image c list : List ℕ) (n : ℕ) (k : ℕ) (high : L (low_program image) ≤ k) (ok : Strided (low_program image)) where
+module _ (image c list : List ℕ) (k : ℕ) (high : L (low_program image) ≤ k) (ok : Strided (low_program image)) where
   abbrev B : Program
   B = low_program image
 
   abbrev is : List Instruction
-  is = items list n
+  is = decoded list
 
   -- the search for a clash, begun from k, gives r
-  pub clash_at : (r : ℕ) → r ≡ least_clash B c is is k → r < L B → clash_by image c list n ≡ Some r
+  pub clash_at : (r : ℕ) → r ≡ least_clash B c is is k → r < L B → clash_by image c list ≡ Some r
   clash_at r q h = sym (best_least B c is k high ok (omega (arith, q, h))) ∙ ap Some (sym q)
 
-  pub clash_none : (r : ℕ) → r ≡ least_clash B c is is k → L B ≤ r → clash_by image c list n ≡ None
+  pub clash_none : (r : ℕ) → r ≡ least_clash B c is is k → L B ≤ r → clash_by image c list ≡ None
   clash_none r q h = sym (best_none B c is k high ok (omega (arith, q, h)))

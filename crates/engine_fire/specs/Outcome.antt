@@ -11,7 +11,7 @@ use Rattle.engine.specs.declared.Tally.{Tally}
 use Rattle.engine.specs.Move.{Moved, fires, move_refused, fire, writes, fired_of, fire_or_clash}
 use Rattle.engine.specs.Move as move
 use Rattle.engine.specs.Labels.{no_labels}
-use Rattle.engine_instruction.specs.Code.{items}
+use Rattle.engine_instruction.specs.Code.{decoded}
 use Rattle.engine_clash.specs.Clash.{updates_by, clash_by}
 use Rattle.engine_term.specs.Marks.{marked, marked_where}
 use Rattle.engine_fire.specs.Steps.{fire_reads, fire_tally}
@@ -21,9 +21,9 @@ use Rattle.engine.specs.Tables.{Tables}
 
 -- ---- the move of a list, in the contents c of the book that an image holds
 
--- the move whose walk gave the first n instructions of a list and read ls
-abbrev pub move_by : List ℕ → List ℕ → List ℕ → ℕ → List ℕ → move.Fired
-move_by image c list n ls = fired_of (low_program image) c ls (items list n)
+-- the move whose walk gave the instructions of a list and read ls
+abbrev pub move_by : List ℕ → List ℕ → List ℕ → List ℕ → move.Fired
+move_by image c list ls = fired_of (low_program image) c ls (decoded list)
 
 -- ---- outcomes
 
@@ -68,14 +68,14 @@ abbrev pub readers_after : ℕ → Program → List ℕ → List ℕ → Moved �
 readers_after bit B c rs (fires f) = read_marked bit B f.instructions c rs
 readers_after bit B c rs (move_refused k q) = rs
 
--- the contents d are those after the move of the first n of a list in the contents c, if each function has the stride of its arity and no location clashes
-abbrev pub FiresTo : List ℕ → List ℕ → List ℕ → ℕ → List ℕ → Type 0
-FiresTo image c list n d = Strided (low_program image) → clash_by image c list n ≡ None → d ≡ fire (updates_by image c list n) c
+-- the contents d are those after the move of a list in the contents c, if each function has the stride of its arity and no location clashes
+abbrev pub FiresTo : List ℕ → List ℕ → List ℕ → List ℕ → Type 0
+FiresTo image c list d = Strided (low_program image) → clash_by image c list ≡ None → d ≡ fire (updates_by image c list) c
 
--- the move of the first n of a list, whatever its walk read, is settled: how, with which tally, and what it leaves of the tables t
-pub record Settled (image list : List ℕ) (n bit : ℕ) (t : Tables) (r : Outcome) (u : Tables) : Type 0 where
-  pub outcome : (ls : List ℕ) → fire_or_clash (move_by image t.contents list n ls) ≡ moved_by (move_by image t.contents list n ls) r
-  pub tally : (ls : List ℕ) → tally_told r ≡ tally_by (low_program image) t.contents (fire_or_clash (move_by image t.contents list n ls))
-  pub contents : (ls : List ℕ) → u.contents ≡ contents_after t.contents (fire_or_clash (move_by image t.contents list n ls))
-  pub readers : (ls : List ℕ) → u.readers ≡ readers_after bit (low_program image) t.contents t.readers (fire_or_clash (move_by image t.contents list n ls))
-  pub writers : (ls : List ℕ) → u.writers ≡ writers_after bit (length t.contents) t.writers (fire_or_clash (move_by image t.contents list n ls))
+-- the move of a list, whatever its walk read, is settled: how, with which tally, and what it leaves of the tables t
+pub record Settled (image list : List ℕ) (bit : ℕ) (t : Tables) (r : Outcome) (u : Tables) : Type 0 where
+  pub outcome : (ls : List ℕ) → fire_or_clash (move_by image t.contents list ls) ≡ moved_by (move_by image t.contents list ls) r
+  pub tally : (ls : List ℕ) → tally_told r ≡ tally_by (low_program image) t.contents (fire_or_clash (move_by image t.contents list ls))
+  pub contents : (ls : List ℕ) → u.contents ≡ contents_after t.contents (fire_or_clash (move_by image t.contents list ls))
+  pub readers : (ls : List ℕ) → u.readers ≡ readers_after bit (low_program image) t.contents t.readers (fire_or_clash (move_by image t.contents list ls))
+  pub writers : (ls : List ℕ) → u.writers ≡ writers_after bit (length t.contents) t.writers (fire_or_clash (move_by image t.contents list ls))

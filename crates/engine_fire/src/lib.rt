@@ -12,7 +12,7 @@ ghost use Rattle.book.specs.Image.{low_program};
 ghost use Rattle.book_parts.specs.Part.{put_in};
 ghost use Rattle.engine.specs.Labels.{no_labels, tallied};
 ghost use Rattle.engine.specs.Move.{taken_reads, Fired, input};
-ghost use Rattle.engine_instruction.specs.Code.{items};
+ghost use Rattle.engine_instruction.specs.Code.{decoded, items};
 ghost use Rattle.engine_clash.specs.Clash.{updates_by};
 ghost use Rattle.engine_term.specs.Marks.{marked, mark};
 ghost use Rattle.engine_fire.specs.Outcome.{write_marked, read_marked, FiresTo, Settled, moved_by, tally_told};
@@ -168,19 +168,18 @@ fn put_values(
     readers: &mut [u64],
     writers: &mut [u64],
     list: &[u64],
-    len: usize,
     bit: u64,
 ) -> Tally
-    ensures value { result ≡ put_tally (low_program image.now) (items list.now len) contents.old }
-    ensures contents_after { contents.new ≡ puts (L (low_program image.now)) (items list.now len) contents.old }
-    ensures readers_after { readers.new ≡ marked bit (put_reads (low_program image.now).P (L (low_program image.now)) (items list.now len) contents.old) readers.old }
-    ensures writers_after { writers.new ≡ put_marked bit (min (L (low_program image.now)) (length contents.old)) (items list.now len) writers.old }
+    ensures value { result ≡ put_tally (low_program image.now) (decoded list.now) contents.old }
+    ensures contents_after { contents.new ≡ puts (L (low_program image.now)) (decoded list.now) contents.old }
+    ensures readers_after { readers.new ≡ marked bit (put_reads (low_program image.now).P (L (low_program image.now)) (decoded list.now) contents.old) readers.old }
+    ensures writers_after { writers.new ≡ put_marked bit (min (L (low_program image.now)) (length contents.old)) (decoded list.now) writers.old }
 {
     let p = book_parts::permanent(image);
     let e = book_image::elements(image);
     let mut part = Part { first: 0, end: 0 };
     let mut tally = no_labels();
-    for code in list.iter().take(len) {
+    for code in list {
         let what = engine_instruction::decode(*code);
         let at = engine_instruction::own_location(what) as usize;
         let v = engine_instruction::own_value(what);
@@ -200,16 +199,15 @@ fn fire(
     readers: &mut [u64],
     writers: &mut [u64],
     list: &[u64],
-    len: usize,
     bit: u64,
 ) -> Tally
-    ensures value { result ≡ fire_tally (low_program image.now) (items list.now len) contents.old }
-    ensures fires_to { FiresTo image.now contents.old list.now len contents.new }
-    ensures readers_after { readers.new ≡ read_marked bit (low_program image.now) (items list.now len) contents.old readers.old }
-    ensures writers_after { Strided (low_program image.now) → writers.new ≡ write_marked bit (length contents.old) (updates_by image.now contents.old list.now len) writers.old }
+    ensures value { result ≡ fire_tally (low_program image.now) (decoded list.now) contents.old }
+    ensures fires_to { FiresTo image.now contents.old list.now contents.new }
+    ensures readers_after { readers.new ≡ read_marked bit (low_program image.now) (decoded list.now) contents.old readers.old }
+    ensures writers_after { Strided (low_program image.now) → writers.new ≡ write_marked bit (length contents.old) (updates_by image.now contents.old list.now) writers.old }
 {
-    engine_release::clear_released(image, contents, readers, writers, list, len, bit);
-    put_values(image, contents, readers, writers, list, len, bit)
+    engine_release::clear_released(image, contents, readers, writers, list, bit);
+    put_values(image, contents, readers, writers, list, bit)
 }
 
 // ---- the move
@@ -221,16 +219,15 @@ pub fn settle(
     readers: &mut [u64],
     writers: &mut [u64],
     list: &[u64],
-    len: usize,
     bit: u64,
 ) -> Outcome
-    ensures { Strided (low_program image.now) → Settled image.now list.now len bit (tables contents.old readers.old writers.old) result (tables contents.new readers.new writers.new) }
+    ensures { Strided (low_program image.now) → Settled image.now list.now bit (tables contents.old readers.old writers.old) result (tables contents.new readers.new writers.new) }
 {
-    let at = engine_clash::least_clash(image, contents, list, len, NO_LOCATION);
+    let at = engine_clash::least_clash(image, contents, list, NO_LOCATION);
     if is_location(image, at) {
         return Outcome::Clash { location: at };
     }
-    let tally = fire(image, contents, readers, writers, list, len, bit);
+    let tally = fire(image, contents, readers, writers, list, bit);
     Outcome::Fired { tally }
 }
 
@@ -304,7 +301,7 @@ fn answer_move(readers: &mut [u64], bit: u64, at: u32, what: Outcome) -> Tallied
     }
 }
 
-// Settles move `at`, whose walk gave the first `len` instructions of the list, and answers it.
+// Settles move `at`, whose walk gave the first `len` instructions of the list, and answers it. The list is cut to these here; all below take a slice.
 fn settle_listed(
     image: &Image,
     contents: &mut [Value],
@@ -317,7 +314,8 @@ fn settle_listed(
 ) -> TalliedResult
     ensures { (next : ℕ) → Finishes image.now bit at (walking (record { made = items list.now len; next = next; left = [] })) (tables contents.old readers.old writers.old) (tallied result) (tables contents.new readers.new writers.new) }
 {
-    let what = settle(image, contents, readers, writers, list, len, bit);
+    let n = len.min(list.len());
+    let what = settle(image, contents, readers, writers, &list[..n], bit);
     answer_move(readers, bit, at, what)
 }
 

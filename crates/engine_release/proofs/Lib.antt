@@ -3,4 +3,3 @@ pub mod ByPlace
 pub mod Arguments
 pub mod Upto
 pub mod Runs
-pub mod Items

@@ -11,7 +11,7 @@ ghost use Rattle.engine_term.specs.Marks.{marked, mark};
 ghost use Rattle.engine_instruction.specs.Given.{clears_in};
 ghost use Rattle.engine_release.specs.Part.{value_cleared_in, part_cleared, part_marked, cleared_reads, reads_in, part_reads};
 ghost use Rattle.book.specs.Image.{low_program};
-ghost use Rattle.engine_instruction.specs.Code.{items};
+ghost use Rattle.engine_instruction.specs.Code.{decoded};
 ghost use Rattle.engine_release.specs.Steps.{function_cleared, function_marked, function_reads, label_cleared, label_marked, label_reads, instruction_cleared, instruction_marked, instruction_reads, all_cleared, all_marked, all_reads};
 
 use book::{Function, Image};
@@ -233,14 +233,13 @@ pub fn clear_released(
     readers: &mut [u64],
     writers: &mut [u64],
     list: &[u64],
-    len: usize,
     bit: u64,
 )
-    ensures contents_after { contents.new ≡ all_cleared (low_program image.now) (items list.now len) contents.old }
-    ensures writers_after { writers.new ≡ all_marked bit (low_program image.now) (items list.now len) contents.old writers.old }
-    ensures readers_after { readers.new ≡ marked bit (all_reads (low_program image.now) (items list.now len) contents.old) readers.old }
+    ensures contents_after { contents.new ≡ all_cleared (low_program image.now) (decoded list.now) contents.old }
+    ensures writers_after { writers.new ≡ all_marked bit (low_program image.now) (decoded list.now) contents.old writers.old }
+    ensures readers_after { readers.new ≡ marked bit (all_reads (low_program image.now) (decoded list.now) contents.old) readers.old }
 {
-    for code in list.iter().take(len) {
+    for code in list {
         let what = engine_instruction::decode(*code);
         clear_instruction(image, contents, readers, writers, what, bit);
     }

@@ -2,7 +2,7 @@
 use Rattle.engine_clash.proofs.Laws.{other_any}
 use Rattle.engine_clash.specs.LeastClash.{held_place, values_given_by}
 use Rattle.engine_instruction.specs.Given.{own, gets}
-use Rattle.engine_instruction.specs.Code.{items}
+use Rattle.engine_instruction.specs.Code.{decoded}
 use Rattle.engine.specs.Move.{other}
 use Rattle.book.specs.Image.{low_program}
 use borrow.Author.Tests.{lt-ltb}
@@ -15,7 +15,7 @@ pub returns-then-some_gives_other : goal.returns-then-some_gives_other
 returns-then-some_gives_other c = let a = c.args in
     let B = low_program a.image.now in
     let w = c.own_value.result in
-    let is = items a.list.now a.len in
+    let is = decoded a.list.now in
     let at = c.own_location-at in
     let h : other (gets a.what) (values_given_by (held_place B a.contents.now (own a.what)) is) ≡ c.some_gives_other.result = rw (← c.own_value.ensures, ← at.ensures) (other_any w (held_place B a.contents.now at.result) is ∙ sym (c.some_gives_other.ensures ∙ rw c.held_place-s.ensures)) in
     let below : at.result < a.best = omega (arith, c.if-best-at.false) in
@@ -25,7 +25,7 @@ pub returns : goal.returns
 returns c = let a = c.args in
     let B = low_program a.image.now in
     let w = c.own_value.result in
-    let is = items a.list.now a.len in
+    let is = decoded a.list.now in
     let at = c.own_location-at in
     let h : other (gets a.what) (values_given_by (held_place B a.contents.now (own a.what)) is) ≡ c.some_gives_other.result = rw (← c.own_value.ensures, ← at.ensures) (other_any w (held_place B a.contents.now at.result) is ∙ sym (c.some_gives_other.ensures ∙ rw c.held_place-s.ensures)) in
     let below : at.result < a.best = omega (arith, c.if-best-at.false) in

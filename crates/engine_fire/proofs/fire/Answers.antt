@@ -5,7 +5,7 @@ use Prim.Native.Nat.{ℕ, min}
 use lib.ListN.{length}
 use Rattle.book.specs.Book.{L}
 use Rattle.book.specs.Image.{low_program}
-use Rattle.engine_instruction.specs.Code.{items}
+use Rattle.engine_instruction.specs.Code.{decoded}
 use Rattle.engine_term.specs.Marks.{marked}
 use Rattle.engine_term.proofs.Marking.{marked_on}
 use Rattle.engine_release.specs.Steps.{all_cleared, all_reads}
@@ -17,7 +17,7 @@ pub returns : goal.returns
 returns c =
     let a = c.args in
     let B = low_program a.image.now in
-    let is = items a.list.now a.len in
+    let is = decoded a.list.now in
     let k = c.clear_released in
     let r = c.put_values in record {
       value = r.ensures.value ∙ ap (put_tally B is) k.ensures.contents_after;

@@ -1,6 +1,6 @@
 -- `put_values` meets its contract.
 use Rattle.std.specs.Prelude.{if◌then◌else◌}
-use Rattle.std.proofs.Common.{◌≡◌, sym, ap, ap₂, ◌∙◌, List, [], ℕ, ◌+◌, min, arith, length, get_or, set}
+use Rattle.std.proofs.Common.{◌≡◌, sym, ap, ap₂, ◌∙◌, List, [], ℕ, ◌+◌, min, arith, length, get_or, set, drop}
 use lib.Dec.{ltb}
 use Rattle.text.specs.Words.{one_if}
 use Rattle.book.specs.Book.{L}
@@ -13,9 +13,9 @@ use Rattle.engine.proofs.Counts.{one_few}
 use Rattle.engine.specs.Move.{taken_reads}
 use Rattle.engine_term.specs.Marks.{marked, mark}
 use Rattle.engine_term.proofs.Marking.{marked_append}
-use Rattle.engine_instruction.specs.Code.{decode_of, items}
+use Rattle.engine_instruction.specs.Code.{decode_of, decoded}
 use Rattle.engine_instruction.specs.Given.{own, gets}
-use Rattle.engine_clash.proofs.Laws.{items_front, items_none}
+use Rattle.engine_instruction.proofs.Laws.{left_next, left_none}
 use Rattle.engine_fire.specs.Steps.{puts, put_marked, put_reads, issues_at, returns_at, put_issued, put_returned}
 use Rattle.engine_fire.proofs.Own.{next_held, own_part, part_min, put_value, put_mark}
 use Rattle.engine_fire.proofs.put_values.Goals as goal
@@ -33,8 +33,8 @@ loop-code-preserved c =
     let a = c.args in
     let B = low_program a.image.now in
     let l = c.loop-code in
-    let w = decode_of c.in-Some.code.now in
-    let d = items_front _ _ _ _ _ c.in-Some.ensures.steps in
+    let w = decode_of (get_or a.list.now l.code-index 0) in
+    let d = left_next _ _ c.loop-code-test.true in
     let at : c.own_location-at.result ≡ own w = c.own_location-at.ensures ∙ ap own c.decode-what.ensures in
     let v : c.own_value-v.result ≡ gets w = c.own_value-v.ensures ∙ ap gets c.decode-what.ensures in
     let e : c.elements-e.result ≡ B.E = (elements_held _ _ c.elements-e.ensures).0 in
@@ -43,7 +43,7 @@ loop-code-preserved c =
     let t = c.mark_put in
     let r = c.put_in_part in
     let k = min (L B) (length a.contents.now) in
-    let rest = items c.next.new.self.iter.rest.now c.next.new.self.n in
+    let rest = decoded (drop (l.code-index + 1) a.list.now) in
     let stored : List ℕ = if ltb (own w) (L B) then set l.contents (own w) (gets w) else l.contents in
     let taken : List ℕ = if ltb (own w) (min (L B) (length l.contents)) then taken_reads B.P (get_or l.contents (own w) 0) (gets w) else [] in
     let q : r.new.contents ≡ stored = r.ensures.contents_after ∙ rw (h, at, v) (put_value B (own w) (gets w) l.contents) in
@@ -52,7 +52,6 @@ loop-code-preserved c =
     r.ensures.writers_after ∙ rw (h, at, l.auto.contents) (put_mark B (own w) a.bit (length a.contents.now) l.writers) in
     let gave : u.result.issued ≡ l.tally.issued + one_if (issues_at B.E (own w) (gets w)) = u.ensures.0 ∙ rw (at, v, e) in
     let took : u.result.returned ≡ l.tally.returned + one_if (returns_at B.E (own w) (gets w) (get_or l.contents (own w) 0)) = u.ensures.1 ∙ rw (at, v, e) in
-    let left = c.in-Some.ensures.steps.1 in
     record {
       contents_left = rw q (rw d at l.invariant.contents_left);
       readers_left =
@@ -62,15 +61,15 @@ loop-code-preserved c =
       part_whole = rw h (own_part B (own w));
       issued_left = omega (arith, gave, rw d at l.invariant.issued_left);
       returned_left = rw q (omega (arith, took, rw d at l.invariant.returned_left));
-      issued_few = omega (arith, gave, left, one_few (issues_at B.E (own w) (gets w)), l.invariant.issued_few);
-      returned_few = omega (arith, took, left, one_few (returns_at B.E (own w) (gets w) (get_or l.contents (own w) 0)), l.invariant.returned_few);
+      issued_few = omega (arith, gave, one_few (issues_at B.E (own w) (gets w)), l.invariant.issued_few);
+      returned_few = omega (arith, took, one_few (returns_at B.E (own w) (gets w) (get_or l.contents (own w) 0)), l.invariant.returned_few);
     }
 
 pub returns : goal.returns
 unfolding puts put_marked put_reads marked put_issued put_returned
 returns c =
     let l = c.loop-code in
-    let none = items_none _ _ (λ h. (c.in-None.ensures.steps h).0) in
+    let none = left_none _ _ c.loop-code-test.false in
     record {
       value = ap₂ tally_of (omega (arith, rw none at l.invariant.issued_left)) (omega (arith, rw none at l.invariant.returned_left));
       contents_after = rw none at l.invariant.contents_left;

@@ -1,9 +1,9 @@
 -- Putting the values of the instructions left, after those before, is putting the values of all.
-use Rattle.std.proofs.Common.{◌≡◌, ◌+◌, ◌≤◌, min, length}
+use Rattle.std.proofs.Common.{◌≡◌, ◌+◌, ◌≤◌, min, length, drop}
 use Rattle.book.specs.Book.{L}
 use Rattle.book.specs.Image.{low_program}
 use Rattle.engine_term.specs.Marks.{marked}
-use Rattle.engine_instruction.specs.Code.{items}
+use Rattle.engine_instruction.specs.Code.{decoded}
 use Rattle.engine_fire.specs.Steps.{puts, put_marked, put_reads, put_issued, put_returned}
 use Rattle.engine_fire.proofs.Own.{Whole}
 use Rattle.engine_fire.proofs.put_values.Given as goal
@@ -11,8 +11,8 @@ use Rattle.engine_fire.proofs.put_values.Given as goal
 abbrev pub invariant-loop-code : goal.invariant-loop-code
 invariant-loop-code l =
     let B = low_program l.image in
-    let all = items l.list l.len in
-    let left = items l.code-iterator.iter.rest.now l.code-iterator.n in
+    let all = decoded l.list in
+    let left = decoded (drop l.code-index l.list) in
     let start = l.initial.contents in
     record {
       contents_left : puts (L B) left l.contents ≡ puts (L B) all start;
@@ -21,6 +21,6 @@ invariant-loop-code l =
       part_whole : Whole B l.part;
       issued_left : l.tally.issued + put_issued B.E left ≡ put_issued B.E all;
       returned_left : l.tally.returned + put_returned B.E (L B) left l.contents ≡ put_returned B.E (L B) all start;
-      issued_few : l.tally.issued + l.code-iterator.n ≤ l.len;
-      returned_few : l.tally.returned + l.code-iterator.n ≤ l.len;
+      issued_few : l.tally.issued ≤ l.code-index;
+      returned_few : l.tally.returned ≤ l.code-index;
     }

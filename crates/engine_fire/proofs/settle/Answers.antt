@@ -18,8 +18,8 @@ returns-then-is_location c =
     let r = c.least_clash-at in
     let high : L (low_program m) ≤ 4294967295 = omega (arith, locations_fit m) in
     let h = ltb-true r.result (L (low_program m)) (sym c.is_location.ensures ∙ c.if-is_location.true) in
-    clash_settled m a.list.now a.len a.bit (tables a.contents.now a.readers.now a.writers.now) r.result
-    (clash_at m a.contents.now a.list.now a.len 4294967295 high strides r.result r.ensures h)
+    clash_settled m a.list.now a.bit (tables a.contents.now a.readers.now a.writers.now) r.result
+    (clash_at m a.contents.now a.list.now 4294967295 high strides r.result r.ensures h)
 
 pub returns : goal.returns
 returns c =
@@ -30,6 +30,6 @@ returns c =
     let f = c.fire-tally in
     let high : L (low_program m) ≤ 4294967295 = omega (arith, locations_fit m) in
     let h = ltb-false r.result (L (low_program m)) (sym c.is_location.ensures ∙ c.if-is_location.false) in
-    let e = clash_none m a.contents.now a.list.now a.len 4294967295 high strides r.result r.ensures h in
-    fire_settled m a.list.now a.len a.bit (tables a.contents.now a.readers.now a.writers.now) e f.result f.ensures.value (tables f.new.contents f.new.readers f.new.writers)
+    let e = clash_none m a.contents.now a.list.now 4294967295 high strides r.result r.ensures h in
+    fire_settled m a.list.now a.bit (tables a.contents.now a.readers.now a.writers.now) e f.result f.ensures.value (tables f.new.contents f.new.readers f.new.writers)
     (f.ensures.fires_to strides e) f.ensures.readers_after (f.ensures.writers_after strides)

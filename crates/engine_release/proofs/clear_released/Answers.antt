@@ -1,11 +1,11 @@
 -- `clear_released` meets its contract.
-use Rattle.std.proofs.Common.{◌≡◌, ◌∙◌, ap₂, sym, ℕ, List}
+use Rattle.std.proofs.Common.{◌≡◌, ◌∙◌, ap₂, sym, ℕ, ◌+◌, List, drop, get_or}
 use Rattle.book.specs.Image.{low_program}
 use Rattle.engine_term.specs.Marks.{marked}
 use Rattle.engine_term.proofs.Marking.{marked_append}
-use Rattle.engine_instruction.specs.Code.{decode_of, items}
+use Rattle.engine_instruction.specs.Code.{decode_of, decoded}
 use Rattle.engine_release.specs.Steps.{instruction_cleared, instruction_marked, instruction_reads, all_cleared, all_marked, all_reads}
-use Rattle.engine_release.proofs.Items.{items_front, items_none}
+use Rattle.engine_instruction.proofs.Laws.{left_next, left_none}
 use Rattle.engine_release.proofs.clear_released.Goals as goal
 
 pub loop-code-preserved : goal.loop-code-preserved
@@ -16,9 +16,9 @@ loop-code-preserved c =
     let l = c.loop-code in
     let step = c.clear_instruction in
     let what = c.decode-what.ensures in
-    let w = decode_of c.in-Some.code.now in
-    let rest = items c.next.new.self.iter.rest.now c.next.new.self.n in
-    let d = items_front _ _ _ _ _ c.in-Some.ensures.steps in
+    let w = decode_of (get_or c.args.list.now l.code-index 0) in
+    let rest = decoded (drop (l.code-index + 1) c.args.list.now) in
+    let d = left_next _ _ c.loop-code-test.true in
     let q : step.new.contents ≡ instruction_cleared B w l.contents = step.ensures.contents_after ∙ rw what in
     let p : step.new.writers ≡ instruction_marked bit B w l.contents l.writers = step.ensures.writers_after ∙ rw what in
     let r : step.new.readers ≡ marked bit (instruction_reads B w l.contents) l.readers = step.ensures.readers_after ∙ rw what in
@@ -33,12 +33,12 @@ loop-code-preserved c =
 
 pub returns-clause-contents_after : goal.returns-clause-contents_after
 unfolding all_cleared
-returns-clause-contents_after c = rw (items_none _ _ (λ h. (c.in-None.ensures.steps h).0)) at c.loop-code.invariant.contents_left
+returns-clause-contents_after c = rw (left_none _ _ c.loop-code-test.false) at c.loop-code.invariant.contents_left
 
 pub returns-clause-writers_after : goal.returns-clause-writers_after
 unfolding all_marked
-returns-clause-writers_after c = rw (items_none _ _ (λ h. (c.in-None.ensures.steps h).0)) at c.loop-code.invariant.writers_left
+returns-clause-writers_after c = rw (left_none _ _ c.loop-code-test.false) at c.loop-code.invariant.writers_left
 
 pub returns-clause-readers_after : goal.returns-clause-readers_after
 unfolding all_reads marked
-returns-clause-readers_after c = rw (items_none _ _ (λ h. (c.in-None.ensures.steps h).0)) at c.loop-code.invariant.readers_left
+returns-clause-readers_after c = rw (left_none _ _ c.loop-code-test.false) at c.loop-code.invariant.readers_left
