@@ -47,10 +47,10 @@ fn arguments_fit(x: Entry, f: Function) -> bool
 fn value_fits(x: Entry, f: Function) -> bool
     ensures { result ≡ relation f && eqb x.value true_element || not (relation f) && not (eqb x.value (default f)) }
 {
-    if (f.kind == 1) | (f.kind == 3) {
+    if book_parts::is_relation(f) {
         x.value == 2
     } else {
-        !(x.value == 0)
+        x.value != 0
     }
 }
 
@@ -58,18 +58,14 @@ fn value_fits(x: Entry, f: Function) -> bool
 fn static_fits(p: u32, x: Entry, f: Function) -> bool
     ensures { result ≡ dynamic f || ltb x.arg1 p && ltb x.arg2 p && ltb x.value p }
 {
-    if 2 <= f.kind {
-        true
-    } else {
-        (x.arg1 < p) & (x.arg2 < p) & (x.value < p)
-    }
+    book_parts::is_dynamic(f) || (x.arg1 < p) & (x.arg2 < p) & (x.value < p)
 }
 
 // The entry, if it is one of Reserve, has a label as argument; p elements are permanent.
 fn reserve_fits(p: u32, x: Entry) -> bool
     ensures { result ≡ not (eqb x.function 0) || leb p x.arg1 }
 {
-    if x.function == 0 { p <= x.arg1 } else { true }
+    x.function != 0 || p <= x.arg1
 }
 
 // The entry fits its function f, p elements being permanent.
@@ -116,9 +112,9 @@ fn fault_at(text: &[u8], i: u32, end: u32) -> LineFaults
 }
 
 // Checks the lines from `first` up to `end`, with a table of the labels on the roll, which is empty to begin with.
-fn check_entry_lines<'a>(
-    text: &'a [u8],
-    image: &'a Image,
+fn check_entry_lines(
+    text: &[u8],
+    image: &Image,
     first: u32,
     end: u32,
     roll: &mut [u8],
@@ -129,9 +125,8 @@ fn check_entry_lines<'a>(
     let p = book_image::permanent(image);
     let e = book_image::elements(image) as u32;
     let n = book_image::functions(image) as u32;
-    let mut i = first;
     let mut low: usize = 0;
-    while i < end {
+    for i in first..end {
         let l = text::parse(text, i);
         if !l.ok {
             return LineFaults {
@@ -148,7 +143,6 @@ fn check_entry_lines<'a>(
         }
         add_to_roll(roll, x);
         low = place + 1;
-        i += 1;
     }
     LineFaults {
         ill: None,
@@ -157,7 +151,7 @@ fn check_entry_lines<'a>(
 }
 
 // Refusals 1 and 8: the least contents line that is ill-formed, or else the least at fault. Most books have few elements, and a small table is soon cleared.
-pub fn check_entries<'a>(text: &'a [u8], image: &'a Image) -> LineFaults
+pub fn check_entries(text: &[u8], image: &Image) -> LineFaults
     ensures { Strided (program_in image.now) → result ≡ faults_from (program_in image.now) text.now (first_entry_in image.now) (entry_count_in image.now) }
 {
     let first = book_image::first_entry(image);
