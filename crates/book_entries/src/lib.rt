@@ -112,9 +112,9 @@ fn fault_at(text: &[u8], i: u32, end: u32) -> LineFaults
 }
 
 // Checks the lines from `first` up to `end`, with a table of the labels on the roll, which is empty to begin with.
-fn check_entry_lines<'a>(
-    text: &'a [u8],
-    image: &'a Image,
+fn check_entry_lines(
+    text: &[u8],
+    image: &Image,
     first: u32,
     end: u32,
     roll: &mut [u8],
@@ -125,9 +125,8 @@ fn check_entry_lines<'a>(
     let p = book_image::permanent(image);
     let e = book_image::elements(image) as u32;
     let n = book_image::functions(image) as u32;
-    let mut i = first;
     let mut low: usize = 0;
-    while i < end {
+    for i in first..end {
         let l = text::parse(text, i);
         if !l.ok {
             return LineFaults {
@@ -144,7 +143,6 @@ fn check_entry_lines<'a>(
         }
         add_to_roll(roll, x);
         low = place + 1;
-        i += 1;
     }
     LineFaults {
         ill: None,
@@ -154,7 +152,7 @@ fn check_entry_lines<'a>(
 
 // Refusals 1 and 8: the least contents line that is ill-formed, or else the least at fault. Most books have few elements, and a small table is soon cleared.
 // A helper generic in the table's length would be no plainer: its contract is longer than the two lines that it saves.
-pub fn check_entries<'a>(text: &'a [u8], image: &'a Image) -> LineFaults
+pub fn check_entries(text: &[u8], image: &Image) -> LineFaults
     ensures { Strided (program_in image.now) → result ≡ faults_from (program_in image.now) text.now (first_entry_in image.now) (entry_count_in image.now) }
 {
     let first = book_image::first_entry(image);

@@ -7,7 +7,7 @@ ghost use Rattle.book.specs.Lines.{first_function, bad_field, bad_function};
 ghost use Rattle.book.specs.Image.{image_row, program_in};
 
 use book::Image;
-use text::{Line};
+use text::Line;
 
 // Refusal 3: field i of the header, whose lines are k and l, is outside its bounds.
 fn bad_field(k: Line, l: Line, i: u32) -> bool
@@ -27,14 +27,7 @@ fn bad_field(k: Line, l: Line, i: u32) -> bool
 pub fn bad_header(k: Line, l: Line) -> Option<u32>
     ensures { result ≡ least (bad_field k l) 8 }
 {
-    let mut i: u32 = 0;
-    while i < 8 {
-        if bad_field(k, l, i) {
-            return Some(i);
-        }
-        i += 1;
-    }
-    None
+    (0..8).find(|&i| bad_field(k, l, i))
 }
 
 // Refusal 4: function line f is at fault.
@@ -49,13 +42,5 @@ pub fn bad_functions(image: &Image) -> Option<u32>
     ensures { result ≡ least (λ f. bad_function (image_row image.now (first_function + f)) f) (length (program_in image.now).functions) }
 {
     let n = book_image::functions(image) as u32;
-    let mut i: u32 = 0;
-    while i < n {
-        let l = book_image::row(image, book_image::FUNCTION_ROWS + i);
-        if bad_function(l, i) {
-            return Some(i);
-        }
-        i += 1;
-    }
-    None
+    (0..n).find(|&f| bad_function(book_image::row(image, book_image::FUNCTION_ROWS + f), f))
 }

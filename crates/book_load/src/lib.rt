@@ -69,14 +69,12 @@ fn load_lines(text: &[u8], h: Header, image: &mut Image) -> Option<u32>
     ensures { LinesLoaded h text.now image.old image.new result }
 {
     let end = 2 + h.functions + h.nodes + h.agents;
-    let mut i: u32 = 2;
-    while i < end {
+    for i in 2..end {
         let l = text::parse(text, i);
         if !l.ok {
             return Some(i);
         }
         put_line(h, i, l.line, image);
-        i += 1;
     }
     None
 }
@@ -96,8 +94,7 @@ fn lay_functions(e: Value, n: u32, image: &mut Image) -> u32
     ensures { (result ≡ first_location (λ f. image_row image.old (2 + f)) e n) × (image.new ≡ filled (laid_row (λ f. image_row image.old (2 + f)) e) 2 n 0 image.old) }
 {
     let mut sum: u32 = 0;
-    let mut i: u32 = 0;
-    while i < n {
+    for i in 0..n {
         let l = book_image::row(image, book_image::FUNCTION_ROWS + i);
         book_image::store(
             image,
@@ -110,7 +107,6 @@ fn lay_functions(e: Value, n: u32, image: &mut Image) -> u32
             },
         );
         sum += book_image::size(e, l.a);
-        i += 1;
     }
     sum
 }

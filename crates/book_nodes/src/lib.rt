@@ -102,20 +102,14 @@ pub fn sorts_of(table: &[u8; 87], kind: u32) -> OperandSorts
 fn is_term(kind: u32) -> bool
     ensures { result ≡ is_term kind }
 {
-    match kind {
-        1..=13 => true,
-        _ => false,
-    }
+    matches!(kind, 1..=13)
 }
 
 // The kind is that of a rule.
 fn is_rule(kind: u32) -> bool
     ensures { result ≡ is_rule kind }
 {
-    match kind {
-        20..=28 => true,
-        _ => false,
-    }
+    matches!(kind, 20..=28)
 }
 
 // x fits the sort s, which is 0, 2 (a permanent element) or 3 (a variable); p elements are permanent.
@@ -206,21 +200,7 @@ pub fn bad_nodes(image: &Image) -> Option<u32>
 {
     let table = SORTS;
     let n = book_image::nodes(image) as u32;
-    let mut i: u32 = 0;
-    while i < n {
-        if bad_node(image, &table, i) {
-            return Some(i);
-        }
-        i += 1;
-    }
-    None
-}
-
-// The number before i; 0 for 0.
-fn before(i: u32) -> u32
-    ensures { result ≡ i - 1 }
-{
-    if i == 0 { 0 } else { i - 1 }
+    (0..n).find(|&i| bad_node(image, &table, i))
 }
 
 // Refusal 7: agent i, whose line is l, is at fault.
@@ -230,7 +210,7 @@ fn bad_agent(image: &Image, l: Line, i: u32) -> bool
     let n = book_image::nodes(image) as u32;
     let p = book_image::permanent(image);
     let root = book_image::node_at(image, l.a);
-    let last = book_image::agent_at(image, before(i));
+    let last = book_image::agent_at(image, i.saturating_sub(1));
     !((l.a < n)
         & is_rule(root.kind)
         & (l.b < p)
@@ -244,13 +224,5 @@ pub fn bad_agents(image: &Image) -> Option<u32>
     ensures { result ≡ least (λ i. bad_agent (program_in image.now) (image_row image.now (34 + i)) i) (length (program_in image.now).agents) }
 {
     let n = book_image::agents(image) as u32;
-    let mut i: u32 = 0;
-    while i < n {
-        let l = book_image::row(image, book_image::AGENT_ROWS + i);
-        if bad_agent(image, l, i) {
-            return Some(i);
-        }
-        i += 1;
-    }
-    None
+    (0..n).find(|&i| bad_agent(image, book_image::row(image, book_image::AGENT_ROWS + i), i))
 }

@@ -18,7 +18,7 @@ use Rattle.book.proofs.Places.{located}
 use Rattle.book_parts.specs.declared.Part.{Part}
 use Rattle.book_parts.specs.declared.Owner.{Owner}
 use Rattle.book_parts.specs.Part.{between, put_in, part_from, part_in, part_of, owner_of}
-use Rattle.book_parts.proofs.Places.{functions_from, place_past, From, from_start, from_at, from_past, part_ends, part_after}
+use Rattle.book_parts.proofs.Places.{functions_from, place_past, From, from_at, from_past, part_ends, part_after}
 
 -- ---- the locations from a up to e
 
@@ -129,9 +129,6 @@ module _ (B : Program) (l : ℕ) where
   owner_is : (f : Function) (i first end : ℕ) → place B l ≡ record { function = f; index = i } → ◌≡◌ {A = Part} (record { first = first; end = end }) (part_of B l)
       → ◌≡◌ {A = Owner} (record { function = f; first = first; end = end }) (owner_of B l)
   owner_is f i first end p q = rw (p, ← q)
-
-  pub owner_start : Sought 0 0
-  owner_start = (from_start B, omega arith, refl)
 
   module _ (g first : ℕ) (own : Owner) (at : Sought g first) (is : own ≡ part_from B g first) (more : g < length B.functions) where
     abbrev end : ℕ

@@ -100,9 +100,6 @@ module _ (B : Program) (g first : ℕ) (own : Owner) (is : own ≡ part_from B g
   pub part_ends : own.end ≡ first + size B.E (function_at B g).arity
   part_ends = ap (λ (o : Owner). o.end) is
 
-  pub part_ordered : own.first ≤ own.end
-  part_ordered = rw is (omega arith)
-
   pub part_after : From B g first → g < length B.functions → From B (g + 1) own.end
   part_after at more = rw part_ends (from_next B g first at more)
 

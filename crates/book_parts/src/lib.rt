@@ -148,14 +148,12 @@ pub fn owner_of(image: &Image, l: usize) -> Owner
 {
     let n = book_image::functions(image);
     let mut first: u32 = 0;
-    let mut g: u16 = 0;
-    while g < n {
+    for g in 0..n {
         let own = part_from(image, g, first);
         if l < own.end {
             return own;
         }
         first = own.end as u32;
-        g = g + 1;
     }
     Owner {
         function: book_image::function_at(image, n as u32),

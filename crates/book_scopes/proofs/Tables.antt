@@ -40,16 +40,19 @@ unfolding uses_counted
 tally_none B s = refl
 
 module _ (B : Program) (ab c : Node → ℕ → ℕ) (s : List ℕ) where
+  -- the nodes from m on have given what those after it had, and then node m
   pub all_given_step :
-      (k : ℕ) → all_given B ab c (k + 1) s
-      ≡ operands_given (node_at B (length B.nodes - (k + 1))) (ab (node_at B (length B.nodes - (k + 1))) (get_or (all_given B ab c k s) (length B.nodes - (k + 1)) 0))
-      (c (node_at B (length B.nodes - (k + 1))) (get_or (all_given B ab c k s) (length B.nodes - (k + 1)) 0)) (all_given B ab c k s)
+      (m : ℕ) → m < length B.nodes → let t = all_given B ab c (length B.nodes - (m + 1)) s in
+      all_given B ab c (length B.nodes - m) s ≡ operands_given (node_at B m) (ab (node_at B m) (get_or t m 0)) (c (node_at B m) (get_or t m 0)) t
   unfolding all_given
-  all_given_step k = rw (add-one k)
+  all_given_step m h =
+      let e : length B.nodes - m ≡ suc (length B.nodes - (m + 1)) = omega arith in
+      let f : length B.nodes - suc (length B.nodes - (m + 1)) ≡ m = omega arith in
+      rw (e, f)
 
-  pub all_given_none : s ≡ all_given B ab c 0 s
+  pub all_given_none : s ≡ all_given B ab c (length B.nodes - length B.nodes) s
   unfolding all_given
-  all_given_none = refl
+  all_given_none = let z : length B.nodes - length B.nodes ≡ 0 = omega arith in rw z
 
 -- ---- counts that stop at 2
 

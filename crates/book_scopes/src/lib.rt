@@ -43,11 +43,9 @@ fn count_operands(table: &[u8; 87], s: &mut [u8], y: Node)
 fn count_roots(image: &Image, n: u32, s: &mut [u8])
     ensures { s.new ≡ roots_counted (program_in image.now) n s.old }
 {
-    let mut i: u32 = 0;
-    while i < n {
+    for i in 0..n {
         let a = book_image::agent_at(image, i);
         text::put(s, a.root as usize, 1);
-        i += 1;
     }
 }
 
@@ -56,11 +54,8 @@ fn count_uses(image: &Image, n: u32, s: &mut [u8])
     ensures { s.new ≡ uses_counted (program_in image.now) n s.old }
 {
     let table = book_nodes::SORTS;
-    let mut i: u32 = 0;
-    while i < n {
-        let y = book_image::node_at(image, i);
-        count_operands(&table, s, y);
-        i += 1;
+    for i in 0..n {
+        count_operands(&table, s, book_image::node_at(image, i));
     }
 }
 
@@ -68,14 +63,7 @@ fn count_uses(image: &Image, n: u32, s: &mut [u8])
 fn not_once(s: &[u8], n: u32) -> Option<u32>
     ensures { result ≡ least (λ i. not (eqb (get_or s.now i 0) 1)) n }
 {
-    let mut i: u32 = 0;
-    while i < n {
-        if !(text::fetch(s, i as usize) == 1) {
-            return Some(i);
-        }
-        i += 1;
-    }
-    None
+    (0..n).find(|&i| text::fetch(s, i as usize) != 1)
 }
 
 // Refusal 6, use: the least node that is not used exactly once.
@@ -111,8 +99,8 @@ fn scope_below(v: u16) -> u16
 fn in_forall(y: Node, v: u16) -> u16
     ensures { result ≡ in_forall y v }
 {
-    if y.kind == 25 {
-        if v / 256 % 4 < 2 { v + 256 } else { v }
+    if (y.kind == 25) & (v / 256 % 4 < 2) {
+        v + 256
     } else {
         v
     }
@@ -122,11 +110,7 @@ fn in_forall(y: Node, v: u16) -> u16
 fn is_binder(kind: u32) -> bool
     ensures { result ≡ is_binder kind }
 {
-    match kind {
-        24..=26 => true,
-        28 => true,
-        _ => false,
-    }
+    matches!(kind, 24..=26 | 28)
 }
 
 // What stands around the c of node y: one variable more if y is a binder.
@@ -166,14 +150,11 @@ fn give_all(image: &Image, s: &mut [u16])
 {
     let table = book_nodes::SORTS;
     let n = book_image::nodes(image) as u32;
-    let mut k: u32 = 0;
-    while k < n {
-        let m = n - (k + 1);
+    for m in (0..n).rev() {
         let y = book_image::node_at(image, m);
         let v = scope_below(text::fetch(s, m as usize));
         let w = in_binder(y, in_forall(y, v));
         give_operands(&table, s, y, v, w);
-        k += 1;
     }
 }
 
@@ -181,7 +162,7 @@ fn give_all(image: &Image, s: &mut [u16])
 fn is_bound(y: Node, bound: u16) -> bool
     ensures { result ≡ binds bound y.a }
 {
-    !(bound & bit_of(y.a) == 0)
+    bound & bit_of(y.a) != 0
 }
 
 // Node y is at fault, with this around it. Only a variable and a binder ask what is bound.
@@ -199,7 +180,7 @@ fn is_misplaced(y: Node, depth: u16, foralls: u16, bound: u16) -> bool
 }
 
 // Node i is at fault, by the table of what stands around each node.
-fn misplaced_at<'a>(image: &'a Image, s: &'a [u16], i: u32) -> bool
+fn misplaced_at(image: &Image, s: &[u16], i: u32) -> bool
     ensures { result ≡ misplaced_at (program_in image.now) s.now i }
 {
     let y = book_image::node_at(image, i);
@@ -208,17 +189,10 @@ fn misplaced_at<'a>(image: &'a Image, s: &'a [u16], i: u32) -> bool
 }
 
 // The least of the first n nodes that is at fault, by the table of what stands around each node.
-fn misplaced_in<'a>(image: &'a Image, s: &'a [u16], n: u32) -> Option<u32>
+fn misplaced_in(image: &Image, s: &[u16], n: u32) -> Option<u32>
     ensures { result ≡ least (misplaced_at (program_in image.now) s.now) n }
 {
-    let mut i: u32 = 0;
-    while i < n {
-        if misplaced_at(image, s, i) {
-            return Some(i);
-        }
-        i += 1;
-    }
-    None
+    (0..n).find(|&i| misplaced_at(image, s, i))
 }
 
 // Refusal 6, binding, depth and nesting: the least node at fault.

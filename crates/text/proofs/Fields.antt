@@ -134,20 +134,14 @@ line_of text i a b c d p q r s =
 -- ---- one column more
 
 -- the scan of the columns from k on is one column scanned, and then the others
-module _ (text : List ℕ) (at : ℕ) where
-  pub scan_step :
-      (k : ℕ) (s : Scan) → at + 6 ≤ length text → k < 6 →
-      scan s (take (6 - k) (drop (at + k) text)) ≡ scan (step_of s (get_or text (at + k) 0)) (take (6 - (k + 1)) (drop (at + (k + 1)) text))
+module _ (cs : List ℕ) where
+  pub scan_step : (k : ℕ) (s : Scan) → k < length cs → scan s (drop k cs) ≡ scan (step_of s (get_or cs k 0)) (drop (k + 1) cs)
   unfolding scan
-  scan_step k s h l =
-      let e : 6 - k ≡ suc (6 - (k + 1)) = omega arith in
-      let n : suc (at + k) ≡ at + (k + 1) = omega arith in
-      let r : at + k < length text = omega arith in
-      rw (e, drop-cons text (at + k) 0 r, n)
+  scan_step k s h = let n : suc k ≡ k + 1 = omega arith in rw (drop-cons cs k 0 h, n)
 
-  pub scan_end : (k : ℕ) (s : Scan) → 6 ≤ k → scan s (take (6 - k) (drop (at + k) text)) ≡ s
+  pub scan_end : (k : ℕ) (s : Scan) → length cs ≤ k → scan s (drop k cs) ≡ s
   unfolding scan
-  scan_end k s h = let e : 6 - k ≡ 0 = omega arith in rw e
+  scan_end k s h = rw (drop_of_length-le cs h)
 
 value_append : (n : ℕ) (a b : List ℕ) → value_of n (a ++ b) ≡ value_of (value_of n a) b
 unfolding value_of
@@ -224,7 +218,7 @@ module _ (text : List ℕ) (at : ℕ) where
 in_form : (cs : List ℕ) (r : ℕ) → field_ok cs ≡ true → r ≡ value_of 0 cs → r < no_number → Read cs r
 in_form cs r e v h = record { value = rw e v; form = rw (e, ne_eqb r no_number (λ z. omega arith)) }
 
-pub out_of_form : (cs : List ℕ) → field_ok cs ≡ false → Read cs no_number
+out_of_form : (cs : List ℕ) → field_ok cs ≡ false → Read cs no_number
 out_of_form cs e = record { value = rw e; form = rw e }
 
 -- a blank before the columns changes neither their form nor their number
@@ -232,11 +226,7 @@ pub after_blank : {cs : List ℕ} {r : ℕ} → Read cs r → Read (blank ∷ cs
 unfolding field_ok value_of
 after_blank p = record { value = p.value; form = p.form }
 
--- what the scan accepts and the pushes give is read as the field
-pub scanned_pushed : (cs : List ℕ) (t : Bool) (r : ℕ) → t ≡ field_ok cs → t ≡ true → r ≡ value_of 0 cs → r < no_number → Read cs r
-scanned_pushed cs t r e f v h = in_form cs r (sym e ∙ f) v h
-
-pub digit_bounds : (c : ℕ) → digit c ≡ true → (48 ≤ c) × (c ≤ 57)
+digit_bounds : (c : ℕ) → digit c ≡ true → (48 ≤ c) × (c ≤ 57)
 digit_bounds c e = let r = and_cases (leb 48 c) (leb c 57) e in (leb-true 48 c r.0, leb-true c 57 r.1)
 
 no_blank : (c : ℕ) → digit c ≡ true → eqb c blank ≡ false
@@ -256,7 +246,7 @@ no_digit f e = out_of_form (f ∷ []) (go (eqb f blank))
     go false = rw e
 
 -- where the first column is a digit but not 0 and the second a digit, both are from 48 to 57
-pub led : (e f : ℕ) → ((digit e && not (eqb e zero_digit)) && digit f) ≡ true → (48 ≤ e) × (e ≤ 57) × (48 ≤ f) × (f ≤ 57)
+led : (e f : ℕ) → ((digit e && not (eqb e zero_digit)) && digit f) ≡ true → (48 ≤ e) × (e ≤ 57) × (48 ≤ f) × (f ≤ 57)
 led e f t =
     let s = and_cases (digit e && not (eqb e zero_digit)) (digit f) t in
     let de = digit_bounds e (and_cases (digit e) (not (eqb e zero_digit)) s.0).0 in

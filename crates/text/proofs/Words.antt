@@ -119,10 +119,17 @@ least_from_none bad (suc n) j e i a b = go (bad j) refl e (least_from_none bad n
 pub least_none : (bad : ℕ → Bool) (n : ℕ) → least bad n ≡ None → (i : ℕ) → i < n → bad i ≡ false
 least_none bad n e i h = least_from_none bad n 0 e i (omega arith) (omega arith)
 
-least_from_all : (bad : ℕ → Bool) (n j : ℕ) → ((i : ℕ) → j ≤ i → i < j + n → bad i ≡ false) → least_from bad n j ≡ None
+pub least_from_all : (bad : ℕ → Bool) (n j : ℕ) → ((i : ℕ) → j ≤ i → i < j + n → bad i ≡ false) → least_from bad n j ≡ None
 unfolding least_from
 least_from_all bad zero j h = refl
 least_from_all bad (suc n) j h = rw (h j (omega arith) (omega arith)) (least_from_all bad n (suc j) (λ i a b. h i (omega arith) (omega arith)))
+
+pub least_from_at : (bad : ℕ → Bool) (n j i : ℕ) → j ≤ i → i < j + n → bad i ≡ true → ((k : ℕ) → j ≤ k → k < i → bad k ≡ false) → least_from bad n j ≡ Some i
+unfolding least_from
+least_from_at bad zero j i a b e h = absurd (omega arith)
+least_from_at bad (suc n) j i a b e h =
+    dite (ℕ_discrete j i) (λ (q : j ≡ i). rw (q, e))
+    (λ (q : ¬ (j ≡ i)). rw (h j (omega arith) (omega arith)) (least_from_at bad n (suc j) i (omega arith) (omega arith) e (λ k x y. h k (omega arith) y)))
 
 pub least_all : (bad : ℕ → Bool) (n : ℕ) → ((i : ℕ) → i < n → bad i ≡ false) → least bad n ≡ None
 least_all bad n h = least_from_all bad n 0 (λ i a b. h i (omega arith))

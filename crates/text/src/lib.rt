@@ -178,10 +178,8 @@ fn scanned(text: &[u8], at: usize) -> bool
     ensures { result ≡ field_ok (take 6 (drop at text.now)) }
 {
     let mut s = Scan::Blank;
-    let mut k: usize = 0;
-    while k < FIELD {
-        s = scan_byte(s, text[at + k]);
-        k += 1;
+    for b in &text[at..at + FIELD] {
+        s = scan_byte(s, *b);
     }
     scan_ends(s)
 }
@@ -219,7 +217,7 @@ fn is_digit(b: u8) -> bool
 fn is_leading_digit(b: u8) -> bool
     ensures { result ≡ digit b && not (eqb b zero_digit) }
 {
-    (48 <= b) & (b <= 57) & !(b == 48)
+    (48 <= b) & (b <= 57) & (b != 48)
 }
 
 // The number of a field of which all columns but the last, f, are blank.
@@ -311,12 +309,7 @@ pub fn parse(text: &[u8], i: u32) -> Parsed
         let c = field(text, at + 12);
         let d = field(text, at + 18);
         let end = text[at + 24];
-        if !(a == NO_NUMBER)
-            & !(b == NO_NUMBER)
-            & !(c == NO_NUMBER)
-            & !(d == NO_NUMBER)
-            & (end == 10)
-        {
+        if (a != NO_NUMBER) & (b != NO_NUMBER) & (c != NO_NUMBER) & (d != NO_NUMBER) & (end == 10) {
             Parsed {
                 ok: true,
                 line: Line { a, b, c, d },
@@ -333,22 +326,14 @@ pub fn parse(text: &[u8], i: u32) -> Parsed
 fn is_line_in_form(text: &[u8], i: u32) -> bool
     ensures { result ≡ well_formed (line_bytes text.now i) }
 {
-    let l = parse(text, i);
-    l.ok
+    parse(text, i).ok
 }
 
 // Refusal 1: the least of the lines from `first` up to `end` that is ill-formed or missing.
 pub fn bad_line_from(text: &[u8], first: u32, end: u32) -> Option<u32>
     ensures { result ≡ least_from (bad_line text.now) (end - first) first }
 {
-    let mut i = first;
-    while i < end {
-        if !is_line_in_form(text, i) {
-            return Some(i);
-        }
-        i += 1;
-    }
-    None
+    (first..end).find(|&i| !is_line_in_form(text, i))
 }
 
 // The number n with the digit of column `at` put after it. A blank leaves n as it is, and so does the text's end.

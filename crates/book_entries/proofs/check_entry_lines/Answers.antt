@@ -1,18 +1,9 @@
 -- `check_entry_lines` meets its contract.
--- the entry of the line that the loop reads
--- what the tests of the entry say
--- ---- an entry that passed its tests
-
--- it is in bounds, and fits its function
--- one can be added to its location
 use native.Mathlib.Omega.{arith}
-use borrow.Author.Rules.{rules}
 use Rattle.book_entries.proofs.Pass.{entry_line, ill_formed, at_fault_from, all_sound}
-use Rattle.book_entries.proofs.Roll.{bounded, tests_passed, bad_tests, roll_none, roll_step, low_none, low_step}
+use Rattle.book_entries.proofs.Roll.{tests_passed, bad_tests, roll_none, roll_step, low_none, low_step}
 use Rattle.book_entries.specs.Pass.{bad_at}
 use Rattle.book_entries.specs.Roll.{entries_from, roll_with}
-use Rattle.book.proofs.Image.{elements_most}
-use native.Mathlib.Nat.{mul-le-mul_right}
 use Rattle.book.specs.Sum.{Strided}
 use Rattle.book.specs.Image.{program_in}
 use Rattle.book.specs.Contents.{entry_fits, bad_entry}
@@ -24,13 +15,14 @@ use Rattle.text.proofs.Words.{least_pass, least_stop, least_end}
 use Rattle.text.specs.Text.{bad_line}
 use borrow.Author.Tests.{not-false}
 use lib.Dec.{leb}
-use Prim.Native.Nat.{◌≤◌, ◌<◌, ◌-◌, ◌+◌, ◌*◌}
+use Prim.Native.Nat.{◌-◌, ◌+◌}
 use mathlib.Core.List.{List}
 use mathlib.Core.Bool.{true, not, ◌&&◌}
 use mathlib.Core.Path.{◌≡◌, refl, sym, ap, ◌∙◌}
 use Rattle.book_entries.proofs.check_entry_lines.Goals as goal
 use Rattle.book_entries.proofs.check_entry_lines.Goals.{After-entry-x, After-no_trace, After-add_to_roll}
 
+-- the entry of the line that the loop reads
 there :
     (c : After-entry-x) →
     entry_at (entries_from c.args.text.now c.args.first (c.args.end - c.args.first)) (c.loop-i.i - c.args.first)
@@ -38,9 +30,10 @@ there :
 there c =
     let a = c.args in
     let l = c.loop-i in
-    entry_line a.text.now a.first a.end l.i l.invariant.0 c.loop-i-test.true
+    entry_line a.text.now a.first a.end l.i (omega arith) c.loop-i-test.true
     ∙ sym (c.entry-x.ensures ∙ ap entry_of (parsed_line a.text.now l.i _ c.parse-l.ensures (not-false _ c.if-not-l.false)))
 
+-- what the tests of the entry say
 rest :
     (c : After-no_trace) → Strided (program_in c.args.image.now) →
     bad_entry (program_in c.args.image.now) (entries_from c.args.text.now c.args.first (c.args.end - c.args.first)) (c.loop-i.i - c.args.first)
@@ -58,54 +51,33 @@ rest c strided =
       c.functions-n.ensures,
       c.elements-e.ensures,
       c.permanent-p.ensures,
-      l.invariant.4 strided,
-      l.invariant.3,
+      l.invariant.3 strided,
+      l.invariant.2,
     )
-    (bad_tests (program_in a.image.now) strided es (l.i - a.first) c.entry-x.result (entry_line a.text.now a.first a.end l.i l.invariant.0 c.loop-i-test.true ∙ sym (c.entry-x.ensures ∙ ap entry_of (parsed_line a.text.now l.i _ c.parse-l.ensures (not-false _ c.if-not-l.false)))) a.roll.now c.requires)
+    (bad_tests (program_in a.image.now) strided es (l.i - a.first) c.entry-x.result (entry_line a.text.now a.first a.end l.i (omega arith) c.loop-i-test.true ∙ sym (c.entry-x.ensures ∙ ap entry_of (parsed_line a.text.now l.i _ c.parse-l.ensures (not-false _ c.if-not-l.false)))) a.roll.now c.requires)
+
+-- ---- an entry that passed its tests: it is in bounds, and fits its function
 
 tests : (c : After-add_to_roll) → (c.in_bounds.result ≡ true) × (c.entry_fits.result ≡ true)
 tests c = tests_passed c.in_bounds.result c.entry_fits.result (leb c.loop-i.low c.location-place.result) c.no_trace.result c.if-not-in_bounds-entry_fits.false-raw
 
+-- it fits its function
 fitted :
     (c : After-add_to_roll) →
     entry_fits (program_in c.args.image.now).P c.entry-x.result (function_at (program_in c.args.image.now) c.entry-x.result.function) ≡ true
 fitted c = sym (c.entry_fits.ensures ∙ rw (c.function_at-f.ensures, c.permanent-p.ensures)) ∙ (tests c).1
 
-small : (c : After-add_to_roll) → c.location-place.result < 1000000000000000
-small c =
-    let f = c.function_at-f in
-    let x = c.entry-x.result in
-    let most = elements_most c.args.image.now in
-    let inside = bounded x.function x.arg1 x.arg2 x.value _ _ (sym c.in_bounds.ensures ∙ (tests c).0) in
-    let w : x.arg1 * f.result.stride ≤ 10000 * f.result.stride = mul-le-mul_right f.result.stride (omega (arith, inside.0, c.elements-e.ensures, most)) in
-    omega (arith, c.location-place.ensures, w, inside.1, c.elements-e.ensures, most, f.type_inv.1.1.0.1, f.type_inv.1.1.1.1.1.0.1)
-
 pub loop-i-init : goal.loop-i-init
-loop-i-init c = let a = c.args in let z : a.first - a.first ≡ 0 = omega arith in (search rules, refl, λ strided. refl, rw z (roll_none (entries_from a.text.now a.first (a.end - a.first)) a.roll.now), λ strided. rw z (low_none (program_in a.image.now) (entries_from a.text.now a.first (a.end - a.first))), refl)
-
-pub shape_of-roll-then-not-l : goal.shape_of-roll-then-not-l
-shape_of-roll-then-not-l c = c.loop-i.invariant.5
+loop-i-init c = let a = c.args in let z : a.first - a.first ≡ 0 = omega arith in (refl, λ strided. refl, rw z (roll_none (entries_from a.text.now a.first (a.end - a.first)) a.roll.now), λ strided. rw z (low_none (program_in a.image.now) (entries_from a.text.now a.first (a.end - a.first))))
 
 pub returns-then-not-l : goal.returns-then-not-l
-returns-then-not-l c = λ strided. let a = c.args in let l = c.loop-i in let w = parsed_ok a.text.now l.i _ c.parse-l.ensures in ill_formed (program_in a.image.now) a.text.now a.first a.end l.i (least_stop (bad_line a.text.now) a.end l.i c.loop-i-test.true (ap not (sym w) ∙ c.if-not-l.true) l.invariant.1)
-
-pub shape_of-roll-then-not-in_bounds-entry_fits : goal.shape_of-roll-then-not-in_bounds-entry_fits
-shape_of-roll-then-not-in_bounds-entry_fits c = c.loop-i.invariant.5
+returns-then-not-l c = λ strided. let a = c.args in let l = c.loop-i in let w = parsed_ok a.text.now l.i _ c.parse-l.ensures in ill_formed (program_in a.image.now) a.text.now a.first a.end l.i (least_stop (bad_line a.text.now) a.end l.i c.loop-i-test.true (ap not (sym w) ∙ c.if-not-l.true) l.invariant.0)
 
 pub returns-then-not-in_bounds-entry_fits : goal.returns-then-not-in_bounds-entry_fits
-returns-then-not-in_bounds-entry_fits c = λ strided. let a = c.args in let l = c.loop-i in at_fault_from (program_in a.image.now) a.text.now a.first a.end _ l.i c.fault_at.ensures l.invariant.1 (least_stop (bad_at (program_in a.image.now) a.text.now a.first (a.end - a.first)) a.end l.i c.loop-i-test.true (rest (goal.at.returns-then-not-in_bounds-entry_fits c).After-no_trace strided ∙ c.if-not-in_bounds-entry_fits.true-raw) (l.invariant.2 strided))
-
-pub overflow_add-low : goal.overflow_add-low
-overflow_add-low c = omega (arith, small (goal.at.overflow_add-low c).After-add_to_roll)
-
-pub overflow_add-i : goal.overflow_add-i
-overflow_add-i c = omega (arith, c.loop-i-test.true, c.ranges)
+returns-then-not-in_bounds-entry_fits c = λ strided. let a = c.args in let l = c.loop-i in at_fault_from (program_in a.image.now) a.text.now a.first a.end _ l.i c.fault_at.ensures l.invariant.0 (least_stop (bad_at (program_in a.image.now) a.text.now a.first (a.end - a.first)) a.end l.i c.loop-i-test.true (rest (goal.at.returns-then-not-in_bounds-entry_fits c).After-no_trace strided ∙ c.if-not-in_bounds-entry_fits.true-raw) (l.invariant.1 strided))
 
 pub loop-i-preserved : goal.loop-i-preserved
-loop-i-preserved c = let a = c.args in let l = c.loop-i in let x = c.entry-x.result in let z : l.i + 1 - a.first ≡ l.i - a.first + 1 = omega arith in let w = parsed_ok a.text.now l.i _ c.parse-l.ensures in (search rules, least_pass (bad_line a.text.now) a.end l.i c.loop-i-test.true (ap not (sym w) ∙ c.if-not-l.false) l.invariant.1, λ strided. least_pass (bad_at (program_in a.image.now) a.text.now a.first (a.end - a.first)) a.end l.i c.loop-i-test.true (rest (goal.at.loop-i-preserved c).After-no_trace strided ∙ c.if-not-in_bounds-entry_fits.false-raw) (l.invariant.2 strided), rw z (c.add_to_roll.ensures ∙ ap (roll_with x) l.invariant.3 ∙ sym (roll_step (entries_from a.text.now a.first (a.end - a.first)) (l.i - a.first) a.roll.now x (there (goal.at.loop-i-preserved c).After-entry-x))), λ strided. rw (z, c.location-place.ensures, c.function_at-f.ensures) (sym (low_step (program_in a.image.now) strided (entries_from a.text.now a.first (a.end - a.first)) (l.i - a.first) x (there (goal.at.loop-i-preserved c).After-entry-x) (fitted (goal.at.loop-i-preserved c).After-add_to_roll))), c.add_to_roll.auto.roll ∙ l.invariant.5)
-
-pub shape_of-roll : goal.shape_of-roll
-shape_of-roll c = c.loop-i.invariant.5
+loop-i-preserved c = let a = c.args in let l = c.loop-i in let x = c.entry-x.result in let z : l.i + 1 - a.first ≡ l.i - a.first + 1 = omega arith in let w = parsed_ok a.text.now l.i _ c.parse-l.ensures in (least_pass (bad_line a.text.now) a.end l.i c.loop-i-test.true (ap not (sym w) ∙ c.if-not-l.false) l.invariant.0, λ strided. least_pass (bad_at (program_in a.image.now) a.text.now a.first (a.end - a.first)) a.end l.i c.loop-i-test.true (rest (goal.at.loop-i-preserved c).After-no_trace strided ∙ c.if-not-in_bounds-entry_fits.false-raw) (l.invariant.1 strided), rw z (c.add_to_roll.ensures ∙ ap (roll_with x) l.invariant.2 ∙ sym (roll_step (entries_from a.text.now a.first (a.end - a.first)) (l.i - a.first) a.roll.now x (there (goal.at.loop-i-preserved c).After-entry-x))), λ strided. rw (z, c.location-place.ensures, c.function_at-f.ensures) (sym (low_step (program_in a.image.now) strided (entries_from a.text.now a.first (a.end - a.first)) (l.i - a.first) x (there (goal.at.loop-i-preserved c).After-entry-x) (fitted (goal.at.loop-i-preserved c).After-add_to_roll))))
 
 pub returns : goal.returns
-returns c = λ strided. let a = c.args in let l = c.loop-i in all_sound (program_in a.image.now) a.text.now a.first a.end (least_end (bad_line a.text.now) a.end l.i c.loop-i-test.false l.invariant.1) (least_end (bad_at (program_in a.image.now) a.text.now a.first (a.end - a.first)) a.end l.i c.loop-i-test.false (l.invariant.2 strided))
+returns c = λ strided. let a = c.args in let l = c.loop-i in all_sound (program_in a.image.now) a.text.now a.first a.end (least_end (bad_line a.text.now) a.end l.i c.loop-i-test.false l.invariant.0) (least_end (bad_at (program_in a.image.now) a.text.now a.first (a.end - a.first)) a.end l.i c.loop-i-test.false (l.invariant.1 strided))

@@ -1,10 +1,4 @@
 -- `check_entry_lines` meets its contract.
--- the entry of the line that the loop reads
--- what the tests of the entry say
--- ---- an entry that passed its tests
-
--- it is in bounds, and fits its function
--- one can be added to its location
 use Rattle.book_entries.specs.Pass.{bad_at}
 use Rattle.book_entries.specs.Roll.{entries_from, roll_of}
 use Rattle.book.specs.Sum.{Strided}
@@ -12,18 +6,13 @@ use Rattle.book.specs.Image.{program_in}
 use Rattle.book.specs.Contents.{least_location}
 use Rattle.text.specs.Text.{bad_line}
 use Rattle.text.specs.Words.{least_from}
-use lib.ListN.{length}
-use Prim.Native.Nat.{◌≤◌, ◌-◌}
+use Prim.Native.Nat.{◌-◌}
 use mathlib.Core.Path.{◌≡◌}
 use Rattle.book_entries.proofs.check_entry_lines.Given as goal
 
 abbrev pub invariant-loop-i : goal.invariant-loop-i
-invariant-loop-i l = (l.first ≤ l.i)
-    × (least_from (bad_line l.text) (l.end - l.i) l.i ≡ least_from (bad_line l.text) (l.end - l.first) l.first)
+invariant-loop-i l =
+    (least_from (bad_line l.text) (l.end - l.i) l.i ≡ least_from (bad_line l.text) (l.end - l.first) l.first)
     × (Strided (program_in l.image) → least_from (bad_at (program_in l.image) l.text l.first (l.end - l.first)) (l.end - l.i) l.i ≡ least_from (bad_at (program_in l.image) l.text l.first (l.end - l.first)) (l.end - l.first) l.first)
     × (l.roll ≡ roll_of (entries_from l.text l.first (l.end - l.first)) (l.i - l.first) l.initial.roll)
     × (Strided (program_in l.image) → l.low ≡ least_location (program_in l.image) (entries_from l.text l.first (l.end - l.first)) (l.i - l.first))
-    × (length l.roll ≡ length l.initial.roll)
-
-abbrev pub decreases-loop-i : goal.decreases-loop-i
-decreases-loop-i l = l.end - l.i

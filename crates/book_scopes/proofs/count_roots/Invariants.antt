@@ -1,14 +1,9 @@
 -- `count_roots` meets its contract.
 use Rattle.book_scopes.specs.Tables.{roots_counted}
 use Rattle.book.specs.Image.{program_in}
-use lib.ListN.{length}
-use Prim.Native.Nat.{◌≤◌, ◌-◌}
 use mathlib.Core.Path.{◌≡◌}
 use Rattle.book_scopes.proofs.count_roots.Given as goal
 
 abbrev pub invariant-loop-i : goal.invariant-loop-i
 invariant-loop-i l =
-    (l.i ≤ l.n) × (length l.s ≡ length l.initial.s) × (l.s ≡ roots_counted (program_in l.image) l.i l.initial.s)
-
-abbrev pub decreases-loop-i : goal.decreases-loop-i
-decreases-loop-i l = l.n - l.i
+    l.s ≡ roots_counted (program_in l.image) l.i l.initial.s

@@ -1,23 +1,19 @@
 -- `give_all` meets its contract.
-use Rattle.book_scopes.proofs.Tables.{all_given_step, all_given_none}
-use Rattle.book_scopes.specs.Tables.{to_ab, to_c}
+use Rattle.std.proofs.Common.{◌≡◌, ◌∙◌, ◌+◌, ◌-◌, ◌<◌, length, arith}
 use Rattle.book.specs.Image.{program_in}
-use borrow.Author.Rules.{rules}
-use native.Mathlib.Omega.{arith}
-use mathlib.Core.Path.{◌≡◌, refl, ◌∙◌}
+use Rattle.book_scopes.specs.Tables.{to_ab, to_c}
+use Rattle.book_scopes.proofs.Tables.{all_given_step, all_given_none}
 use Rattle.book_scopes.proofs.give_all.Goals as goal
 
-pub loop-k-init : goal.loop-k-init
-loop-k-init c = let a = c.args in (search rules, refl, all_given_none (program_in a.image.now) to_ab to_c a.s.now)
+pub loop-m-init : goal.loop-m-init
+loop-m-init c = rw c.nodes-n.ensures (all_given_none (program_in c.args.image.now) to_ab to_c c.args.s.now)
 
-pub give_operands-requires : goal.give_operands-requires
-give_operands-requires c = refl
-
-pub loop-k-preserved : goal.loop-k-preserved
-loop-k-preserved c = let a = c.args in let l = c.loop-k in (search rules, c.give_operands.auto.s ∙ l.invariant.1, rw (all_given_step (program_in a.image.now) to_ab to_c a.s.now l.k) (c.give_operands.ensures ∙ rw (c.in_binder-w.ensures, c.in_forall.ensures, c.scope_below-v.ensures, c.fetch.ensures, c.node_at-y.ensures, c.nodes-n.ensures, l.invariant.2)))
-
-pub shape_of-s : goal.shape_of-s
-shape_of-s c = c.loop-k.invariant.1
-
-pub returns : goal.returns
-returns c = let l = c.loop-k in let e : l.k ≡ c.nodes-n.result = omega arith in l.invariant.2 ∙ rw (e, c.nodes-n.ensures)
+pub loop-m-preserved : goal.loop-m-preserved
+loop-m-preserved c =
+    let a = c.args in
+    let l = c.loop-m in
+    let B = program_in a.image.now in
+    let more : l.m - 1 < length B.nodes = omega (arith, c.loop-m-test.true, l.auto.m, c.nodes-n.ensures) in
+    let e : l.m - 1 + 1 ≡ l.m = omega (arith, c.loop-m-test.true) in
+    rw (all_given_step B to_ab to_c a.s.now (l.m - 1) more, e, ← l.invariant)
+    (c.give_operands.ensures ∙ rw (c.in_binder-w.ensures, c.in_forall.ensures, c.scope_below-v.ensures, c.fetch.ensures, c.node_at-y.ensures))

@@ -3,13 +3,10 @@ use Rattle.book_scopes.specs.Tables.{to_ab, to_c}
 use Rattle.book.specs.Scopes.{all_given}
 use Rattle.book.specs.Image.{program_in}
 use lib.ListN.{length}
-use Prim.Native.Nat.{◌≤◌, ◌-◌}
+use Prim.Native.Nat.{◌-◌}
 use mathlib.Core.Path.{◌≡◌}
 use Rattle.book_scopes.proofs.give_all.Given as goal
 
-abbrev pub invariant-loop-k : goal.invariant-loop-k
-invariant-loop-k l =
-    (l.k ≤ l.n) × (length l.s ≡ length l.initial.s) × (l.s ≡ all_given (program_in l.image) to_ab to_c l.k l.initial.s)
-
-abbrev pub decreases-loop-k : goal.decreases-loop-k
-decreases-loop-k l = l.n - l.k
+abbrev pub invariant-loop-m : goal.invariant-loop-m
+invariant-loop-m l =
+    l.s ≡ all_given (program_in l.image) to_ab to_c (length (program_in l.image).nodes - l.m) l.initial.s

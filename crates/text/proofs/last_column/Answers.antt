@@ -1,11 +1,7 @@
 -- `last_column` meets its contract.
-use Rattle.text.proofs.Fields.{digit_bounds, one_digit, no_digit}
+use Rattle.text.proofs.Fields.{one_digit, no_digit}
 use mathlib.Core.Path.{sym, ◌∙◌}
-use native.Mathlib.Omega.{arith}
 use Rattle.text.proofs.last_column.Goals as goal
-
-pub overflow_sub-result : goal.overflow_sub-result
-overflow_sub-result c = let f = c.args.f in omega (arith, digit_bounds f (sym c.is_digit.ensures ∙ c.if-is_digit.true))
 
 pub returns-then-is_digit : goal.returns-then-is_digit
 returns-then-is_digit c = one_digit _ (sym c.is_digit.ensures ∙ c.if-is_digit.true)

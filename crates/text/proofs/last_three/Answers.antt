@@ -1,13 +1,7 @@
 -- `last_three` meets its contract.
-use Rattle.text.proofs.Words.{and_cases}
-use Rattle.text.proofs.Fields.{led, digit_bounds}
 use Rattle.text.proofs.Fields.{after_blank, three_digits, no_three}
 use borrow.Author.Tests.{ne_eqb}
-use native.Mathlib.Omega.{arith}
 use Rattle.text.proofs.last_three.Goals as goal
-
-pub overflow_sub-result : goal.overflow_sub-result
-overflow_sub-result c = let a = c.args in let s = and_cases _ _ c.if-is_leading_digit-is_digit.true in let w = led a.d a.e (rw (← c.is_leading_digit.ensures, ← c.is_digit.ensures) s.0) in let f = digit_bounds a.f (rw (← c.is_digit-else-d-eq32.ensures) s.1) in omega arith
 
 pub returns-then-d-eq32 : goal.returns-then-d-eq32
 returns-then-d-eq32 c = let e = c.if-d-eq32.true in rw e (after_blank c.last_two.ensures)

@@ -1,12 +1,7 @@
 -- `last_two` meets its contract.
-use Rattle.text.proofs.Fields.{led}
 use Rattle.text.proofs.Fields.{after_blank, two_digits, no_digits}
 use borrow.Author.Tests.{ne_eqb}
-use native.Mathlib.Omega.{arith}
 use Rattle.text.proofs.last_two.Goals as goal
-
-pub overflow_sub-result : goal.overflow_sub-result
-overflow_sub-result c = let a = c.args in let w = led a.e a.f (rw (← c.is_leading_digit.ensures, ← c.is_digit.ensures) c.if-is_leading_digit-is_digit.true) in omega arith
 
 pub returns-then-e-eq32 : goal.returns-then-e-eq32
 returns-then-e-eq32 c = let e = c.if-e-eq32.true in rw e (after_blank c.last_column.ensures)

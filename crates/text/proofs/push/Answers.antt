@@ -5,12 +5,6 @@ use borrow.Author.Tests.{eq-eqb, ne_eqb}
 use native.Mathlib.Omega.{arith}
 use Rattle.text.proofs.push.Goals as goal
 
-pub overflow_cast-result : goal.overflow_cast-result
-overflow_cast-result c = omega (arith, c.shared_slice_known-1.given c.args.at)
-
-pub overflow_add-result : goal.overflow_add-result
-overflow_add-result c = omega (arith, c.shared_slice_known-1.given c.args.at)
-
 pub returns-then-b-eq32 : goal.returns-then-b-eq32
 returns-then-b-eq32 c = let a = c.args in (sym (pushed a.text.now a.at a.n c.if-at-text.true ∙ rw (eq-eqb _ _ c.if-b-eq32.true)), omega arith)
 
