@@ -86,19 +86,15 @@ fn check_text(text: &[u8], h: Header, image: &mut Image) -> Result<(), Refusal>
 pub fn check_into(book: &[u8], image: &mut Image) -> Result<(), Refusal>
     ensures { (told result ≡ answer_of (check_book book.now)) × ImageOf image.new (check_book book.now) }
 {
-    let k = text::parse(book, 0);
-    let first = text::must(k.ok, Reason::IllFormed, 0, 0);
-    first?;
-    let l = text::parse(book, 1);
-    let second = text::must(l.ok, Reason::IllFormed, 1, 0);
-    second?;
-    let bounds = text::none_at(
-        Reason::HeaderBounds,
-        0,
-        book_header::bad_header(k.line, l.line),
-    );
+    let Some(k) = text::parse(book, 0) else {
+        return text::refused(Reason::IllFormed, 0, 0);
+    };
+    let Some(l) = text::parse(book, 1) else {
+        return text::refused(Reason::IllFormed, 1, 0);
+    };
+    let bounds = text::none_at(Reason::HeaderBounds, 0, book_header::bad_header(k, l));
     bounds?;
-    check_text(book, header_of(k.line, l.line), image)
+    check_text(book, header_of(k, l), image)
 }
 
 // The whole check of a book, without its image.

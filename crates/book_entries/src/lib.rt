@@ -127,14 +127,13 @@ fn check_entry_lines(
     let n = book_image::functions(image) as u32;
     let mut low: usize = 0;
     for i in first..end {
-        let l = text::parse(text, i);
-        if !l.ok {
+        let Some(l) = text::parse(text, i) else {
             return LineFaults {
                 ill: Some(i),
                 fault: None,
             };
-        }
-        let x = entry(l.line);
+        };
+        let x = entry(l);
         let f = book_image::function_at(image, x.function);
         // This is the entry's location if its arguments fit f, which is tested together with it.
         let place = book_parts::location(f, x.arg1, x.arg2);

@@ -70,11 +70,10 @@ fn load_lines(text: &[u8], h: Header, image: &mut Image) -> Option<u32>
 {
     let end = 2 + h.functions + h.nodes + h.agents;
     for i in 2..end {
-        let l = text::parse(text, i);
-        if !l.ok {
+        let Some(l) = text::parse(text, i) else {
             return Some(i);
-        }
-        put_line(h, i, l.line, image);
+        };
+        put_line(h, i, l, image);
     }
     None
 }

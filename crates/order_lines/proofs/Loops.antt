@@ -10,10 +10,9 @@ use native.Mathlib.Numerals.{add-one}
 use native.Mathlib.Omega.{arith}
 use native.Mathlib.Decide.{ℕ_discrete}
 use Rattle.text.specs.declared.Line.{Line}
-use Rattle.text.specs.declared.Parsed.{Parsed}
 use Rattle.text.specs.Words.{table_from, table, least_from, least}
 use Rattle.text.specs.Text.{bad_line, line, parsed}
-use Rattle.text.proofs.Fields.{parsed_line}
+use Rattle.text.proofs.Fields.{parsed_some}
 use Rattle.order.specs.Log.{Choice}
 use Rattle.order_lines.specs.Lines.{first_found, shifted, KindRead, pick_put, picks_put}
 use Rattle.order_lines.proofs.Places.{part_start, part_pass, part_stop, part_end, fault_turn, fault_none, found_some, line_bad, line_good}
@@ -36,8 +35,8 @@ module _ (text : List ℕ) (k n : ℕ) (bad : Line → Line → ℕ → Bool) (r
   turned_start l = record { ill = part_start (bad_line text) (1 + k) n; before = λ h. absurd (omega arith); fault = refl; order = λ z. refl }
 
   module _ (i : ℕ) (t : List ℕ) (last : Line) (found : Option ℕ) (w : Turned i t last found) where
-    module _ (h : i < n) (p : Parsed) (is : p ≡ parsed text (1 + k + i)) where
-      pub turned_stop : p.ok ≡ false → KindRead text k n bad_at (rest 0 s) t (record { ill = Some (1 + k + i); fault = found })
+    module _ (h : i < n) (p : Option Line) (is : p ≡ parsed text (1 + k + i)) where
+      pub turned_stop : p ≡ None → KindRead text k n bad_at (rest 0 s) t (record { ill = Some (1 + k + i); fault = found })
       turned_stop e = record {
         ill = part_stop (bad_line text) (1 + k) n i h (line_bad text (1 + k + i) p is e) w.ill;
         fault = λ z. found_some z;
@@ -45,18 +44,18 @@ module _ (text : List ℕ) (k n : ℕ) (bad : Line → Line → ℕ → Bool) (r
       }
 
       -- one line more is read and put in, v being the table with it; the first line has none before it
-      pub turned_turn : ((j l : Line) → bad j l 0 ≡ bad (line text (k + 0)) l 0) → p.ok ≡ true → (b : Bool) → b ≡ bad last p.line i → (r : Option ℕ)
+      pub turned_turn : ((j l : Line) → bad j l 0 ≡ bad (line text (k + 0)) l 0) → (y : Line) → p ≡ Some y → (b : Bool) → b ≡ bad last y i → (r : Option ℕ)
           → r ≡ first_found found (if b then Some (1 + k + i) else None) → (u v : List ℕ) → u ≡ (if b then t else v)
-          → (p.line ≡ line text (1 + k + i) → rest (i + 1) v ≡ rest i t) → Turned (i + 1) u p.line r
-      turned_turn first e b f r g u v q turn = record {
-        ill = part_pass (bad_line text) (1 + k) n i h (line_good text (1 + k + i) p is e) w.ill;
+          → (y ≡ line text (1 + k + i) → rest (i + 1) v ≡ rest i t) → Turned (i + 1) u y r
+      turned_turn first y e b f r g u v q turn = record {
+        ill = part_pass (bad_line text) (1 + k) n i h (line_good text (1 + k + i) p is y e) w.ill;
         before = λ _. l ∙ ap (line text) next;
         fault = fault_turn bad_at (1 + k) i found r b w.fault (f ∙ rw l same) g;
         order = λ z. let o = fault_none found r b (1 + k + i) g z in let x : u ≡ v = q ∙ rw o.1 in ap (rest (i + 1)) x ∙ turn l ∙ w.order o.0;
       }
         where
-          l : p.line ≡ line text (1 + k + i)
-          l = parsed_line text (1 + k + i) p is e
+          l : y ≡ line text (1 + k + i)
+          l = (parsed_some text (1 + k + i) p is y e).1
 
           next : 1 + k + i ≡ k + (i + 1)
           next = omega arith

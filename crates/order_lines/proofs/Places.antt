@@ -6,11 +6,11 @@ use mathlib.Core.Bool.{Bool, true, false}
 use mathlib.Core.List.{List}
 use Prim.Native.Nat.{ℕ, suc, ◌+◌, ◌-◌, ◌≤◌, ◌<◌}
 use native.Mathlib.Omega.{arith}
-use Rattle.text.specs.declared.Parsed.{Parsed}
+use Rattle.text.specs.declared.Line.{Line}
 use Rattle.text.specs.Words.{least_from, least}
 use Rattle.text.specs.Text.{bad_line, parsed}
 use Rattle.text.proofs.Words.{least_first, least_rest}
-use Rattle.text.proofs.Fields.{parsed_ok}
+use Rattle.text.proofs.Fields.{parsed_none, parsed_some}
 use Rattle.order_lines.specs.Lines.{first_found, shifted}
 
 pub least_split : (bad : ℕ → Bool) (m n i : ℕ) → least_from bad (m + n) i ≡ first_found (least_from bad m i) (least_from bad n (i + m))
@@ -64,9 +64,9 @@ pub found_some : {p : ℕ} {A : Type 0} → Some p ≡ None → A
 found_some e = let x : ◌≡◌ {A = ℕ} 0 1 = cc in absurd (omega arith)
 
 -- line i is read: whether it is ill-formed
-module _ (text : List ℕ) (i : ℕ) (p : Parsed) (is : p ≡ parsed text i) where
-  pub line_bad : p.ok ≡ false → bad_line text i ≡ true
-  line_bad e = rw (sym (parsed_ok text i p is) ∙ e)
+module _ (text : List ℕ) (i : ℕ) (p : Option Line) (is : p ≡ parsed text i) where
+  pub line_bad : p ≡ None → bad_line text i ≡ true
+  line_bad e = rw (parsed_none text i p is e)
 
-  pub line_good : p.ok ≡ true → bad_line text i ≡ false
-  line_good e = rw (sym (parsed_ok text i p is) ∙ e)
+  pub line_good : (l : Line) → p ≡ Some l → bad_line text i ≡ false
+  line_good l e = rw ((parsed_some text i p is l e).0)

@@ -70,14 +70,12 @@ fn read_bounded(
     };
     let mut fault = None;
     for i in 0..n {
-        let read = text::parse(log, 1 + k + i);
-        let l = read.line;
-        if !read.ok {
+        let Some(l) = text::parse(log, 1 + k + i) else {
             return LineFaults {
                 ill: Some(1 + k + i),
                 fault,
             };
-        }
+        };
         let bad = bad_choice(elements, m, before, l, i);
         fault = or_here(fault, bad, 1 + k + i);
         put_pick(order, l, i, bad);

@@ -10,14 +10,13 @@ use native.Mathlib.Omega.{arith}
 use lib.Dec.{leb}
 use lib.ListN.{length}
 use Rattle.text.specs.declared.Line.{Line}
-use Rattle.text.specs.declared.Parsed.{Parsed}
 use Rattle.text.specs.declared.Refusal.{Refusal}
 use Rattle.text.specs.Words.{Answer}
 use Rattle.text.specs.Words.{least_from, least, Checked, good, refused, ◌>>=◌, ◌>>◌, none_at, must, answer_of, told}
 use Rattle.text.specs.Refusals.{ill_formed, log_text, log_line}
 use Rattle.text.specs.Text.{line_length, well_formed, line_bytes, bad_line, line, parsed}
 use Rattle.text.proofs.Words.{bind_good, then_good, none_good, found_good, test_good, good_same}
-use Rattle.text.proofs.Fields.{parsed_ok, parsed_line}
+use Rattle.text.proofs.Fields.{parsed_none, parsed_some}
 use Rattle.text.proofs.Checks.{Numbered, bind_stops, then_stops, then_goes_on}
 use Rattle.order.specs.Log.{Log, log_header_ok, log_lines, log_of, check_log_header, check_log_text, check_log_lines, read_log}
 use Rattle.order.specs.Table.{OrderTable}
@@ -59,50 +58,53 @@ last_part n q (Some p) d l m f = refl
 
 -- ---- the header
 
-both_pass : (b c : Bool) → (answer_of (must b ill_formed 0 log_text >> must c log_line 0 0)).number ≡ 0 → (b ≡ true) × (c ≡ true)
-unfolding ◌>>◌ must
-both_pass true true z = (refl, refl)
-both_pass true false z = let x : ◌≡◌ {A = ℕ} 9 0 = z in absurd (omega arith)
-both_pass false c z = let x : ◌≡◌ {A = ℕ} 1 0 = z in absurd (omega arith)
+one_pass : (b : Bool) → (answer_of (must b log_line 0 0)).number ≡ 0 → b ≡ true
+unfolding must
+one_pass true z = refl
+one_pass false z = let x : ◌≡◌ {A = ℕ} 9 0 = z in absurd (omega arith)
 
 module _ (text : List ℕ) where
   first_line : least (bad_line text) 1 ≡ (if not (well_formed (line_bytes text 0)) then Some 0 else None)
   unfolding least_from
   first_line = refl
 
-  module _ (p : Parsed) (is : p ≡ parsed text 0) where
-    header_as : check_log_header text ≡ (header_checked p >> good p.line)
-    unfolding check_log_header header_checked ◌>>◌ none_at must
-    header_as = rw (first_line, ← parsed_ok text 0 p is) (go p.ok refl)
-      where
-        go : (b : Bool) → p.ok ≡ b
-            → (none_at ill_formed 0 log_text (if not b then Some 0 else None) >> (must (log_header_ok (line text 0)) log_line 0 0 >> good (line text 0)))
-            ≡ ((must b ill_formed 0 log_text >> must (log_header_ok p.line) log_line 0 0) >> good p.line)
-        go true e = rw (parsed_line text 0 p is e)
-        go false e = refl
+  -- what is read of the header line decides what its check answers
+  header_as : (p : Option Line) → p ≡ parsed text 0 → answer_of (check_log_header text) ≡ answer_of (header_checked p)
+  unfolding check_log_header header_checked ◌>>◌ none_at must
+  header_as None is = rw (first_line, parsed_none text 0 None is refl)
+  header_as (Some l) is =
+      let w = parsed_some text 0 (Some l) is l refl in
+      rw (first_line, w.0, ← w.1) (go (log_header_ok l))
+    where
+      go : (b : Bool) → answer_of (must b log_line 0 0 >> good l) ≡ answer_of (must b log_line 0 0)
+      go true = refl
+      go false = refl
 
-    module _ (a : Answer) (e : a ≡ answer_of (header_checked p)) where
-      -- the header passes if its answer has number 0
-      pub header_ok : a.number ≡ 0 → (p.ok ≡ true) × (log_header_ok p.line ≡ true)
-      unfolding header_checked
-      header_ok z = both_pass p.ok (log_header_ok p.line) (ap (λ (x : Answer). x.number) (sym e) ∙ z)
+  module _ (p : Option Line) (is : p ≡ parsed text 0) (a : Answer) (e : a ≡ answer_of (header_checked p)) where
+    -- the header is within its bounds if its answer has number 0
+    pub header_ok : a.number ≡ 0 → (h : Line) → p ≡ Some h → (well_formed (line_bytes text 0) ≡ true) × (h ≡ line text 0) × (log_header_ok h ≡ true)
+    unfolding header_checked
+    header_ok z h q =
+        let w = parsed_some text 0 p is h q in
+        let f : a ≡ answer_of (header_checked (Some h)) = e ∙ ap (λ (x : Option Line). answer_of (header_checked x)) q in
+        (w.0, w.1, one_pass (log_header_ok h) (ap (λ (x : Answer). x.number) (sym f) ∙ z))
 
-      module _ (A E : ℕ) where
-        -- if the header is refused, its answer is that of the log
-        at_header : a.number ≢ 0 → a ≡ answer_of (read_log A E text)
-        unfolding read_log
-        at_header n =
-            let f : answer_of (check_log_header text) ≡ a = ap answer_of header_as ∙ then_gives (header_checked p) p.line ∙ sym e in
-            sym (bind_stops (check_log_header text) _ (rw f n) ∙ f)
+    module _ (A E : ℕ) where
+      -- if the header is refused, its answer is that of the log
+      at_header : a.number ≢ 0 → a ≡ answer_of (read_log A E text)
+      unfolding read_log
+      at_header n =
+          let f : answer_of (check_log_header text) ≡ a = header_as p is ∙ sym e in
+          sym (bind_stops (check_log_header text) _ (rw f n) ∙ f)
 
-        pub header_refused : a.number ≢ 0 → (t : List ℕ) (s : Result ℕ Refusal) → told s ≡ a → LogIsRead A E text t s
-        header_refused n t s w =
-            let never : (g : Log) → read_log A E text ≡ good g → ⊥ = λ g q. n (ap (λ (x : Answer). x.number) (at_header n ∙ ap answer_of q)) in
-            record { answer = w ∙ at_header n; moves = λ g q. absurd (never g q); order = λ g q. absurd (never g q) }
+      pub header_refused : a.number ≢ 0 → (t : List ℕ) (s : Result ℕ Refusal) → told s ≡ a → LogIsRead A E text t s
+      header_refused n t s w =
+          let never : (g : Log) → read_log A E text ≡ good g → ⊥ = λ g q. n (ap (λ (x : Answer). x.number) (at_header n ∙ ap answer_of q)) in
+          record { answer = w ∙ at_header n; moves = λ g q. absurd (never g q); order = λ g q. absurd (never g q) }
 
-        pub past_header : a.number ≡ 0 → read_log A E text ≡ (check_log_text p.line text >> (check_log_lines A E p.line text >> good (log_of p.line text)))
-        unfolding read_log header_checked ◌>>=◌ ◌>>◌ must
-        past_header z = let o = header_ok z in let f : check_log_header text ≡ good p.line = header_as ∙ rw (o.0, o.1) in rw f
+      pub past_header : a.number ≡ 0 → (h : Line) → p ≡ Some h → read_log A E text ≡ (check_log_text h text >> (check_log_lines A E h text >> good (log_of h text)))
+      unfolding read_log check_log_header ◌>>=◌ ◌>>◌ must none_at
+      past_header z h q = let o = header_ok z h q in rw (first_line, o.0, ← o.1, o.2)
 
 -- ---- the lines after the header
 

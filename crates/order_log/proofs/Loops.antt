@@ -8,10 +8,9 @@ use Prim.Native.Nat.{ℕ, ◌+◌, ◌-◌, ◌≤◌, ◌<◌}
 use native.Mathlib.Omega.{arith}
 use lib.ListN.{length}
 use Rattle.text.specs.declared.Line.{Line}
-use Rattle.text.specs.declared.Parsed.{Parsed}
 use Rattle.text.specs.Words.{least_from, least}
 use Rattle.text.specs.Text.{bad_line, line, parsed}
-use Rattle.text.proofs.Fields.{parsed_line}
+use Rattle.text.proofs.Fields.{parsed_some}
 use Rattle.order.specs.Log.{bad_move, bad_move_at}
 use Rattle.order_lines.specs.Lines.{first_found, shifted}
 use Rattle.order_lines.proofs.Places.{part_start, part_pass, part_stop, part_end, fault_turn, found_some, line_bad, line_good}
@@ -29,8 +28,8 @@ module _ (A : ℕ) (text : List ℕ) (m : ℕ) where
   moved_start t e = record { ill = part_start (bad_line text) 1 m; fault = refl; table = filled_start (λ j. (line text (1 + j)).a) t e }
 
   module _ (i : ℕ) (t : List ℕ) (found : Option ℕ) (w : Moved i t found) where
-    module _ (h : i < m) (p : Parsed) (is : p ≡ parsed text (1 + i)) where
-      pub moved_stop : p.ok ≡ false → MovesRead A text m t (record { ill = Some (1 + i); fault = found })
+    module _ (h : i < m) (p : Option Line) (is : p ≡ parsed text (1 + i)) where
+      pub moved_stop : p ≡ None → MovesRead A text m t (record { ill = Some (1 + i); fault = found })
       moved_stop e = record {
         ill = part_stop (bad_line text) 1 m i h (line_bad text (1 + i) p is e) w.ill;
         fault = λ z. found_some z;
@@ -39,14 +38,14 @@ module _ (A : ℕ) (text : List ℕ) (m : ℕ) where
         picks = λ z. found_some z;
       }
 
-      pub moved_turn : m ≤ 64 → p.ok ≡ true → (b : Bool) → b ≡ bad_move A p.line → (r : Option ℕ) → r ≡ first_found found (if b then Some (1 + i) else None)
-          → Moved (i + 1) (filled t i p.line.a) r
-      moved_turn small e b f r g =
-          let l = parsed_line text (1 + i) p is e in
+      pub moved_turn : m ≤ 64 → (y : Line) → p ≡ Some y → (b : Bool) → b ≡ bad_move A y → (r : Option ℕ) → r ≡ first_found found (if b then Some (1 + i) else None)
+          → Moved (i + 1) (filled t i y.a) r
+      moved_turn small y e b f r g =
+          let l = (parsed_some text (1 + i) p is y e).1 in
           record {
-            ill = part_pass (bad_line text) 1 m i h (line_good text (1 + i) p is e) w.ill;
+            ill = part_pass (bad_line text) 1 m i h (line_good text (1 + i) p is y e) w.ill;
             fault = fault_turn (bad_move_at A text) 1 i found r b w.fault (f ∙ ap (bad_move A) l) g;
-            table = filled_turn (λ j. (line text (1 + j)).a) t i p.line.a (omega arith) (ap (λ (x : Line). x.a) l) w.table;
+            table = filled_turn (λ j. (line text (1 + j)).a) t i y.a (omega arith) (ap (λ (x : Line). x.a) l) w.table;
           }
 
     pub moved_end : i ≡ m → MovesRead A text m t (record { ill = None; fault = found })

@@ -1,10 +1,9 @@
 -- What reading a log's text leaves on the way, and what it gives a caller (SPECIFICATION 6.1 to 6.4).
-use Rattle.std.specs.Prelude.{Option, None, Result, IfOk, ◌≡◌, List, [], ◌∷◌, ℕ, ◌+◌, ◌*◌, ◌<◌, leb, length, get_or, set}
+use Rattle.std.specs.Prelude.{Option, None, Some, Result, IfOk, ◌≡◌, List, [], ◌∷◌, ℕ, ◌+◌, ◌*◌, ◌<◌, leb, length, get_or, set}
 use Rattle.std.specs.Int.Bits.{bit_or}
 use Rattle.text.specs.declared.Line.{Line}
-use Rattle.text.specs.declared.Parsed.{Parsed}
 use Rattle.text.specs.declared.Refusal.{Refusal}
-use Rattle.text.specs.Words.{table, least_from, least, Checked, good, ◌>>◌, none_at, must, answer_of, told}
+use Rattle.text.specs.Words.{table, least_from, least, Checked, good, refused, ◌>>◌, none_at, must, answer_of, told}
 use Rattle.text.specs.Refusals.{ill_formed, log_text, log_line}
 use Rattle.text.specs.Text.{line_length, bad_line, line}
 use Rattle.order.specs.Sets.{with_move}
@@ -17,10 +16,9 @@ use Rattle.order_lines.specs.Lines.{first_found, shifted, KindRead}
 -- ---- the header
 
 -- Refusals 1 and 9, in this order, on the header line as it is read
-unfoldable pub header_checked : Parsed → Checked (Unit {0})
-header_checked p = do
-  must p.ok ill_formed 0 log_text
-  must (log_header_ok p.line) log_line 0 0
+unfoldable pub header_checked : Option Line → Checked (Unit {0})
+header_checked None = refused ill_formed 0 log_text
+header_checked (Some h) = must (log_header_ok h) log_line 0 0
 
 -- ---- the lines after the header
 

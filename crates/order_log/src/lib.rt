@@ -1,7 +1,7 @@
 // The log: its text read once into the table of its order and picks, with refusals 1 and 9; and refusal 10 by sets of moves.
 #![tactic(auto)]
 
-ghost use Rattle.std.specs.Prelude.{◌≡◌, true, false, ◌-◌, ◌%◌, ◌^◌, ◌<◌, ◌≤◌, length, take, drop, if◌then◌else◌};
+ghost use Rattle.std.specs.Prelude.{Some, IfOk, ◌≡◌, true, false, ◌-◌, ◌%◌, ◌^◌, ◌<◌, ◌≤◌, length, take, drop, if◌then◌else◌};
 ghost use Rattle.text.specs.Words.{answer_of, told};
 ghost use Rattle.order.specs.Log.{log_header_ok, bad_move, bad_pair};
 ghost use Rattle.order.specs.Table.{agent_in, picks_in};
@@ -9,7 +9,7 @@ ghost use Rattle.order_log.specs.Read.{header_checked, lines_checked, pair_put, 
 ghost use Rattle.order_log.specs.Agents.{LeastUnordered, check_agents_in};
 
 use order::OrderTable;
-use text::{Line, LineFaults, Parsed, Reason, Refusal};
+use text::{Line, LineFaults, Reason, Refusal};
 
 // The header is within its bounds.
 fn header_fits(h: Line) -> bool
@@ -43,14 +43,12 @@ fn read_moves(log: &[u8], agents: u32, m: u32, order: &mut [u64]) -> LineFaults
 {
     let mut fault = None;
     for i in 0..m {
-        let read = text::parse(log, 1 + i);
-        let l = read.line;
-        if !read.ok {
+        let Some(l) = text::parse(log, 1 + i) else {
             return LineFaults {
                 ill: Some(1 + i),
                 fault,
             };
-        }
+        };
         fault = order_lines::or_here(fault, bad_move(l, agents), 1 + i);
         order[i as usize] = 0;
         order[order::AGENTS + i as usize] = l.a as u64;
@@ -87,14 +85,12 @@ fn read_pairs(log: &[u8], m: u32, n: u32, order: &mut OrderTable) -> LineFaults
     };
     let mut fault = None;
     for i in 0..n {
-        let read = text::parse(log, 1 + m + i);
-        let l = read.line;
-        if !read.ok {
+        let Some(l) = text::parse(log, 1 + m + i) else {
             return LineFaults {
                 ill: Some(1 + m + i),
                 fault,
             };
-        }
+        };
         let bad = bad_pair(m, before, l, i);
         fault = order_lines::or_here(fault, bad, 1 + m + i);
         put_pair(order, l, bad);
@@ -124,14 +120,20 @@ fn read_lines(log: &[u8], agents: u32, elements: u32, h: Line, order: &mut Order
     join_faults(join_faults(moves, pairs), picks)
 }
 
-// Refusals 1 and 9, in this order, on the header line.
-fn check_header(head: Parsed) -> Result<(), Refusal>
-    ensures { told result ≡ answer_of (header_checked head) }
+// Refusals 1 and 9, in this order, on the header line as it is read; the header, if it passes.
+fn check_header(head: Option<Line>) -> Result<Line, Refusal>
+    ensures answer { told result ≡ answer_of (header_checked head) }
+    ensures header { IfOk result (λ h. head ≡ Some h) }
 {
-    let form = text::must(head.ok, Reason::IllFormed, 0, text::LOG_TEXT);
-    form?;
-    let h = head.line;
-    text::must(header_fits(h), Reason::LogLine, 0, 0)
+    let Some(h) = head else {
+        return Err(Refusal {
+            reason: Reason::IllFormed,
+            p: 0,
+            q: text::LOG_TEXT,
+        });
+    };
+    text::must(header_fits(h), Reason::LogLine, 0, 0)?;
+    Ok(h)
 }
 
 // Refusals 1 and 9 on a log of `size` bytes and so many lines, from what is found in its lines.
@@ -155,10 +157,7 @@ pub fn read_log(
 ) -> Result<u32, Refusal>
     ensures { LogIsRead agents elements log.now order.new result }
 {
-    let head = text::parse(log, 0);
-    let first = check_header(head);
-    first?;
-    let h = head.line;
+    let h = check_header(text::parse(log, 0))?;
     let found = read_lines(log, agents, elements, h, order);
     let ill = found.ill;
     let fault = found.fault;

@@ -15,11 +15,10 @@ use lib.ListN.{length, take, drop, drop_of_length-le}
 use lib.Seq.{take_all, take-length, drop-length}
 use Rattle.text.specs.Words.{Answer}
 use Rattle.text.specs.declared.Line.{Line}
-use Rattle.text.specs.declared.Parsed.{Parsed}
 use Rattle.text.specs.Words.{least_from, least, Checked, good, refused, ◌>>◌, none_at, answer_of}
 use Rattle.text.specs.Text.{line_bytes, well_formed, line, parsed}
 use Rattle.text.proofs.Words.{and_cases}
-use Rattle.text.proofs.Fields.{parsed_ok, parsed_line}
+use Rattle.text.proofs.Fields.{parsed_none, parsed_some}
 use Rattle.book.specs.declared.Header.{Header}
 use Rattle.book.specs.Lines.{header_of, bad_field, line_count}
 use Rattle.book.specs.Check.{check_header}
@@ -54,33 +53,42 @@ module _ (text : List ℕ) where
   abbrev of_bounds : Line → Line → Checked Header
   of_bounds k l = none_at 3 0 0 (least (bad_field k l) 8) >> good (header_of k l)
 
-  module _ (x y : Parsed) (ex : x ≡ parsed text 0) (ey : y ≡ parsed text 1) where
-    length_by_tests : book_length text ≡ (if x.ok && y.ok then called_for (length text) (of_bounds (line text 0) (line text 1)) else length text)
-    unfolding book_length check_header least_from
-    length_by_tests =
-        rw (parsed_ok text 0 x ex, parsed_ok text 1 y ey)
-        (by_tests (well_formed (line_bytes text 0)) (well_formed (line_bytes text 1)) (least (bad_field (line text 0) (line text 1)) 8) (length text)
-        (header_of (line text 0) (line text 1)))
+  length_by_tests :
+      book_length text
+      ≡ (if well_formed (line_bytes text 0) && well_formed (line_bytes text 1) then called_for (length text) (of_bounds (line text 0) (line text 1)) else length text)
+  unfolding book_length check_header least_from
+  length_by_tests =
+      by_tests (well_formed (line_bytes text 0)) (well_formed (line_bytes text 1)) (least (bad_field (line text 0) (line text 1)) 8) (length text)
+      (header_of (line text 0) (line text 1))
 
+  module _ (x y : Option Line) (ex : x ≡ parsed text 0) (ey : y ≡ parsed text 1) where
     -- if a header line is ill-formed, the whole input is the book
-    pub length_formless : (x.ok && y.ok) ≡ false → length text ≡ book_length text
-    length_formless e = sym (length_by_tests ∙ rw e)
+    pub length_no_first : x ≡ None → length text ≡ book_length text
+    length_no_first n = sym (length_by_tests ∙ rw (parsed_none text 0 x ex n))
+
+    pub length_no_second : y ≡ None → length text ≡ book_length text
+    length_no_second n = sym (length_by_tests ∙ rw (parsed_none text 1 y ey n) (go (well_formed (line_bytes text 0))))
+      where
+        go : (b : Bool) → (if b && false then called_for (length text) (of_bounds (line text 0) (line text 1)) else length text) ≡ length text
+        go true = refl
+        go false = refl
 
     -- both header lines are in form
-    module _ (formed : (x.ok && y.ok) ≡ true) where
-      length_formed : book_length text ≡ called_for (length text) (of_bounds x.line y.line)
+    module _ (k l : Line) (ek : x ≡ Some k) (el : y ≡ Some l) where
+      length_formed : book_length text ≡ called_for (length text) (of_bounds k l)
       length_formed =
-          let b = and_cases x.ok y.ok formed in
-          length_by_tests ∙ rw (formed, parsed_line text 0 x ex b.0, parsed_line text 1 y ey b.1)
+          let a = parsed_some text 0 x ex k ek in
+          let b = parsed_some text 1 y ey l el in
+          length_by_tests ∙ rw (a.0, b.0, a.1, b.1)
 
-      module _ (o : Option ℕ) {b : Bool} (eo : o ≡ least (bad_field x.line y.line) 8) (eb : b ≡ is_some o) where
+      module _ (o : Option ℕ) {b : Bool} (eo : o ≡ least (bad_field k l) 8) (eb : b ≡ is_some o) where
         pub length_unbounded : b ≡ true → length text ≡ book_length text
         length_unbounded z =
-            bounds_refused (least (bad_field x.line y.line) 8) (length text) (header_of x.line y.line) (rw eo at (sym eb ∙ z)) ∙ sym length_formed
+            bounds_refused (least (bad_field k l) 8) (length text) (header_of k l) (rw eo at (sym eb ∙ z)) ∙ sym length_formed
 
-        pub length_bounded : b ≡ false → min (25 * line_count (header_of x.line y.line)) (length text) ≡ book_length text
+        pub length_bounded : b ≡ false → min (25 * line_count (header_of k l)) (length text) ≡ book_length text
         length_bounded z =
-            bounds_passed (least (bad_field x.line y.line) 8) (length text) (header_of x.line y.line) (rw eo at (sym eb ∙ z)) ∙ sym length_formed
+            bounds_passed (least (bad_field k l) 8) (length text) (header_of k l) (rw eo at (sym eb ∙ z)) ∙ sym length_formed
 
   -- ---- the checks of the two parts
 

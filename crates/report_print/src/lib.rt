@@ -117,13 +117,12 @@ pub fn book_bytes(input: &[u8]) -> usize
     ensures { result ≡ book_length input.now }
 {
     let n = input.len();
-    let first = text::parse(input, 0);
-    let second = text::parse(input, 1);
-    if !(first.ok & second.ok) {
+    let Some(k) = text::parse(input, 0) else {
         return n;
-    }
-    let k = first.line;
-    let l = second.line;
+    };
+    let Some(l) = text::parse(input, 1) else {
+        return n;
+    };
     if book_header::bad_header(k, l).is_some() {
         return n;
     }

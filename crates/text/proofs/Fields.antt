@@ -1,4 +1,7 @@
 -- The columns of a field, one by one: what the code's scan and pushes give is what the definitions say.
+use Rattle.std.specs.Prelude.{Option, None, Some}
+use Rattle.std.specs.Option.{is_some, unwrap_or}
+use mathlib.Core.Bool.{true≢false, false≢true}
 use Rattle.std.specs.Prelude.{if◌then◌else◌}
 use mathlib.Core.Path.{◌≡◌, refl, sym, ◌∙◌, ap}
 use mathlib.Core.Bool.{Bool, true, false, ◌&&◌, ◌||◌, not, and-true, and_assoc}
@@ -12,9 +15,8 @@ use lib.Seq.{length-take-le, take-take, drop-drop, drop-cons, get_or-take, get_o
 use borrow.Author.Tests.{eqb-true, ne_eqb, leb-true}
 use Rattle.text.specs.declared.Scan.{Scan}
 use Rattle.text.specs.declared.Scan.TheVariants.{Blank, Zero, Digits, Bad}
-use Rattle.text.specs.Text.{blank, zero_digit, digit, digits, field_ok, value_of, line_bytes, column, newline, well_formed, numbers_of, line, unread, parsed}
+use Rattle.text.specs.Text.{blank, zero_digit, digit, digits, field_ok, value_of, line_bytes, column, newline, well_formed, numbers_of, line, parsed}
 use Rattle.text.specs.declared.Line.{Line}
-use Rattle.text.specs.declared.Parsed.{Parsed}
 use Rattle.text.proofs.Words.{and_cases}
 use Rattle.text.specs.Scan.{step_of, scan, ends_well, four_blanks, no_number, Read}
 
@@ -334,7 +336,7 @@ module _ (text : List ℕ) (i a b c d : ℕ) (h : i * 25 + 25 ≤ length text) (
   form_read : well_formed (line_bytes text i) ≡ all_read
   form_read = whole_line text i h ∙ rw (ra.form, rb.form, rc.form, rd.form)
 
-  pub line_read : all_read ≡ true → ◌≡◌ {A = Parsed} (record { ok = true; line = record { a = a; b = b; c = c; d = d } }) (parsed text i)
+  pub line_read : all_read ≡ true → ◌≡◌ {A = Option Line} (Some (record { a = a; b = b; c = c; d = d })) (parsed text i)
   line_read t =
       let s4 = and_cases _ _ t in
       let s3 = and_cases _ _ s4.0 in
@@ -343,25 +345,28 @@ module _ (text : List ℕ) (i a b c d : ℕ) (h : i * 25 + 25 ≤ length text) (
       rw (form_read ∙ t)
       (ap (λ (l : Line). the_parsed l) (line_of text i a b c d (value ra s1.0) (value rb s1.1) (value rc s2.1) (value rd s3.1)))
     where
-      the_parsed : Line → Parsed
-      the_parsed l = record { ok = true; line = l }
+      the_parsed : Line → Option Line
+      the_parsed l = Some l
 
       value : {cs : List ℕ} {r : ℕ} → Read cs r → not (eqb r no_number) ≡ true → r ≡ value_of 0 cs
       value p t = p.value ∙ rw (p.form ∙ t)
 
-  pub line_unread : all_read ≡ false → unread ≡ parsed text i
+  pub line_unread : all_read ≡ false → ◌≡◌ {A = Option Line} None (parsed text i)
   line_unread t = rw (form_read ∙ t)
 
--- a line that was read says whether it is in form
-pub parsed_ok : (text : List ℕ) (i : ℕ) (r : Parsed) → r ≡ parsed text i → r.ok ≡ well_formed (line_bytes text i)
-parsed_ok text i r e = rw e (go (well_formed (line_bytes text i)))
-  where
-    go : (t : Bool) → (let r : Parsed = if t then record { ok = true; line = line text i } else unread in r.ok) ≡ t
-    go true = refl
-    go false = refl
+module _ (text : List ℕ) (i : ℕ) (r : Option Line) (e : r ≡ parsed text i) where
+  -- a line of which nothing is read is not in form
+  pub parsed_none : r ≡ None → well_formed (line_bytes text i) ≡ false
+  parsed_none n = go (well_formed (line_bytes text i)) (sym e ∙ n)
+    where
+      go : (t : Bool) → ◌≡◌ {A = Option Line} (if t then Some (line text i) else None) None → t ≡ false
+      go true q = absurd (true≢false (ap (λ (x : Option Line). is_some x) q))
+      go false q = refl
 
--- a line that was read and is in form says its numbers
-pub parsed_line : (text : List ℕ) (i : ℕ) (r : Parsed) → r ≡ parsed text i → r.ok ≡ true → r.line ≡ line text i
-parsed_line text i r e t =
-    let w : well_formed (line_bytes text i) ≡ true = sym (parsed_ok text i r e) ∙ t in
-    ap (λ (x : Parsed). x.line) e ∙ rw w
+  -- a line that is read is in form, and says its numbers
+  pub parsed_some : (l : Line) → r ≡ Some l → (well_formed (line_bytes text i) ≡ true) × (l ≡ line text i)
+  parsed_some l n = go (well_formed (line_bytes text i)) (sym e ∙ n)
+    where
+      go : (t : Bool) → ◌≡◌ {A = Option Line} (if t then Some (line text i) else None) (Some l) → (t ≡ true) × (l ≡ line text i)
+      go true q = (refl, sym (ap (λ (x : Option Line). unwrap_or x l) q))
+      go false q = absurd (false≢true (ap (λ (x : Option Line). is_some x) q))

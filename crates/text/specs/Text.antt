@@ -1,7 +1,6 @@
 -- Lines of books and logs: four fields of six columns, then byte 10; reading and writing one (SPECIFICATION 1).
-use Rattle.std.specs.Prelude.{Bool, true, false, ◌&&◌, ◌||◌, not, List, [], ◌∷◌, ◌++◌, ℕ, ◌+◌, ◌*◌, ◌-◌, ◌/◌, ◌%◌, ◌^◌, eqb, ltb, leb, length, get_or, take, drop, if◌then◌else◌}
+use Rattle.std.specs.Prelude.{Option, None, Some, Bool, true, false, ◌&&◌, ◌||◌, not, List, [], ◌∷◌, ◌++◌, ℕ, ◌+◌, ◌*◌, ◌-◌, ◌/◌, ◌%◌, ◌^◌, eqb, ltb, leb, length, get_or, take, drop, if◌then◌else◌}
 use Rattle.text.specs.declared.Line.{Line}
-use Rattle.text.specs.declared.Parsed.{Parsed}
 
 abbrev pub blank : ℕ
 blank = 32
@@ -74,13 +73,9 @@ line text i = numbers_of (line_bytes text i)
 abbrev pub no_line : Line
 no_line = record { a = 0; b = 0; c = 0; d = 0 }
 
--- what is read of a line that is not in form
-abbrev pub unread : Parsed
-unread = record { ok = false; line = no_line }
-
--- line i as it is read: whether it is in form, and its numbers if it is
-abbrev pub parsed : List ℕ → ℕ → Parsed
-parsed text i = if well_formed (line_bytes text i) then record { ok = true; line = line text i } else unread
+-- line i as it is read: its numbers, if it is in form
+abbrev pub parsed : List ℕ → ℕ → Option Line
+parsed text i = if well_formed (line_bytes text i) then Some (line text i) else None
 
 -- ---- a line as bytes
 

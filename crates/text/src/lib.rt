@@ -4,7 +4,7 @@
 ghost use Rattle.std.specs.Prelude.{◌≡◌, true, ◌&&◌, not, [], ◌∷◌, ◌+◌, ◌-◌, ◌*◌, ◌<◌, ◌≤◌, ◌%◌, Err, eqb, length, take, drop, get_or, set};
 ghost use Rattle.text.specs.Words.{least, least_from, none_at, must, answer_of, told};
 ghost use Rattle.text.specs.Refusals.{number_of};
-ghost use Rattle.text.specs.Text.{unread, zero_digit, digit, field_ok, value_of, well_formed, line_bytes, line, bad_line, parsed};
+ghost use Rattle.text.specs.Text.{zero_digit, digit, field_ok, value_of, well_formed, line_bytes, line, bad_line, parsed};
 ghost use Rattle.text.specs.Scan.{step_of, ends_well, four_blanks, Read};
 
 // Why something is refused, by its number (SPECIFICATION 8.1). Refusal 16 is taken and never given (SPECIFICATION 4.10).
@@ -77,13 +77,6 @@ pub struct Line {
     pub b: u32,
     pub c: u32,
     pub d: u32,
-}
-
-// A line that has been read: whether it is in form, and its numbers if it is.
-#[derive(Clone, Copy)]
-pub struct Parsed {
-    pub ok: bool,
-    pub line: Line,
 }
 
 // What is found in lines of one kind: the least that is ill-formed, and the least at fault.
@@ -283,50 +276,30 @@ fn field(text: &[u8], at: usize) -> u32
     }
 }
 
-// What is read of a line that is not in form.
-fn unread() -> Parsed
-    ensures { result ≡ unread }
-{
-    Parsed {
-        ok: false,
-        line: Line {
-            a: 0,
-            b: 0,
-            c: 0,
-            d: 0,
-        },
-    }
-}
-
-// Line i as it is read: whether it is in form, and its numbers if it is.
-pub fn parse(text: &[u8], i: u32) -> Parsed
+// Line i as it is read: its numbers, if it is in form.
+pub fn parse(text: &[u8], i: u32) -> Option<Line>
     ensures { result ≡ parsed text.now i }
 {
     let at = i as usize * LINE;
-    if at + LINE <= text.len() {
-        let a = field(text, at);
-        let b = field(text, at + 6);
-        let c = field(text, at + 12);
-        let d = field(text, at + 18);
-        let end = text[at + 24];
-        if (a != NO_NUMBER) & (b != NO_NUMBER) & (c != NO_NUMBER) & (d != NO_NUMBER) & (end == 10) {
-            Parsed {
-                ok: true,
-                line: Line { a, b, c, d },
-            }
-        } else {
-            unread()
-        }
-    } else {
-        unread()
+    if text.len() < at + LINE {
+        return None;
     }
+    let a = field(text, at);
+    let b = field(text, at + 6);
+    let c = field(text, at + 12);
+    let d = field(text, at + 18);
+    let end = text[at + 24];
+    if !(a == NO_NUMBER) & !(b == NO_NUMBER) & !(c == NO_NUMBER) & !(d == NO_NUMBER) & (end == 10) {
+        return Some(Line { a, b, c, d });
+    }
+    None
 }
 
 // Line i is in form.
 fn is_line_in_form(text: &[u8], i: u32) -> bool
     ensures { result ≡ well_formed (line_bytes text.now i) }
 {
-    parse(text, i).ok
+    parse(text, i).is_some()
 }
 
 // Refusal 1: the least of the lines from `first` up to `end` that is ill-formed or missing.

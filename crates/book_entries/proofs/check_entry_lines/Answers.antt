@@ -10,7 +10,7 @@ use Rattle.book.specs.Contents.{entry_fits, bad_entry}
 use Rattle.book.specs.Lines.{entry_of}
 use Rattle.book.specs.Book.{function_at, entry_at}
 use Rattle.book.specs.declared.Entry.{Entry}
-use Rattle.text.proofs.Fields.{parsed_ok, parsed_line}
+use Rattle.text.proofs.Fields.{parsed_none, parsed_some}
 use Rattle.text.proofs.Words.{least_pass, least_stop, least_end}
 use Rattle.text.specs.Text.{bad_line}
 use borrow.Author.Tests.{not-false}
@@ -31,7 +31,7 @@ there c =
     let a = c.args in
     let l = c.loop-i in
     entry_line a.text.now a.first a.end l.i (omega arith) c.loop-i-test.true
-    ∙ sym (c.entry-x.ensures ∙ ap entry_of (parsed_line a.text.now l.i _ c.parse-l.ensures (not-false _ c.if-not-l.false)))
+    ∙ sym (c.entry-x.ensures ∙ ap entry_of ((parsed_some a.text.now l.i _ c.parse.ensures _ c.in-Some.is).1))
 
 -- what the tests of the entry say
 rest :
@@ -54,7 +54,7 @@ rest c strided =
       l.invariant.3 strided,
       l.invariant.2,
     )
-    (bad_tests (program_in a.image.now) strided es (l.i - a.first) c.entry-x.result (entry_line a.text.now a.first a.end l.i (omega arith) c.loop-i-test.true ∙ sym (c.entry-x.ensures ∙ ap entry_of (parsed_line a.text.now l.i _ c.parse-l.ensures (not-false _ c.if-not-l.false)))) a.roll.now c.requires)
+    (bad_tests (program_in a.image.now) strided es (l.i - a.first) c.entry-x.result (entry_line a.text.now a.first a.end l.i (omega arith) c.loop-i-test.true ∙ sym (c.entry-x.ensures ∙ ap entry_of ((parsed_some a.text.now l.i _ c.parse.ensures _ c.in-Some.is).1))) a.roll.now c.requires)
 
 -- ---- an entry that passed its tests: it is in bounds, and fits its function
 
@@ -70,14 +70,14 @@ fitted c = sym (c.entry_fits.ensures ∙ rw (c.function_at-f.ensures, c.permanen
 pub loop-i-init : goal.loop-i-init
 loop-i-init c = let a = c.args in let z : a.first - a.first ≡ 0 = omega arith in (refl, λ strided. refl, rw z (roll_none (entries_from a.text.now a.first (a.end - a.first)) a.roll.now), λ strided. rw z (low_none (program_in a.image.now) (entries_from a.text.now a.first (a.end - a.first))))
 
-pub returns-then-not-l : goal.returns-then-not-l
-returns-then-not-l c = λ strided. let a = c.args in let l = c.loop-i in let w = parsed_ok a.text.now l.i _ c.parse-l.ensures in ill_formed (program_in a.image.now) a.text.now a.first a.end l.i (least_stop (bad_line a.text.now) a.end l.i c.loop-i-test.true (ap not (sym w) ∙ c.if-not-l.true) l.invariant.0)
+pub returns-in_default : goal.returns-in_default
+returns-in_default c = λ strided. let a = c.args in let l = c.loop-i in let w = parsed_none a.text.now l.i _ c.parse.ensures c.in_default.is in ill_formed (program_in a.image.now) a.text.now a.first a.end l.i (least_stop (bad_line a.text.now) a.end l.i c.loop-i-test.true (ap not w) l.invariant.0)
 
 pub returns-then-not-in_bounds-entry_fits : goal.returns-then-not-in_bounds-entry_fits
 returns-then-not-in_bounds-entry_fits c = λ strided. let a = c.args in let l = c.loop-i in at_fault_from (program_in a.image.now) a.text.now a.first a.end _ l.i c.fault_at.ensures l.invariant.0 (least_stop (bad_at (program_in a.image.now) a.text.now a.first (a.end - a.first)) a.end l.i c.loop-i-test.true (rest (goal.at.returns-then-not-in_bounds-entry_fits c).After-no_trace strided ∙ c.if-not-in_bounds-entry_fits.true-raw) (l.invariant.1 strided))
 
 pub loop-i-preserved : goal.loop-i-preserved
-loop-i-preserved c = let a = c.args in let l = c.loop-i in let x = c.entry-x.result in let z : l.i + 1 - a.first ≡ l.i - a.first + 1 = omega arith in let w = parsed_ok a.text.now l.i _ c.parse-l.ensures in (least_pass (bad_line a.text.now) a.end l.i c.loop-i-test.true (ap not (sym w) ∙ c.if-not-l.false) l.invariant.0, λ strided. least_pass (bad_at (program_in a.image.now) a.text.now a.first (a.end - a.first)) a.end l.i c.loop-i-test.true (rest (goal.at.loop-i-preserved c).After-no_trace strided ∙ c.if-not-in_bounds-entry_fits.false-raw) (l.invariant.1 strided), rw z (c.add_to_roll.ensures ∙ ap (roll_with x) l.invariant.2 ∙ sym (roll_step (entries_from a.text.now a.first (a.end - a.first)) (l.i - a.first) a.roll.now x (there (goal.at.loop-i-preserved c).After-entry-x))), λ strided. rw (z, c.location-place.ensures, c.function_at-f.ensures) (sym (low_step (program_in a.image.now) strided (entries_from a.text.now a.first (a.end - a.first)) (l.i - a.first) x (there (goal.at.loop-i-preserved c).After-entry-x) (fitted (goal.at.loop-i-preserved c).After-add_to_roll))))
+loop-i-preserved c = let a = c.args in let l = c.loop-i in let x = c.entry-x.result in let z : l.i + 1 - a.first ≡ l.i - a.first + 1 = omega arith in let w = parsed_some a.text.now l.i _ c.parse.ensures _ c.in-Some.is in (least_pass (bad_line a.text.now) a.end l.i c.loop-i-test.true (ap not w.0) l.invariant.0, λ strided. least_pass (bad_at (program_in a.image.now) a.text.now a.first (a.end - a.first)) a.end l.i c.loop-i-test.true (rest (goal.at.loop-i-preserved c).After-no_trace strided ∙ c.if-not-in_bounds-entry_fits.false-raw) (l.invariant.1 strided), rw z (c.add_to_roll.ensures ∙ ap (roll_with x) l.invariant.2 ∙ sym (roll_step (entries_from a.text.now a.first (a.end - a.first)) (l.i - a.first) a.roll.now x (there (goal.at.loop-i-preserved c).After-entry-x))), λ strided. rw (z, c.location-place.ensures, c.function_at-f.ensures) (sym (low_step (program_in a.image.now) strided (entries_from a.text.now a.first (a.end - a.first)) (l.i - a.first) x (there (goal.at.loop-i-preserved c).After-entry-x) (fitted (goal.at.loop-i-preserved c).After-add_to_roll))))
 
 pub returns : goal.returns
 returns c = λ strided. let a = c.args in let l = c.loop-i in all_sound (program_in a.image.now) a.text.now a.first a.end (least_end (bad_line a.text.now) a.end l.i c.loop-i-test.false l.invariant.0) (least_end (bad_at (program_in a.image.now) a.text.now a.first (a.end - a.first)) a.end l.i c.loop-i-test.false (l.invariant.1 strided))
