@@ -35,6 +35,9 @@ fn branch(x: Value, b: u16, c: u16) -> u16
     if x == 2 { b } else { c }
 }
 
+// The marks and the list stay two parameters: were they `&mut` fields of one struct, each function below would have to promise besides, of each of
+// the two, that the field still lends the same slice.
+
 // Kind 21, a set: the location that node a names gets the value of term b.
 fn walk_assign(
     frame: &Frame,
