@@ -94,7 +94,9 @@ fn no_trace(roll: &[u8], x: Entry) -> bool
     (x.function == 0) | ((a == 0) & (b == 0) & (v == 0))
 }
 
-// What the pass finds when line i is at fault: the lines from i up to `end` are still checked for their form.
+// What the pass finds when line i is at fault: the lines from i up to `end` are still checked for their form. It is called once at most, and kept apart
+// since the loop of the pass is slower with it inside.
+#[inline(never)]
 fn fault_at(text: &[u8], i: u32, end: u32) -> LineFaults
     ensures { result ≡ faults (least_from (bad_line text.now) (end - i) i) (Some i) }
 {

@@ -19,8 +19,8 @@ fn bad_field(k: Line, l: Line, i: u32) -> bool
         | ((i == 3) & !((1 <= k.d) & (k.d <= 1024)))
         | ((i == 4) & !((1 <= l.a) & (l.a <= 16)))
         | ((i == 5) & !(l.b <= 65536))
-        | ((i == 6) & !(l.c == 0))
-        | ((i == 7) & !(l.d == 0))
+        | ((i == 6) & (l.c != 0))
+        | ((i == 7) & (l.d != 0))
 }
 
 // Refusal 3: the least field of the header that is outside its bounds.
@@ -34,7 +34,7 @@ pub fn bad_header(k: Line, l: Line) -> Option<u32>
 fn bad_function(l: Line, f: u32) -> bool
     ensures { result ≡ bad_function l f }
 {
-    !((l.a <= 2) & (l.b <= 3) & (l.c == 0) & (l.d == 0) & (!(f == 0) | ((l.a == 1) & (l.b == 3))))
+    !((l.a <= 2) & (l.b <= 3) & (l.c == 0) & (l.d == 0) & ((f != 0) | ((l.a == 1) & (l.b == 3))))
 }
 
 // Refusal 4: the least function whose line is at fault, on the rows before the functions have first locations.

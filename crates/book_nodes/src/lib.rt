@@ -1,100 +1,123 @@
 // Refusals 5 and 7: node lines and agent lines, checked over the image of a book.
 #![tactic(auto)]
 
-ghost use Rattle.std.specs.Prelude.{◌≡◌, ◌≢◌, ◌+◌, ◌-◌, ◌≤◌, length};
+ghost use Rattle.std.specs.Prelude.{◌≡◌, leb, ◌≢◌, ◌+◌, ◌-◌, ◌≤◌, length};
 ghost use Rattle.text.specs.Words.{least};
-ghost use Rattle.book.specs.Kinds.{sort_table, is_term, is_rule};
+ghost use Rattle.book.specs.Kinds.{is_term, is_rule, sort, term};
 ghost use Rattle.book.specs.Lines.{fits, bad_node, bad_agent};
 ghost use Rattle.book.specs.Image.{image_row, program_in};
-ghost use Rattle.book_nodes.specs.Fits.{sorts_in, fits_plain, fits_function, fits_node, fits_target};
+ghost use Rattle.book_nodes.specs.Sorts.{sort_number, is_named};
 
-use book::{Function, Image};
+use book::Image;
 use text::Line;
 
-// The three operand sorts of each node kind from 0 to 28: 0 no such kind, 1 unused, 2 permanent element, 3 variable,
-// 4 to 6 function of arity 0 to 2, 7 universe, 8 dynamic universe, 9 term, 10 rule, 11 a term that names a dynamic location.
-pub const SORTS: [u8; 87] = [
-    // 0 no kind
-    0, 0, 0,
-    // 1 element
-    2, 1, 1,
-    // 2 variable
-    3, 1, 1,
-    // 3 agent
-    1, 1, 1,
-    // 4 function
-    4, 1, 1,
-    // 5 function of one
-    5, 9, 1,
-    // 6 function of two
-    6, 9, 9,
-    // 7 equal
-    9, 9, 1,
-    // 8 not
-    9, 1, 1,
-    // 9 and
-    9, 9, 1,
-    // 10 or
-    9, 9, 1,
-    // 11 plus
-    9, 9, 1,
-    // 12 minus
-    9, 9, 1,
-    // 13 less
-    9, 9, 1,
-    // 14 no kind
-    0, 0, 0,
-    // 15 no kind
-    0, 0, 0,
-    // 16 no kind
-    0, 0, 0,
-    // 17 no kind
-    0, 0, 0,
-    // 18 no kind
-    0, 0, 0,
-    // 19 no kind
-    0, 0, 0,
-    // 20 skip
-    1, 1, 1,
-    // 21 set
-    11, 9, 1,
-    // 22 both
-    10, 10, 1,
-    // 23 if
-    9, 10, 10,
-    // 24 let
-    3, 9, 10,
-    // 25 forall
-    3, 7, 10,
-    // 26 import
-    3, 8, 10,
-    // 27 release
-    9, 1, 1,
-    // 28 choose
-    3, 7, 10,
-];
-
-// What the three operands of a node have to be.
-#[derive(Clone, Copy)]
-pub struct OperandSorts {
-    pub a: u8,
-    pub b: u8,
-    pub c: u8,
+// What an operand of a node has to be, from number 0 on (SPECIFICATION 3.5).
+#[derive(Clone, Copy, PartialEq, Eq)]
+pub enum Sort {
+    // the node is of no kind
+    NoKind,
+    // a field without a use, which is 0
+    Unused,
+    // a permanent element
+    Permanent,
+    Variable,
+    // functions of arity 0 to 2, not Reserve
+    Function0,
+    Function1,
+    Function2,
+    // a relation of arity 1, not Reserve
+    Universe,
+    DynamicUniverse,
+    // a node that is a term
+    Term,
+    // a node that is a rule
+    Rule,
+    // a term that names a dynamic location
+    LocationTerm,
 }
 
-// The operand sorts of a node kind. The caller lends the table, so that a pass over the nodes lays it out once.
-pub fn sorts_of(table: &[u8; 87], kind: u32) -> OperandSorts
-    ensures { result ≡ sorts_in table.now kind }
+impl Sort {
+    // The operand is a node.
+    pub fn is_node(self) -> bool
+        ensures { result ≡ leb term (sort_number self) }
+    {
+        matches!(self, Sort::Term | Sort::Rule | Sort::LocationTerm)
+    }
+}
+
+// What the three operands of a node have to be.
+pub type OperandSorts = (Sort, Sort, Sort);
+
+// The operand sorts of each node kind from 0 to 28.
+static SORTS: [OperandSorts; 29] = [
+    // 0 no kind
+    (Sort::NoKind, Sort::NoKind, Sort::NoKind),
+    // 1 element
+    (Sort::Permanent, Sort::Unused, Sort::Unused),
+    // 2 variable
+    (Sort::Variable, Sort::Unused, Sort::Unused),
+    // 3 agent
+    (Sort::Unused, Sort::Unused, Sort::Unused),
+    // 4 function
+    (Sort::Function0, Sort::Unused, Sort::Unused),
+    // 5 function of one
+    (Sort::Function1, Sort::Term, Sort::Unused),
+    // 6 function of two
+    (Sort::Function2, Sort::Term, Sort::Term),
+    // 7 equal
+    (Sort::Term, Sort::Term, Sort::Unused),
+    // 8 not
+    (Sort::Term, Sort::Unused, Sort::Unused),
+    // 9 and
+    (Sort::Term, Sort::Term, Sort::Unused),
+    // 10 or
+    (Sort::Term, Sort::Term, Sort::Unused),
+    // 11 plus
+    (Sort::Term, Sort::Term, Sort::Unused),
+    // 12 minus
+    (Sort::Term, Sort::Term, Sort::Unused),
+    // 13 less
+    (Sort::Term, Sort::Term, Sort::Unused),
+    // 14 no kind
+    (Sort::NoKind, Sort::NoKind, Sort::NoKind),
+    // 15 no kind
+    (Sort::NoKind, Sort::NoKind, Sort::NoKind),
+    // 16 no kind
+    (Sort::NoKind, Sort::NoKind, Sort::NoKind),
+    // 17 no kind
+    (Sort::NoKind, Sort::NoKind, Sort::NoKind),
+    // 18 no kind
+    (Sort::NoKind, Sort::NoKind, Sort::NoKind),
+    // 19 no kind
+    (Sort::NoKind, Sort::NoKind, Sort::NoKind),
+    // 20 skip
+    (Sort::Unused, Sort::Unused, Sort::Unused),
+    // 21 set
+    (Sort::LocationTerm, Sort::Term, Sort::Unused),
+    // 22 both
+    (Sort::Rule, Sort::Rule, Sort::Unused),
+    // 23 if
+    (Sort::Term, Sort::Rule, Sort::Rule),
+    // 24 let
+    (Sort::Variable, Sort::Term, Sort::Rule),
+    // 25 forall
+    (Sort::Variable, Sort::Universe, Sort::Rule),
+    // 26 import
+    (Sort::Variable, Sort::DynamicUniverse, Sort::Rule),
+    // 27 release
+    (Sort::Term, Sort::Unused, Sort::Unused),
+    // 28 choose
+    (Sort::Variable, Sort::Universe, Sort::Rule),
+];
+
+// The operand sorts of a node kind.
+pub fn sorts_of(kind: u32) -> OperandSorts
+    ensures { (sort_number result.0 ≡ sort kind 0) × (sort_number result.1 ≡ sort kind 1) × (sort_number result.2 ≡ sort kind 2) }
 {
     if kind < 29 {
-        let i = kind as usize * 3;
-        OperandSorts {
-            a: table[i],
-            b: table[i + 1],
-            c: table[i + 2],
-        }
+        SORTS[kind as usize]
     } else {
-        OperandSorts { a: 0, b: 0, c: 0 }
+        (Sort::NoKind, Sort::NoKind, Sort::NoKind)
     }
 }
 
@@ -112,95 +135,58 @@ fn is_rule(kind: u32) -> bool
     matches!(kind, 20..=28)
 }
 
-// x fits the sort s, which is 0, 2 (a permanent element) or 3 (a variable); p elements are permanent.
-fn fits_plain(s: u8, x: u32, p: u32) -> bool
-    ensures { result ≡ fits_plain s x p }
+// x is a function of that arity that nodes may name: any but Reserve.
+fn is_named(image: &Image, x: u32, arity: u32) -> bool
+    ensures { result ≡ is_named (program_in image.now) x arity }
 {
-    ((s == 2) & (x < p)) | ((s == 3) & (x < 8))
+    let f = book_image::function_at(image, x);
+    (0 < x) & (x < book_image::functions(image) as u32) & (f.arity == arity)
 }
 
-// x fits the sort s, which is 4 to 8 (a function or a universe): it is function f, one of `count`.
-fn fits_function(s: u8, x: u32, count: u32, f: Function) -> bool
-    ensures { result ≡ fits_function s x count f }
+// x fits the sort s as an operand of node n. Only what the sort asks about is loaded.
+fn fits(image: &Image, n: u32, s: Sort, x: u32) -> bool
+    ensures { result ≡ fits (program_in image.now) n (sort_number s) x }
 {
-    let named = (0 < x) & (x < count);
-    ((s == 4) & named & (f.arity == 0))
-        | ((s == 5) & named & (f.arity == 1))
-        | ((s == 6) & named & (f.arity == 2))
-        | ((s == 7) & named & (f.arity == 1) & book_parts::is_relation(f))
-        | ((s == 8) & named & (f.arity == 1) & (f.kind == 3))
-}
-
-// x fits the sort s, which is 9 (a term) or 10 (a rule), as an operand of node n: it is a node of that kind.
-fn fits_node(s: u8, x: u32, n: u32, kind: u32) -> bool
-    ensures { result ≡ fits_node s x n kind }
-{
-    ((s == 9) & (x < n) & is_term(kind)) | ((s == 10) & (x < n) & is_rule(kind))
-}
-
-// x fits the sort s, which is 11 or more (a location term), as an operand of node n: it is a node of that kind, whose field a names g.
-fn fits_target(s: u8, x: u32, n: u32, kind: u32, g: Function) -> bool
-    ensures { result ≡ fits_target s x n kind g }
-{
-    (s == 11) & (x < n) & ((4 <= kind) & (kind <= 6)) & book_parts::is_dynamic(g)
-}
-
-// x fits the sort s, any but 1 (unused), 9 (a term) and 10 (a rule), as an operand of node n. Only what the sort asks about is loaded.
-fn fits_other(image: &Image, n: u32, s: u8, x: u32) -> bool
-    requires { (s ≢ 1) × (9 ≤ s → 11 ≤ s) }
-    ensures { result ≡ fits (program_in image.now) n s x }
-{
-    if s < 4 {
-        fits_plain(s, x, book_image::permanent(image))
-    } else if s < 9 {
-        fits_function(
-            s,
-            x,
-            book_image::functions(image) as u32,
-            book_image::function_at(image, x),
-        )
-    } else {
-        let y = book_image::node_at(image, x);
-        fits_target(s, x, n, y.kind, book_image::function_at(image, y.a))
-    }
-}
-
-// x fits the sort s as an operand of node n. Most operands are unused or nodes, and these sorts are tested first.
-fn fits(image: &Image, n: u32, s: u8, x: u32) -> bool
-    ensures { result ≡ fits (program_in image.now) n s x }
-{
-    if s == 1 {
-        x == 0
-    } else if s < 9 {
-        fits_other(image, n, s, x)
-    } else if s < 11 {
-        let y = book_image::node_at(image, x);
-        fits_node(s, x, n, y.kind)
-    } else {
-        fits_other(image, n, s, x)
+    match s {
+        Sort::NoKind => false,
+        Sort::Unused => x == 0,
+        Sort::Permanent => x < book_image::permanent(image),
+        Sort::Variable => x < 8,
+        Sort::Function0 => is_named(image, x, 0),
+        Sort::Function1 => is_named(image, x, 1),
+        Sort::Function2 => is_named(image, x, 2),
+        Sort::Universe => {
+            is_named(image, x, 1) & book_parts::is_relation(book_image::function_at(image, x))
+        }
+        Sort::DynamicUniverse => {
+            is_named(image, x, 1) & (book_image::function_at(image, x).kind == 3)
+        }
+        Sort::Term => (x < n) & is_term(book_image::node_at(image, x).kind),
+        Sort::Rule => (x < n) & is_rule(book_image::node_at(image, x).kind),
+        Sort::LocationTerm => {
+            let y = book_image::node_at(image, x);
+            (x < n)
+                & ((4 <= y.kind) & (y.kind <= 6))
+                & book_parts::is_dynamic(book_image::function_at(image, y.a))
+        }
     }
 }
 
 // Refusal 5: node n is at fault.
-fn bad_node(image: &Image, table: &[u8; 87], n: u32) -> bool
-    requires { table.now ≡ sort_table }
+fn bad_node(image: &Image, n: u32) -> bool
     ensures { result ≡ bad_node (program_in image.now) n }
 {
     let y = book_image::node_at(image, n);
-    let s = sorts_of(table, y.kind);
-    let a = fits(image, n, s.a, y.a);
-    let b = fits(image, n, s.b, y.b);
-    let c = fits(image, n, s.c, y.c);
-    !(a & b & c)
+    let (a, b, c) = sorts_of(y.kind);
+    !(fits(image, n, a, y.a) & fits(image, n, b, y.b) & fits(image, n, c, y.c))
 }
 
 // Refusal 5: the least node at fault.
 pub fn bad_nodes(image: &Image) -> Option<u32>
     ensures { result ≡ least (bad_node (program_in image.now)) (length (program_in image.now).nodes) }
 {
-    let table = SORTS;
     let n = book_image::nodes(image) as u32;
-    (0..n).find(|&i| bad_node(image, &table, i))
+    (0..n).find(|&i| bad_node(image, i))
 }
 
 // Refusal 7: agent i, whose line is l, is at fault.

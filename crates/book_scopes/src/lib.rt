@@ -3,7 +3,7 @@
 
 ghost use Rattle.std.specs.Prelude.{◌≡◌, not, eqb, length, get_or};
 ghost use Rattle.text.specs.Words.{least};
-ghost use Rattle.book.specs.Kinds.{sort_table, is_binder};
+ghost use Rattle.book.specs.Kinds.{is_binder};
 ghost use Rattle.book.specs.Use.{bad_use};
 ghost use Rattle.book.specs.Scopes.{bit_of, binds, put_if, operands_given, all_given, misplaced, bad_scope};
 ghost use Rattle.book.specs.Image.{program_in};
@@ -28,15 +28,14 @@ fn add_use(s: &mut [u8], on: bool, x: u32)
     }
 }
 
-// Adds the operand places of node y to the counts. From sort 9 on an operand is a node.
-fn count_operands(table: &[u8; 87], s: &mut [u8], y: Node)
-    requires { table.now ≡ sort_table }
+// Adds the operand places of node y to the counts.
+fn count_operands(s: &mut [u8], y: Node)
     ensures { s.new ≡ operands_counted y s.old }
 {
-    let o = book_nodes::sorts_of(table, y.kind);
-    add_use(s, 9 <= o.a, y.a);
-    add_use(s, 9 <= o.b, y.b);
-    add_use(s, 9 <= o.c, y.c);
+    let (a, b, c) = book_nodes::sorts_of(y.kind);
+    add_use(s, a.is_node(), y.a);
+    add_use(s, b.is_node(), y.b);
+    add_use(s, c.is_node(), y.c);
 }
 
 // Puts 1 at the roots of the first n agents into the counts. Agents may share a root.
@@ -53,9 +52,8 @@ fn count_roots(image: &Image, n: u32, s: &mut [u8])
 fn count_uses(image: &Image, n: u32, s: &mut [u8])
     ensures { s.new ≡ uses_counted (program_in image.now) n s.old }
 {
-    let table = book_nodes::SORTS;
     for i in 0..n {
-        count_operands(&table, s, book_image::node_at(image, i));
+        count_operands(s, book_image::node_at(image, i));
     }
 }
 
@@ -134,27 +132,25 @@ fn put_if(s: &mut [u16], on: bool, x: u32, v: u16)
 }
 
 // Node y gives v to its operands a and b, and w to its operand c.
-fn give_operands(table: &[u8; 87], s: &mut [u16], y: Node, v: u16, w: u16)
-    requires { table.now ≡ sort_table }
+fn give_operands(s: &mut [u16], y: Node, v: u16, w: u16)
     ensures { s.new ≡ operands_given y v w s.old }
 {
-    let o = book_nodes::sorts_of(table, y.kind);
-    put_if(s, 9 <= o.a, y.a, v);
-    put_if(s, 9 <= o.b, y.b, v);
-    put_if(s, 9 <= o.c, y.c, w);
+    let (a, b, c) = book_nodes::sorts_of(y.kind);
+    put_if(s, a.is_node(), y.a, v);
+    put_if(s, b.is_node(), y.b, v);
+    put_if(s, c.is_node(), y.c, w);
 }
 
 // Each node, from the highest on, gives its operands what stands around them.
 fn give_all(image: &Image, s: &mut [u16])
     ensures { s.new ≡ all_given (program_in image.now) to_ab to_c (length (program_in image.now).nodes) s.old }
 {
-    let table = book_nodes::SORTS;
     let n = book_image::nodes(image) as u32;
     for m in (0..n).rev() {
         let y = book_image::node_at(image, m);
         let v = scope_below(text::fetch(s, m as usize));
         let w = in_binder(y, in_forall(y, v));
-        give_operands(&table, s, y, v, w);
+        give_operands(s, y, v, w);
     }
 }
 

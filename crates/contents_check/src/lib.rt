@@ -56,10 +56,10 @@ fn is_bad(contents: &[Value], e: Value, p: Value, f: Function, l: u32, i: u32) -
         & (!book_parts::is_relation(f) | book_parts::is_boolean(v))
         & is_static_fine(p, f, v, a);
     if l < e as u32 {
-        return !(lawful & (!(v == 2) | (p as u32 <= l)));
+        return !(lawful & ((v != 2) | (p as u32 <= l)));
     }
     let trace = on_roll(contents, e, v as usize)
-        | !(v == book_parts::default_of(f)) & some_on_roll(contents, e, f.arity, a);
+        | (v != book_parts::default_of(f)) & some_on_roll(contents, e, f.arity, a);
     !(lawful & !trace)
 }
 
@@ -80,14 +80,12 @@ fn skip_value(contents: &[Value], v: u32, l: u32, end: u32) -> u32
     ensures { SkippedTo contents.now v l end result }
 {
     let n = (end as usize).min(contents.len());
-    let mut k = l as usize;
-    while k < n {
+    for k in l as usize..n {
         if contents[k] as u32 != v {
             return k as u32;
         }
-        k = k + 1;
     }
-    k as u32
+    l.max(n as u32)
 }
 
 // The least location at fault of f's part, counted from its first. Nearly all hold a value that is not at fault, and only the others are checked in full.
@@ -105,6 +103,7 @@ fn bad_part(
 {
     let v = faultless_value(contents, e, f);
     let mut l = skip_value(contents, v, first, end);
+    // l jumps over what skip_value skips, so no range counts it.
     while l < end {
         if is_bad(contents, e, p, f, l, l - first) {
             return Some(l - first);
@@ -122,16 +121,13 @@ pub fn bad_value(image: &Image, contents: &[Value]) -> Option<u32>
     let p = book_parts::permanent(image);
     let n = book_image::functions(image);
     let mut first: u32 = 0;
-    let mut g: u16 = 0;
-    while g < n {
+    for g in 0..n {
         let own = book_parts::part_from(image, g, first);
         let end = own.end as u32;
-        let found = bad_part(contents, e, p, own.function, first, end);
-        if let Some(i) = found {
+        if let Some(i) = bad_part(contents, e, p, own.function, first, end) {
             return Some(first + i);
         }
         first = end;
-        g = g + 1;
     }
     None
 }

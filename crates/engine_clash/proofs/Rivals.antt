@@ -12,6 +12,7 @@ use borrow.Author.Tests.{eqb-true, eqb-false, leb-true, leb-false, ltb-true, ltb
 use lib.Dec.{eqb, ltb, leb}
 use lib.ListN.{length, get_or, take, set, replicate, length-set, length-replicate, get_or-replicate}
 use lib.Seq.{take-suc, take_all, get_or-set_same, get_or-set_other}
+use Rattle.std.proofs.lemmas.List.{get_or-take, length-take-le}
 use Rattle.text.specs.Words.{has, some_below}
 use Rattle.text.proofs.Words.{and_cases, refuted, some_below_true, some_below_from}
 use Rattle.book.specs.Book.{Program}
@@ -39,6 +40,16 @@ one_slot c d e = ap (λ (l : ℕ). l % 512) e
 pub record Down (list : List ℕ) (c p i : ℕ) : Type 0 where
   pub low : i ≤ p
   pub skips : (k : ℕ) → i ≤ k → k < p → location_of (get_or list k 0) ≡ location_of c → ⊥
+
+-- the last of a list of the first j updates alone is the last of the first j
+pub last_alone : {list : List ℕ} {c j i : ℕ} → j ≤ length list → Last location_of (take j list) c (length (take j list)) i → Last location_of list c j i
+last_alone {list} {c} {j} {i} h held =
+    let n : length (take j list) ≡ j = length-take-le j list h in
+    record {
+      low = omega (arith, n, held.low);
+      same = λ p. rw (← get_or-take j list (i - 1) 0 (omega (arith, n, held.low, p))) (held.same p);
+      skips = λ k p q e. held.skips k p (omega (arith, n, q)) (rw (get_or-take j list k 0 q) e);
+    }
 
 -- ---- the pass
 

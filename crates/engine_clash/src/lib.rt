@@ -58,7 +58,7 @@ fn clears(s: HeldPlace, x: Value) -> bool
     ensures { result ≡ clears_held s x }
 {
     let y = x as usize;
-    book_parts::is_dynamic(s.function) & ((s.first == y) | (s.second == y) | (s.held == x))
+    book_parts::is_dynamic(s.function) && (s.first == y || s.second == y || s.held == x)
 }
 
 // The instruction gives the location of s a value other than w.
@@ -180,12 +180,11 @@ fn last_at_slot(list: &[u64], prior: &[u16; engine::MOST_INSTRUCTIONS], p: u16, 
     0
 }
 
-// The last of the first p updates with the location of this one, counted from 1; 0 if none has it. All of them are tried.
-fn last_before(list: &[u64], p: usize, code: u64) -> usize
-    requires { p ≤ length list.now }
-    ensures { Last location_of list.now code p result }
+// The last of these updates with the location of this one, counted from 1; 0 if none has it. All of them are tried.
+fn last_before(list: &[u64], code: u64) -> usize
+    ensures { Last location_of list.now code (length list.now) result }
 {
-    for i in (0..p).rev() {
+    for i in (0..list.len()).rev() {
         if list[i] / 65536 == code / 65536 {
             return i + 1;
         }
@@ -217,7 +216,7 @@ fn least_of_few(image: &Image, contents: &[Value], list: &[u64], most: u32) -> u
         if engine_instruction::RELEASES <= code {
             return least_of_all(image, contents, list, most);
         }
-        least = least_with_update(list, last_before(list, j, code), code, least);
+        least = least_with_update(list, last_before(&list[..j], code), code, least);
     }
     least as u32
 }

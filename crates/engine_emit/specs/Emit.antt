@@ -1,19 +1,20 @@
 -- How far a walk is, as the code holds it: the list of instructions as numbers, and the picks left; and the steps that give an instruction, take a pick or
 -- refuse.
 use Rattle.text.specs.Refusals.{refusal_number}
-use Rattle.std.specs.Prelude.{◌&&◌, not, List, [], ◌∷◌, ℕ, get_or, drop, eqb, ltb, if◌then◌else◌}
+use Rattle.std.specs.Prelude.{◌&&◌, not, List, [], ◌∷◌, ℕ, drop, eqb, ltb, if◌then◌else◌}
 use Rattle.text.specs.Refusals.{non_boolean, not_releasable, no_label_left, not_in_universe, pick_count}
 use Rattle.book.specs.Book.{true_element, false_element, boolean, relation, Program, function_at, reserve}
 use Rattle.engine.specs.declared.Instruction.TheVariants.{Update, Release}
 use Rattle.engine.specs.Rule.{Walk, Walked, walking, refused_at, ◌then◌, emit, take_label, take_pick, refuse_if, unreleasable, not_member}
 use Rattle.engine_instruction.specs.Code.{items}
+use Rattle.engine_emit.specs.declared.Picks.{Picks}
 use Rattle.engine_emit.specs.declared.Progress.{Progress}
 
 -- ---- the walk that the code's state stands for
 
--- the picks of ys that are left, where the cell u says how many are used
-abbrev pub picks_left : List ℕ → List ℕ → List ℕ
-picks_left ys u = drop (get_or u 0 0) ys
+-- the picks that are left
+abbrev pub picks_left : Picks → List ℕ
+picks_left p = drop p.used p.given.now
 
 -- the walk that a state s, its list l and the picks left ys stand for
 abbrev pub walk_from : List ℕ → Progress → List ℕ → Walk

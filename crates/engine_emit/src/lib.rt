@@ -14,14 +14,21 @@ use engine::{Instruction, Pick, Work};
 use text::{Reason, Value};
 
 // How far a walk is: how many instructions it has given, the label from which the next import searches,
-// its refusal, if it has met one, and the refusal's node. Eight bytes go from node to node in a register; how many picks it has used stands in a
-// cell that is lent beside it.
+// its refusal, if it has met one, and the refusal's node. Eight bytes go from node to node in a register; the picks that it has used are
+// counted beside it.
 #[derive(Clone, Copy)]
 pub struct Progress {
     pub len: u16,
     pub label: Value,
     pub refused: Option<Reason>,
     pub node: u16,
+}
+
+// The picks that a move was given, and how many of them its walk has used.
+#[derive(Drop)]
+pub struct Picks<'a> {
+    pub given: &'a [Pick],
+    pub used: usize,
 }
 
 // The state with the refusal at node n, unless it has one already.
@@ -187,50 +194,44 @@ pub fn emit_release(
     }
 }
 
-// The pick that is next; E, which is no element, if there is none or it is no element.
-pub fn next_pick(image: &Image, picks: &[Pick], used: &[usize; 1]) -> Value
-    ensures { result ≡ next_pick (low_program image.now).E (picks_left picks.now used.now) }
-{
-    let e = book_image::elements(image);
-    let i = used[0];
-    if i < picks.len() {
-        let y = picks[i];
-        if y < e as u64 {
-            return y as Value;
+impl Picks<'_> {
+    // The pick that is next; E, which is no element, if there is none or it is no element.
+    pub fn next(&self, image: &Image) -> Value
+        ensures { result ≡ next_pick (low_program image.now).E (picks_left self.now) }
+    {
+        let e = book_image::elements(image);
+        let i = self.used;
+        if i < self.given.len() {
+            let y = self.given[i];
+            if y < e as u64 {
+                return y as Value;
+            }
         }
+        e
     }
-    e
-}
 
-// Counts one more pick as used.
-fn use_pick(used: &mut [usize])
-    requires { (0 < length used.old) × (get_or used.old 0 0 < 18446744073709551615) }
-    ensures { get_or used.new 0 0 ≡ suc (get_or used.old 0 0) }
-{
-    used[0] = used[0] + 1;
-}
+    // Takes the pick that is next, the universe having the value v there; refusal 19 if there is none, 18 if it is not in the universe.
+    pub fn take(&mut self, s: Progress, n: u16, v: Value) -> Progress
+        ensures { (l : List ℕ) → reached (picks_left self.new) result l ≡ (reached (picks_left self.old) s l then picking v n) }
+    {
+        let i = self.used;
+        if self.given.len() <= i {
+            return refuse_at(s, Reason::PickCount, n);
+        }
+        if v != 2 {
+            return refuse_at(s, Reason::NotInUniverse, n);
+        }
+        self.used = i + 1;
+        s
+    }
 
-// Takes the pick that is next, the universe having the value v there; refusal 19 if there is none, 18 if it is not in the universe.
-pub fn take_pick(picks: &[Pick], used: &mut [usize; 1], s: Progress, n: u16, v: Value) -> Progress
-    ensures { (l : List ℕ) → reached (picks_left picks.now used.new) result l ≡ (reached (picks_left picks.now used.old) s l then picking v n) }
-{
-    let i = used[0];
-    if picks.len() <= i {
-        return refuse_at(s, Reason::PickCount, n);
+    // Refusal 19 at the root if picks are left at the walk's end.
+    pub fn all_used(&self, s: Progress, root: u16) -> Progress
+        ensures { (l : List ℕ) → reached [] result l ≡ (reached (picks_left self.now) s l then λ w. all_taken root w.left w) }
+    {
+        if self.used < self.given.len() {
+            return refuse_at(s, Reason::PickCount, root);
+        }
+        s
     }
-    if v != 2 {
-        return refuse_at(s, Reason::NotInUniverse, n);
-    }
-    use_pick(used);
-    s
-}
-
-// Refusal 19 at the root if picks are left at the walk's end.
-pub fn all_used(picks: &[Pick], used: &[usize; 1], s: Progress, root: u16) -> Progress
-    ensures { (l : List ℕ) → reached [] result l ≡ (reached (picks_left picks.now used.now) s l then λ w. all_taken root w.left w) }
-{
-    if used[0] < picks.len() {
-        return refuse_at(s, Reason::PickCount, root);
-    }
-    s
 }

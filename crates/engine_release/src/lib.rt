@@ -144,11 +144,15 @@ pub fn clear_part(part: &mut [Value], readers: &mut [u64], writers: &mut [u64], 
     ensures writers_after { writers.new ≡ part_marked r.bit r.function r.label part.old writers.old }
     ensures readers_after { readers.new ≡ marked r.bit (part_reads r.permanent r.function r.label r.first part.old) readers.old }
 {
-    // A while, since each step goes as far as `pass_over` says.
-    let mut i = pass_over(part, r, 0);
+    // A while, since each step goes as far as `pass_over` says. That is called in one place, so that its search for a value is compiled once, to a loop
+    // within 16 bytes: a longer one takes twice the time where it lies over the end of 32.
+    let mut i = 0;
     while i < part.len() {
-        clear_one(part, readers, writers, r, i);
-        i = pass_over(part, r, i + 1);
+        i = pass_over(part, r, i);
+        if i < part.len() {
+            clear_one(part, readers, writers, r, i);
+            i += 1;
+        }
     }
 }
 

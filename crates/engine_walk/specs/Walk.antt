@@ -9,6 +9,7 @@ use Rattle.book.specs.Image.{low_program}
 use Rattle.book_parts.specs.declared.StoredNode.{StoredNode}
 use Rattle.engine_term.specs.declared.Frame.{Frame}
 use Rattle.engine_term.specs.Marks.{Runs}
+use Rattle.engine_emit.specs.declared.Picks.{Picks}
 use Rattle.engine_emit.specs.declared.Progress.{Progress}
 use Rattle.engine_emit.specs.Emit.{picks_left, walk_from, reached}
 
@@ -55,8 +56,8 @@ pub record WalkState : Type 0 where
   pub list : List ℕ
   pub readers : List ℕ
 
-abbrev pub state : List ℕ → List ℕ → Progress → List ℕ → List ℕ → WalkState
-state picks used s list readers = record { picks = picks_left picks used; progress = s; list = list; readers = readers }
+abbrev pub state : Picks → Progress → List ℕ → List ℕ → WalkState
+state picks s list readers = record { picks = picks_left picks; progress = s; list = list; readers = readers }
 
 -- a rule that takes no pick is walked with any picks left
 abbrev pub state_with : List ℕ → Progress → List ℕ → List ℕ → WalkState

@@ -15,7 +15,7 @@ ghost use Rattle.engine_walk.specs.Walk.{outcome, assign_rule, let_rule, forall_
 use book::Image;
 use book_parts::StoredNode;
 use engine::{Pick, Work};
-use engine_emit::Progress;
+use engine_emit::{Picks, Progress};
 use engine_term::Frame;
 use text::Value;
 
@@ -34,6 +34,9 @@ fn branch(x: Value, b: u16, c: u16) -> u16
 {
     if x == 2 { b } else { c }
 }
+
+// The marks and the list stay two parameters: were they `&mut` fields of one struct, each function below would have to promise besides, of each of
+// the two, that the field still lends the same slice.
 
 // Kind 21, a set: the location that node a names gets the value of term b.
 fn walk_assign(
@@ -79,13 +82,12 @@ fn walk(
     frame: &Frame,
     readers: &mut [u64],
     list: &mut Work,
-    picks: &[Pick],
-    used: &mut [usize; 1],
+    picks: &mut Picks,
     depth: usize,
     s: Progress,
     n: u16,
 ) -> Progress
-    ensures { NodeWalked frame.now depth n (state picks.now used.old s list.old readers.old) (state picks.now used.new result list.new readers.new) }
+    ensures { NodeWalked frame.now depth n (state picks.old s list.old readers.old) (state picks.new result list.new readers.new) }
 {
     let mut left = depth;
     let mut at = n;
@@ -101,18 +103,18 @@ fn walk(
             20..=28 => match k {
                 21 => return walk_assign(frame, readers, list, less, r, at, node),
                 22 => {
-                    r = walk(frame, readers, list, picks, used, less, r, node.a);
+                    r = walk(frame, readers, list, picks, less, r, node.a);
                     at = node.b;
                 }
                 23 => {
                     let x = frame.eval(readers, less, node.a);
                     at = branch(x, node.b, node.c);
                 }
-                24 => return walk_let(frame, readers, list, picks, used, less, r, node),
-                25 => return walk_forall(frame, readers, list, picks, used, less, r, node),
-                26 => return walk_import(frame, readers, list, picks, used, less, r, at, node),
+                24 => return walk_let(frame, readers, list, picks, less, r, node),
+                25 => return walk_forall(frame, readers, list, picks, less, r, node),
+                26 => return walk_import(frame, readers, list, picks, less, r, at, node),
                 27 => return walk_release(frame, readers, list, less, r, at, node),
-                28 => return walk_choose(frame, readers, list, picks, used, less, r, at, node),
+                28 => return walk_choose(frame, readers, list, picks, less, r, at, node),
                 _ => return r,
             },
             _ => return r,
@@ -128,18 +130,17 @@ fn walk_body(
     frame: &Frame,
     readers: &mut [u64],
     list: &mut Work,
-    picks: &[Pick],
-    used: &mut [usize; 1],
+    picks: &mut Picks,
     depth: usize,
     s: Progress,
     node: StoredNode,
     x: Value,
 ) -> Progress
-    ensures { BodyWalked frame.now depth node x (state picks.now used.old s list.old readers.old) (state picks.now used.new result list.new readers.new) }
+    ensures { BodyWalked frame.now depth node x (state picks.old s list.old readers.old) (state picks.new result list.new readers.new) }
 {
     let mut inner = *frame;
     bind_variable(&mut inner.bindings, node.a, x);
-    walk(&inner, readers, list, picks, used, depth, s, node.c)
+    walk(&inner, readers, list, picks, depth, s, node.c)
 }
 
 // Kind 24, a let: the body c is walked with variable a at the value of term b.
@@ -148,17 +149,16 @@ fn walk_let(
     frame: &Frame,
     readers: &mut [u64],
     list: &mut Work,
-    picks: &[Pick],
-    used: &mut [usize; 1],
+    picks: &mut Picks,
     depth: usize,
     s: Progress,
     node: StoredNode,
 ) -> Progress
     requires { refusal_number s.refused ≡ 0 }
-    ensures { RuleWalked frame.now (let_rule frame.now.image.now depth node) (state picks.now used.old s list.old readers.old) (state picks.now used.new result list.new readers.new) }
+    ensures { RuleWalked frame.now (let_rule frame.now.image.now depth node) (state picks.old s list.old readers.old) (state picks.new result list.new readers.new) }
 {
     let x = frame.eval(readers, depth, node.b);
-    walk_body(frame, readers, list, picks, used, depth, s, node, x)
+    walk_body(frame, readers, list, picks, depth, s, node, x)
 }
 
 // Kind 25, a forall: the body c is walked with variable a at each member of the universe b, ascending.
@@ -167,14 +167,13 @@ fn walk_forall(
     frame: &Frame,
     readers: &mut [u64],
     list: &mut Work,
-    picks: &[Pick],
-    used: &mut [usize; 1],
+    picks: &mut Picks,
     depth: usize,
     s: Progress,
     node: StoredNode,
 ) -> Progress
     requires { refusal_number s.refused ≡ 0 }
-    ensures { Has (low_program frame.now.image.now) node.b 1 → RuleWalked frame.now (forall_rule frame.now.image.now depth node) (state picks.now used.old s list.old readers.old) (state picks.now used.new result list.new readers.new) }
+    ensures { Has (low_program frame.now.image.now) node.b 1 → RuleWalked frame.now (forall_rule frame.now.image.now depth node) (state picks.old s list.old readers.old) (state picks.new result list.new readers.new) }
 {
     let e = book_image::elements(frame.image);
     let f = book_image::function_at(frame.image, node.b as u32);
@@ -182,7 +181,7 @@ fn walk_forall(
     let mut r = s;
     let mut y = engine_reads::next_member(frame.contents, f.first, e, 0);
     while y < e {
-        r = walk_body(frame, readers, list, picks, used, depth, r, node, y);
+        r = walk_body(frame, readers, list, picks, depth, r, node, y);
         if r.refused.is_some() {
             return r;
         }
@@ -197,20 +196,19 @@ fn walk_import(
     frame: &Frame,
     readers: &mut [u64],
     list: &mut Work,
-    picks: &[Pick],
-    used: &mut [usize; 1],
+    picks: &mut Picks,
     depth: usize,
     s: Progress,
     n: u16,
     node: StoredNode,
 ) -> Progress
     requires { refusal_number s.refused ≡ 0 }
-    ensures { Has (low_program frame.now.image.now) node.b 1 → RuleWalked frame.now (import_rule frame.now.image.now depth n node) (state picks.now used.old s list.old readers.old) (state picks.now used.new result list.new readers.new) }
+    ensures { Has (low_program frame.now.image.now) node.b 1 → RuleWalked frame.now (import_rule frame.now.image.now depth n node) (state picks.old s list.old readers.old) (state picks.new result list.new readers.new) }
 {
     let x = engine_reads::lowest_label(frame, readers, s.label);
     let at = engine_term::location(frame.image, node.b, 0, x);
     let t = engine_emit::import_label(frame.image, list, s, n, at, x);
-    walk_body(frame, readers, list, picks, used, depth, t, node, x)
+    walk_body(frame, readers, list, picks, depth, t, node, x)
 }
 
 // Kind 28, a choose: the move's next pick must be in the universe b, and the body c is walked with variable a at it.
@@ -219,20 +217,19 @@ fn walk_choose(
     frame: &Frame,
     readers: &mut [u64],
     list: &mut Work,
-    picks: &[Pick],
-    used: &mut [usize; 1],
+    picks: &mut Picks,
     depth: usize,
     s: Progress,
     n: u16,
     node: StoredNode,
 ) -> Progress
     requires { refusal_number s.refused ≡ 0 }
-    ensures { Has (low_program frame.now.image.now) node.b 1 → RuleWalked frame.now (choose_rule frame.now.image.now depth n node) (state picks.now used.old s list.old readers.old) (state picks.now used.new result list.new readers.new) }
+    ensures { Has (low_program frame.now.image.now) node.b 1 → RuleWalked frame.now (choose_rule frame.now.image.now depth n node) (state picks.old s list.old readers.old) (state picks.new result list.new readers.new) }
 {
-    let x = engine_emit::next_pick(frame.image, picks, used);
+    let x = picks.next(frame.image);
     let v = engine_reads::read_universe(frame, readers, node.b, x);
-    let t = engine_emit::take_pick(picks, used, s, n, v);
-    walk_body(frame, readers, list, picks, used, depth, t, node, x)
+    let t = picks.take(s, n, v);
+    walk_body(frame, readers, list, picks, depth, t, node, x)
 }
 
 // Takes a refused move's bit, and the higher ones, out of all marks; the moves before it have lower bits.
@@ -270,9 +267,12 @@ pub fn walk_move(
         bit,
         bindings: [0, 0, 0, 0, 0, 0, 0, 0, text::low(who.element)],
     };
-    let mut used = [0usize; 1];
-    let w = walk(&frame, readers, list, picks, &mut used, 32, s, root);
-    let r = engine_emit::all_used(picks, &used, w, root);
+    let mut left = Picks {
+        given: picks,
+        used: 0,
+    };
+    let w = walk(&frame, readers, list, &mut left, 32, s, root);
+    let r = left.all_used(w, root);
     if r.refused.is_some() {
         clear_marks(readers, bit);
         return r;

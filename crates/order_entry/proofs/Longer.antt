@@ -12,29 +12,26 @@ use Rattle.order.specs.Run.{LogAnswer}
 use Rattle.order.specs.Log.{check_log}
 use Rattle.order.specs.Call.{lengths, check_lengths, check_lent, check_all, log_answer, log_call}
 use Rattle.order_run.specs.declared.RunState.{RunState}
+use Rattle.order_run.specs.declared.RunState.TheVariants.{Next, Over}
 use Rattle.order_run.specs.Stages.{CallAt}
 use Rattle.engine.specs.Tables.{Tables}
 
 -- a call that is so far with n records lent is so far with 256 of them
 pub call_shorter : (t : Tables) (n : ℕ) (whole : LogAnswer) (m o : List ℕ) (rest : List (List Instruction)) (u : RunState) (c rs ws : List ℕ) → CallAt t n whole m o rest u c rs ws → CallAt t (min n 256) whole m o rest u c rs ws
-call_shorter t n whole m o rest u c rs ws h = record {
-  over = h.over;
-  on = λ y.
-      let k = h.on y in
-      record {
-        g = k.g;
-        c = k.c;
-        kept = record {
-          records = omega (arith, k.kept.records);
-          locations = k.kept.locations;
-          contents = k.kept.contents;
-          readers = k.kept.readers;
-          writers = k.kept.writers;
-          call = k.kept.call;
-        };
-        next = k.next;
-        lists = k.lists;
-      };
+call_shorter t n whole m o rest (Over a) c rs ws h = h
+call_shorter t n whole m o rest (Next u) c rs ws h = record {
+  g = h.g;
+  c = h.c;
+  kept = record {
+    records = omega (arith, h.kept.records);
+    locations = h.kept.locations;
+    contents = h.kept.contents;
+    readers = h.kept.readers;
+    writers = h.kept.writers;
+    call = h.kept.call;
+  };
+  next = h.next;
+  lists = h.lists;
 }
 
 module _ (book log : List ℕ) (t : Tables) (n : ℕ) where

@@ -27,14 +27,18 @@ fn make_moves(
     ensures { MadeOn image.now order.now first (tables contents.old readers.old writers.old) instructions.old (tallied result) (tables contents.new readers.new writers.new) instructions.new }
 {
     let mut work = [0u64; engine::MOST_INSTRUCTIONS];
-    let mut t = first;
-    while t.more {
-        let s = order_run::begin_next(contents, readers, image, order, &mut work, t);
-        let count = s.count;
-        engine_list::pass(instructions, &mut work, count);
-        t = order_run::finish_next(contents, readers, writers, image, order, &work, t, s);
+    let mut state = first;
+    loop {
+        let next = match state {
+            RunState::Next(next) => next,
+            RunState::Over(result) => return result,
+        };
+        let begun = order_run::begin_next(contents, readers, image, order, &mut work, next);
+        engine_list::pass(instructions, &mut work, begun.count);
+        state = order_run::finish_next(
+            contents, readers, writers, image, order, &work, next, begun,
+        );
     }
-    t.result
 }
 
 // Makes the moves of a log from the one that is next: the tables are cut to the records needed, once, and the moves made on these.
@@ -75,10 +79,18 @@ pub fn run(
     let lent = instructions.len();
     let mut image = [0u32; 2248];
     let mut order = [0u64; 512];
-    let t = order_run::prepare(
+    let state = order_run::prepare(
         book, log, contents, readers, writers, lent, &mut image, &mut order,
     );
-    run_from(contents, readers, writers, instructions, &image, &order, t)
+    run_from(
+        contents,
+        readers,
+        writers,
+        instructions,
+        &image,
+        &order,
+        state,
+    )
 }
 
 // ---- with a list of its own

@@ -2,22 +2,21 @@
 use Rattle.text.specs.Words.{told}
 use Rattle.engine.specs.Labels.{tallied}
 use Rattle.engine.specs.declared.TalliedResult.{TalliedResult}
-use Rattle.std.proofs.Common.{◌≡◌, ℕ, ◌≤◌, min, true, List, [], ◌++◌, length, take, drop, sym, refl, ap, ◌∙◌, subst, arith, length-take-le}
-use mathlib.Core.Bool.{false≢true}
+use Rattle.std.proofs.Common.{◌≡◌, ℕ, ◌≤◌, min, List, [], ◌++◌, length, take, drop, sym, refl, ap, ◌∙◌, subst, arith, length-take-le}
 use lib.Seq.{length_front, take-append_seam, drop-append_seam}
 use Rattle.book.specs.Book.{L}
 use Rattle.book.specs.Image.{word, low_program}
 use Rattle.engine.specs.declared.Instruction.{Instruction}
-use Rattle.engine.specs.Labels.{TalliedAnswer}
 use Rattle.engine.specs.Rule.{most_instructions}
 use Rattle.engine.specs.Single.{over_first}
 use Rattle.order.specs.Log.{Log}
 use Rattle.order.specs.Run.{LogAnswer, run_from}
 use Rattle.order.specs.Call.{left_past}
 use Rattle.order_run.specs.declared.RunState.{RunState}
+use Rattle.order_run.specs.declared.RunState.TheVariants.{Next, Over}
+use Rattle.order_run.specs.declared.Upcoming.{Upcoming}
 use Rattle.order_run.specs.Runs.{answer_with}
-use Rattle.order_run.specs.Stages.{MoveNext, RunAt, RestKept, CallAt}
-use Rattle.order_run.proofs.Stages.{over_with}
+use Rattle.order_run.specs.Stages.{MoveNext, RunAt, RestKept, CallGoesOn, CallAt}
 use Rattle.engine.specs.Tables.{Tables}
 
 -- ---- tables whose first k records are d
@@ -83,43 +82,39 @@ module _
 
     -- a stage on the first k records is one of the call
     pub call_state_at : (rest : List (List Instruction)) (t : RunState) → RunAt m o g c rest t d rs ws → CallAt lent n whole m o rest t (d ++ drop k C) (rs ++ drop k R) (ws ++ drop k W)
-    call_state_at rest t s = record {
-      over = λ y.
-          let q = s.over y in
-          let f = run_from (low_program m) g c in
-          let ec : d ++ drop k C ≡ over_first f.contents lent.contents = put_back d f.contents lent.contents (drop k C) k (ap (λ (v : LogAnswer). v.contents) q.1) (cut_long k C lent.contents d hc pc ld) pc in
-          let er : rs ++ drop k R ≡ over_first f.readers lent.readers = put_back rs f.readers lent.readers (drop k R) k (ap (λ (v : LogAnswer). v.readers) q.1) (cut_long k R lent.readers rs hr pr lr) pr in
-          let ew : ws ++ drop k W ≡ over_first f.writers lent.writers = put_back ws f.writers lent.writers (drop k W) k (ap (λ (v : LogAnswer). v.writers) q.1) (cut_long k W lent.writers ws hw pw lw) pw in
-          let ea : told t.result.answer ≡ f.answer = ap (λ (v : LogAnswer). v.answer) q.1 in
-          let et : t.result.tally ≡ f.tally = ap (λ (v : LogAnswer). v.tally) q.1 in
-          let all : answer_with (tallied t.result) (d ++ drop k C) (rs ++ drop k R) (ws ++ drop k W) ≡ left_past lent f = rw (ec, er, ew, ea, et) in
-          (q.0, all ∙ kept.call);
-      on = λ y. record {
-        g = g;
-        c = c;
-        kept = kept_on;
-        next = rw (
-          cut_first k C lent.contents d hc pc ld (L (low_program m)) ek,
-          cut_first k R lent.readers rs hr pr lr (L (low_program m)) ek,
-          cut_first k W lent.writers ws hw pw lw (L (low_program m)) ek,
-        ) (s.next y);
-        lists = s.lists y;
-      };
+    call_state_at rest (Over r) q =
+        let f = run_from (low_program m) g c in
+        let ec : d ++ drop k C ≡ over_first f.contents lent.contents = put_back d f.contents lent.contents (drop k C) k (ap (λ (v : LogAnswer). v.contents) q.1) (cut_long k C lent.contents d hc pc ld) pc in
+        let er : rs ++ drop k R ≡ over_first f.readers lent.readers = put_back rs f.readers lent.readers (drop k R) k (ap (λ (v : LogAnswer). v.readers) q.1) (cut_long k R lent.readers rs hr pr lr) pr in
+        let ew : ws ++ drop k W ≡ over_first f.writers lent.writers = put_back ws f.writers lent.writers (drop k W) k (ap (λ (v : LogAnswer). v.writers) q.1) (cut_long k W lent.writers ws hw pw lw) pw in
+        let ea : told r.answer ≡ f.answer = ap (λ (v : LogAnswer). v.answer) q.1 in
+        let et : r.tally ≡ f.tally = ap (λ (v : LogAnswer). v.tally) q.1 in
+        let all : answer_with (tallied r) (d ++ drop k C) (rs ++ drop k R) (ws ++ drop k W) ≡ left_past lent f = rw (ec, er, ew, ea, et) in
+        (q.0, all ∙ kept.call)
+    call_state_at rest (Next t) s = record {
+      g = g;
+      c = c;
+      kept = kept_on;
+      next = rw (
+        cut_first k C lent.contents d hc pc ld (L (low_program m)) ek,
+        cut_first k R lent.readers rs hr pr lr (L (low_program m)) ek,
+        cut_first k W lent.writers ws hw pw lw (L (low_program m)) ek,
+      ) s.0;
+      lists = s.1;
     }
 
 -- ---- the moves that are left of a call
 
 -- the moves are made on the first k records: what they leave there, with the other records, is what the call leaves
-pub ends_call : (lent : Tables) (n : ℕ) (whole : LogAnswer) (m o : List ℕ) (rest : List (List Instruction)) (t : RunState) (C R W : List ℕ) → CallAt lent n whole m o rest t C R W → t.more ≡ true
+pub ends_call : (lent : Tables) (n : ℕ) (whole : LogAnswer) (m o : List ℕ) (rest : List (List Instruction)) (t : Upcoming) (C R W : List ℕ) → CallGoesOn lent n whole m o rest t C R W
     → (k : ℕ) → k ≡ min (word m 6) (min (length C) (min (length R) (length W)))
     → (a : TalliedResult) (d rs ws : List ℕ) → length d ≡ length (take k C) → length rs ≡ length (take k R) → length ws ≡ length (take k W)
-    → (P : Type 0) → ((g : Log) (c : List ℕ) → most_instructions ≤ n → RunAt m o g c rest t (take k C) (take k R) (take k W) → (answer_with (tallied a) d rs ws ≡ run_from (low_program m) g c) × P)
+    → (P : Type 0) → ((g : Log) (c : List ℕ) → most_instructions ≤ n → RunAt m o g c rest (Next t) (take k C) (take k R) (take k W) → (answer_with (tallied a) d rs ws ≡ run_from (low_program m) g c) × P)
     → (answer_with (tallied a) (d ++ drop k C) (rs ++ drop k R) (ws ++ drop k W) ≡ whole) × P
-ends_call lent n whole m o rest t C R W h y k ek a d rs ws ld lr lw P does =
-    let on = h.on y in
+ends_call lent n whole m o rest t C R W on k ek a d rs ws ld lr lw P does =
     let K = on.kept in
     let j : k ≡ L (low_program m) = omega (arith, ek, K.locations, K.contents.0, K.readers.0, K.writers.0) in
     let next = subst (λ (q : ℕ). MoveNext m o on.g on.c t (take q C) (take q R) (take q W)) (sym j) on.next in
-    let left = does on.g on.c K.records (record { over = λ z. absurd (false≢true (sym z ∙ y)); next = λ _. next; lists = λ _. on.lists }) in
-    let lap = call_state_at lent n whole m o on.g on.c C R W K k j d rs ws ld lr lw [] (over_with a) (record { over = λ _. (refl, left.0); next = λ z. absurd (false≢true z); lists = λ z. absurd (false≢true z) }) in
-    ((lap.over refl).1, left.1)
+    let left = does on.g on.c K.records (next, on.lists) in
+    let lap = call_state_at lent n whole m o on.g on.c C R W K k j d rs ws ld lr lw [] (Over a) (refl, left.0) in
+    (lap.1, left.1)

@@ -4,9 +4,7 @@ use Rattle.std.proofs.lemmas.Result.{IfOk-at_ok}
 use Rattle.text.specs.declared.Refusal.{Refusal}
 use Rattle.text.specs.Words.{told}
 use Rattle.text.proofs.Checks.{passing, refusing}
-use Rattle.engine.specs.Labels.{tallied}
-use Rattle.std.proofs.Common.{◌≡◌, ℕ, min, ◌≢◌, List, ◌++◌, length, take, drop, sym, refl, ap, ◌∙◌, subst, arith, length-take-le}
-use mathlib.Core.Bool.{false≢true}
+use Rattle.std.proofs.Common.{◌≡◌, ℕ, min, List, ◌++◌, length, take, drop, sym, refl, ap, ◌∙◌, subst, arith, length-take-le}
 use Rattle.text.specs.Words.{Answer}
 use Rattle.text.specs.Words.{good}
 use Rattle.book.specs.Book.{Program, Book, L, start}
@@ -18,11 +16,11 @@ use Rattle.order.specs.Run.{run_from, run_log, LogAnswer}
 use Rattle.order.specs.Call.{lengths, check_all, left_past, log_call}
 use Rattle.order.specs.Lists.{lists_from, call_lists}
 use Rattle.order_run.specs.declared.RunState.{RunState}
+use Rattle.order_run.specs.declared.RunState.TheVariants.{Over}
 use Rattle.order_run.specs.declared.CheckedCall.{CheckedCall}
 use Rattle.order_run.specs.Runs.{Startable, answer_with}
 use Rattle.order_run.specs.Stages.{RunAt, RestKept, CallAt}
 use Rattle.order_run.specs.Checked.{CallChecked, CallPassed, run_lists}
-use Rattle.order_run.proofs.Stages.{over_with}
 use Rattle.order_run.proofs.Calls.{call_state_at}
 use Rattle.order_run.proofs.Checks.{all_parts, all_good, call_off, call_on, lists_all, enough, runnable}
 use Rattle.engine.specs.Tables.{Tables}
@@ -73,19 +71,12 @@ module _ (book : List ℕ) (b : Book) (g : Log) (r : CheckedCall) (m o : List �
 
 module _ (book log : List ℕ) (t : Tables) (n : ℕ) (m o : List ℕ) (r : Result CheckedCall Refusal) (opened : CallChecked book log (lengths t n) r m o) where
   -- a call that a check refuses
-  pub off : (refusal : Refusal) → r ≡ Err refusal → (u : RunState) → u ≡ over_with (record { answer = Err refusal; tally = no_labels })
+  pub off : (refusal : Refusal) → r ≡ Err refusal → (u : RunState) → u ≡ Over (record { answer = Err refusal; tally = no_labels })
       → CallAt t n (log_call book log t n) m o (call_lists book log t n) u t.contents t.readers t.writers
   off refusal is u e =
       let s = call_off book log t n (told r) opened.answer (refusing is) in
       let same : told {A = Unit {0}} (Err refusal) ≡ told r = sym (ap (λ (x : Result CheckedCall Refusal). told x) is) in
-      record {
-        over = λ _. (
-          s.0,
-          ap (λ (x : RunState). answer_with (tallied x.result) t.contents t.readers t.writers) e
-              ∙ ap (λ (a : Answer). answer_with (record { answer = a; tally = no_labels }) t.contents t.readers t.writers) same ∙ s.1,
-        );
-        on = λ y. absurd (false≢true (sym (ap (λ (x : RunState). x.more) e) ∙ y));
-      }
+      rw e (s.0, ap (λ (a : Answer). answer_with (record { answer = a; tally = no_labels }) t.contents t.readers t.writers) same ∙ s.1)
 
   -- a call that passes its checks starts
   pub opens : (v : CheckedCall) → r ≡ Ok v → (u : RunState) (d rs ws : List ℕ)

@@ -2,10 +2,7 @@
 use Rattle.std.specs.Prelude.{Result}
 use Rattle.text.specs.declared.Refusal.{Refusal}
 use Rattle.text.specs.Words.{told}
-use Rattle.engine.specs.declared.TalliedResult.{TalliedResult}
-use Rattle.std.proofs.Common.{◌≡◌, ℕ, zero, suc, ◌+◌, ◌-◌, ◌%◌, ◌^◌, ◌<◌, ◌≤◌, true, false, ◌≢◌, List, [], ◌∷◌, length, replicate, sym, refl, ap, ◌∙◌, subst, true≢false, add-one, arith}
-use mathlib.Core.Bool.{false≢true}
-use Rattle.text.specs.Words.{Answer}
+use Rattle.std.proofs.Common.{◌≡◌, ℕ, zero, suc, ◌+◌, ◌-◌, ◌%◌, ◌^◌, ◌<◌, ◌≤◌, ◌≢◌, List, [], ◌∷◌, length, replicate, sym, refl, ap, ◌∙◌, subst, add-one, arith}
 use Rattle.book.specs.Book.{Program, Book, start}
 use Rattle.book.specs.Image.{low_program}
 use Rattle.engine.specs.declared.Instruction.{Instruction}
@@ -33,6 +30,8 @@ use Rattle.order_touch.specs.Marked.{unordered_marked, clipped}
 use Rattle.order_run.specs.RunTables.{RunTables, touch_answer}
 use Rattle.order_run.proofs.RunTables.{order_answer}
 use Rattle.order_run.specs.declared.RunState.{RunState}
+use Rattle.order_run.specs.declared.RunState.TheVariants.{Next, Over}
+use Rattle.order_run.specs.declared.Upcoming.{Upcoming}
 use Rattle.order_run.specs.Runs.{Startable, answer_with}
 use Rattle.order_run.specs.Stages.{FiredSoFar, MoveNext, RunAt, MoveBegun}
 use Rattle.order_run.proofs.Runs.{moves_start, halts, moves_fit, moves_on, moves_off}
@@ -76,39 +75,27 @@ module _ (B : Program) (g : Log) (c : List ℕ) where
 
 -- ---- from move to move
 
-abbrev pub over_with : TalliedResult → RunState
-over_with a = record { more = false; at = 0; moves = 0; result = a }
-
 module _ (m o : List ℕ) (g : Log) (c : List ℕ) where
   abbrev A : Program
   A = low_program m
 
   module _ (n i : ℕ) (en : n ≡ length g.moves) (k : Tally) (d rs ws : List ℕ) (to : FiredSoFar m o g c i k d rs ws) where
-    pub turn_on : i < n → (a : Result (Unit {0}) Refusal) → RunAt m o g c (lists_from A g c (n - i) i) (record { more = true; at = i; moves = n; result = record { answer = a; tally = k } }) d rs ws
-    turn_on below a = record {
-      over = λ y. absurd (true≢false y);
-      next = λ _. record { before = to; at = omega (arith, below, en); moves = en };
-      lists = λ _. refl;
-    }
+    pub turn_on : i < n → RunAt m o g c (lists_from A g c (n - i) i) (Next (record { at = i; moves = n; tally = k })) d rs ws
+    turn_on below = (record { before = to; at = omega (arith, below, en); moves = en }, refl)
 
     pub turn_over : n ≤ i → (a : Result (Unit {0}) Refusal) → told a ≡ touch_answer (least_pair (unordered_marked o rs ws (clipped rs ws (length rs))) n)
-        → RunAt m o g c (lists_from A g c (n - i) i) (over_with (record { answer = a; tally = k })) d rs ws
+        → RunAt m o g c (lists_from A g c (n - i) i) (Over (record { answer = a; tally = k })) d rs ws
     turn_over past a e =
         let s = to.going.state in
         let q : i ≡ length g.moves = omega (arith, past, to.most, en) in
-        let all : run A g c (length g.moves) ≡ ran s = subst (λ (j : ℕ). run A g c j ≡ ran s) q to.going.goes in
-        record {
-          over = λ _. (
-            lists_end A g c (n - i) i (omega (arith, past)),
-            ends_ran A g c s d rs ws to.going.tables all (record { answer = told a; tally = k }) to.going.tally (e ∙ order_answer A g s d rs ws o n en to.runs.order to.going.tables),
-          );
-          next = λ y. absurd (false≢true y);
-          lists = λ y. absurd (false≢true y);
-        }
+        let all : run A g c (length g.moves) ≡ ran s = subst (λ (j : ℕ). run A g c j ≡ ran s) q to.going.goes in (
+          lists_end A g c (n - i) i (omega (arith, past)),
+          ends_ran A g c s d rs ws to.going.tables all (record { answer = told a; tally = k }) to.going.tally (e ∙ order_answer A g s d rs ws o n en to.runs.order to.going.tables),
+        )
 
   -- ---- the next move
 
-  module _ (t : RunState) (d rs ws : List ℕ) (to : MoveNext m o g c t d rs ws) where
+  module _ (t : Upcoming) (d rs ws : List ℕ) (to : MoveNext m o g c t d rs ws) where
     abbrev i : ℕ
     i = t.at
 
@@ -125,7 +112,7 @@ module _ (m o : List ℕ) (g : Log) (c : List ℕ) where
     agent_low = rw (to.before.runs.order.agents i to.at) (to.before.runs.agents i to.at)
 
     fit : MoveFits A k (2 ^ i) (tables d rs ws)
-    fit = moves_fit A g c to.before.runs.lawful i k t.result.tally d rs ws to.before.going low agent_low
+    fit = moves_fit A g c to.before.runs.lawful i k t.tally d rs ws to.before.going low agent_low
 
     -- the next move is begun
     pub begins : (bit agent : ℕ) (ys : List ℕ) → bit ≡ 2 ^ i → agent ≡ k.agent → ys ≡ k.picks → (s : Begun) (x rs' : List ℕ)
@@ -140,7 +127,7 @@ module _ (m o : List ℕ) (g : Log) (c : List ℕ) where
 
   -- ---- a move that is begun
 
-  module _ (t : RunState) (s : Begun) (x d rs ws : List ℕ) (w : MoveBegun m o g c t s x d rs ws) where
+  module _ (t : Upcoming) (s : Begun) (x d rs ws : List ℕ) (w : MoveBegun m o g c t s x d rs ws) where
     abbrev now : MoveNext m o g c t w.old.contents w.old.readers w.old.writers
     now = w.next
 
@@ -193,16 +180,16 @@ module _ (m o : List ℕ) (g : Log) (c : List ℕ) where
         here = is t w.old.contents w.old.readers w.old.writers now
 
         -- the move fired, and k is the tally with it
-        fires : a.answer.number ≡ 0 → (k : Tally) → k.issued ≡ (t.result.tally.issued + a.tally.issued) % 2 ^ 64
-            → k.returned ≡ (t.result.tally.returned + a.tally.returned) % 2 ^ 64 → FiredSoFar m o g c (t.at + 1) k d' rs' ws'
+        fires : a.answer.number ≡ 0 → (k : Tally) → k.issued ≡ (t.tally.issued + a.tally.issued) % 2 ^ 64
+            → k.returned ≡ (t.tally.returned + a.tally.returned) % 2 ^ 64 → FiredSoFar m o g c (t.at + 1) k d' rs' ws'
         fires z k ki kr = record {
           runs = now.before.runs;
           most = omega (arith, now.at);
-          going = moves_on A g c now.before.runs.lawful t.at (input_in o t.at) t.result.tally w.old.contents w.old.readers w.old.writers now.before.going here a d' rs' ws' effect z (low t w.old.contents w.old.readers w.old.writers now) k ki kr;
+          going = moves_on A g c now.before.runs.lawful t.at (input_in o t.at) t.tally w.old.contents w.old.readers w.old.writers now.before.going here a d' rs' ws' effect z (low t w.old.contents w.old.readers w.old.writers now) k ki kr;
         }
 
         pub finish_on : a.answer.number ≡ 0 → (r : RunState) (j : ℕ) → j ≡ t.at + 1
-            → (k : Tally) → k.issued ≡ (t.result.tally.issued + a.tally.issued) % 2 ^ 64 → k.returned ≡ (t.result.tally.returned + a.tally.returned) % 2 ^ 64
+            → (k : Tally) → k.issued ≡ (t.tally.issued + a.tally.issued) % 2 ^ 64 → k.returned ≡ (t.tally.returned + a.tally.returned) % 2 ^ 64
             → (t.moves ≡ length g.moves → FiredSoFar m o g c j k d' rs' ws' → RunAt m o g c (lists_from A g c (t.moves - j) j) r d' rs' ws')
             → RunAt m o g c (lists_from A g c (t.moves - (t.at + 1)) (t.at + 1)) r d' rs' ws'
         finish_on z r j e k ki kr next =
@@ -211,23 +198,18 @@ module _ (m o : List ℕ) (g : Log) (c : List ℕ) where
         -- the move was refused: the tally of those before it stands
         pub finish_off : a.answer.number ≢ 0
             → (e : Result (Unit {0}) Refusal) → told e ≡ a.answer
-            → RunAt m o g c (lists_from A g c (t.moves - (t.at + 1)) (t.at + 1)) (over_with (record { answer = e; tally = t.result.tally })) d' rs' ws'
+            → RunAt m o g c (lists_from A g c (t.moves - (t.at + 1)) (t.at + 1)) (Over (record { answer = e; tally = t.tally })) d' rs' ws'
         finish_off z e says =
             let u = now.before.going.state in
             let v = a.answer in
-            let off = moves_off A g c now.before.runs.lawful t.at (input_in o t.at) t.result.tally w.old.contents w.old.readers w.old.writers now.before.going here a d' rs' ws' effect z in
+            let off = moves_off A g c now.before.runs.lawful t.at (input_in o t.at) t.tally w.old.contents w.old.readers w.old.writers now.before.going here a d' rs' ws' effect z in
             let j = length g.moves - suc t.at in
             let to_n : j + suc t.at ≡ length g.moves = omega (arith, now.at) in
             let all = subst (λ (q : ℕ). run A g c q ≡ halted v.number v.p v.q u) to_n (halts A g c (suc t.at) j v.number v.p v.q u off.0) in
-            let last = subst (λ (q : ℕ). run A g c q ≡ halted v.number v.p v.q u) (sym (add-one t.at)) off.0 in
-            record {
-              over = λ _. (
-                lists_off A g c (t.moves - (t.at + 1)) (t.at + 1) v.number v.p v.q u last,
-                rw says (ends_halted A g c u d' rs' ws' off.1 (record { answer = v; tally = t.result.tally }) now.before.going.tally all),
-              );
-              next = λ q. absurd (false≢true q);
-              lists = λ q. absurd (false≢true q);
-            }
+            let last = subst (λ (q : ℕ). run A g c q ≡ halted v.number v.p v.q u) (sym (add-one t.at)) off.0 in (
+              lists_off A g c (t.moves - (t.at + 1)) (t.at + 1) v.number v.p v.q u last,
+              rw says (ends_halted A g c u d' rs' ws' off.1 (record { answer = v; tally = t.tally }) now.before.going.tally all),
+            )
 
 -- ---- the start
 

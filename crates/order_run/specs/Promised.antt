@@ -10,6 +10,7 @@ use Rattle.order.specs.Run.{run_log}
 use Rattle.order.specs.Lists.{lists_from, call_lists}
 use Rattle.order.specs.Call.{left_past, log_call}
 use Rattle.order_run.specs.declared.RunState.{RunState}
+use Rattle.order_run.specs.declared.Upcoming.{Upcoming}
 use Rattle.order_run.specs.declared.CheckedCall.{CheckedCall}
 use Rattle.order_run.specs.Runs.{Startable}
 use Rattle.order_run.specs.Stages.{moves_left, FiredSoFar, MoveNext, RunAt, MoveBegun, CallAt}
@@ -27,12 +28,12 @@ abbrev pub StartedOn : List ℕ → List ℕ → List ℕ → ℕ → Tables →
 StartedOn text m o moves t u r = (b : Book) (g : Log) → Startable text m o b g moves t.contents t.readers t.writers
     → RunAt m o g (start b) (lists_from (low_program m) g (start b) moves 0) r u.contents u.readers u.writers
 
--- the move that is next at s is begun in the contents d: its walk is b, with its instructions in the list l, and the reader marks became rs'
-abbrev pub NextBegun : List ℕ → List ℕ → RunState → List ℕ → List ℕ → List ℕ → List ℕ → Begun → Type 0
+-- the move s, which is next, is begun in the contents d: its walk is b, with its instructions in the list l, and the reader marks became rs'
+abbrev pub NextBegun : List ℕ → List ℕ → Upcoming → List ℕ → List ℕ → List ℕ → List ℕ → Begun → Type 0
 NextBegun m o s d rs rs' l b = (g : Log) (c ws : List ℕ) → MoveNext m o g c s d rs ws → MoveBegun m o g c s b l d rs' ws
 
--- the move that is begun at s is finished on the tables t, which become u; and fewer moves are left
-abbrev pub NextFinished : List ℕ → List ℕ → List ℕ → RunState → Begun → Tables → Tables → RunState → Type 0
+-- the move s, which is begun, is finished on the tables t, which become u; and fewer moves are left
+abbrev pub NextFinished : List ℕ → List ℕ → List ℕ → Upcoming → Begun → Tables → Tables → RunState → Type 0
 NextFinished m o l s b t u r =
     ((g : Log) (c : List ℕ) → MoveBegun m o g c s b l t.contents t.readers t.writers
     → RunAt m o g c (lists_from (low_program m) g c (s.moves - (s.at + 1)) (s.at + 1)) r u.contents u.readers u.writers)

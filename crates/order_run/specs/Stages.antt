@@ -1,5 +1,5 @@
 -- A log's run move by move: what holds before a move, when it is begun, and when the run is over.
-use Rattle.std.specs.Prelude.{◌≡◌, ℕ, suc, ◌-◌, ◌^◌, ◌<◌, ◌≤◌, true, false, List, [], length, take, drop, if◌then◌else◌}
+use Rattle.std.specs.Prelude.{◌≡◌, ℕ, suc, ◌-◌, ◌^◌, ◌<◌, ◌≤◌, List, [], length, take, drop}
 use Rattle.book.specs.Book.{L}
 use Rattle.book.specs.Image.{word, low_program}
 use Rattle.engine.specs.declared.Instruction.{Instruction}
@@ -15,12 +15,15 @@ use Rattle.order.specs.Lists.{lists_from}
 use Rattle.order.specs.Call.{left_past}
 use Rattle.order.specs.Table.{input_in}
 use Rattle.order_run.specs.declared.RunState.{RunState}
+use Rattle.order_run.specs.declared.RunState.TheVariants.{Next, Over}
+use Rattle.order_run.specs.declared.Upcoming.{Upcoming}
 use Rattle.order_run.specs.Runs.{Runnable, AfterMoves, answer_with}
 use Rattle.engine.specs.Tables.{Tables, tables}
 
 -- a number that falls with each move, so that the run ends: a log has at most 64 moves
 abbrev pub moves_left : RunState → ℕ
-moves_left t = if t.more then suc (64 - t.at) else 0
+moves_left (Next t) = suc (64 - t.at)
+moves_left (Over r) = 0
 
 -- ---- on tables of just the records needed
 
@@ -30,20 +33,19 @@ pub record FiredSoFar (m o : List ℕ) (g : Log) (c : List ℕ) (i : ℕ) (k : T
   pub most : i ≤ length g.moves
   pub going : AfterMoves (low_program m) g c i k d rs ws
 
--- move t.at is next
-pub record MoveNext (m o : List ℕ) (g : Log) (c : List ℕ) (t : RunState) (d rs ws : List ℕ) : Type 0 where
-  pub before : FiredSoFar m o g c t.at t.result.tally d rs ws
+-- move t.at of the log is next
+pub record MoveNext (m o : List ℕ) (g : Log) (c : List ℕ) (t : Upcoming) (d rs ws : List ℕ) : Type 0 where
+  pub before : FiredSoFar m o g c t.at t.tally d rs ws
   pub at : t.at < length g.moves
   pub moves : t.moves ≡ length g.moves
 
 -- how far a run is: a move is next, or the run is over; rest is the instructions that the moves from here on give
-pub record RunAt (m o : List ℕ) (g : Log) (c : List ℕ) (rest : List (List Instruction)) (t : RunState) (d rs ws : List ℕ) : Type 0 where
-  pub over : t.more ≡ false → (rest ≡ []) × (answer_with (tallied t.result) d rs ws ≡ run_from (low_program m) g c)
-  pub next : t.more ≡ true → MoveNext m o g c t d rs ws
-  pub lists : t.more ≡ true → rest ≡ lists_from (low_program m) g c (t.moves - t.at) t.at
+abbrev pub RunAt : List ℕ → List ℕ → Log → List ℕ → List (List Instruction) → RunState → List ℕ → List ℕ → List ℕ → Type 0
+RunAt m o g c rest (Next t) d rs ws = MoveNext m o g c t d rs ws × (rest ≡ lists_from (low_program m) g c (t.moves - t.at) t.at)
+RunAt m o g c rest (Over r) d rs ws = (rest ≡ []) × (answer_with (tallied r) d rs ws ≡ run_from (low_program m) g c)
 
 -- move t.at is begun, on the tables `old`: its walk ended as s says, with its instructions in x, and left the tables d, rs and ws
-pub record MoveBegun (m o : List ℕ) (g : Log) (c : List ℕ) (t : RunState) (s : Begun) (x d rs ws : List ℕ) : Type 0 where
+pub record MoveBegun (m o : List ℕ) (g : Log) (c : List ℕ) (t : Upcoming) (s : Begun) (x d rs ws : List ℕ) : Type 0 where
   pub old : Tables
   pub next : MoveNext m o g c t old.contents old.readers old.writers
   pub after : AfterWalk (low_program m) (input_in o t.at) (2 ^ t.at) old s.walk x (tables d rs ws)
@@ -62,7 +64,7 @@ pub record RestKept (lent : Tables) (n : ℕ) (whole : LogAnswer) (m : List ℕ)
   pub call : left_past lent (run_from (low_program m) g c) ≡ whole
 
 -- a move of a call is next; rest is the instructions that the moves from here on give
-pub record CallGoesOn (lent : Tables) (n : ℕ) (whole : LogAnswer) (m o : List ℕ) (rest : List (List Instruction)) (t : RunState) (d rs ws : List ℕ) : Type 0 where
+pub record CallGoesOn (lent : Tables) (n : ℕ) (whole : LogAnswer) (m o : List ℕ) (rest : List (List Instruction)) (t : Upcoming) (d rs ws : List ℕ) : Type 0 where
   pub g : Log
   pub c : List ℕ
   pub kept : RestKept lent n whole m g c d rs ws
@@ -71,6 +73,6 @@ pub record CallGoesOn (lent : Tables) (n : ℕ) (whole : LogAnswer) (m o : List 
 
 -- How far a call is: a move is next, or the run is over. n instruction records are lent, and `whole` is what the call is to answer; rest is the instructions
 -- that the moves from here on give
-pub record CallAt (lent : Tables) (n : ℕ) (whole : LogAnswer) (m o : List ℕ) (rest : List (List Instruction)) (t : RunState) (d rs ws : List ℕ) : Type 0 where
-  pub over : t.more ≡ false → (rest ≡ []) × (answer_with (tallied t.result) d rs ws ≡ whole)
-  pub on : t.more ≡ true → CallGoesOn lent n whole m o rest t d rs ws
+abbrev pub CallAt : Tables → ℕ → LogAnswer → List ℕ → List ℕ → List (List Instruction) → RunState → List ℕ → List ℕ → List ℕ → Type 0
+CallAt lent n whole m o rest (Next t) d rs ws = CallGoesOn lent n whole m o rest t d rs ws
+CallAt lent n whole m o rest (Over r) d rs ws = (rest ≡ []) × (answer_with (tallied r) d rs ws ≡ whole)

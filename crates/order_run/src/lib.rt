@@ -81,13 +81,19 @@ pub fn check_order(
 
 // ---- how far a run is
 
-// How far a run is: move `at` of so many is next, or the run is over, with its answer; and the tally of the moves that have fired.
+// A move that is next: move `at` of so many, and the tally of the moves that have fired.
 #[derive(Clone, Copy)]
-pub struct RunState {
-    pub more: bool,
+pub struct Upcoming {
     pub at: u32,
     pub moves: u32,
-    pub result: TalliedResult,
+    pub tally: Tally,
+}
+
+// How far a run is: a move is next, or the run is over.
+#[derive(Clone, Copy)]
+pub enum RunState {
+    Next(Upcoming),
+    Over(TalliedResult),
 }
 
 // A call that passed the checks before its first move: how many moves and locations there are.
@@ -136,15 +142,9 @@ fn add_tallies(s: Tally, t: Tally) -> Tally
 
 // A run that is over, with its answer and its tally.
 fn run_over(answer: Result<(), Refusal>, tally: Tally) -> RunState
-    ensures { result ≡ record { more = false; at = 0; moves = 0; result = record { answer = answer; tally = tally } } }
+    ensures { result ≡ RunState.Over (record { answer = answer; tally = tally }) }
 {
-    let result = TalliedResult { answer, tally };
-    RunState {
-        more: false,
-        at: 0,
-        moves: 0,
-        result,
-    }
+    RunState::Over(TalliedResult { answer, tally })
 }
 
 // The bit of move i.
@@ -180,16 +180,11 @@ fn next_move(
     ensures result_bound { moves_left result ≤ 65 - i }
 {
     if (i as usize) < (moves as usize).min(order::MOST_MOVES as usize) {
-        let result = TalliedResult {
-            answer: Ok(()),
-            tally,
-        };
-        return RunState {
-            more: true,
+        return RunState::Next(Upcoming {
             at: i,
             moves,
-            result,
-        };
+            tally,
+        });
     }
     run_over(check_order(readers, writers, order, moves), tally)
 }
@@ -244,11 +239,11 @@ pub fn begin_next(
     image: &Image,
     order: &OrderTable,
     list: &mut Work,
-    t: RunState,
+    next: Upcoming,
 ) -> Begun
-    ensures { NextBegun image.now order.now t contents.now readers.old readers.new list.new result }
+    ensures { NextBegun image.now order.now next contents.now readers.old readers.new list.new result }
 {
-    let i = t.at;
+    let i = next.at;
     let bit = move_bit(i);
     let agent = order_log::agent_of_move(order, i);
     let own = order_log::picks_of_move(order, i);
@@ -265,22 +260,21 @@ pub fn finish_next(
     image: &Image,
     order: &OrderTable,
     list: &Work,
-    t: RunState,
-    s: Begun,
+    next: Upcoming,
+    begun: Begun,
 ) -> RunState
-    ensures { NextFinished image.now order.now list.now t s (tables contents.old readers.old writers.old) (tables contents.new readers.new writers.new) result }
+    ensures { NextFinished image.now order.now list.now next begun (tables contents.old readers.old writers.old) (tables contents.new readers.new writers.new) result }
 {
-    let i = t.at;
+    let i = next.at;
     let bit = move_bit(i);
-    let walk = s.walk;
+    let walk = begun.walk;
     let done = engine_fire::finish_move(image, contents, readers, writers, bit, list, walk, i);
-    let so_far = t.result;
     if let Err(refusal) = done.answer {
-        return run_over(Err(refusal), so_far.tally);
+        return run_over(Err(refusal), next.tally);
     }
-    let next = number_after(i);
-    let tally = add_tallies(so_far.tally, done.tally);
-    next_move(readers, writers, order, t.moves, next, tally)
+    let after = number_after(i);
+    let tally = add_tallies(next.tally, done.tally);
+    next_move(readers, writers, order, next.moves, after, tally)
 }
 
 // ---- a call, on tables of any length

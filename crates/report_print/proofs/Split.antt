@@ -4,7 +4,6 @@ use mathlib.Core.Bool.{true≢false, false≢true}
 use Rattle.std.specs.Prelude.{Option, None, Some}
 use Rattle.std.specs.Prelude.{if◌then◌else◌}
 use mathlib.Core.Path.{◌≡◌, refl, sym, ◌∙◌}
-use mathlib.Core.Logic.{◌≢◌}
 use mathlib.Core.Bool.{Bool, true, false, ◌&&◌, not}
 use mathlib.Core.List.{List}
 use Prim.Native.Nat.{ℕ, ◌*◌, ◌≤◌, ◌<◌, min}
@@ -13,9 +12,8 @@ use native.Mathlib.Omega.{arith}
 use native.Mathlib.Decide.{dec_lt}
 use lib.ListN.{length, take, drop, drop_of_length-le}
 use lib.Seq.{take_all, take-length, drop-length}
-use Rattle.text.specs.Words.{Answer}
 use Rattle.text.specs.declared.Line.{Line}
-use Rattle.text.specs.Words.{least_from, least, Checked, good, refused, ◌>>◌, none_at, answer_of}
+use Rattle.text.specs.Words.{least_from, least, Checked, good, refused, ◌>>◌, none_at}
 use Rattle.text.specs.Text.{line_bytes, well_formed, line, parsed}
 use Rattle.text.proofs.Words.{and_cases}
 use Rattle.text.proofs.Fields.{parsed_none, parsed_some}

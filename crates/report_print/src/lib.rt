@@ -178,7 +178,7 @@ fn report_on(
     requires { most_output ≤ length output.old }
     ensures { CallPrinted book.now checked image.now order.now (tables contents.old readers.old writers.old) output.old result output.new }
 {
-    let t = order_run::start_run(book, contents, readers, writers, image, order, checked);
+    let state = order_run::start_run(book, contents, readers, writers, image, order, checked);
     let ended = order_entry::run_from_own_list(
         contents,
         readers,
@@ -186,7 +186,7 @@ fn report_on(
         report::RECORDS,
         image,
         order,
-        t,
+        state,
     );
     let tally = ended.tally;
     if let Err(refusal) = ended.answer {

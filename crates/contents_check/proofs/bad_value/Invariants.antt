@@ -1,6 +1,6 @@
 -- `bad_value` meets its contract.
 use mathlib.Core.Path.{◌≡◌}
-use Prim.Native.Nat.{◌-◌, ◌≤◌}
+use Prim.Native.Nat.{◌-◌}
 use Rattle.text.specs.Words.{least_from, least}
 use Rattle.book.specs.Book.{L}
 use Rattle.book.specs.Sum.{Strided}
@@ -13,7 +13,3 @@ abbrev pub invariant-loop-g : goal.invariant-loop-g
 invariant-loop-g l =
     From (low_program l.image) l.g l.first
     × (Strided (low_program l.image) → least_from (bad_value (low_program l.image) l.contents) (L (low_program l.image) - l.first) l.first ≡ least (bad_value (low_program l.image) l.contents) (L (low_program l.image)))
-    × (l.g ≤ l.n)
-
-abbrev pub decreases-loop-g : goal.decreases-loop-g
-decreases-loop-g l = l.n - l.g

@@ -2,7 +2,6 @@
 use mathlib.Core.Path.{◌≡◌, ◌∙◌}
 use mathlib.Core.Bool.{not}
 use Prim.Native.Nat.{◌<◌}
-use native.Mathlib.Omega.{arith}
 use borrow.Author.Tests.{ltb-true, eqb-false, not-true}
 use lib.Dec.{eqb, ltb}
 use lib.ListN.{get_or}
@@ -21,6 +20,3 @@ returns-then-v-e c =
     let low : default a.f < B.E = rw (← d.ensures, e) (ltb-true d.result a.e t.0) in
     let off : get_or a.contents.now (default a.f) 0 ≡ 2 → ⊥ = rw (← d.ensures, ← w.ensures) (eqb-false w.result 2 (not-true (eqb w.result 2) t.1)) in
     at_rest B a.contents.now l a.f q (h ∙ d.ensures) low off
-
-pub returns : goal.returns
-returns c = λ B l e q h. absurd (omega (arith, h, c.shared_slice_known-1.given l))

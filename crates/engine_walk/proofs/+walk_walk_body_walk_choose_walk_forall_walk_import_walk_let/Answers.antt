@@ -32,7 +32,7 @@ walk-returns-then-is_some t c =
     let a = c.args in
     let f = a.frame.now in
     let l = c.loop-left in
-    l.invariant.2 _ _ (runs_refused (low_program f.image.now) f.contents.now f.bit _ _ _ _ _ (reached_refused (picks_left a.picks.now l.used) l.r l.list (some_numbered _ c.is_some.ensures c.if-is_some.true)))
+    l.invariant.2 _ _ (runs_refused (low_program f.image.now) f.contents.now f.bit _ _ _ _ _ (reached_refused (picks_left l.picks) l.r l.list (some_numbered _ c.is_some.ensures c.if-is_some.true)))
 
 pub walk-returns-in-21 : goal.walk-returns-in-21
 walk-returns-in-21 t c =
@@ -41,9 +41,9 @@ walk-returns-in-21 t c =
     let B = low_program f.image.now in
     let l = c.loop-left in
     l.invariant.2 _ _
-    (runs_rule B f.contents.now f.bit (agent_of f.bindings) (variables_of f.bindings) (rule_from (node_at B) l.left l.at) _ (picks_left a.picks.now l.used) l.r l.list _ _ _ (unrefused _ c.is_some.ensures c.if-is_some.false)
+    (runs_rule B f.contents.now f.bit (agent_of f.bindings) (variables_of f.bindings) (rule_from (node_at B) l.left l.at) _ (picks_left l.picks) l.r l.list _ _ _ (unrefused _ c.is_some.ensures c.if-is_some.false)
     (rule_assign (node_at B) l.left l.at (stored_node c.node-node.result) c.loop-left-test.true c.node-node.ensures c.in-21.is)
-    (c.walk_assign.ensures (picks_left a.picks.now l.used)))
+    (c.walk_assign.ensures (picks_left l.picks)))
 
 pub walk-returns-in-24 : goal.walk-returns-in-24
 walk-returns-in-24 t c =
@@ -52,7 +52,7 @@ walk-returns-in-24 t c =
     let B = low_program f.image.now in
     let l = c.loop-left in
     l.invariant.2 _ _
-    (runs_rule B f.contents.now f.bit (agent_of f.bindings) (variables_of f.bindings) (rule_from (node_at B) l.left l.at) _ (picks_left a.picks.now l.used) l.r l.list _ _ _ (unrefused _ c.is_some.ensures c.if-is_some.false)
+    (runs_rule B f.contents.now f.bit (agent_of f.bindings) (variables_of f.bindings) (rule_from (node_at B) l.left l.at) _ (picks_left l.picks) l.r l.list _ _ _ (unrefused _ c.is_some.ensures c.if-is_some.false)
     (rule_bind (node_at B) l.left l.at (stored_node c.node-node.result) c.loop-left-test.true c.node-node.ensures c.in-24.is)
     c.walk_let.ensures)
 
@@ -63,7 +63,7 @@ walk-returns-in-25 t c =
     let B = low_program f.image.now in
     let l = c.loop-left in
     l.invariant.2 _ _
-    (runs_rule B f.contents.now f.bit (agent_of f.bindings) (variables_of f.bindings) (rule_from (node_at B) l.left l.at) _ (picks_left a.picks.now l.used) l.r l.list _ _ _ (unrefused _ c.is_some.ensures c.if-is_some.false)
+    (runs_rule B f.contents.now f.bit (agent_of f.bindings) (variables_of f.bindings) (rule_from (node_at B) l.left l.at) _ (picks_left l.picks) l.r l.list _ _ _ (unrefused _ c.is_some.ensures c.if-is_some.false)
     (rule_for_all (node_at B) l.left l.at (stored_node c.node-node.result) c.loop-left-test.true c.node-node.ensures c.in-25.is)
     (runs_given B f.contents.now f.bit _ _ _ _ (λ p. c.walk_forall.ensures (named_universe B p l.at (stored_node c.node-node.result) c.node-node.ensures (inl c.in-25.is)))))
 
@@ -74,7 +74,7 @@ walk-returns-in-26 t c =
     let B = low_program f.image.now in
     let l = c.loop-left in
     l.invariant.2 _ _
-    (runs_rule B f.contents.now f.bit (agent_of f.bindings) (variables_of f.bindings) (rule_from (node_at B) l.left l.at) _ (picks_left a.picks.now l.used) l.r l.list _ _ _ (unrefused _ c.is_some.ensures c.if-is_some.false)
+    (runs_rule B f.contents.now f.bit (agent_of f.bindings) (variables_of f.bindings) (rule_from (node_at B) l.left l.at) _ (picks_left l.picks) l.r l.list _ _ _ (unrefused _ c.is_some.ensures c.if-is_some.false)
     (rule_import (node_at B) l.left l.at (stored_node c.node-node.result) c.loop-left-test.true c.node-node.ensures c.in-26.is)
     (runs_given B f.contents.now f.bit _ _ _ _ (λ p. c.walk_import.ensures (named_universe B p l.at (stored_node c.node-node.result) c.node-node.ensures (inr (inl c.in-26.is))))))
 
@@ -85,9 +85,9 @@ walk-returns-in-27 t c =
     let B = low_program f.image.now in
     let l = c.loop-left in
     l.invariant.2 _ _
-    (runs_rule B f.contents.now f.bit (agent_of f.bindings) (variables_of f.bindings) (rule_from (node_at B) l.left l.at) _ (picks_left a.picks.now l.used) l.r l.list _ _ _ (unrefused _ c.is_some.ensures c.if-is_some.false)
+    (runs_rule B f.contents.now f.bit (agent_of f.bindings) (variables_of f.bindings) (rule_from (node_at B) l.left l.at) _ (picks_left l.picks) l.r l.list _ _ _ (unrefused _ c.is_some.ensures c.if-is_some.false)
     (rule_release (node_at B) l.left l.at (stored_node c.node-node.result) c.loop-left-test.true c.node-node.ensures c.in-27.is)
-    (c.walk_release.ensures (picks_left a.picks.now l.used)))
+    (c.walk_release.ensures (picks_left l.picks)))
 
 pub walk-returns-in-28 : goal.walk-returns-in-28
 walk-returns-in-28 t c =
@@ -96,7 +96,7 @@ walk-returns-in-28 t c =
     let B = low_program f.image.now in
     let l = c.loop-left in
     l.invariant.2 _ _
-    (runs_rule B f.contents.now f.bit (agent_of f.bindings) (variables_of f.bindings) (rule_from (node_at B) l.left l.at) _ (picks_left a.picks.now l.used) l.r l.list _ _ _ (unrefused _ c.is_some.ensures c.if-is_some.false)
+    (runs_rule B f.contents.now f.bit (agent_of f.bindings) (variables_of f.bindings) (rule_from (node_at B) l.left l.at) _ (picks_left l.picks) l.r l.list _ _ _ (unrefused _ c.is_some.ensures c.if-is_some.false)
     (rule_choose (node_at B) l.left l.at (stored_node c.node-node.result) c.loop-left-test.true c.node-node.ensures c.in-28.is)
     (runs_given B f.contents.now f.bit _ _ _ _ (λ p. c.walk_choose.ensures (named_universe B p l.at (stored_node c.node-node.result) c.node-node.ensures (inr (inr c.in-28.is))))))
 
@@ -107,7 +107,7 @@ walk-returns-in_default-k t c =
     let B = low_program f.image.now in
     let l = c.loop-left in
     l.invariant.2 _ _
-    (runs_skip B f.contents.now f.bit (agent_of f.bindings) (variables_of f.bindings) (rule_from (node_at B) l.left l.at) (reached (picks_left a.picks.now l.used) l.r l.list) l.readers
+    (runs_skip B f.contents.now f.bit (agent_of f.bindings) (variables_of f.bindings) (rule_from (node_at B) l.left l.at) (reached (picks_left l.picks) l.r l.list) l.readers
     (rule_none (node_at B) l.left l.at (stored_node c.node-node.result) c.loop-left-test.true c.node-node.ensures (λ e. omega arith) (λ e. omega arith) (λ e. omega arith) (λ e. omega arith) (λ e. omega arith) (λ e. omega arith) (λ e. omega arith) (λ e. omega arith)))
 
 pub walk-returns-in_default : goal.walk-returns-in_default
@@ -117,7 +117,7 @@ walk-returns-in_default t c =
     let B = low_program f.image.now in
     let l = c.loop-left in
     l.invariant.2 _ _
-    (runs_skip B f.contents.now f.bit (agent_of f.bindings) (variables_of f.bindings) (rule_from (node_at B) l.left l.at) (reached (picks_left a.picks.now l.used) l.r l.list) l.readers
+    (runs_skip B f.contents.now f.bit (agent_of f.bindings) (variables_of f.bindings) (rule_from (node_at B) l.left l.at) (reached (picks_left l.picks) l.r l.list) l.readers
     (no_rule_at (node_at B) l.left l.at (stored_node c.node-node.result) c.loop-left-test.true c.node-node.ensures (inl (omega arith))))
 
 pub walk-returns-in_default-2 : goal.walk-returns-in_default-2
@@ -127,7 +127,7 @@ walk-returns-in_default-2 t c =
     let B = low_program f.image.now in
     let l = c.loop-left in
     l.invariant.2 _ _
-    (runs_skip B f.contents.now f.bit (agent_of f.bindings) (variables_of f.bindings) (rule_from (node_at B) l.left l.at) (reached (picks_left a.picks.now l.used) l.r l.list) l.readers
+    (runs_skip B f.contents.now f.bit (agent_of f.bindings) (variables_of f.bindings) (rule_from (node_at B) l.left l.at) (reached (picks_left l.picks) l.r l.list) l.readers
     (no_rule_at (node_at B) l.left l.at (stored_node c.node-node.result) c.loop-left-test.true c.node-node.ensures (inr (omega arith))))
 
 pub walk-loop-left-preserved-in-22 : goal.walk-loop-left-preserved-in-22
@@ -140,7 +140,7 @@ walk-loop-left-preserved-in-22 t c =
       omega arith,
       k.auto.readers ∙ l.invariant.1,
       λ z m h. l.invariant.2 z m
-          (runs_block B f.contents.now f.bit (agent_of f.bindings) (variables_of f.bindings) (node_at B) l.left l.at (stored_node c.node-node.result) c.loop-left-test.true c.node-node.ensures (picks_left a.picks.now l.used) l.r l.list (unrefused _ c.is_some.ensures c.if-is_some.false) _ z _ _ m c.in-22.is k.ensures h),
+          (runs_block B f.contents.now f.bit (agent_of f.bindings) (variables_of f.bindings) (node_at B) l.left l.at (stored_node c.node-node.result) c.loop-left-test.true c.node-node.ensures (picks_left l.picks) l.r l.list (unrefused _ c.is_some.ensures c.if-is_some.false) _ z _ _ m c.in-22.is k.ensures h),
     )
 
 pub walk-loop-left-preserved : goal.walk-loop-left-preserved
@@ -152,7 +152,7 @@ walk-loop-left-preserved t c =
       omega arith,
       c.eval-x.auto.readers ∙ l.invariant.1,
       λ z m h. l.invariant.2 z m
-          (runs_test B f.contents.now f.bit (agent_of f.bindings) (variables_of f.bindings) (node_at B) l.left l.at (stored_node c.node-node.result) c.loop-left-test.true c.node-node.ensures (picks_left a.picks.now l.used) l.r l.list (unrefused _ c.is_some.ensures c.if-is_some.false) c.eval-x.result c.branch-at.result z _ _ m c.in-23.is c.branch-at.ensures c.eval-x.ensures h),
+          (runs_test B f.contents.now f.bit (agent_of f.bindings) (variables_of f.bindings) (node_at B) l.left l.at (stored_node c.node-node.result) c.loop-left-test.true c.node-node.ensures (picks_left l.picks) l.r l.list (unrefused _ c.is_some.ensures c.if-is_some.false) c.eval-x.result c.branch-at.result z _ _ m c.in-23.is c.branch-at.ensures c.eval-x.ensures h),
     )
 
 pub walk-returns : goal.walk-returns
@@ -162,7 +162,7 @@ walk-returns t c =
     let B = low_program f.image.now in
     let l = c.loop-left in
     l.invariant.2 _ _
-    (runs_skip B f.contents.now f.bit (agent_of f.bindings) (variables_of f.bindings) (rule_from (node_at B) l.left l.at) (reached (picks_left a.picks.now l.used) l.r l.list) l.readers
+    (runs_skip B f.contents.now f.bit (agent_of f.bindings) (variables_of f.bindings) (rule_from (node_at B) l.left l.at) (reached (picks_left l.picks) l.r l.list) l.readers
     (rule_last (node_at B) l.left l.at c.loop-left-test.false))
 
 pub walk_body-returns : goal.walk_body-returns
@@ -170,7 +170,7 @@ walk_body-returns t c =
     let a = c.args in
     let f = a.frame.now in
     let B = low_program f.image.now in
-    runs_bindings B f.contents.now f.bit c.bind_variable.new.bindings (set (variables_of f.bindings) a.node.a a.x) (agent_of f.bindings) (rule_from (node_at B) a.depth a.node.c) (reached (picks_left a.picks.now a.used.now) a.s a.list.now) _ _ _ c.bind_variable.ensures.0 c.bind_variable.ensures.1 c.walk.ensures
+    runs_bindings B f.contents.now f.bit c.bind_variable.new.bindings (set (variables_of f.bindings) a.node.a a.x) (agent_of f.bindings) (rule_from (node_at B) a.depth a.node.c) (reached (picks_left a.picks.now) a.s a.list.now) _ _ _ c.bind_variable.ensures.0 c.bind_variable.ensures.1 c.walk.ensures
 
 pub walk_choose-returns : goal.walk_choose-returns
 unfolding walked
@@ -180,14 +180,14 @@ walk_choose-returns t c =
     let m = f.image.now in
     let B = low_program m in
     let x = a.node in
-    let ys = picks_left a.picks.now a.used.now in
+    let ys = picks_left a.picks.now in
     let w = walk_from ys a.s a.list.now in
     let body : ℕ → Walk → Reader Walked = body_at m f.bindings a.depth x.c x.a in
-    let p = c.take_pick-t in
-    let y = c.next_pick-x in
+    let p = c.take-t in
+    let y = c.next-x in
     let v = c.read_universe-v in
     let is : y.result ≡ next_pick B.E ys = y.ensures in
-    let took : reached (picks_left a.picks.now p.new.used) p.result a.list.now ≡ picked v.result a.n w ys = p.ensures a.list.now ∙ rw (reached_walking ys a.s a.list.now c.requires) in
+    let took : reached (picks_left p.new.self) p.result a.list.now ≡ picked v.result a.n w ys = p.ensures a.list.now ∙ rw (reached_walking ys a.s a.list.now c.requires) in
     λ has. runs_choose B f.contents.now f.bit a.n x.b w body v.result _ _ _ _ ys (rw is at (v.ensures has)) (rw (took, is) at c.walk_body.ensures)
 
 pub walk_forall-loop-y-init : goal.walk_forall-loop-y-init
@@ -198,7 +198,7 @@ walk_forall-loop-y-init t c =
     let f : ℕ → Walk → Reader Walked = body_at g.image.now g.bindings a.depth a.node.c a.node.a in (
       refl,
       λ has z n h. runs_given B g.contents.now g.bit _ _ _ _ (λ p.
-          sweep_as B g.contents.now g.bit a.node.b f _ _ (reached (picks_left a.picks.now a.used.now) a.s a.list.now) z _ n (members_next B p g.contents.now a.node.b has c.function_at-f.result c.elements-e.result 0 c.next_member-y.result (function_held _ _ _ c.function_at-f.ensures) (elements_held _ _ c.elements-e.ensures).0 c.next_member-y.ensures.1) h),
+          sweep_as B g.contents.now g.bit a.node.b f _ _ (reached (picks_left a.picks.now) a.s a.list.now) z _ n (members_next B p g.contents.now a.node.b has c.function_at-f.result c.elements-e.result 0 c.next_member-y.result (function_held _ _ _ c.function_at-f.ensures) (elements_held _ _ c.elements-e.ensures).0 c.next_member-y.ensures.1) h),
     )
 
 pub walk_forall-returns-then-is_some : goal.walk_forall-returns-then-is_some
@@ -210,9 +210,9 @@ walk_forall-returns-then-is_some t c =
     let l = c.loop-y in
     let k = c.walk_body-r in
     let h : l.y < B.E = rw (← (elements_held _ _ c.elements-e.ensures).0) c.loop-y-test.true in
-    λ has. runs_for_all B g.contents.now g.bit (agent_of g.bindings) (variables_of g.bindings) a.node.a a.node.b (rule_from (node_at B) a.depth a.node.c) (picks_left a.picks.now a.used.now) a.s a.list.now _ _ _ _ c.requires (λ p. c.mark_universe.ensures ∙ rw (function_held _ _ _ c.function_at-f.ensures, (elements_held _ _ c.elements-e.ensures).0) (universe_placed B p a.node.b has g.contents.now g.bit a.readers.now))
+    λ has. runs_for_all B g.contents.now g.bit (agent_of g.bindings) (variables_of g.bindings) a.node.a a.node.b (rule_from (node_at B) a.depth a.node.c) (picks_left a.picks.now) a.s a.list.now _ _ _ _ c.requires (λ p. c.mark_universe.ensures ∙ rw (function_held _ _ _ c.function_at-f.ensures, (elements_held _ _ c.elements-e.ensures).0) (universe_placed B p a.node.b has g.contents.now g.bit a.readers.now))
     (l.invariant.1 has _ _
-    (sweep_more B g.contents.now g.bit a.node.b f l.y (reached (picks_left a.picks.now l.used) l.r l.list) _ _ _ _ _ h k.ensures
+    (sweep_more B g.contents.now g.bit a.node.b f l.y (reached (picks_left l.picks) l.r l.list) _ _ _ _ _ h k.ensures
     (runs_refused B g.contents.now g.bit _ _ _ _ _ (reached_refused _ k.result _ (some_numbered _ c.is_some.ensures c.if-is_some.true)))))
 
 pub walk_forall-loop-y-preserved : goal.walk_forall-loop-y-preserved
@@ -226,9 +226,9 @@ walk_forall-loop-y-preserved t c =
     let h : l.y < B.E = rw (← (elements_held _ _ c.elements-e.ensures).0) c.loop-y-test.true in (
       k.auto.readers ∙ l.invariant.0,
       λ has z n t. l.invariant.1 has z n
-          (sweep_more B g.contents.now g.bit a.node.b f l.y (reached (picks_left a.picks.now l.used) l.r l.list) _ z _ _ n h k.ensures
+          (sweep_more B g.contents.now g.bit a.node.b f l.y (reached (picks_left l.picks) l.r l.list) _ z _ _ n h k.ensures
           (runs_given B g.contents.now g.bit _ _ _ _ (λ p.
-          sweep_as B g.contents.now g.bit a.node.b f _ _ (reached (picks_left a.picks.now k.new.used) k.result k.new.list) z _ n (members_next B p g.contents.now a.node.b has c.function_at-f.result c.elements-e.result (l.y + 1) c.next_member-y-in-loop-y.result (function_held _ _ _ c.function_at-f.ensures) (elements_held _ _ c.elements-e.ensures).0 c.next_member-y-in-loop-y.ensures.1) t))),
+          sweep_as B g.contents.now g.bit a.node.b f _ _ (reached (picks_left k.new.picks) k.result k.new.list) z _ n (members_next B p g.contents.now a.node.b has c.function_at-f.result c.elements-e.result (l.y + 1) c.next_member-y-in-loop-y.result (function_held _ _ _ c.function_at-f.ensures) (elements_held _ _ c.elements-e.ensures).0 c.next_member-y-in-loop-y.ensures.1) t))),
     )
 
 pub walk_forall-returns : goal.walk_forall-returns
@@ -239,8 +239,8 @@ walk_forall-returns t c =
     let f : ℕ → Walk → Reader Walked = body_at g.image.now g.bindings a.depth a.node.c a.node.a in
     let l = c.loop-y in
     let h : B.E ≤ l.y = rw (← (elements_held _ _ c.elements-e.ensures).0) c.loop-y-test.false in
-    λ has. runs_for_all B g.contents.now g.bit (agent_of g.bindings) (variables_of g.bindings) a.node.a a.node.b (rule_from (node_at B) a.depth a.node.c) (picks_left a.picks.now a.used.now) a.s a.list.now _ _ _ _ c.requires (λ p. c.mark_universe.ensures ∙ rw (function_held _ _ _ c.function_at-f.ensures, (elements_held _ _ c.elements-e.ensures).0) (universe_placed B p a.node.b has g.contents.now g.bit a.readers.now))
-    (l.invariant.1 has _ _ (sweep_end B g.contents.now g.bit a.node.b f l.y (reached (picks_left a.picks.now l.used) l.r l.list) l.readers h))
+    λ has. runs_for_all B g.contents.now g.bit (agent_of g.bindings) (variables_of g.bindings) a.node.a a.node.b (rule_from (node_at B) a.depth a.node.c) (picks_left a.picks.now) a.s a.list.now _ _ _ _ c.requires (λ p. c.mark_universe.ensures ∙ rw (function_held _ _ _ c.function_at-f.ensures, (elements_held _ _ c.elements-e.ensures).0) (universe_placed B p a.node.b has g.contents.now g.bit a.readers.now))
+    (l.invariant.1 has _ _ (sweep_end B g.contents.now g.bit a.node.b f l.y (reached (picks_left l.picks) l.r l.list) l.readers h))
 
 pub walk_import-returns : goal.walk_import-returns
 unfolding walked
@@ -250,7 +250,7 @@ walk_import-returns t c =
     let m = f.image.now in
     let B = low_program m in
     let x = a.node in
-    let ys = picks_left a.picks.now a.used.now in
+    let ys = picks_left a.picks.now in
     let w = walk_from ys a.s a.list.now in
     let body : ℕ → Walk → Reader Walked = body_at m f.bindings a.depth x.c x.a in
     let y = c.lowest_label-x.result in
@@ -272,5 +272,5 @@ walk_let-returns t c =
     let B = low_program m in
     let s = f.bindings in
     let x = a.node in
-    runs_bind B f.contents.now f.bit (value_at m s a.depth x.b) (λ y. body_at m s a.depth x.c x.a y (walk_from (picks_left a.picks.now a.used.now) a.s a.list.now)) _ _ _ _ _ c.eval-x.ensures
-    (runs_from B f.contents.now f.bit (body_at m s a.depth x.c x.a c.eval-x.result) (picks_left a.picks.now a.used.now) a.s a.list.now c.requires _ _ _ c.walk_body.ensures)
+    runs_bind B f.contents.now f.bit (value_at m s a.depth x.b) (λ y. body_at m s a.depth x.c x.a y (walk_from (picks_left a.picks.now) a.s a.list.now)) _ _ _ _ _ c.eval-x.ensures
+    (runs_from B f.contents.now f.bit (body_at m s a.depth x.c x.a c.eval-x.result) (picks_left a.picks.now) a.s a.list.now c.requires _ _ _ c.walk_body.ensures)

@@ -30,8 +30,8 @@ decreases-walk_let l = 3 * l.depth + 2
 abbrev pub invariant-walk-loop-left : goal.invariant-walk-loop-left
 invariant-walk-loop-left l =
     (l.left ≤ l.depth) × (length l.readers ≡ length l.initial.readers) × ((z : Walked) (m : List ℕ)
-    → Runs (low_program l.frame.image.now) l.frame.contents.now l.frame.bit (after (reached (picks_left l.picks l.used) l.r l.list) (node_walk l.frame.image.now l.frame.bindings l.left l.at)) z l.readers m
-    → Runs (low_program l.frame.image.now) l.frame.contents.now l.frame.bit (after (reached (picks_left l.picks l.initial.used) l.initial.r l.initial.list) (node_walk l.frame.image.now l.frame.bindings l.depth l.n)) z l.initial.readers m)
+    → Runs (low_program l.frame.image.now) l.frame.contents.now l.frame.bit (after (reached (picks_left l.picks) l.r l.list) (node_walk l.frame.image.now l.frame.bindings l.left l.at)) z l.readers m
+    → Runs (low_program l.frame.image.now) l.frame.contents.now l.frame.bit (after (reached (picks_left l.initial.picks) l.initial.r l.initial.list) (node_walk l.frame.image.now l.frame.bindings l.depth l.n)) z l.initial.readers m)
 
 abbrev pub decreases-walk-loop-left : goal.decreases-walk-loop-left
 decreases-walk-loop-left l = l.left
@@ -39,8 +39,8 @@ decreases-walk-loop-left l = l.left
 abbrev pub invariant-walk_forall-loop-y : goal.invariant-walk_forall-loop-y
 invariant-walk_forall-loop-y l =
     (length l.readers ≡ length l.initial.readers) × (Has (low_program l.frame.image.now) l.node.b 1 → (z : Walked) (n : List ℕ)
-    → Runs (low_program l.frame.image.now) l.frame.contents.now l.frame.bit (after (reached (picks_left l.picks l.used) l.r l.list) (for_each (body_at l.frame.image.now l.frame.bindings l.depth l.node.c l.node.a) (first_and_rest (low_program l.frame.image.now) l.frame.contents.now l.node.b l.y))) z l.readers n
-    → Runs (low_program l.frame.image.now) l.frame.contents.now l.frame.bit (after (reached (picks_left l.picks l.initial.used) l.initial.r l.initial.list) (for_each (body_at l.frame.image.now l.frame.bindings l.depth l.node.c l.node.a) (members_from (low_program l.frame.image.now) l.frame.contents.now l.node.b 0))) z l.initial.readers n)
+    → Runs (low_program l.frame.image.now) l.frame.contents.now l.frame.bit (after (reached (picks_left l.picks) l.r l.list) (for_each (body_at l.frame.image.now l.frame.bindings l.depth l.node.c l.node.a) (first_and_rest (low_program l.frame.image.now) l.frame.contents.now l.node.b l.y))) z l.readers n
+    → Runs (low_program l.frame.image.now) l.frame.contents.now l.frame.bit (after (reached (picks_left l.initial.picks) l.initial.r l.initial.list) (for_each (body_at l.frame.image.now l.frame.bindings l.depth l.node.c l.node.a) (members_from (low_program l.frame.image.now) l.frame.contents.now l.node.b 0))) z l.initial.readers n)
 
 abbrev pub decreases-walk_forall-loop-y : goal.decreases-walk_forall-loop-y
 decreases-walk_forall-loop-y l = l.e - l.y

@@ -12,5 +12,5 @@ returns c =
     let a = c.args in
     let lent = tables a.contents.now a.readers.now a.writers.now in
     let n = length a.instructions.now in
-    let made = c.run_from.ensures lent (log_call a.book.now a.log.now lent n) (call_lists a.book.now a.log.now lent n) c.prepare-t.ensures in
+    let made = c.run_from.ensures lent (log_call a.book.now a.log.now lent n) (call_lists a.book.now a.log.now lent n) c.prepare-state.ensures in
     record { answer = made.0; written = made.1; demand3 = demand3 a.book.now a.log.now lent n; tallied = tallied a.book.now a.log.now lent n }

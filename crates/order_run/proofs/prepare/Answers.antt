@@ -1,7 +1,7 @@
 -- `prepare` meets its contract.
 use Rattle.std.proofs.Common.{Err, ap, ◌∙◌}
 use Rattle.engine.specs.declared.Tally.{Tally}
-use Rattle.order_run.proofs.Stages.{over_with}
+use Rattle.order_run.specs.declared.RunState.TheVariants.{Over}
 use Rattle.order_run.proofs.Opens.{off, opens}
 use Rattle.engine.specs.Tables.{tables}
 use Rattle.order_run.proofs.prepare.Goals as goal
@@ -12,7 +12,7 @@ returns-in-Err c =
     let k = c.check_all in
     off a.book.now a.log.now (tables a.contents.now a.readers.now a.writers.now) a.lent k.new.image k.new.order
     k.result k.ensures c.in-Err.refusal c.in-Err.is c.run_over.result
-    (c.run_over.ensures ∙ ap (λ (t : Tally). over_with (record { answer = Err c.in-Err.refusal; tally = t })) c.no_labels.ensures)
+    (c.run_over.ensures ∙ ap (λ (t : Tally). Over (record { answer = Err c.in-Err.refusal; tally = t })) c.no_labels.ensures)
 
 pub returns-in-Ok : goal.returns-in-Ok
 returns-in-Ok c =
