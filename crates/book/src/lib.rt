@@ -1,6 +1,11 @@
 // The rule book: the bounds of its counts, and what its lines say.
 #![tactic(auto)]
 
+ghost use Rattle.std.specs.Prelude.{◌≡◌};
+ghost use Rattle.book.specs.Lines.{node_of, entry_of};
+
+use text::Line;
+
 // The greatest counts of a book (SPECIFICATION 11.1).
 pub const MOST_ELEMENTS: u32 = 10000;
 
@@ -46,6 +51,20 @@ pub struct Node {
     pub c: u32,
 }
 
+// The node that a node line says.
+impl From<Line> for Node {
+    ghost from_gives = { λ l n. n ≡ node_of l };
+
+    fn from(l: Line) -> Node {
+        Node {
+            kind: l.a,
+            a: l.b,
+            b: l.c,
+            c: l.d,
+        }
+    }
+}
+
 // An agent: the node of its rule, and its element.
 #[derive(Clone, Copy)]
 pub struct Agent {
@@ -60,4 +79,18 @@ pub struct Entry {
     pub arg1: u32,
     pub arg2: u32,
     pub value: u32,
+}
+
+// The entry that a contents line says.
+impl From<Line> for Entry {
+    ghost from_gives = { λ l x. x ≡ entry_of l };
+
+    fn from(l: Line) -> Entry {
+        Entry {
+            function: l.a,
+            arg1: l.b,
+            arg2: l.c,
+            value: l.d,
+        }
+    }
 }

@@ -6,7 +6,6 @@ ghost use Rattle.text.specs.Words.{least_from};
 ghost use Rattle.text.specs.Text.{bad_line};
 ghost use Rattle.book.specs.Book.{true_element, relation, dynamic, default};
 ghost use Rattle.book.specs.Sum.{Strided};
-ghost use Rattle.book.specs.Lines.{entry_of};
 ghost use Rattle.book.specs.Contents.{entry_fits};
 ghost use Rattle.book.specs.Image.{program_in, first_entry_in, entry_count_in};
 ghost use Rattle.book_entries.specs.Roll.{roll_with, untraced_by, RollEmpty};
@@ -14,18 +13,6 @@ ghost use Rattle.book_entries.specs.Pass.{faults, faults_from};
 
 use book::{Entry, Function, Image};
 use text::{Line, LineFaults};
-
-// The entry that a contents line says.
-fn entry(l: Line) -> Entry
-    ensures { result ≡ entry_of l }
-{
-    Entry {
-        function: l.a,
-        arg1: l.b,
-        arg2: l.c,
-        value: l.d,
-    }
-}
 
 // The entry names one of f functions, and as its arguments and value some of e elements.
 fn in_bounds(f: u32, e: u32, x: Entry) -> bool
@@ -135,7 +122,7 @@ fn check_entry_lines(
                 fault: None,
             };
         };
-        let x = entry(l);
+        let x = Entry::from(l);
         let f = book_image::function_at(image, x.function);
         // This is the entry's location if its arguments fit f, which is tested together with it.
         let place = book_parts::location(f, x.arg1, x.arg2);

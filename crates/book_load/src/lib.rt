@@ -2,24 +2,12 @@
 #![tactic(auto)]
 
 ghost use Rattle.std.specs.Prelude.{◌≡◌, ◌+◌, ◌-◌, ◌<◌, ◌≤◌, length};
-ghost use Rattle.book.specs.Lines.{first_entry, node_of};
+ghost use Rattle.book.specs.Lines.{first_entry};
 ghost use Rattle.book.specs.Image.{image_length, image_row, FitsImage, capped_header, filled, first_location, laid_row};
 ghost use Rattle.book_load.specs.Loaded.{line_loaded, header_loaded, functions_laid, LinesLoaded};
 
 use book::{Header, Image, Node};
 use text::{Line, Value};
-
-// The node that a node line says.
-fn node_of(l: Line) -> Node
-    ensures { result ≡ node_of l }
-{
-    Node {
-        kind: l.a,
-        a: l.b,
-        b: l.c,
-        c: l.d,
-    }
-}
 
 // Puts line i of the text where the image has it: functions and agents in rows, nodes in two words.
 fn put_line(h: Header, i: u32, l: Line, image: &mut Image)
@@ -31,7 +19,7 @@ fn put_line(h: Header, i: u32, l: Line, image: &mut Image)
     if i < nodes {
         book_image::store(image, i, l);
     } else if i < agents {
-        book_image::store_node(image, i - nodes, node_of(l));
+        book_image::store_node(image, i - nodes, Node::from(l));
     } else {
         book_image::store(image, book_image::AGENT_ROWS + (i - agents), l);
     }

@@ -20,18 +20,18 @@ use mathlib.Core.List.{List}
 use mathlib.Core.Bool.{true, not, ◌&&◌}
 use mathlib.Core.Path.{◌≡◌, refl, sym, ap, ◌∙◌}
 use Rattle.book_entries.proofs.check_entry_lines.Goals as goal
-use Rattle.book_entries.proofs.check_entry_lines.Goals.{After-entry-x, After-no_trace, After-add_to_roll}
+use Rattle.book_entries.proofs.check_entry_lines.Goals.{After-from-x, After-no_trace, After-add_to_roll}
 
 -- the entry of the line that the loop reads
 there :
-    (c : After-entry-x) →
+    (c : After-from-x) →
     entry_at (entries_from c.args.text.now c.args.first (c.args.end - c.args.first)) (c.loop-i.i - c.args.first)
-    ≡ c.entry-x.result
+    ≡ c.from-x.result
 there c =
     let a = c.args in
     let l = c.loop-i in
     entry_line a.text.now a.first a.end l.i (omega arith) c.loop-i-test.true
-    ∙ sym (c.entry-x.ensures ∙ ap entry_of ((parsed_some a.text.now l.i _ c.parse.ensures _ c.in-Some.is).1))
+    ∙ sym (c.from-x.ensures ∙ ap entry_of ((parsed_some a.text.now l.i _ c.parse.ensures _ c.in-Some.is).1))
 
 -- what the tests of the entry say
 rest :
@@ -54,7 +54,7 @@ rest c strided =
       l.invariant.3 strided,
       l.invariant.2,
     )
-    (bad_tests (program_in a.image.now) strided es (l.i - a.first) c.entry-x.result (entry_line a.text.now a.first a.end l.i (omega arith) c.loop-i-test.true ∙ sym (c.entry-x.ensures ∙ ap entry_of ((parsed_some a.text.now l.i _ c.parse.ensures _ c.in-Some.is).1))) a.roll.now c.requires)
+    (bad_tests (program_in a.image.now) strided es (l.i - a.first) c.from-x.result (entry_line a.text.now a.first a.end l.i (omega arith) c.loop-i-test.true ∙ sym (c.from-x.ensures ∙ ap entry_of ((parsed_some a.text.now l.i _ c.parse.ensures _ c.in-Some.is).1))) a.roll.now c.requires)
 
 -- ---- an entry that passed its tests: it is in bounds, and fits its function
 
@@ -64,7 +64,7 @@ tests c = tests_passed c.in_bounds.result c.entry_fits.result (leb c.loop-i.low 
 -- it fits its function
 fitted :
     (c : After-add_to_roll) →
-    entry_fits (program_in c.args.image.now).P c.entry-x.result (function_at (program_in c.args.image.now) c.entry-x.result.function) ≡ true
+    entry_fits (program_in c.args.image.now).P c.from-x.result (function_at (program_in c.args.image.now) c.from-x.result.function) ≡ true
 fitted c = sym (c.entry_fits.ensures ∙ rw (c.function_at-f.ensures, c.permanent-p.ensures)) ∙ (tests c).1
 
 pub loop-i-init : goal.loop-i-init
@@ -77,7 +77,7 @@ pub returns-then-not-in_bounds-entry_fits : goal.returns-then-not-in_bounds-entr
 returns-then-not-in_bounds-entry_fits c = λ strided. let a = c.args in let l = c.loop-i in at_fault_from (program_in a.image.now) a.text.now a.first a.end _ l.i c.fault_at.ensures l.invariant.0 (least_stop (bad_at (program_in a.image.now) a.text.now a.first (a.end - a.first)) a.end l.i c.loop-i-test.true (rest (goal.at.returns-then-not-in_bounds-entry_fits c).After-no_trace strided ∙ c.if-not-in_bounds-entry_fits.true-raw) (l.invariant.1 strided))
 
 pub loop-i-preserved : goal.loop-i-preserved
-loop-i-preserved c = let a = c.args in let l = c.loop-i in let x = c.entry-x.result in let z : l.i + 1 - a.first ≡ l.i - a.first + 1 = omega arith in let w = parsed_some a.text.now l.i _ c.parse.ensures _ c.in-Some.is in (least_pass (bad_line a.text.now) a.end l.i c.loop-i-test.true (ap not w.0) l.invariant.0, λ strided. least_pass (bad_at (program_in a.image.now) a.text.now a.first (a.end - a.first)) a.end l.i c.loop-i-test.true (rest (goal.at.loop-i-preserved c).After-no_trace strided ∙ c.if-not-in_bounds-entry_fits.false-raw) (l.invariant.1 strided), rw z (c.add_to_roll.ensures ∙ ap (roll_with x) l.invariant.2 ∙ sym (roll_step (entries_from a.text.now a.first (a.end - a.first)) (l.i - a.first) a.roll.now x (there (goal.at.loop-i-preserved c).After-entry-x))), λ strided. rw (z, c.location-place.ensures, c.function_at-f.ensures) (sym (low_step (program_in a.image.now) strided (entries_from a.text.now a.first (a.end - a.first)) (l.i - a.first) x (there (goal.at.loop-i-preserved c).After-entry-x) (fitted (goal.at.loop-i-preserved c).After-add_to_roll))))
+loop-i-preserved c = let a = c.args in let l = c.loop-i in let x = c.from-x.result in let z : l.i + 1 - a.first ≡ l.i - a.first + 1 = omega arith in let w = parsed_some a.text.now l.i _ c.parse.ensures _ c.in-Some.is in (least_pass (bad_line a.text.now) a.end l.i c.loop-i-test.true (ap not w.0) l.invariant.0, λ strided. least_pass (bad_at (program_in a.image.now) a.text.now a.first (a.end - a.first)) a.end l.i c.loop-i-test.true (rest (goal.at.loop-i-preserved c).After-no_trace strided ∙ c.if-not-in_bounds-entry_fits.false-raw) (l.invariant.1 strided), rw z (c.add_to_roll.ensures ∙ ap (roll_with x) l.invariant.2 ∙ sym (roll_step (entries_from a.text.now a.first (a.end - a.first)) (l.i - a.first) a.roll.now x (there (goal.at.loop-i-preserved c).After-from-x))), λ strided. rw (z, c.location-place.ensures, c.function_at-f.ensures) (sym (low_step (program_in a.image.now) strided (entries_from a.text.now a.first (a.end - a.first)) (l.i - a.first) x (there (goal.at.loop-i-preserved c).After-from-x) (fitted (goal.at.loop-i-preserved c).After-add_to_roll))))
 
 pub returns : goal.returns
 returns c = λ strided. let a = c.args in let l = c.loop-i in all_sound (program_in a.image.now) a.text.now a.first a.end (least_end (bad_line a.text.now) a.end l.i c.loop-i-test.false l.invariant.0) (least_end (bad_at (program_in a.image.now) a.text.now a.first (a.end - a.first)) a.end l.i c.loop-i-test.false (l.invariant.1 strided))
