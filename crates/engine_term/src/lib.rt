@@ -10,6 +10,7 @@ ghost use Rattle.book.specs.Image.{low_program};
 ghost use Rattle.engine_term.specs.Marks.{mark_one, dynamic_of, Placed, SumAt, Runs};
 
 use book::{Function, Image};
+use book_parts::NodeKind;
 use text::Value;
 
 // What a rule is walked in, and a term evaluated in: the image, the contents, the move's bit, and the bindings, which are the values of the eight variables
@@ -215,26 +216,30 @@ impl Frame<'_> {
         }
         let less = depth - 1;
         let node = book_parts::node(self.image, n);
-        let k = node.kind;
-        match k {
-            1 => node.a,
-            2 => self.variable(node.a),
-            3 => self.bindings[8],
-            4 => self.read(readers, node.a, 0, 0),
-            5 => {
+        match book_parts::kind_of(node.kind) {
+            NodeKind::Element => node.a,
+            NodeKind::Variable => self.variable(node.a),
+            NodeKind::Agent => self.bindings[8],
+            NodeKind::Function => self.read(readers, node.a, 0, 0),
+            NodeKind::FunctionOfOne => {
                 let x = self.eval(readers, less, node.b);
                 self.read(readers, node.a, 0, x)
             }
-            6 => {
+            NodeKind::FunctionOfTwo => {
                 let x = self.argument(readers, less, node.b);
                 let y = self.argument(readers, less, node.c);
                 self.read(readers, node.a, x, y)
             }
-            8 => not(self.eval(readers, less, node.a)),
-            7..=13 => {
+            NodeKind::Not => not(self.eval(readers, less, node.a)),
+            NodeKind::Equal
+            | NodeKind::And
+            | NodeKind::Or
+            | NodeKind::Plus
+            | NodeKind::Minus
+            | NodeKind::Less => {
                 let x = self.eval(readers, less, node.a);
                 let y = self.eval(readers, less, node.b);
-                operate(book_parts::permanent(self.image), k, x, y)
+                operate(book_parts::permanent(self.image), node.kind, x, y)
             }
             _ => 0,
         }
