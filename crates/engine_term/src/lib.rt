@@ -167,13 +167,13 @@ fn less(p: Value, x: Value, y: Value) -> Value
 fn operate(p: Value, k: u16, x: Value, y: Value) -> Value
     ensures { result ≡ operator_value p (get_or shapes k no_term) x y }
 {
-    match k {
-        7 => truth(x == y),
-        9 => and(x, y),
-        10 => or(x, y),
-        11 => plus(p, x, y),
-        12 => minus(p, x, y),
-        13 => less(p, x, y),
+    match book_parts::kind_of(k) {
+        NodeKind::Equal => truth(x == y),
+        NodeKind::And => and(x, y),
+        NodeKind::Or => or(x, y),
+        NodeKind::Plus => plus(p, x, y),
+        NodeKind::Minus => minus(p, x, y),
+        NodeKind::Less => less(p, x, y),
         _ => 0,
     }
 }
@@ -269,14 +269,13 @@ impl Frame<'_> {
         }
         let less = depth - 1;
         let node = book_parts::node(self.image, n);
-        let k = node.kind;
-        match k {
-            4 => location(self.image, node.a, 0, 0),
-            5 => {
+        match book_parts::kind_of(node.kind) {
+            NodeKind::Function => location(self.image, node.a, 0, 0),
+            NodeKind::FunctionOfOne => {
                 let x = self.argument(readers, less, node.b);
                 location(self.image, node.a, 0, x)
             }
-            6 => {
+            NodeKind::FunctionOfTwo => {
                 let x = self.argument(readers, less, node.b);
                 let y = self.argument(readers, less, node.c);
                 location(self.image, node.a, x, y)

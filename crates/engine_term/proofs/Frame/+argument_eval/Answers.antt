@@ -1,7 +1,5 @@
 use mathlib.Core.Path.{◌≡◌, refl, ◌∙◌}
-use mathlib.Core.Logic.{inl, inr}
-use Prim.Native.Nat.{◌-◌, ◌<◌, ◌≤◌}
-use native.Mathlib.Omega.{arith}
+use Prim.Native.Nat.{◌-◌}
 use Rattle.book.specs.Book.{node_at, location}
 use Rattle.engine.specs.Reader.{read, done, ◌>>=◌}
 use Rattle.engine.specs.Term.{eval as value, negate, apply}
