@@ -34,6 +34,7 @@ pub struct Header {
 }
 
 // A function: its first location, its arity, its kind, and its stride: how far apart its locations are whose first arguments are neighbours.
+// The kind is a number and no enum: in a checked book it is 0 to 3, but an image holds any number there, and `program_in` (specs/Image) gives it on.
 #[derive(Clone, Copy)]
 pub struct Function {
     pub first: u32,

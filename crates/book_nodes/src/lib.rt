@@ -6,6 +6,7 @@ ghost use Rattle.text.specs.Words.{least};
 ghost use Rattle.book.specs.Kinds.{is_term, is_rule, sort, term};
 ghost use Rattle.book.specs.Lines.{fits, bad_node, bad_agent};
 ghost use Rattle.book.specs.Image.{image_row, program_in};
+ghost use Rattle.book_nodes.specs.declared.Sort.TheVariants.{Unused, Term, Rule};
 ghost use Rattle.book_nodes.specs.Sorts.{sort_number, is_named};
 
 use book::Image;
@@ -143,13 +144,15 @@ fn is_named(image: &Image, x: u32, arity: u32) -> bool
     (0 < x) & (x < book_image::functions(image) as u32) & (f.arity == arity)
 }
 
-// x fits the sort s as an operand of node n. Only what the sort asks about is loaded.
-fn fits(image: &Image, n: u32, s: Sort, x: u32) -> bool
+// x fits the sort s, any but the three of `fits`, as an operand of node n. Only what the sort asks about is loaded. Inline here, it would keep `fits`
+// out of the loop over the nodes.
+#[inline(never)]
+fn fits_other(image: &Image, n: u32, s: Sort, x: u32) -> bool
+    requires { (s ≢ Unused) × (s ≢ Term) × (s ≢ Rule) }
     ensures { result ≡ fits (program_in image.now) n (sort_number s) x }
 {
     match s {
-        Sort::NoKind => false,
-        Sort::Unused => x == 0,
+        Sort::NoKind | Sort::Unused | Sort::Term | Sort::Rule => false,
         Sort::Permanent => x < book_image::permanent(image),
         Sort::Variable => x < 8,
         Sort::Function0 => is_named(image, x, 0),
@@ -161,14 +164,25 @@ fn fits(image: &Image, n: u32, s: Sort, x: u32) -> bool
         Sort::DynamicUniverse => {
             is_named(image, x, 1) & (book_image::function_at(image, x).kind == 3)
         }
-        Sort::Term => (x < n) & is_term(book_image::node_at(image, x).kind),
-        Sort::Rule => (x < n) & is_rule(book_image::node_at(image, x).kind),
         Sort::LocationTerm => {
             let y = book_image::node_at(image, x);
             (x < n)
                 & ((4 <= y.kind) & (y.kind <= 6))
                 & book_parts::is_dynamic(book_image::function_at(image, y.a))
         }
+    }
+}
+
+// x fits the sort s as an operand of node n. Most operands are unused or nodes, and these sorts are matched here, in the loop over the nodes: one match
+// over all sorts takes 9% more instructions on a book of 1,024 nodes.
+fn fits(image: &Image, n: u32, s: Sort, x: u32) -> bool
+    ensures { result ≡ fits (program_in image.now) n (sort_number s) x }
+{
+    match s {
+        Sort::Unused => x == 0,
+        Sort::Term => (x < n) & is_term(book_image::node_at(image, x).kind),
+        Sort::Rule => (x < n) & is_rule(book_image::node_at(image, x).kind),
+        _ => fits_other(image, n, s, x),
     }
 }
 

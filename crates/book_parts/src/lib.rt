@@ -6,6 +6,7 @@ ghost use Rattle.book.specs.Book.{boolean, relation, dynamic, default, node_at};
 ghost use Rattle.book.specs.Sum.{sum, first_argument, second_argument};
 ghost use Rattle.book.specs.Image.{low_program};
 ghost use Rattle.book_parts.specs.Part.{part_from, part_of, owner_of};
+ghost use Rattle.book_parts.specs.NodeKinds.{HasNumber};
 ghost use Rattle.book_parts.specs.StoredNodes.{stored_node};
 
 use book::{Function, Image};
@@ -39,6 +40,65 @@ pub fn node(image: &Image, n: u16) -> StoredNode
         a: text::low(w.a),
         b: text::low(w.b),
         c: text::low(w.c),
+    }
+}
+
+// The kinds of nodes, by their numbers (SPECIFICATION 2.7); `Other` is any number that is no kind's.
+#[derive(Clone, Copy)]
+pub enum NodeKind {
+    Other = 0,
+    Element = 1,
+    Variable = 2,
+    Agent = 3,
+    Function = 4,
+    FunctionOfOne = 5,
+    FunctionOfTwo = 6,
+    Equal = 7,
+    Not = 8,
+    And = 9,
+    Or = 10,
+    Plus = 11,
+    Minus = 12,
+    Less = 13,
+    Skip = 20,
+    Set = 21,
+    Both = 22,
+    If = 23,
+    Let = 24,
+    Forall = 25,
+    Import = 26,
+    Release = 27,
+    Choose = 28,
+}
+
+// The kind that has the number k.
+pub fn kind_of(k: u16) -> NodeKind
+    ensures { HasNumber result k }
+{
+    match k {
+        1 => NodeKind::Element,
+        2 => NodeKind::Variable,
+        3 => NodeKind::Agent,
+        4 => NodeKind::Function,
+        5 => NodeKind::FunctionOfOne,
+        6 => NodeKind::FunctionOfTwo,
+        7 => NodeKind::Equal,
+        8 => NodeKind::Not,
+        9 => NodeKind::And,
+        10 => NodeKind::Or,
+        11 => NodeKind::Plus,
+        12 => NodeKind::Minus,
+        13 => NodeKind::Less,
+        20 => NodeKind::Skip,
+        21 => NodeKind::Set,
+        22 => NodeKind::Both,
+        23 => NodeKind::If,
+        24 => NodeKind::Let,
+        25 => NodeKind::Forall,
+        26 => NodeKind::Import,
+        27 => NodeKind::Release,
+        28 => NodeKind::Choose,
+        _ => NodeKind::Other,
     }
 }
 

@@ -1,3 +1,4 @@
+pub mod TermKinds
 pub mod Leaves
 pub mod Marking
 pub mod Values

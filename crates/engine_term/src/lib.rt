@@ -10,6 +10,7 @@ ghost use Rattle.book.specs.Image.{low_program};
 ghost use Rattle.engine_term.specs.Marks.{mark_one, dynamic_of, Placed, SumAt, Runs};
 
 use book::{Function, Image};
+use book_parts::NodeKind;
 use text::Value;
 
 // What a rule is walked in, and a term evaluated in: the image, the contents, the move's bit, and the bindings, which are the values of the eight variables
@@ -166,13 +167,13 @@ fn less(p: Value, x: Value, y: Value) -> Value
 fn operate(p: Value, k: u16, x: Value, y: Value) -> Value
     ensures { result ≡ operator_value p (get_or shapes k no_term) x y }
 {
-    match k {
-        7 => truth(x == y),
-        9 => and(x, y),
-        10 => or(x, y),
-        11 => plus(p, x, y),
-        12 => minus(p, x, y),
-        13 => less(p, x, y),
+    match book_parts::kind_of(k) {
+        NodeKind::Equal => truth(x == y),
+        NodeKind::And => and(x, y),
+        NodeKind::Or => or(x, y),
+        NodeKind::Plus => plus(p, x, y),
+        NodeKind::Minus => minus(p, x, y),
+        NodeKind::Less => less(p, x, y),
         _ => 0,
     }
 }
@@ -215,26 +216,30 @@ impl Frame<'_> {
         }
         let less = depth - 1;
         let node = book_parts::node(self.image, n);
-        let k = node.kind;
-        match k {
-            1 => node.a,
-            2 => self.variable(node.a),
-            3 => self.bindings[8],
-            4 => self.read(readers, node.a, 0, 0),
-            5 => {
+        match book_parts::kind_of(node.kind) {
+            NodeKind::Element => node.a,
+            NodeKind::Variable => self.variable(node.a),
+            NodeKind::Agent => self.bindings[8],
+            NodeKind::Function => self.read(readers, node.a, 0, 0),
+            NodeKind::FunctionOfOne => {
                 let x = self.eval(readers, less, node.b);
                 self.read(readers, node.a, 0, x)
             }
-            6 => {
+            NodeKind::FunctionOfTwo => {
                 let x = self.argument(readers, less, node.b);
                 let y = self.argument(readers, less, node.c);
                 self.read(readers, node.a, x, y)
             }
-            8 => not(self.eval(readers, less, node.a)),
-            7..=13 => {
+            NodeKind::Not => not(self.eval(readers, less, node.a)),
+            NodeKind::Equal
+            | NodeKind::And
+            | NodeKind::Or
+            | NodeKind::Plus
+            | NodeKind::Minus
+            | NodeKind::Less => {
                 let x = self.eval(readers, less, node.a);
                 let y = self.eval(readers, less, node.b);
-                operate(book_parts::permanent(self.image), k, x, y)
+                operate(book_parts::permanent(self.image), node.kind, x, y)
             }
             _ => 0,
         }
@@ -264,14 +269,13 @@ impl Frame<'_> {
         }
         let less = depth - 1;
         let node = book_parts::node(self.image, n);
-        let k = node.kind;
-        match k {
-            4 => location(self.image, node.a, 0, 0),
-            5 => {
+        match book_parts::kind_of(node.kind) {
+            NodeKind::Function => location(self.image, node.a, 0, 0),
+            NodeKind::FunctionOfOne => {
                 let x = self.argument(readers, less, node.b);
                 location(self.image, node.a, 0, x)
             }
-            6 => {
+            NodeKind::FunctionOfTwo => {
                 let x = self.argument(readers, less, node.b);
                 let y = self.argument(readers, less, node.c);
                 location(self.image, node.a, x, y)

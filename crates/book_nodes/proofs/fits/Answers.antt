@@ -3,41 +3,9 @@ use mathlib.Core.Bool.{or-false}
 use Rattle.book.specs.Lines.{fits}
 use Rattle.book_nodes.proofs.fits.Goals as goal
 
-pub returns-in-NoKind : goal.returns-in-NoKind
-unfolding fits
-returns-in-NoKind c = rw (c.in-NoKind.is) (simp or-false)
-
 pub returns-in-Unused : goal.returns-in-Unused
 unfolding fits
 returns-in-Unused c = rw (c.in-Unused.is) (simp or-false)
-
-pub returns-in-Permanent : goal.returns-in-Permanent
-unfolding fits
-returns-in-Permanent c = rw (c.in-Permanent.is, c.permanent.ensures) (simp or-false)
-
-pub returns-in-Variable : goal.returns-in-Variable
-unfolding fits
-returns-in-Variable c = rw (c.in-Variable.is) (simp or-false)
-
-pub returns-in-Function0 : goal.returns-in-Function0
-unfolding fits
-returns-in-Function0 c = rw (c.in-Function0.is, c.is_named.ensures) (simp or-false)
-
-pub returns-in-Function1 : goal.returns-in-Function1
-unfolding fits
-returns-in-Function1 c = rw (c.in-Function1.is, c.is_named-in-Function1.ensures) (simp or-false)
-
-pub returns-in-Function2 : goal.returns-in-Function2
-unfolding fits
-returns-in-Function2 c = rw (c.in-Function2.is, c.is_named-in-Function2.ensures) (simp or-false)
-
-pub returns-in-Universe : goal.returns-in-Universe
-unfolding fits
-returns-in-Universe c = rw (c.in-Universe.is, c.is_relation.ensures, c.function_at.ensures, c.is_named-in-Universe.ensures) (simp or-false)
-
-pub returns-in-DynamicUniverse : goal.returns-in-DynamicUniverse
-unfolding fits
-returns-in-DynamicUniverse c = rw (c.in-DynamicUniverse.is, c.function_at-in-DynamicUniverse.ensures, c.is_named-in-DynamicUniverse.ensures) (simp or-false)
 
 pub returns-in-Term : goal.returns-in-Term
 unfolding fits
@@ -46,7 +14,3 @@ returns-in-Term c = rw (c.in-Term.is, c.is_term.ensures, c.node_at.ensures) (sim
 pub returns-in-Rule : goal.returns-in-Rule
 unfolding fits
 returns-in-Rule c = rw (c.in-Rule.is, c.is_rule.ensures, c.node_at-in-Rule.ensures) (simp or-false)
-
-pub returns-in-LocationTerm : goal.returns-in-LocationTerm
-unfolding fits
-returns-in-LocationTerm c = rw (c.in-LocationTerm.is, c.is_dynamic.ensures, c.function_at-in-LocationTerm.ensures, c.node_at-y.ensures)

@@ -1,32 +1,37 @@
 -- `operate` meets its contract.
 use mathlib.Core.Path.{◌∙◌}
 use Rattle.engine.specs.Term.{apply}
+use Rattle.engine_term.proofs.TermKinds.{no_join_number}
 use Rattle.engine_term.proofs.Values.{no_join}
 use Rattle.engine_term.proofs.operate.Goals as goal
 
-pub returns-in-7 : goal.returns-in-7
+pub returns-in-Equal : goal.returns-in-Equal
 unfolding apply
-returns-in-7 c = c.truth.ensures ∙ rw c.in-7.is
+returns-in-Equal c = c.truth.ensures ∙ rw c.in-Equal.ensures
 
-pub returns-in-9 : goal.returns-in-9
+pub returns-in-And : goal.returns-in-And
 unfolding apply
-returns-in-9 c = c.and.ensures ∙ rw c.in-9.is
+returns-in-And c = c.and.ensures ∙ rw c.in-And.ensures
 
-pub returns-in-10 : goal.returns-in-10
+pub returns-in-Or : goal.returns-in-Or
 unfolding apply
-returns-in-10 c = c.or.ensures ∙ rw c.in-10.is
+returns-in-Or c = c.or.ensures ∙ rw c.in-Or.ensures
 
-pub returns-in-11 : goal.returns-in-11
+pub returns-in-Plus : goal.returns-in-Plus
 unfolding apply
-returns-in-11 c = c.plus.ensures ∙ rw c.in-11.is
+returns-in-Plus c = c.plus.ensures ∙ rw c.in-Plus.ensures
 
-pub returns-in-12 : goal.returns-in-12
+pub returns-in-Minus : goal.returns-in-Minus
 unfolding apply
-returns-in-12 c = c.minus.ensures ∙ rw c.in-12.is
+returns-in-Minus c = c.minus.ensures ∙ rw c.in-Minus.ensures
 
-pub returns-in-13 : goal.returns-in-13
+pub returns-in-Less : goal.returns-in-Less
 unfolding apply
-returns-in-13 c = c.less.ensures ∙ rw c.in-13.is
+returns-in-Less c = c.less.ensures ∙ rw c.in-Less.ensures
 
 pub returns-in_default : goal.returns-in_default
-returns-in_default c = let r = c.in_default.in_default-own.rest in let a = c.args in no_join a.p a.k a.x a.y r.0.0.0.0.0.1 r.0.0.0.0.1 r.0.0.0.1 r.0.0.1 r.0.1 r.1
+returns-in_default c =
+    let a = c.args in
+    let d = c.in_default in
+    let r = no_join_number c.kind_of.result a.k c.kind_of.ensures d.not-Equal d.not-And d.not-Or d.not-Plus d.not-Minus d.not-Less in
+    no_join a.p a.k a.x a.y r.0 r.1 r.2 r.3 r.4 r.5
