@@ -10,6 +10,7 @@ ghost use Rattle.book.specs.Image.{low_program};
 ghost use Rattle.engine_emit.specs.Emit.{reached, picks_left, refused_by, setting, releasing, importing, importing_found, next_pick, picking};
 
 use book::Image;
+use book_parts::NodeKind;
 use engine::{Instruction, Pick, Work};
 use text::{Reason, Value};
 
@@ -76,11 +77,10 @@ pub fn target_function(image: &Image, depth: usize, n: u16) -> u16
         return 0;
     }
     let node = book_parts::node(image, n);
-    let k = node.kind;
-    match k {
-        4 => node.a,
-        5 => node.a,
-        6 => node.a,
+    match book_parts::kind_of(node.kind) {
+        NodeKind::Function => node.a,
+        NodeKind::FunctionOfOne => node.a,
+        NodeKind::FunctionOfTwo => node.a,
         _ => 0,
     }
 }
