@@ -1,3 +1,4 @@
 pub mod Steps
 pub mod Forall
 pub mod Kept
+pub mod RuleKinds

@@ -13,7 +13,7 @@ ghost use Rattle.engine_walk.specs.WalkMarks.{bits_cleared, WalkMarked};
 ghost use Rattle.engine_walk.specs.Walk.{outcome, assign_rule, let_rule, forall_rule, import_rule, release_rule, choose_rule, state, state_with, RuleWalked, NodeWalked, BodyWalked};
 
 use book::Image;
-use book_parts::StoredNode;
+use book_parts::{NodeKind, StoredNode};
 use engine::{Pick, Work};
 use engine_emit::Progress;
 use engine_term::Frame;
@@ -96,25 +96,27 @@ fn walk(
         }
         let node = book_parts::node(frame.image, at);
         let less = left - 1;
-        let k = node.kind;
-        match k {
-            20..=28 => match k {
-                21 => return walk_assign(frame, readers, list, less, r, at, node),
-                22 => {
-                    r = walk(frame, readers, list, picks, used, less, r, node.a);
-                    at = node.b;
-                }
-                23 => {
-                    let x = frame.eval(readers, less, node.a);
-                    at = branch(x, node.b, node.c);
-                }
-                24 => return walk_let(frame, readers, list, picks, used, less, r, node),
-                25 => return walk_forall(frame, readers, list, picks, used, less, r, node),
-                26 => return walk_import(frame, readers, list, picks, used, less, r, at, node),
-                27 => return walk_release(frame, readers, list, less, r, at, node),
-                28 => return walk_choose(frame, readers, list, picks, used, less, r, at, node),
-                _ => return r,
-            },
+        match book_parts::kind_of(node.kind) {
+            NodeKind::Set => return walk_assign(frame, readers, list, less, r, at, node),
+            NodeKind::Both => {
+                r = walk(frame, readers, list, picks, used, less, r, node.a);
+                at = node.b;
+            }
+            NodeKind::If => {
+                let x = frame.eval(readers, less, node.a);
+                at = branch(x, node.b, node.c);
+            }
+            NodeKind::Let => return walk_let(frame, readers, list, picks, used, less, r, node),
+            NodeKind::Forall => return walk_forall(
+                frame, readers, list, picks, used, less, r, node,
+            ),
+            NodeKind::Import => return walk_import(
+                frame, readers, list, picks, used, less, r, at, node,
+            ),
+            NodeKind::Release => return walk_release(frame, readers, list, less, r, at, node),
+            NodeKind::Choose => return walk_choose(
+                frame, readers, list, picks, used, less, r, at, node,
+            ),
             _ => return r,
         }
         left = less;

@@ -7,7 +7,7 @@ use lib.ListN.{set}
 use Rattle.book.specs.Book.{node_at, location}
 use Rattle.engine.specs.Reader.{Reader}
 use Rattle.engine.specs.Rule.{Walk, Walked, lowest, import_of, walk as walked, rule_from}
-use Rattle.engine.proofs.Steps.{rule_last, rule_assign, rule_bind, rule_for_all, rule_import, rule_release, rule_choose, no_rule_at}
+use Rattle.engine.proofs.Steps.{rule_last, rule_assign, rule_bind, rule_for_all, rule_import, rule_release, rule_choose}
 use Rattle.engine_term.specs.Bindings.{variables_of, agent_of, value_at}
 use Rattle.book_parts.specs.StoredNodes.{stored_node}
 use Rattle.book.specs.Image.{low_program}
@@ -19,6 +19,7 @@ use Rattle.engine_emit.proofs.Steps.{reached_walking, reached_refused}
 use Rattle.engine_reads.specs.Marking.{found_below}
 use Rattle.engine_reads.proofs.Members.{universe_placed, members_next}
 use Rattle.engine_walk.specs.Walk.{body_at}
+use Rattle.engine_walk.proofs.RuleKinds.{no_rule_number}
 use Rattle.engine_walk.proofs.Steps.{runs_bindings, runs_from, runs_refused, runs_rule, runs_skip, runs_block, runs_test, import_as, runs_choose, rule_none}
 use Rattle.engine_walk.proofs.Forall.{sweep_as, sweep_more, sweep_end, runs_for_all}
 use Rattle.book.proofs.Held.{elements_held, function_held}
@@ -34,81 +35,71 @@ walk-returns-then-is_some t c =
     let l = c.loop-left in
     l.invariant.2 _ _ (runs_refused (low_program f.image.now) f.contents.now f.bit _ _ _ _ _ (reached_refused (picks_left a.picks.now l.used) l.r l.list (some_numbered _ c.is_some.ensures c.if-is_some.true)))
 
-pub walk-returns-in-21 : goal.walk-returns-in-21
-walk-returns-in-21 t c =
+pub walk-returns-in-Set : goal.walk-returns-in-Set
+walk-returns-in-Set t c =
     let a = c.args in
     let f = a.frame.now in
     let B = low_program f.image.now in
     let l = c.loop-left in
     l.invariant.2 _ _
     (runs_rule B f.contents.now f.bit (agent_of f.bindings) (variables_of f.bindings) (rule_from (node_at B) l.left l.at) _ (picks_left a.picks.now l.used) l.r l.list _ _ _ (unrefused _ c.is_some.ensures c.if-is_some.false)
-    (rule_assign (node_at B) l.left l.at (stored_node c.node-node.result) c.loop-left-test.true c.node-node.ensures c.in-21.is)
+    (rule_assign (node_at B) l.left l.at (stored_node c.node-node.result) c.loop-left-test.true c.node-node.ensures c.in-Set.ensures)
     (c.walk_assign.ensures (picks_left a.picks.now l.used)))
 
-pub walk-returns-in-24 : goal.walk-returns-in-24
-walk-returns-in-24 t c =
+pub walk-returns-in-Let : goal.walk-returns-in-Let
+walk-returns-in-Let t c =
     let a = c.args in
     let f = a.frame.now in
     let B = low_program f.image.now in
     let l = c.loop-left in
     l.invariant.2 _ _
     (runs_rule B f.contents.now f.bit (agent_of f.bindings) (variables_of f.bindings) (rule_from (node_at B) l.left l.at) _ (picks_left a.picks.now l.used) l.r l.list _ _ _ (unrefused _ c.is_some.ensures c.if-is_some.false)
-    (rule_bind (node_at B) l.left l.at (stored_node c.node-node.result) c.loop-left-test.true c.node-node.ensures c.in-24.is)
+    (rule_bind (node_at B) l.left l.at (stored_node c.node-node.result) c.loop-left-test.true c.node-node.ensures c.in-Let.ensures)
     c.walk_let.ensures)
 
-pub walk-returns-in-25 : goal.walk-returns-in-25
-walk-returns-in-25 t c =
+pub walk-returns-in-Forall : goal.walk-returns-in-Forall
+walk-returns-in-Forall t c =
     let a = c.args in
     let f = a.frame.now in
     let B = low_program f.image.now in
     let l = c.loop-left in
     l.invariant.2 _ _
     (runs_rule B f.contents.now f.bit (agent_of f.bindings) (variables_of f.bindings) (rule_from (node_at B) l.left l.at) _ (picks_left a.picks.now l.used) l.r l.list _ _ _ (unrefused _ c.is_some.ensures c.if-is_some.false)
-    (rule_for_all (node_at B) l.left l.at (stored_node c.node-node.result) c.loop-left-test.true c.node-node.ensures c.in-25.is)
-    (runs_given B f.contents.now f.bit _ _ _ _ (λ p. c.walk_forall.ensures (named_universe B p l.at (stored_node c.node-node.result) c.node-node.ensures (inl c.in-25.is)))))
+    (rule_for_all (node_at B) l.left l.at (stored_node c.node-node.result) c.loop-left-test.true c.node-node.ensures c.in-Forall.ensures)
+    (runs_given B f.contents.now f.bit _ _ _ _ (λ p. c.walk_forall.ensures (named_universe B p l.at (stored_node c.node-node.result) c.node-node.ensures (inl c.in-Forall.ensures)))))
 
-pub walk-returns-in-26 : goal.walk-returns-in-26
-walk-returns-in-26 t c =
+pub walk-returns-in-Import : goal.walk-returns-in-Import
+walk-returns-in-Import t c =
     let a = c.args in
     let f = a.frame.now in
     let B = low_program f.image.now in
     let l = c.loop-left in
     l.invariant.2 _ _
     (runs_rule B f.contents.now f.bit (agent_of f.bindings) (variables_of f.bindings) (rule_from (node_at B) l.left l.at) _ (picks_left a.picks.now l.used) l.r l.list _ _ _ (unrefused _ c.is_some.ensures c.if-is_some.false)
-    (rule_import (node_at B) l.left l.at (stored_node c.node-node.result) c.loop-left-test.true c.node-node.ensures c.in-26.is)
-    (runs_given B f.contents.now f.bit _ _ _ _ (λ p. c.walk_import.ensures (named_universe B p l.at (stored_node c.node-node.result) c.node-node.ensures (inr (inl c.in-26.is))))))
+    (rule_import (node_at B) l.left l.at (stored_node c.node-node.result) c.loop-left-test.true c.node-node.ensures c.in-Import.ensures)
+    (runs_given B f.contents.now f.bit _ _ _ _ (λ p. c.walk_import.ensures (named_universe B p l.at (stored_node c.node-node.result) c.node-node.ensures (inr (inl c.in-Import.ensures))))))
 
-pub walk-returns-in-27 : goal.walk-returns-in-27
-walk-returns-in-27 t c =
+pub walk-returns-in-Release : goal.walk-returns-in-Release
+walk-returns-in-Release t c =
     let a = c.args in
     let f = a.frame.now in
     let B = low_program f.image.now in
     let l = c.loop-left in
     l.invariant.2 _ _
     (runs_rule B f.contents.now f.bit (agent_of f.bindings) (variables_of f.bindings) (rule_from (node_at B) l.left l.at) _ (picks_left a.picks.now l.used) l.r l.list _ _ _ (unrefused _ c.is_some.ensures c.if-is_some.false)
-    (rule_release (node_at B) l.left l.at (stored_node c.node-node.result) c.loop-left-test.true c.node-node.ensures c.in-27.is)
+    (rule_release (node_at B) l.left l.at (stored_node c.node-node.result) c.loop-left-test.true c.node-node.ensures c.in-Release.ensures)
     (c.walk_release.ensures (picks_left a.picks.now l.used)))
 
-pub walk-returns-in-28 : goal.walk-returns-in-28
-walk-returns-in-28 t c =
+pub walk-returns-in-Choose : goal.walk-returns-in-Choose
+walk-returns-in-Choose t c =
     let a = c.args in
     let f = a.frame.now in
     let B = low_program f.image.now in
     let l = c.loop-left in
     l.invariant.2 _ _
     (runs_rule B f.contents.now f.bit (agent_of f.bindings) (variables_of f.bindings) (rule_from (node_at B) l.left l.at) _ (picks_left a.picks.now l.used) l.r l.list _ _ _ (unrefused _ c.is_some.ensures c.if-is_some.false)
-    (rule_choose (node_at B) l.left l.at (stored_node c.node-node.result) c.loop-left-test.true c.node-node.ensures c.in-28.is)
-    (runs_given B f.contents.now f.bit _ _ _ _ (λ p. c.walk_choose.ensures (named_universe B p l.at (stored_node c.node-node.result) c.node-node.ensures (inr (inr c.in-28.is))))))
-
-pub walk-returns-in_default-k : goal.walk-returns-in_default-k
-walk-returns-in_default-k t c =
-    let a = c.args in
-    let f = a.frame.now in
-    let B = low_program f.image.now in
-    let l = c.loop-left in
-    l.invariant.2 _ _
-    (runs_skip B f.contents.now f.bit (agent_of f.bindings) (variables_of f.bindings) (rule_from (node_at B) l.left l.at) (reached (picks_left a.picks.now l.used) l.r l.list) l.readers
-    (rule_none (node_at B) l.left l.at (stored_node c.node-node.result) c.loop-left-test.true c.node-node.ensures (λ e. omega arith) (λ e. omega arith) (λ e. omega arith) (λ e. omega arith) (λ e. omega arith) (λ e. omega arith) (λ e. omega arith) (λ e. omega arith)))
+    (rule_choose (node_at B) l.left l.at (stored_node c.node-node.result) c.loop-left-test.true c.node-node.ensures c.in-Choose.ensures)
+    (runs_given B f.contents.now f.bit _ _ _ _ (λ p. c.walk_choose.ensures (named_universe B p l.at (stored_node c.node-node.result) c.node-node.ensures (inr (inr c.in-Choose.ensures))))))
 
 pub walk-returns-in_default : goal.walk-returns-in_default
 walk-returns-in_default t c =
@@ -116,22 +107,15 @@ walk-returns-in_default t c =
     let f = a.frame.now in
     let B = low_program f.image.now in
     let l = c.loop-left in
+    let x = stored_node c.node-node.result in
+    let d = c.in_default in
+    let h = no_rule_number c.kind_of.result x.kind c.kind_of.ensures d.not-Set d.not-Both d.not-If d.not-Let d.not-Forall d.not-Import d.not-Release d.not-Choose in
     l.invariant.2 _ _
     (runs_skip B f.contents.now f.bit (agent_of f.bindings) (variables_of f.bindings) (rule_from (node_at B) l.left l.at) (reached (picks_left a.picks.now l.used) l.r l.list) l.readers
-    (no_rule_at (node_at B) l.left l.at (stored_node c.node-node.result) c.loop-left-test.true c.node-node.ensures (inl (omega arith))))
+    (rule_none (node_at B) l.left l.at x c.loop-left-test.true c.node-node.ensures h.0 h.1 h.2 h.3 h.4 h.5 h.6 h.7))
 
-pub walk-returns-in_default-2 : goal.walk-returns-in_default-2
-walk-returns-in_default-2 t c =
-    let a = c.args in
-    let f = a.frame.now in
-    let B = low_program f.image.now in
-    let l = c.loop-left in
-    l.invariant.2 _ _
-    (runs_skip B f.contents.now f.bit (agent_of f.bindings) (variables_of f.bindings) (rule_from (node_at B) l.left l.at) (reached (picks_left a.picks.now l.used) l.r l.list) l.readers
-    (no_rule_at (node_at B) l.left l.at (stored_node c.node-node.result) c.loop-left-test.true c.node-node.ensures (inr (omega arith))))
-
-pub walk-loop-left-preserved-in-22 : goal.walk-loop-left-preserved-in-22
-walk-loop-left-preserved-in-22 t c =
+pub walk-loop-left-preserved-in-Both : goal.walk-loop-left-preserved-in-Both
+walk-loop-left-preserved-in-Both t c =
     let a = c.args in
     let f = a.frame.now in
     let B = low_program f.image.now in
@@ -140,7 +124,7 @@ walk-loop-left-preserved-in-22 t c =
       omega arith,
       k.auto.readers ∙ l.invariant.1,
       λ z m h. l.invariant.2 z m
-          (runs_block B f.contents.now f.bit (agent_of f.bindings) (variables_of f.bindings) (node_at B) l.left l.at (stored_node c.node-node.result) c.loop-left-test.true c.node-node.ensures (picks_left a.picks.now l.used) l.r l.list (unrefused _ c.is_some.ensures c.if-is_some.false) _ z _ _ m c.in-22.is k.ensures h),
+          (runs_block B f.contents.now f.bit (agent_of f.bindings) (variables_of f.bindings) (node_at B) l.left l.at (stored_node c.node-node.result) c.loop-left-test.true c.node-node.ensures (picks_left a.picks.now l.used) l.r l.list (unrefused _ c.is_some.ensures c.if-is_some.false) _ z _ _ m c.in-Both.ensures k.ensures h),
     )
 
 pub walk-loop-left-preserved : goal.walk-loop-left-preserved
@@ -152,7 +136,7 @@ walk-loop-left-preserved t c =
       omega arith,
       c.eval-x.auto.readers ∙ l.invariant.1,
       λ z m h. l.invariant.2 z m
-          (runs_test B f.contents.now f.bit (agent_of f.bindings) (variables_of f.bindings) (node_at B) l.left l.at (stored_node c.node-node.result) c.loop-left-test.true c.node-node.ensures (picks_left a.picks.now l.used) l.r l.list (unrefused _ c.is_some.ensures c.if-is_some.false) c.eval-x.result c.branch-at.result z _ _ m c.in-23.is c.branch-at.ensures c.eval-x.ensures h),
+          (runs_test B f.contents.now f.bit (agent_of f.bindings) (variables_of f.bindings) (node_at B) l.left l.at (stored_node c.node-node.result) c.loop-left-test.true c.node-node.ensures (picks_left a.picks.now l.used) l.r l.list (unrefused _ c.is_some.ensures c.if-is_some.false) c.eval-x.result c.branch-at.result z _ _ m c.in-If.ensures c.branch-at.ensures c.eval-x.ensures h),
     )
 
 pub walk-returns : goal.walk-returns
