@@ -122,14 +122,14 @@ pub fn sorts_of(kind: u32) -> OperandSorts
     }
 }
 
-// The kind is that of a term.
+// The kind is that of a term: a range of numbers, as SPECIFICATION 2.7 and the definition have it, where names would be a list of 13.
 fn is_term(kind: u32) -> bool
     ensures { result ≡ is_term kind }
 {
     matches!(kind, 1..=13)
 }
 
-// The kind is that of a rule.
+// The kind is that of a rule: a range of numbers, for the same reason.
 fn is_rule(kind: u32) -> bool
     ensures { result ≡ is_rule kind }
 {

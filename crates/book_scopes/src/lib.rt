@@ -104,7 +104,7 @@ fn in_forall(y: Node, v: u16) -> u16
     }
 }
 
-// The kind binds a variable.
+// The kind binds a variable: 24 to 26 and 28 of SPECIFICATION 2.7. `Node` has the number of the text, which may be past the sixteen bits of `kind_of`.
 fn is_binder(kind: u32) -> bool
     ensures { result ≡ is_binder kind }
 {

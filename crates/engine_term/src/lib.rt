@@ -245,7 +245,7 @@ impl Frame<'_> {
         }
     }
 
-    // The same, with a variable's value looked up without a call: most arguments are variables.
+    // The same, with a variable's value looked up without a call: most arguments are variables. One number is asked for, so it stays a test (kind 2).
     #[cycle(argument_eval)]
     fn argument(&self, readers: &mut [u64], depth: usize, n: u16) -> Value
         ensures { Runs (low_program self.now.image.now) self.now.contents.now self.now.bit (value_at self.now.image.now self.now.bindings depth n) result readers.old readers.new }

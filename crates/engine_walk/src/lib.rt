@@ -92,6 +92,7 @@ fn walk(
     let mut left = depth;
     let mut at = n;
     let mut r = s;
+    // The rule that is next stands in the node, so no range goes over the rules.
     while 2 <= left {
         if r.refused.is_some() {
             return r;
@@ -176,6 +177,7 @@ fn walk_forall(
     engine_reads::mark_universe(readers, frame.bit, f, e);
     let mut r = s;
     let mut y = engine_reads::next_member(frame.contents, f.first, e, 0);
+    // The member that is next is sought, so no range goes over the members.
     while y < e {
         r = walk_body(frame, readers, list, picks, depth, r, node, y);
         if r.refused.is_some() {

@@ -28,6 +28,7 @@ fn make_moves(
 {
     let mut work = [0u64; engine::MOST_INSTRUCTIONS];
     let mut state = first;
+    // Which move is next, the one before says.
     loop {
         let next = match state {
             RunState::Next(next) => next,
