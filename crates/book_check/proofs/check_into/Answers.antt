@@ -71,9 +71,11 @@ returns-in_err-bounds c =
 
 pub check_text-requires : goal.check_text-requires
 check_text-requires c =
-    let s = sound (goal.at.check_text-requires c).After-header_of in
-    (rw (header_is (goal.at.check_text-requires c).After-header_of)
-    (header_room c.args.book.now s (bounds_passed _ _ (bounds (goal.at.check_text-requires c).After-none_at-bounds) (passing c.in_ok-bounds.was))), s)
+    let s = sound (goal.at.check_text-requires c).After-header_of in (
+      rw (header_is (goal.at.check_text-requires c).After-header_of)
+          (header_room c.args.book.now s (bounds_passed _ _ (bounds (goal.at.check_text-requires c).After-none_at-bounds) (passing c.in_ok-bounds.was))),
+      s,
+    )
 
 pub returns : goal.returns
 returns c =
