@@ -80,7 +80,7 @@ unfolding roll_of
 roll_step es i s e p = rw (add-one i, ← p)
 
 -- the elements of an entry in bounds
-bounded : (f x y v F E : ℕ) → (ltb f F && ltb x E && ltb y E && ltb v E) ≡ true → (x < E) × (y < E) × (v < E)
+pub bounded : (f x y v F E : ℕ) → (ltb f F && ltb x E && ltb y E && ltb v E) ≡ true → (x < E) × (y < E) × (v < E)
 bounded f x y v F E p =
     let q = and_cases (ltb f F && ltb x E && ltb y E) (ltb v E) p in
     let r = and_cases (ltb f F && ltb x E) (ltb y E) q.0 in

@@ -47,7 +47,7 @@ taken false false = refl
 
 -- one user more: the least that is left
 module _ (r w : ℕ) (t u : List ℕ) (left : ℕ) (fit : left < 2 ^ 64) (some : left ≢ 0) where
-  left_lt : count_trailing_zeros 64 left < 64
+  pub left_lt : count_trailing_zeros 64 left < 64
   left_lt = least_lt 64 left fit some
 
   module _ (s : Sofar r w t u left) (size : length u ≡ 64) (o : ℕ) (is : o ≡ others r w (count_trailing_zeros 64 left)) where

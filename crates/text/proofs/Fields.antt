@@ -217,10 +217,10 @@ module _ (text : List ℕ) (at : ℕ) where
 
 -- ---- what the code reads of a field
 
-in_form : (cs : List ℕ) (r : ℕ) → field_ok cs ≡ true → r ≡ value_of 0 cs → r < no_number → Read cs r
+pub in_form : (cs : List ℕ) (r : ℕ) → field_ok cs ≡ true → r ≡ value_of 0 cs → r < no_number → Read cs r
 in_form cs r e v h = record { value = rw e v; form = rw (e, ne_eqb r no_number (λ z. omega arith)) }
 
-out_of_form : (cs : List ℕ) → field_ok cs ≡ false → Read cs no_number
+pub out_of_form : (cs : List ℕ) → field_ok cs ≡ false → Read cs no_number
 out_of_form cs e = record { value = rw e; form = rw e }
 
 -- a blank before the columns changes neither their form nor their number
@@ -228,7 +228,7 @@ pub after_blank : {cs : List ℕ} {r : ℕ} → Read cs r → Read (blank ∷ cs
 unfolding field_ok value_of
 after_blank p = record { value = p.value; form = p.form }
 
-digit_bounds : (c : ℕ) → digit c ≡ true → (48 ≤ c) × (c ≤ 57)
+pub digit_bounds : (c : ℕ) → digit c ≡ true → (48 ≤ c) × (c ≤ 57)
 digit_bounds c e = let r = and_cases (leb 48 c) (leb c 57) e in (leb-true 48 c r.0, leb-true c 57 r.1)
 
 no_blank : (c : ℕ) → digit c ≡ true → eqb c blank ≡ false
@@ -248,7 +248,7 @@ no_digit f e = out_of_form (f ∷ []) (go (eqb f blank))
     go false = rw e
 
 -- where the first column is a digit but not 0 and the second a digit, both are from 48 to 57
-led : (e f : ℕ) → ((digit e && not (eqb e zero_digit)) && digit f) ≡ true → (48 ≤ e) × (e ≤ 57) × (48 ≤ f) × (f ≤ 57)
+pub led : (e f : ℕ) → ((digit e && not (eqb e zero_digit)) && digit f) ≡ true → (48 ≤ e) × (e ≤ 57) × (48 ≤ f) × (f ≤ 57)
 led e f t =
     let s = and_cases (digit e && not (eqb e zero_digit)) (digit f) t in
     let de = digit_bounds e (and_cases (digit e) (not (eqb e zero_digit)) s.0).0 in
