@@ -40,6 +40,14 @@ unfolding uses_counted
 tally_none B s = refl
 
 module _ (B : Program) (ab c : Node → ℕ → ℕ) (s : List ℕ) where
+  -- one more node than k, counted from the last, for every k
+  pub all_given_more :
+      (k : ℕ) → all_given B ab c (k + 1) s
+      ≡ operands_given (node_at B (length B.nodes - (k + 1))) (ab (node_at B (length B.nodes - (k + 1))) (get_or (all_given B ab c k s) (length B.nodes - (k + 1)) 0))
+      (c (node_at B (length B.nodes - (k + 1))) (get_or (all_given B ab c k s) (length B.nodes - (k + 1)) 0)) (all_given B ab c k s)
+  unfolding all_given
+  all_given_more k = rw (add-one k)
+
   -- the nodes from m on have given what those after it had, and then node m
   pub all_given_step :
       (m : ℕ) → m < length B.nodes → let t = all_given B ab c (length B.nodes - (m + 1)) s in

@@ -81,6 +81,14 @@ module _ (text : List ℕ) where
       go false = refl
 
   module _ (p : Option Line) (is : p ≡ parsed text 0) (a : Answer) (e : a ≡ answer_of (header_checked p)) where
+    -- the header is in form if its answer has number 0
+    pub header_in_form : a.number ≡ 0 → p ≢ None
+    unfolding header_checked
+    header_in_form z none =
+        let f : a ≡ answer_of (header_checked None) = e ∙ ap (λ (x : Option Line). answer_of (header_checked x)) none in
+        let x : ◌≡◌ {A = ℕ} 1 0 = ap (λ (x : Answer). x.number) (sym f) ∙ z in
+        absurd (omega arith)
+
     -- the header is within its bounds if its answer has number 0
     pub header_ok : a.number ≡ 0 → (h : Line) → p ≡ Some h → (well_formed (line_bytes text 0) ≡ true) × (h ≡ line text 0) × (log_header_ok h ≡ true)
     unfolding header_checked
