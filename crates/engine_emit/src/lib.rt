@@ -1,7 +1,7 @@
 // The state of a walk, and its steps: an instruction given, a pick taken, a refusal.
 #![tactic(auto)]
 
-ghost use Rattle.std.specs.Prelude.{◌≡◌, List, [], ℕ, suc, ◌<◌, length, get_or};
+ghost use Rattle.std.specs.Prelude.{◌≡◌, ◌&&◌, List, [], ℕ, suc, ◌<◌, length, get_or, eqb, ltb, if◌then◌else◌};
 ghost use Rattle.text.specs.Refusals.{number_of};
 ghost use Rattle.book.specs.Book.{node_at};
 ghost use Rattle.engine.specs.Term.{term_at, function_of};
@@ -211,8 +211,11 @@ impl Picks<'_> {
     }
 
     // Takes the pick that is next, the universe having the value v there; refusal 19 if there is none, 18 if it is not in the universe.
+    // The list that was given stays the same, and one pick more is used exactly where one is taken.
     pub fn take(&mut self, s: Progress, n: u16, v: Value) -> Progress
-        ensures { (l : List ℕ) → reached (picks_left self.new) result l ≡ (reached (picks_left self.old) s l then picking v n) }
+        ensures walked { (l : List ℕ) → reached (picks_left self.new) result l ≡ (reached (picks_left self.old) s l then picking v n) }
+        ensures given { self.new.given ≡ self.old.given }
+        ensures used { self.new.used ≡ (if ltb self.old.used (length self.old.given.now) && eqb v 2 then suc self.old.used else self.old.used) }
     {
         let i = self.used;
         if self.given.len() <= i {

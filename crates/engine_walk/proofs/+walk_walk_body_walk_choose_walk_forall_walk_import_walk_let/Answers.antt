@@ -171,7 +171,7 @@ walk_choose-returns t c =
     let y = c.next-x in
     let v = c.read_universe-v in
     let is : y.result ≡ next_pick B.E ys = y.ensures in
-    let took : reached (picks_left p.new.self) p.result a.list.now ≡ picked v.result a.n w ys = p.ensures a.list.now ∙ rw (reached_walking ys a.s a.list.now c.requires) in
+    let took : reached (picks_left p.new.self) p.result a.list.now ≡ picked v.result a.n w ys = p.ensures.walked a.list.now ∙ rw (reached_walking ys a.s a.list.now c.requires) in
     λ has. runs_choose B f.contents.now f.bit a.n x.b w body v.result _ _ _ _ ys (rw is at (v.ensures has)) (rw (took, is) at c.walk_body.ensures)
 
 pub walk_forall-loop-y-init : goal.walk_forall-loop-y-init
