@@ -43,7 +43,7 @@ walk-returns-in-Set t c =
     let l = c.loop-left in
     l.invariant.2 _ _
     (runs_rule B f.contents.now f.bit (agent_of f.bindings) (variables_of f.bindings) (rule_from (node_at B) l.left l.at) _ (picks_left l.picks) l.r l.list _ _ _ (unrefused _ c.is_some.ensures c.if-is_some.false)
-    (rule_assign (node_at B) l.left l.at (stored_node c.node-node.result) c.loop-left-test.true c.node-node.ensures c.in-Set.ensures)
+    (rule_assign (node_at B) l.left l.at (stored_node c.node-node.result) c.loop-left-test.true c.node-node.ensures (omega (arith, c.in-Set.ensures)))
     (c.walk_assign.ensures (picks_left l.picks)))
 
 pub walk-returns-in-Let : goal.walk-returns-in-Let
@@ -54,7 +54,7 @@ walk-returns-in-Let t c =
     let l = c.loop-left in
     l.invariant.2 _ _
     (runs_rule B f.contents.now f.bit (agent_of f.bindings) (variables_of f.bindings) (rule_from (node_at B) l.left l.at) _ (picks_left l.picks) l.r l.list _ _ _ (unrefused _ c.is_some.ensures c.if-is_some.false)
-    (rule_bind (node_at B) l.left l.at (stored_node c.node-node.result) c.loop-left-test.true c.node-node.ensures c.in-Let.ensures)
+    (rule_bind (node_at B) l.left l.at (stored_node c.node-node.result) c.loop-left-test.true c.node-node.ensures (omega (arith, c.in-Let.ensures)))
     c.walk_let.ensures)
 
 pub walk-returns-in-Forall : goal.walk-returns-in-Forall
@@ -65,8 +65,8 @@ walk-returns-in-Forall t c =
     let l = c.loop-left in
     l.invariant.2 _ _
     (runs_rule B f.contents.now f.bit (agent_of f.bindings) (variables_of f.bindings) (rule_from (node_at B) l.left l.at) _ (picks_left l.picks) l.r l.list _ _ _ (unrefused _ c.is_some.ensures c.if-is_some.false)
-    (rule_for_all (node_at B) l.left l.at (stored_node c.node-node.result) c.loop-left-test.true c.node-node.ensures c.in-Forall.ensures)
-    (runs_given B f.contents.now f.bit _ _ _ _ (λ p. c.walk_forall.ensures (named_universe B p l.at (stored_node c.node-node.result) c.node-node.ensures (inl c.in-Forall.ensures)))))
+    (rule_for_all (node_at B) l.left l.at (stored_node c.node-node.result) c.loop-left-test.true c.node-node.ensures (omega (arith, c.in-Forall.ensures)))
+    (runs_given B f.contents.now f.bit _ _ _ _ (λ p. c.walk_forall.ensures (named_universe B p l.at (stored_node c.node-node.result) c.node-node.ensures (inl (omega (arith, c.in-Forall.ensures)))))))
 
 pub walk-returns-in-Import : goal.walk-returns-in-Import
 walk-returns-in-Import t c =
@@ -76,8 +76,8 @@ walk-returns-in-Import t c =
     let l = c.loop-left in
     l.invariant.2 _ _
     (runs_rule B f.contents.now f.bit (agent_of f.bindings) (variables_of f.bindings) (rule_from (node_at B) l.left l.at) _ (picks_left l.picks) l.r l.list _ _ _ (unrefused _ c.is_some.ensures c.if-is_some.false)
-    (rule_import (node_at B) l.left l.at (stored_node c.node-node.result) c.loop-left-test.true c.node-node.ensures c.in-Import.ensures)
-    (runs_given B f.contents.now f.bit _ _ _ _ (λ p. c.walk_import.ensures (named_universe B p l.at (stored_node c.node-node.result) c.node-node.ensures (inr (inl c.in-Import.ensures))))))
+    (rule_import (node_at B) l.left l.at (stored_node c.node-node.result) c.loop-left-test.true c.node-node.ensures (omega (arith, c.in-Import.ensures)))
+    (runs_given B f.contents.now f.bit _ _ _ _ (λ p. c.walk_import.ensures (named_universe B p l.at (stored_node c.node-node.result) c.node-node.ensures (inr (inl (omega (arith, c.in-Import.ensures))))))))
 
 pub walk-returns-in-Release : goal.walk-returns-in-Release
 walk-returns-in-Release t c =
@@ -87,7 +87,7 @@ walk-returns-in-Release t c =
     let l = c.loop-left in
     l.invariant.2 _ _
     (runs_rule B f.contents.now f.bit (agent_of f.bindings) (variables_of f.bindings) (rule_from (node_at B) l.left l.at) _ (picks_left l.picks) l.r l.list _ _ _ (unrefused _ c.is_some.ensures c.if-is_some.false)
-    (rule_release (node_at B) l.left l.at (stored_node c.node-node.result) c.loop-left-test.true c.node-node.ensures c.in-Release.ensures)
+    (rule_release (node_at B) l.left l.at (stored_node c.node-node.result) c.loop-left-test.true c.node-node.ensures (omega (arith, c.in-Release.ensures)))
     (c.walk_release.ensures (picks_left l.picks)))
 
 pub walk-returns-in-Choose : goal.walk-returns-in-Choose
@@ -98,8 +98,8 @@ walk-returns-in-Choose t c =
     let l = c.loop-left in
     l.invariant.2 _ _
     (runs_rule B f.contents.now f.bit (agent_of f.bindings) (variables_of f.bindings) (rule_from (node_at B) l.left l.at) _ (picks_left l.picks) l.r l.list _ _ _ (unrefused _ c.is_some.ensures c.if-is_some.false)
-    (rule_choose (node_at B) l.left l.at (stored_node c.node-node.result) c.loop-left-test.true c.node-node.ensures c.in-Choose.ensures)
-    (runs_given B f.contents.now f.bit _ _ _ _ (λ p. c.walk_choose.ensures (named_universe B p l.at (stored_node c.node-node.result) c.node-node.ensures (inr (inr c.in-Choose.ensures))))))
+    (rule_choose (node_at B) l.left l.at (stored_node c.node-node.result) c.loop-left-test.true c.node-node.ensures (omega (arith, c.in-Choose.ensures)))
+    (runs_given B f.contents.now f.bit _ _ _ _ (λ p. c.walk_choose.ensures (named_universe B p l.at (stored_node c.node-node.result) c.node-node.ensures (inr (inr (omega (arith, c.in-Choose.ensures))))))))
 
 pub walk-returns-in_default : goal.walk-returns-in_default
 walk-returns-in_default t c =
@@ -109,10 +109,10 @@ walk-returns-in_default t c =
     let l = c.loop-left in
     let x = stored_node c.node-node.result in
     let d = c.in_default in
-    let h = no_rule_number c.kind_of.result x.kind c.kind_of.ensures d.not-Set d.not-Both d.not-If d.not-Let d.not-Forall d.not-Import d.not-Release d.not-Choose in
+    let h = no_rule_number c.kind_of.result _ c.kind_of.ensures d.not-Set d.not-Both d.not-If d.not-Let d.not-Forall d.not-Import d.not-Release d.not-Choose in
     l.invariant.2 _ _
     (runs_skip B f.contents.now f.bit (agent_of f.bindings) (variables_of f.bindings) (rule_from (node_at B) l.left l.at) (reached (picks_left l.picks) l.r l.list) l.readers
-    (rule_none (node_at B) l.left l.at x c.loop-left-test.true c.node-node.ensures h.0 h.1 h.2 h.3 h.4 h.5 h.6 h.7))
+    (rule_none (node_at B) l.left l.at x c.loop-left-test.true c.node-node.ensures (λ e. h.0 (omega (arith, e))) (λ e. h.1 (omega (arith, e))) (λ e. h.2 (omega (arith, e))) (λ e. h.3 (omega (arith, e))) (λ e. h.4 (omega (arith, e))) (λ e. h.5 (omega (arith, e))) (λ e. h.6 (omega (arith, e))) (λ e. h.7 (omega (arith, e)))))
 
 pub walk-loop-left-preserved-in-Both : goal.walk-loop-left-preserved-in-Both
 walk-loop-left-preserved-in-Both t c =
@@ -124,7 +124,7 @@ walk-loop-left-preserved-in-Both t c =
       omega arith,
       k.auto.readers ∙ l.invariant.1,
       λ z m h. l.invariant.2 z m
-          (runs_block B f.contents.now f.bit (agent_of f.bindings) (variables_of f.bindings) (node_at B) l.left l.at (stored_node c.node-node.result) c.loop-left-test.true c.node-node.ensures (picks_left l.picks) l.r l.list (unrefused _ c.is_some.ensures c.if-is_some.false) _ z _ _ m c.in-Both.ensures k.ensures h),
+          (runs_block B f.contents.now f.bit (agent_of f.bindings) (variables_of f.bindings) (node_at B) l.left l.at (stored_node c.node-node.result) c.loop-left-test.true c.node-node.ensures (picks_left l.picks) l.r l.list (unrefused _ c.is_some.ensures c.if-is_some.false) _ z _ _ m (omega (arith, c.in-Both.ensures)) k.ensures h),
     )
 
 pub walk-loop-left-preserved : goal.walk-loop-left-preserved
@@ -136,7 +136,7 @@ walk-loop-left-preserved t c =
       omega arith,
       c.eval-x.auto.readers ∙ l.invariant.1,
       λ z m h. l.invariant.2 z m
-          (runs_test B f.contents.now f.bit (agent_of f.bindings) (variables_of f.bindings) (node_at B) l.left l.at (stored_node c.node-node.result) c.loop-left-test.true c.node-node.ensures (picks_left l.picks) l.r l.list (unrefused _ c.is_some.ensures c.if-is_some.false) c.eval-x.result c.branch-at.result z _ _ m c.in-If.ensures c.branch-at.ensures c.eval-x.ensures h),
+          (runs_test B f.contents.now f.bit (agent_of f.bindings) (variables_of f.bindings) (node_at B) l.left l.at (stored_node c.node-node.result) c.loop-left-test.true c.node-node.ensures (picks_left l.picks) l.r l.list (unrefused _ c.is_some.ensures c.if-is_some.false) c.eval-x.result c.branch-at.result z _ _ m (omega (arith, c.in-If.ensures)) c.branch-at.ensures c.eval-x.ensures h),
     )
 
 pub walk-returns : goal.walk-returns
