@@ -6,6 +6,7 @@
 -- Refusals 4 to 7, and 3 for L
 -- Refusal 1 on a surplus line
 use native.Mathlib.Omega.{arith}
+use Rattle.std.specs.Prelude.{Err}
 use Rattle.book_check.proofs.Chain.{answered, stops, after, last, opened_refused, opened_text, present_numbered, surplus_numbered, program_numbered, rows_found, rows_taken, rows_refused, rows_passed, form_found, rule_found}
 use Rattle.book_check.specs.ImageOf.{ImageOf, check_text}
 use Rattle.book_load.proofs.Loaded.{laid_holds}
@@ -67,8 +68,8 @@ returns-in_err-surplus c = (refused_alike _ c.in_err-surplus.was c.from_residual
 
 pub returns-in_err-program : goal.returns-in_err-program
 unfolding check_lines
-returns-in_err-program c = (refused_alike _ c.in_err-program.was c.from_residual-in_err-program.ensures.1 ∙ after (check_present c.args.h c.args.text.now) _ _ _ (present_numbered c.args.h c.args.text.now) (present (goal.at.returns-in_err-program c).After-none_at-form) (passing c.in_ok-form.was) (after (check_surplus c.args.h c.args.text.now) _ _ _ (surplus_numbered c.args.h c.args.text.now) (surplus (goal.at.returns-in_err-program c).After-must-surplus) (passing c.in_ok-surplus.was) (stops (check_program c.args.h c.args.text.now) _ _ (program (goal.at.returns-in_err-program c).After-none_at-form) (refusing c.in_err-program.was))), opened (goal.at.returns-in_err-program c).After-none_at-form)
+returns-in_err-program c = let refused : c.check_program-program.result ≡ Err c.in_err-program.field-0.0 = cc c.in_err-program.was in (refused_alike _ refused c.from_residual-in_err-program.ensures.1 ∙ after (check_present c.args.h c.args.text.now) _ _ _ (present_numbered c.args.h c.args.text.now) (present (goal.at.returns-in_err-program c).After-none_at-form) (passing c.in_ok-form.was) (after (check_surplus c.args.h c.args.text.now) _ _ _ (surplus_numbered c.args.h c.args.text.now) (surplus (goal.at.returns-in_err-program c).After-must-surplus) (passing c.in_ok-surplus.was) (stops (check_program c.args.h c.args.text.now) _ _ (program (goal.at.returns-in_err-program c).After-none_at-form) (refusing refused))), opened (goal.at.returns-in_err-program c).After-none_at-form)
 
 pub returns : goal.returns
 unfolding check_lines
-returns c = let z = ap (λ (a : Answer). a.number) (sym c.none_at-form.ensures) ∙ (passing c.in_ok-form.was) in (after (check_present c.args.h c.args.text.now) _ _ _ (present_numbered c.args.h c.args.text.now) (present (goal.at.returns c).After-none_at-form) (passing c.in_ok-form.was) (after (check_surplus c.args.h c.args.text.now) _ _ _ (surplus_numbered c.args.h c.args.text.now) (surplus (goal.at.returns c).After-must-surplus) (passing c.in_ok-surplus.was) (after (check_program c.args.h c.args.text.now) _ _ _ (program_numbered c.args.h c.args.text.now) (program (goal.at.returns c).After-none_at-form) (passing c.in_ok-program.was) (last _ _ _ (c.none_at.ensures ∙ ap answer_of (rule_found c.check_program-program.new.image c.args.h c.args.text.now c.requires.0 (holds_are (goal.at.returns c).After-none_at-form) c.check_entries-contents.result c.check_entries-contents.ensures z))))), opened (goal.at.returns c).After-none_at-form)
+returns c = let z = ap (λ (a : Answer). a.number) (sym c.none_at-form.ensures) ∙ (passing c.in_ok-form.was) in (after (check_present c.args.h c.args.text.now) _ _ _ (present_numbered c.args.h c.args.text.now) (present (goal.at.returns c).After-none_at-form) (passing c.in_ok-form.was) (after (check_surplus c.args.h c.args.text.now) _ _ _ (surplus_numbered c.args.h c.args.text.now) (surplus (goal.at.returns c).After-must-surplus) (passing c.in_ok-surplus.was) (after (check_program c.args.h c.args.text.now) _ _ _ (program_numbered c.args.h c.args.text.now) (program (goal.at.returns c).After-none_at-form) (omega (arith, passing c.in_ok-program.was)) (last _ _ _ (c.none_at.ensures ∙ ap answer_of (rule_found c.check_program-program.new.image c.args.h c.args.text.now c.requires.0 (holds_are (goal.at.returns c).After-none_at-form) c.check_entries-contents.result c.check_entries-contents.ensures z))))), opened (goal.at.returns c).After-none_at-form)
