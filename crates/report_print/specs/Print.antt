@@ -7,8 +7,13 @@ use Rattle.book.specs.declared.Function.{Function}
 use Rattle.book.specs.Book.{Program, L, size, default, function_at}
 use Rattle.book.specs.Sum.{Strided, first_argument, second_argument}
 use Rattle.engine.specs.Labels.{no_labels}
+use Rattle.report_print.specs.declared.Answer.{Answer as Triple}
 use Rattle.report.specs.Report.{part_lines, lines_written, print_answer}
 use Rattle.text_write.specs.Bytes.{put_bytes}
+
+-- the answer that the code prints, as the specification has it
+abbrev pub triple_of : Triple → Answer
+triple_of a = record { number = a.number; p = a.p; q = a.q }
 
 -- the line of location i of function k, which is f and holds v there, with the arguments that the stride gives
 abbrev pub line_for : Function → ℕ → ℕ → ℕ → Line

@@ -5,7 +5,7 @@ ghost use Rattle.std.specs.Prelude.{◌≡◌, ◌+◌, ◌<◌, ◌≤◌, min,
 ghost use Rattle.book.specs.Sum.{Strided};
 ghost use Rattle.book.specs.Image.{program_in, word};
 ghost use Rattle.report.specs.Report.{contents_lines, own_tables, first_line, print_checked, rental, tally_checked, input_tally};
-ghost use Rattle.report_print.specs.Print.{line_for, location_lines, lines_printed, Prints, most_output, FunctionPrinted};
+ghost use Rattle.report_print.specs.Print.{triple_of, line_for, location_lines, lines_printed, Prints, most_output, FunctionPrinted};
 ghost use Rattle.report_print.specs.Split.{book_length};
 ghost use Rattle.text.specs.Words.{told, told_refused};
 ghost use Rattle.text.specs.Text.{written};
@@ -74,36 +74,53 @@ fn print_contents(image: &Image, contents: &[Value], out: &mut [u8]) -> u32
     lines
 }
 
+// An answer as it is printed, the triple of SPECIFICATION 8.1: a refusal's number and its place (p, q). The number is 0 when accepted.
+#[derive(Clone, Copy, Debug, PartialEq, Eq)]
+pub struct Answer {
+    pub number: u32,
+    pub p: u32,
+    pub q: u32,
+}
+
+// The answer that a result tells: 0 0 0 when accepted.
+impl From<Result<(), Refusal>> for Answer {
+    ghost from_gives = { λ r a. triple_of a ≡ told r };
+
+    fn from(r: Result<(), Refusal>) -> Answer {
+        match r {
+            Ok(()) => Answer {
+                number: 0,
+                p: 0,
+                q: 0,
+            },
+            Err(refusal) => Answer {
+                number: refusal.reason.number(),
+                p: refusal.p,
+                q: refusal.q,
+            },
+        }
+    }
+}
+
 // The first line of an answer, with so many contents lines after it.
-fn first_line(answer: Result<(), Refusal>, count: u32) -> Line
-    ensures { result ≡ first_line (told answer) count }
+fn first_line(answer: Answer, count: u32) -> Line
+    ensures { result ≡ first_line (triple_of answer) count }
 {
-    match answer {
-        Ok(()) => Line {
-            a: 0,
-            b: 0,
-            c: 0,
-            d: count,
-        },
-        Err(refusal) => Line {
-            a: refusal.reason.number(),
-            b: refusal.p,
-            c: refusal.q,
-            d: count,
-        },
+    Line {
+        a: answer.number,
+        b: answer.p,
+        c: answer.q,
+        d: count,
     }
 }
 
 // Prints the whole text of an answer: its first line, and when accepted the contents. Gives how many bytes it has; those past it stay.
-pub fn print_answer(
-    image: &Image,
-    contents: &[Value],
-    answer: Result<(), Refusal>,
-    out: &mut [u8],
-) -> usize
-    ensures { Strided (program_in image.now) → Prints (program_in image.now) (told answer) contents.now out.old result out.new }
+// Any answer is printed, with a number that no refusal of this code has too.
+pub fn print_answer(image: &Image, contents: &[Value], answer: Answer, out: &mut [u8]) -> usize
+    ensures { Strided (program_in image.now) → Prints (program_in image.now) (triple_of answer) contents.now out.old result out.new }
 {
-    if answer.is_err() {
+    let refused = answer.number != 0;
+    if refused {
         text_write::write_line(out, 0, first_line(answer, 0));
         return text::LINE;
     }
@@ -144,7 +161,7 @@ fn print_refusal(refusal: Refusal, tally: Tally, output: &mut [u8]) -> PrintedRu
     requires { most_output ≤ length output.old }
     ensures { Shown (written (first_line (told_refused refusal) 0)) tally output.old result output.new }
 {
-    text_write::write_line(output, 0, first_line(Err(refusal), 0));
+    text_write::write_line(output, 0, first_line(Answer::from(Err(refusal)), 0));
     PrintedRun {
         bytes: text::LINE,
         tally,
@@ -161,7 +178,7 @@ fn print_image(
     ensures { Strided (program_in image.now) → Prints (program_in image.now) (told answer) (take (min (word image.now 6) (length contents.now)) contents.now) output.old result output.new }
 {
     let n = (book_image::locations(image) as usize).min(contents.len());
-    print_answer(image, &contents[..n], answer, output)
+    print_answer(image, &contents[..n], Answer::from(answer), output)
 }
 
 // Makes the moves of a call that passed its checks, on these tables, and prints the answer.
