@@ -1,16 +1,14 @@
 -- The call in two stages, begun and finished: what each shows of it, and what the list between them holds.
 use Rattle.std.specs.Prelude.{Result, Ok, Err}
-use Rattle.std.specs.Result.{IsErr, is_ok}
+use Rattle.std.specs.Result.{IsErr, IsErrAnd, is_ok}
 use mathlib.Core.Path.{◌≡◌, refl, sym, ap, subst, ◌∙◌}
 use mathlib.Core.Bool.{true≢false}
 use Rattle.text.specs.declared.Refusal.{Refusal}
-use mathlib.Core.Logic.{◌≢◌, dite}
 use mathlib.Core.List.{List, [], ◌++◌}
 use Prim.Native.Nat.{ℕ, ◌≤◌, min}
-use native.Mathlib.Decide.{ℕ_discrete}
 use native.Mathlib.Omega.{arith}
 use lib.ListN.{length, take, drop}
-use Rattle.text.specs.Words.{Answer, told}
+use Rattle.text.specs.Words.{Answer, told, told_refused}
 use Rattle.book.specs.Book.{Program, L}
 use Rattle.book.specs.Sum.{Strided}
 use Rattle.book.specs.Image.{word, low_program}
@@ -27,7 +25,7 @@ use Rattle.engine_fire.specs.Finish.{MoveFinished}
 use Rattle.engine_fire.proofs.Count.{given_few, made_of, same_outcome}
 use Rattle.engine_fire.specs.declared.Begun.{Begun}
 use Rattle.engine_step.specs.Leaves.{CallLeaves}
-use Rattle.engine_step.specs.Stages.{given, MoveWalked, CallMoves, CallBegun, CallFinished}
+use Rattle.engine_step.specs.Stages.{given, MoveWalked, CallMoves, CallBegun, CallFinished, Converted, AnyCallFinished}
 use Rattle.engine_step.proofs.Fired.{moved_step}
 use Rattle.engine_step.proofs.Whole.{Cleared}
 use Rattle.engine.specs.Tables.{tables}
@@ -137,3 +135,34 @@ concluded_first m c l b j e r d rs ws does = record {
   moves = λ strides ls.
       rw (← take_min c j (word m 6) e, ← drop_min c j (word m 6) e) ((does strides).answer ls, ap (λ (x : List ℕ). x ++ drop j c) ((does strides).contents ls));
 }
+
+-- ---- refusals of any type
+
+-- what is said of refusals of any type, said of this code's
+pub call_finished : (m c l : List ℕ) (p : Result Begun Refusal) (r : Result (Unit {0}) Refusal) (d : List ℕ)
+    → AnyCallFinished (λ x y. y ≡ x) m c l p r d → CallFinished m c l p (told r) d
+call_finished m c l (Ok b) r d h = record { stops = tt; moves = λ strides ls. let t = h.moves strides ls in (plain r t.0, t.1) }
+  where
+    plain : {a : Answer} (x : Result (Unit {0}) Refusal) → Converted (λ f e. e ≡ f) a x → told x ≡ a
+    plain (Ok u) e = e
+    plain (Err e) (f, t, g) = ap told_refused g ∙ t
+call_finished m c l (Err e) r d h = let t = h.stops in subst (λ (x : List ℕ). CallFinished m c l (Err e) (told r) x) (sym t.1) (refused_stays m c l (Err e) e refl (told r) (ap told t.0))
+
+module _ {E : Type 0} (gives : Refusal → E → Type 0) where
+  -- a call that was refused stays so, with its contents
+  pub any_refused : (m c l : List ℕ) (p : Result Begun E) (e : E) → p ≡ Err e → (r : Result (Unit {0}) E) → IsErrAnd r (λ x. x ≡ e) → AnyCallFinished gives m c l p r c
+  any_refused m c l p e h (Ok u) q = absurd q
+  any_refused m c l p e h (Err x) q = rw h (record { stops = (ap Err q, refl); moves = tt })
+
+  -- a call that was begun has the answer of its move
+  pub any_begun : (m c l : List ℕ) (b : Begun) (a : Answer) (d : List ℕ) → CallFinished m c l (Ok b) a d
+      → (r : Result (Unit {0}) E) → Converted gives a r → AnyCallFinished gives m c l (Ok b) r d
+  any_begun m c l b a d h r is = record {
+    stops = tt;
+    moves = λ strides ls. let t = h.moves strides ls in (subst (λ (x : Answer). Converted gives x r) t.0 is, t.1);
+  }
+
+  -- a refusal of the move, converted
+  pub refusal_converted : (q : Result (Unit {0}) Refusal) (f : Refusal) → q ≡ Err f → (r : Result (Unit {0}) E) → IsErrAnd r (gives f) → Converted gives (told q) r
+  refusal_converted q f h (Ok u) g = absurd g
+  refusal_converted q f h (Err e) g = (f, sym (ap (λ (x : Result (Unit {0}) Refusal). told x) h), g)

@@ -1,7 +1,7 @@
 -- The single-move call in two stages, between which the move's instructions go through the lent list.
-use Rattle.std.specs.Prelude.{Result, Ok, Err, IfOk, OnErr, ◌≡◌, List, [], ◌++◌, ℕ, ◌≤◌, length, take, drop}
+use Rattle.std.specs.Prelude.{Result, Ok, Err, IfOk, IfErr, OnErr, ◌≡◌, List, [], ◌++◌, ℕ, ◌≤◌, length, take, drop}
 use Rattle.text.specs.declared.Refusal.{Refusal}
-use Rattle.text.specs.Words.{Answer, told}
+use Rattle.text.specs.Words.{Answer, told, told_refused}
 use Rattle.book.specs.Book.{Program, L}
 use Rattle.book.specs.Sum.{Strided}
 use Rattle.book.specs.Image.{word, low_program}
@@ -50,3 +50,17 @@ pub record CallFinished (m c l : List ℕ) (p : Result Begun Refusal) (r : Answe
       let o = settle (low_program m) (take (word m 6) c) ls (outcome s.walk l) in
       (r ≡ move_answer 0 o) × (d ≡ contents_after (take (word m 6) c) o ++ drop (word m 6) c)
       ))
+
+module _ {E : Type 0} (gives : Refusal → E → Type 0) where
+  -- the result r is the answer a, with its refusal as it is converted
+  abbrev pub Converted : Answer → Result (Unit {0}) E → Type 0
+  Converted a (Ok u) = told (Ok u) ≡ a
+  Converted a (Err e) = (f : Refusal) × (told_refused f ≡ a) × gives f e
+
+  -- the same where a call is refused by a value of any type, which stays; a refusal of the move is converted to that type
+  pub record AnyCallFinished (m c l : List ℕ) (p : Result Begun E) (r : Result (Unit {0}) E) (d : List ℕ) : Type 0 where
+    pub stops : IfErr p (λ e. (r ≡ Err e) × (d ≡ c))
+    pub moves : IfOk p (λ s. Strided (low_program m) → (ls : List ℕ) → (
+        let o = settle (low_program m) (take (word m 6) c) ls (outcome s.walk l) in
+        Converted (move_answer 0 o) r × (d ≡ contents_after (take (word m 6) c) o ++ drop (word m 6) c)
+        ))

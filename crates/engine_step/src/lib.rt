@@ -9,7 +9,7 @@ ghost use Rattle.book.specs.Image.{word, low_program};
 ghost use Rattle.engine.specs.Move.{input};
 ghost use Rattle.engine.specs.Single.{pick_place, check_agent, check_picks, check_step_lengths, check_contents};
 ghost use Rattle.engine_step.specs.Call.{check_call};
-ghost use Rattle.engine_step.specs.Stages.{given, MoveWalked, CallBegun, CallFinished};
+ghost use Rattle.engine_step.specs.Stages.{given, MoveWalked, CallBegun, AnyCallFinished};
 ghost use Rattle.engine_step.specs.Entry.{StepMade, StepMadeOwn};
 
 use book::Image;
@@ -134,14 +134,15 @@ pub fn begin_call(
     Ok(walk_call(image, contents, agent as u32, picks, work))
 }
 
-// Finishes the move, by the instructions that came back from the lent list; a call that was refused stays refused.
-pub fn finish_call(
+// Finishes the move, by the instructions that came back from the lent list; a call that was refused stays refused. A caller's refusals may be of a type of
+// its own, with reasons that this code does not have.
+pub fn finish_call<E: From<Refusal>>(
     contents: &mut [Value],
     image: &Image,
     work: &Work,
-    call: Result<Begun, Refusal>,
-) -> Result<(), Refusal>
-    ensures { CallFinished image.now contents.old work.now call (told result) contents.new }
+    call: Result<Begun, E>,
+) -> Result<(), E>
+    ensures { AnyCallFinished E.from_gives image.now contents.old work.now call result contents.new }
 {
     let walk = call?.walk;
     let all = book_image::locations(image) as usize;
@@ -158,7 +159,8 @@ pub fn finish_call(
         walk,
         0,
     );
-    done.answer
+    done.answer?;
+    Ok(())
 }
 
 // How many instructions a call gave: none if it was refused.
