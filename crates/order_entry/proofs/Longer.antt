@@ -11,13 +11,14 @@ use Rattle.engine.specs.declared.Instruction.{Instruction}
 use Rattle.order.specs.Run.{LogAnswer}
 use Rattle.order.specs.Log.{check_log}
 use Rattle.order.specs.Call.{lengths, check_lengths, check_lent, check_all, log_answer, log_call}
+use Rattle.engine.specs.declared.TalliedResult.{TalliedResult}
 use Rattle.order_run.specs.declared.RunState.{RunState}
 use Rattle.order_run.specs.declared.RunState.TheVariants.{Next, Over}
 use Rattle.order_run.specs.Stages.{CallAt}
 use Rattle.engine.specs.Tables.{Tables}
 
 -- a call that is so far with n records lent is so far with 256 of them
-pub call_shorter : (t : Tables) (n : ℕ) (whole : LogAnswer) (m o : List ℕ) (rest : List (List Instruction)) (u : RunState) (c rs ws : List ℕ) → CallAt t n whole m o rest u c rs ws → CallAt t (min n 256) whole m o rest u c rs ws
+pub call_shorter : (t : Tables) (n : ℕ) (whole : LogAnswer) (m o : List ℕ) (rest : List (List Instruction)) (u : RunState TalliedResult) (c rs ws : List ℕ) → CallAt t n whole m o rest u c rs ws → CallAt t (min n 256) whole m o rest u c rs ws
 call_shorter t n whole m o rest (Over a) c rs ws h = h
 call_shorter t n whole m o rest (Next u) c rs ws h = record {
   g = h.g;

@@ -22,6 +22,7 @@ use Rattle.order_run.specs.Stages.{MoveNext, RunAt, MoveBegun, CallAt}
 use Rattle.order_run.proofs.Calls.{ends_call}
 use Rattle.order_run.proofs.Stages.{walked_lists, walked_few, walked_passed}
 use Rattle.order_entry.specs.MovesMade.{MovesMade}
+use Rattle.order_entry.specs.Promised.{RunToEnd, RunToEndOwn, AnyRunToEnd, AnyRunToEndOwn}
 
 one_less : (is : List Instruction) (rest : List (List Instruction)) (ys : List Record) → all_records_written rest (records_written is ys) ≡ all_records_written (is ∷ rest) ys
 unfolding all_records_written
@@ -32,23 +33,23 @@ abbrev pub later_lists : List ℕ → Upcoming → Log → List ℕ → List (Li
 later_lists m t g c = lists_from (low_program m) g c (t.moves - (t.at + 1)) (t.at + 1)
 
 -- at t the run is over, with the answer a and what it left when it began to be so
-abbrev pub StillOver : TalliedResult → List ℕ → List ℕ → List ℕ → List Record → RunState → List ℕ → List ℕ → List ℕ → List Record → Type 0
+abbrev pub StillOver : TalliedResult → List ℕ → List ℕ → List ℕ → List Record → RunState TalliedResult → List ℕ → List ℕ → List ℕ → List Record → Type 0
 StillOver a C R D Y (Next t) cs rs ws zs = ⊥
 StillOver a C R D Y (Over b) cs rs ws zs = (answer_with (tallied b) cs rs ws ≡ answer_with (tallied a) C R D) × (zs ≡ Y)
 
 -- how far the run is at t, with these tables and records, if it was at t₀ at the start of the loop: the moves that are left write what is left to write
-pub record SoFar (m o : List ℕ) (t₀ : RunState) (C R D : List ℕ) (Y : List Record) (t : RunState) (cs rs ws : List ℕ) (zs : List Record) : Type 0 where
+pub record SoFar (m o : List ℕ) (t₀ : RunState TalliedResult) (C R D : List ℕ) (Y : List Record) (t : RunState TalliedResult) (cs rs ws : List ℕ) (zs : List Record) : Type 0 where
   pub over : (a : TalliedResult) → t₀ ≡ Over a → StillOver a C R D Y t cs rs ws zs
   pub run : (g : Log) (c : List ℕ) (rest : List (List Instruction)) → most_instructions ≤ length Y → RunAt m o g c rest t₀ C R D
       → (left : List (List Instruction)) × RunAt m o g c left t cs rs ws × (all_records_written left zs ≡ all_records_written rest Y)
 
-module _ (m o : List ℕ) (t₀ : RunState) (C R D : List ℕ) (Y : List Record) where
+module _ (m o : List ℕ) (t₀ : RunState TalliedResult) (C R D : List ℕ) (Y : List Record) where
   pub so_far : SoFar m o t₀ C R D Y t₀ C R D Y
-  so_far = record { over = λ a e. subst (λ (t : RunState). StillOver a C R D Y t C R D Y) (sym e) (refl, refl); run = λ g c rest room h. (rest, h, refl) }
+  so_far = record { over = λ a e. subst (λ (t : RunState TalliedResult). StillOver a C R D Y t C R D Y) (sym e) (refl, refl); run = λ g c rest room h. (rest, h, refl) }
 
   -- one move more is begun, passed through the list and finished
   pub next_so_far : (t : Upcoming) (cs rs ws : List ℕ) (zs : List Record) → SoFar m o t₀ C R D Y (Next t) cs rs ws zs
-      → (t' : RunState) (u : Begun) (x rs₁ : List ℕ) (zs' : List Record) (x' cs' rs' ws' : List ℕ)
+      → (t' : RunState TalliedResult) (u : Begun) (x rs₁ : List ℕ) (zs' : List Record) (x' cs' rs' ws' : List ℕ)
       → ((g : Log) (c ws : List ℕ) → MoveNext m o g c t cs rs ws → MoveBegun m o g c t u x cs rs₁ ws)
       → PassedThrough u.count zs x zs' x'
       → ((g : Log) (c : List ℕ) → MoveBegun m o g c t u x' cs rs₁ ws → RunAt m o g c (later_lists m t g c) t' cs' rs' ws')
@@ -89,7 +90,7 @@ module _ (m o : List ℕ) (t₀ : RunState) (C R D : List ℕ) (Y : List Record)
 unchanged : (k : ℕ) (C d : List ℕ) → d ≡ take k C → d ++ drop k C ≡ C
 unchanged k C d e = ap (λ (y : List ℕ). y ++ drop k C) e ∙ take-append-drop k C
 
-module _ (m o : List ℕ) (t : RunState) (C R D : List ℕ) (Y : List Record) (k : ℕ) (r : TalliedResult) (cs rs ws : List ℕ) (zs : List Record) where
+module _ (m o : List ℕ) (t : RunState TalliedResult) (C R D : List ℕ) (Y : List Record) (k : ℕ) (r : TalliedResult) (cs rs ws : List ℕ) (zs : List Record) where
   -- the moves made on the first k records of each table, with the other records as they were, are the whole call's
   pub of_all_records : MovesMade m o t (take k C) (take k R) (take k D) Y (tallied r) cs rs ws zs → k ≡ min (word m 6) (min (length C) (min (length R) (length D)))
       → length cs ≡ length (take k C) → length rs ≡ length (take k R) → length ws ≡ length (take k D)
@@ -97,7 +98,7 @@ module _ (m o : List ℕ) (t : RunState) (C R D : List ℕ) (Y : List Record) (k
       → (answer_with (tallied r) (cs ++ drop k C) (rs ++ drop k R) (ws ++ drop k D) ≡ whole) × (zs ≡ all_records_written rest Y)
   of_all_records said ek lc lr lw lent whole rest h = by_turn t said h
     where
-      by_turn : (s : RunState) → MovesMade m o s (take k C) (take k R) (take k D) Y (tallied r) cs rs ws zs → CallAt lent (length Y) whole m o rest s C R D
+      by_turn : (s : RunState TalliedResult) → MovesMade m o s (take k C) (take k R) (take k D) Y (tallied r) cs rs ws zs → CallAt lent (length Y) whole m o rest s C R D
           → (answer_with (tallied r) (cs ++ drop k C) (rs ++ drop k R) (ws ++ drop k D) ≡ whole) × (zs ≡ all_records_written rest Y)
       by_turn (Next s) made on = ends_call lent (length Y) whole m o rest s C R D on k ek r cs rs ws lc lr lw (zs ≡ all_records_written rest Y) (λ g c few stage. made.run g c rest few stage)
       by_turn (Over a) made e =
@@ -110,3 +111,16 @@ module _ (m o : List ℕ) (t : RunState) (C R D : List ℕ) (Y : List Record) (k
             unchanged k D ws (ap (λ (v : LogAnswer). v.writers) q.0),
           ) in
           (same ∙ e.1, q.1 ∙ sym (none_left Y) ∙ ap (λ (y : List (List Instruction)). all_records_written y Y) (sym e.0))
+
+-- ---- what is said of results of any type, said of this code's
+
+pub run_to_end : (m o : List ℕ) (s : RunState TalliedResult) (t : Tables) (ys : List Record) (r : TalliedResult) (u : Tables) (zs : List Record)
+    → AnyRunToEnd (λ x y. y ≡ x) m o s t ys r u zs → RunToEnd m o s t ys (tallied r) u zs
+run_to_end m o (Next k) t ys r u zs (x, e, h) = subst (λ (y : TalliedResult). RunToEnd m o (Next k) t ys (tallied y) u zs) (sym e) h
+run_to_end m o (Over a) t ys r u zs (e, f, g) = λ lent whole rest h.
+    rw (e, f, g) (h.1, sym (none_left ys) ∙ ap (λ (y : List (List Instruction)). all_records_written y ys) (sym h.0))
+
+pub run_to_end_own : (m o : List ℕ) (s : RunState TalliedResult) (t : Tables) (n : ℕ) (r : TalliedResult) (u : Tables)
+    → AnyRunToEndOwn (λ x y. y ≡ x) m o s t n r u → RunToEndOwn m o s t n (tallied r) u
+run_to_end_own m o (Next k) t n r u (x, e, h) = subst (λ (y : TalliedResult). RunToEndOwn m o (Next k) t n (tallied y) u) (sym e) h
+run_to_end_own m o (Over a) t n r u (e, f) = λ lent whole rest h. rw (e, f) h.1

@@ -15,7 +15,7 @@ use Rattle.order_run.specs.Runs.{answer_with}
 use Rattle.order_run.specs.Stages.{RunAt}
 
 -- the moves from the state t on are made, on the tables d, rs, ws and the records ys: the answer is r, and these tables and records are left
-pub record MovesMade (m o : List ℕ) (t : RunState) (d rs ws : List ℕ) (ys : List Record) (r : TalliedAnswer) (d' rs' ws' : List ℕ) (zs : List Record) : Type 0 where
+pub record MovesMade (m o : List ℕ) (t : RunState TalliedResult) (d rs ws : List ℕ) (ys : List Record) (r : TalliedAnswer) (d' rs' ws' : List ℕ) (zs : List Record) : Type 0 where
   -- if the run is over, its answer stands, and nothing is written
   pub over : (a : TalliedResult) → t ≡ Over a → (answer_with r d' rs' ws' ≡ answer_with (tallied a) d rs ws) × (zs ≡ ys)
   -- of a run that is so far: its answer and its tables, and the records got the instructions of each walked move in turn

@@ -5,7 +5,7 @@
 ghost use Rattle.order_entry.specs.LogRun.{LogRun, LogRunOwn};
 ghost use Rattle.engine.specs.Labels.{tallied};
 ghost use Rattle.engine.specs.Tables.{tables};
-ghost use Rattle.order_entry.specs.Promised.{MadeOn, RunToEnd, RunToEndOwn};
+ghost use Rattle.order_entry.specs.Promised.{MadeOn, AnyRunToEnd, AnyRunToEndOwn};
 
 use book::Image;
 use engine::{Record, TalliedResult};
@@ -42,28 +42,34 @@ fn make_moves(
     }
 }
 
-// Makes the moves of a log from the one that is next: the tables are cut to the records needed, once, and the moves made on these.
-pub fn run_from(
+// Makes the moves of a log from the one that is next: the tables are cut to the records needed, once, and the moves made on these. A run that is over
+// stays so, with its result as it came, of any type that a result of this code can be made into.
+pub fn run_from<T: From<TalliedResult>>(
     contents: &mut [Value],
     readers: &mut [u64],
     writers: &mut [u64],
     instructions: &mut [Record],
     image: &Image,
     order: &OrderTable,
-    first: RunState,
-) -> TalliedResult
-    ensures { RunToEnd image.now order.now first (tables contents.old readers.old writers.old) instructions.old (tallied result) (tables contents.new readers.new writers.new) instructions.new }
+    first: RunState<T>,
+) -> T
+    ensures { AnyRunToEnd T.from_gives image.now order.now first (tables contents.old readers.old writers.old) instructions.old result (tables contents.new readers.new writers.new) instructions.new }
 {
+    let next = match first {
+        RunState::Next(next) => next,
+        RunState::Over(over) => return over,
+    };
     let n = order_run::records_used(image, contents.len(), readers.len(), writers.len());
-    make_moves(
+    let ended = make_moves(
         &mut contents[..n],
         &mut readers[..n],
         &mut writers[..n],
         instructions,
         image,
         order,
-        first,
-    )
+        RunState::Next(next),
+    );
+    T::from(ended)
 }
 
 // The log entry: a book, a log, the tables, and a list of instruction records.
@@ -114,16 +120,16 @@ pub fn run_own_list(
 }
 
 // Makes the moves of a log from the one that is next, with a list of `lent` records of its own.
-pub fn run_from_own_list(
+pub fn run_from_own_list<T: From<TalliedResult>>(
     contents: &mut [Value],
     readers: &mut [u64],
     writers: &mut [u64],
     lent: usize,
     image: &Image,
     order: &OrderTable,
-    first: RunState,
-) -> TalliedResult
-    ensures { RunToEndOwn image.now order.now first (tables contents.old readers.old writers.old) lent (tallied result) (tables contents.new readers.new writers.new) }
+    first: RunState<T>,
+) -> T
+    ensures { AnyRunToEndOwn T.from_gives image.now order.now first (tables contents.old readers.old writers.old) lent result (tables contents.new readers.new writers.new) }
 {
     let none = engine_list::blank();
     let mut list = [none; engine::MOST_INSTRUCTIONS];

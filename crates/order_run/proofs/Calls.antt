@@ -81,7 +81,7 @@ module _
     }
 
     -- a stage on the first k records is one of the call
-    pub call_state_at : (rest : List (List Instruction)) (t : RunState) → RunAt m o g c rest t d rs ws → CallAt lent n whole m o rest t (d ++ drop k C) (rs ++ drop k R) (ws ++ drop k W)
+    pub call_state_at : (rest : List (List Instruction)) (t : RunState TalliedResult) → RunAt m o g c rest t d rs ws → CallAt lent n whole m o rest t (d ++ drop k C) (rs ++ drop k R) (ws ++ drop k W)
     call_state_at rest (Over r) q =
         let f = run_from (low_program m) g c in
         let ec : d ++ drop k C ≡ over_first f.contents lent.contents = put_back d f.contents lent.contents (drop k C) k (ap (λ (v : LogAnswer). v.contents) q.1) (cut_long k C lent.contents d hc pc ld) pc in

@@ -15,6 +15,7 @@ use Rattle.order.specs.Log.{Log}
 use Rattle.order.specs.Run.{run_from, run_log, LogAnswer}
 use Rattle.order.specs.Call.{lengths, check_all, left_past, log_call}
 use Rattle.order.specs.Lists.{lists_from, call_lists}
+use Rattle.engine.specs.declared.TalliedResult.{TalliedResult}
 use Rattle.order_run.specs.declared.RunState.{RunState}
 use Rattle.order_run.specs.declared.RunState.TheVariants.{Over}
 use Rattle.order_run.specs.declared.CheckedCall.{CheckedCall}
@@ -44,7 +45,7 @@ module _ (book : List ℕ) (b : Book) (g : Log) (r : CheckedCall) (m o : List �
     call = ap (λ (B : Program). left_past t (run_from B g (start b))) p.holds.image;
   }
 
-  pub starts : (k : ℕ) → k ≡ min (word m 6) (min (length t.contents) (min (length t.readers) (length t.writers))) → (u : RunState) (d rs ws : List ℕ)
+  pub starts : (k : ℕ) → k ≡ min (word m 6) (min (length t.contents) (min (length t.readers) (length t.writers))) → (u : RunState TalliedResult) (d rs ws : List ℕ)
       → length d ≡ length (take k t.contents) → length rs ≡ length (take k t.readers) → length ws ≡ length (take k t.writers)
       → ((b : Book) (g : Log) → Startable book m o b g r.moves (take k t.contents) (take k t.readers) (take k t.writers)
       → RunAt m o g (start b) (lists_from (low_program m) g (start b) r.moves 0) u d rs ws)
@@ -71,7 +72,7 @@ module _ (book : List ℕ) (b : Book) (g : Log) (r : CheckedCall) (m o : List �
 
 module _ (book log : List ℕ) (t : Tables) (n : ℕ) (m o : List ℕ) (r : Result CheckedCall Refusal) (opened : CallChecked book log (lengths t n) r m o) where
   -- a call that a check refuses
-  pub off : (refusal : Refusal) → r ≡ Err refusal → (u : RunState) → u ≡ Over (record { answer = Err refusal; tally = no_labels })
+  pub off : (refusal : Refusal) → r ≡ Err refusal → (u : RunState TalliedResult) → u ≡ Over (record { answer = Err refusal; tally = no_labels })
       → CallAt t n (log_call book log t n) m o (call_lists book log t n) u t.contents t.readers t.writers
   off refusal is u e =
       let s = call_off book log t n (told r) opened.answer (refusing is) in
@@ -79,7 +80,7 @@ module _ (book log : List ℕ) (t : Tables) (n : ℕ) (m o : List ℕ) (r : Resu
       rw e (s.0, ap (λ (a : Answer). answer_with (record { answer = a; tally = no_labels }) t.contents t.readers t.writers) same ∙ s.1)
 
   -- a call that passes its checks starts
-  pub opens : (v : CheckedCall) → r ≡ Ok v → (u : RunState) (d rs ws : List ℕ)
+  pub opens : (v : CheckedCall) → r ≡ Ok v → (u : RunState TalliedResult) (d rs ws : List ℕ)
       → ((b : Book) (g : Log) (n : ℕ) → CallPassed book b g v m o t n → CallAt t n (left_past t (run_log b g)) m o (run_lists b g) u d rs ws)
       → CallAt t n (log_call book log t n) m o (call_lists book log t n) u d rs ws
   opens v ok u d rs ws does =

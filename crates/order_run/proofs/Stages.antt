@@ -29,6 +29,7 @@ use Rattle.order.specs.Table.{input_in}
 use Rattle.order_touch.specs.Marked.{unordered_marked, clipped}
 use Rattle.order_run.specs.RunTables.{RunTables, touch_answer}
 use Rattle.order_run.proofs.RunTables.{order_answer}
+use Rattle.engine.specs.declared.TalliedResult.{TalliedResult}
 use Rattle.order_run.specs.declared.RunState.{RunState}
 use Rattle.order_run.specs.declared.RunState.TheVariants.{Next, Over}
 use Rattle.order_run.specs.declared.Upcoming.{Upcoming}
@@ -188,7 +189,7 @@ module _ (m o : List ℕ) (g : Log) (c : List ℕ) where
           going = moves_on A g c now.before.runs.lawful t.at (input_in o t.at) t.tally w.old.contents w.old.readers w.old.writers now.before.going here a d' rs' ws' effect z (low t w.old.contents w.old.readers w.old.writers now) k ki kr;
         }
 
-        pub finish_on : a.answer.number ≡ 0 → (r : RunState) (j : ℕ) → j ≡ t.at + 1
+        pub finish_on : a.answer.number ≡ 0 → (r : RunState TalliedResult) (j : ℕ) → j ≡ t.at + 1
             → (k : Tally) → k.issued ≡ (t.tally.issued + a.tally.issued) % 2 ^ 64 → k.returned ≡ (t.tally.returned + a.tally.returned) % 2 ^ 64
             → (t.moves ≡ length g.moves → FiredSoFar m o g c j k d' rs' ws' → RunAt m o g c (lists_from A g c (t.moves - j) j) r d' rs' ws')
             → RunAt m o g c (lists_from A g c (t.moves - (t.at + 1)) (t.at + 1)) r d' rs' ws'
@@ -222,6 +223,6 @@ starts_run book m o b g n d rs ws s d' rs' ws' ed er ew = record {
 }
 
 -- the lists of the moves from the first one on
-pub from_none : (m o : List ℕ) (b : Book) (g : Log) (n : ℕ) (t : RunState) (d rs ws : List ℕ) → RunAt m o g (start b) (lists_from (low_program m) g (start b) (n - 0) 0) t d rs ws
+pub from_none : (m o : List ℕ) (b : Book) (g : Log) (n : ℕ) (t : RunState TalliedResult) (d rs ws : List ℕ) → RunAt m o g (start b) (lists_from (low_program m) g (start b) (n - 0) 0) t d rs ws
     → RunAt m o g (start b) (lists_from (low_program m) g (start b) n 0) t d rs ws
 from_none m o b g n t d rs ws s = subst (λ (j : ℕ). RunAt m o g (start b) (lists_from (low_program m) g (start b) j 0) t d rs ws) {x = n - 0} {y = n} (omega arith) s

@@ -9,6 +9,7 @@ use Rattle.order.specs.Log.{Log}
 use Rattle.order.specs.Run.{run_log}
 use Rattle.order.specs.Lists.{lists_from, call_lists}
 use Rattle.order.specs.Call.{left_past, log_call}
+use Rattle.engine.specs.declared.TalliedResult.{TalliedResult}
 use Rattle.order_run.specs.declared.RunState.{RunState}
 use Rattle.order_run.specs.declared.Upcoming.{Upcoming}
 use Rattle.order_run.specs.declared.CheckedCall.{CheckedCall}
@@ -19,12 +20,12 @@ use Rattle.order_run.specs.Checked.{CallPassed, run_lists}
 -- ---- on tables of just the records needed; m is the image, o the order's table
 
 -- i of the moves have fired, with the tally k, and left these marks: r says that move i is next, or has the answer of the order check
-abbrev pub NextMove : List ℕ → ℕ → ℕ → Tally → List ℕ → List ℕ → RunState → Type 0
+abbrev pub NextMove : List ℕ → ℕ → ℕ → Tally → List ℕ → List ℕ → RunState TalliedResult → Type 0
 NextMove o moves i k rs ws r = (m c d : List ℕ) (g : Log) → moves ≡ length g.moves → FiredSoFar m o g c i k d rs ws
     → RunAt m o g c (lists_from (low_program m) g c (moves - i) i) r d rs ws
 
 -- the start is written into the tables t, which become u
-abbrev pub StartedOn : List ℕ → List ℕ → List ℕ → ℕ → Tables → Tables → RunState → Type 0
+abbrev pub StartedOn : List ℕ → List ℕ → List ℕ → ℕ → Tables → Tables → RunState TalliedResult → Type 0
 StartedOn text m o moves t u r = (b : Book) (g : Log) → Startable text m o b g moves t.contents t.readers t.writers
     → RunAt m o g (start b) (lists_from (low_program m) g (start b) moves 0) r u.contents u.readers u.writers
 
@@ -33,7 +34,7 @@ abbrev pub NextBegun : List ℕ → List ℕ → Upcoming → List ℕ → List 
 NextBegun m o s d rs rs' l b = (g : Log) (c ws : List ℕ) → MoveNext m o g c s d rs ws → MoveBegun m o g c s b l d rs' ws
 
 -- the move s, which is begun, is finished on the tables t, which become u; and fewer moves are left
-abbrev pub NextFinished : List ℕ → List ℕ → List ℕ → Upcoming → Begun → Tables → Tables → RunState → Type 0
+abbrev pub NextFinished : List ℕ → List ℕ → List ℕ → Upcoming → Begun → Tables → Tables → RunState TalliedResult → Type 0
 NextFinished m o l s b t u r =
     ((g : Log) (c : List ℕ) → MoveBegun m o g c s b l t.contents t.readers t.writers
     → RunAt m o g c (lists_from (low_program m) g c (s.moves - (s.at + 1)) (s.at + 1)) r u.contents u.readers u.writers)
@@ -42,10 +43,10 @@ NextFinished m o l s b t u r =
 -- ---- on tables of any length
 
 -- a call that passed its checks is started on the tables t, which become u
-abbrev pub CallStarted : List ℕ → List ℕ → List ℕ → CheckedCall → Tables → Tables → RunState → Type 0
+abbrev pub CallStarted : List ℕ → List ℕ → List ℕ → CheckedCall → Tables → Tables → RunState TalliedResult → Type 0
 CallStarted book m o checked t u r = (b : Book) (g : Log) (n : ℕ) → CallPassed book b g checked m o t n
     → CallAt t n (left_past t (run_log b g)) m o (run_lists b g) r u.contents u.readers u.writers
 
 -- a call is checked and, if it passes, started on the tables t, which become u, with n instruction records lent
-abbrev pub CallPrepared : List ℕ → List ℕ → ℕ → Tables → Tables → List ℕ → List ℕ → RunState → Type 0
+abbrev pub CallPrepared : List ℕ → List ℕ → ℕ → Tables → Tables → List ℕ → List ℕ → RunState TalliedResult → Type 0
 CallPrepared book log n t u m o r = CallAt t n (log_call book log t n) m o (call_lists book log t n) r u.contents u.readers u.writers

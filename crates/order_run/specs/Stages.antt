@@ -14,6 +14,7 @@ use Rattle.order.specs.Run.{LogAnswer, run_from}
 use Rattle.order.specs.Lists.{lists_from}
 use Rattle.order.specs.Call.{left_past}
 use Rattle.order.specs.Table.{input_in}
+use Rattle.engine.specs.declared.TalliedResult.{TalliedResult}
 use Rattle.order_run.specs.declared.RunState.{RunState}
 use Rattle.order_run.specs.declared.RunState.TheVariants.{Next, Over}
 use Rattle.order_run.specs.declared.Upcoming.{Upcoming}
@@ -21,7 +22,7 @@ use Rattle.order_run.specs.Runs.{Runnable, AfterMoves, answer_with}
 use Rattle.engine.specs.Tables.{Tables, tables}
 
 -- a number that falls with each move, so that the run ends: a log has at most 64 moves
-abbrev pub moves_left : RunState → ℕ
+abbrev pub moves_left : RunState TalliedResult → ℕ
 moves_left (Next t) = suc (64 - t.at)
 moves_left (Over r) = 0
 
@@ -40,7 +41,7 @@ pub record MoveNext (m o : List ℕ) (g : Log) (c : List ℕ) (t : Upcoming) (d 
   pub moves : t.moves ≡ length g.moves
 
 -- how far a run is: a move is next, or the run is over; rest is the instructions that the moves from here on give
-abbrev pub RunAt : List ℕ → List ℕ → Log → List ℕ → List (List Instruction) → RunState → List ℕ → List ℕ → List ℕ → Type 0
+abbrev pub RunAt : List ℕ → List ℕ → Log → List ℕ → List (List Instruction) → RunState TalliedResult → List ℕ → List ℕ → List ℕ → Type 0
 RunAt m o g c rest (Next t) d rs ws = MoveNext m o g c t d rs ws × (rest ≡ lists_from (low_program m) g c (t.moves - t.at) t.at)
 RunAt m o g c rest (Over r) d rs ws = (rest ≡ []) × (answer_with (tallied r) d rs ws ≡ run_from (low_program m) g c)
 
@@ -73,6 +74,6 @@ pub record CallGoesOn (lent : Tables) (n : ℕ) (whole : LogAnswer) (m o : List 
 
 -- How far a call is: a move is next, or the run is over. n instruction records are lent, and `whole` is what the call is to answer; rest is the instructions
 -- that the moves from here on give
-abbrev pub CallAt : Tables → ℕ → LogAnswer → List ℕ → List ℕ → List (List Instruction) → RunState → List ℕ → List ℕ → List ℕ → Type 0
+abbrev pub CallAt : Tables → ℕ → LogAnswer → List ℕ → List ℕ → List (List Instruction) → RunState TalliedResult → List ℕ → List ℕ → List ℕ → Type 0
 CallAt lent n whole m o rest (Next t) d rs ws = CallGoesOn lent n whole m o rest t d rs ws
 CallAt lent n whole m o rest (Over r) d rs ws = (rest ≡ []) × (answer_with (tallied r) d rs ws ≡ whole)

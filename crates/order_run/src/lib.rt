@@ -89,11 +89,11 @@ pub struct Upcoming {
     pub tally: Tally,
 }
 
-// How far a run is: a move is next, or the run is over.
+// How far a run is: a move is next, or the run is over, with its result. A caller's result may be of a type of its own.
 #[derive(Clone, Copy)]
-pub enum RunState {
+pub enum RunState<T = TalliedResult> {
     Next(Upcoming),
-    Over(TalliedResult),
+    Over(T),
 }
 
 // A call that passed the checks before its first move: how many moves and locations there are.
