@@ -162,6 +162,13 @@ module _ {E : Type 0} (gives : Refusal → E → Type 0) where
     moves = λ strides ls. let t = h.moves strides ls in (subst (λ (x : Answer). Converted gives x r) t.0 is, t.1);
   }
 
+  -- a call that was begun, on its first j records: its move ended so, and its result is that answer, converted
+  pub any_concluded : (m c l : List ℕ) (p : Result Begun E) (b : Begun) → p ≡ Ok b → (k j : ℕ) → k ≡ word m 6 → j ≡ min k (length c)
+      → (t : TalliedAnswer) (d rs ws : List ℕ) → (Strided (low_program m) → MoveFinished (low_program m) 1 0 (outcome b.walk l) (tables (take j c) [] []) t (tables d rs ws))
+      → (r : Result (Unit {0}) E) → Converted gives t.answer r → AnyCallFinished gives m c l p r (d ++ drop j c)
+  any_concluded m c l p b h k j e f t d rs ws does r is =
+      rw h (any_begun m c l b t.answer (d ++ drop j c) (concluded_first m c l b j (f ∙ ap (λ (x : ℕ). min x (length c)) e) t d rs ws does) r is)
+
   -- a refusal of the move, converted
   pub refusal_converted : (q : Result (Unit {0}) Refusal) (f : Refusal) → q ≡ Err f → (r : Result (Unit {0}) E) → IsErrAnd r (gives f) → Converted gives (told q) r
   refusal_converted q f h (Ok u) g = absurd g
