@@ -20,3 +20,4 @@ pub mod Labels
 pub mod Claims
 pub mod Examples
 pub mod Operators
+pub mod Reasons

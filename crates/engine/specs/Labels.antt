@@ -1,5 +1,6 @@
 -- The label tally: how many labels instructions issue and return, and how many labels are on the roll (SPECIFICATION 4.11).
 use Rattle.std.specs.Prelude.{Bool, false, not, ◌&&◌, List, [], ◌∷◌, ℕ, zero, suc, ◌+◌, eqb, ltb, get_or}
+use Rattle.text.specs.declared.Reason.{Reason}
 use Rattle.text.specs.Words.{Answer, told, one_if, has}
 use Rattle.book.specs.Book.{Program, true_element, reserve}
 use Rattle.engine.specs.declared.Instruction.{Instruction}
@@ -78,5 +79,5 @@ pub record TalliedAnswer : Type 0 where
   pub tally : Tally
 
 -- the answer and the tally that the code's result tells
-abbrev pub tallied : TalliedResult → TalliedAnswer
+abbrev pub tallied : TalliedResult Reason → TalliedAnswer
 tallied r = record { answer = told r.answer; tally = r.tally }

@@ -9,3 +9,4 @@ pub mod Examples
 pub mod Operators
 pub mod Claims
 pub mod Tables
+pub mod Reasons

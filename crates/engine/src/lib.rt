@@ -2,7 +2,11 @@
 // caller lends.
 #![tactic(auto)]
 
-use text::{Refusal, Value};
+ghost use Rattle.std.specs.Prelude.{◌≡◌};
+ghost use Rattle.text.specs.Refusals.{number_of};
+ghost use Rattle.engine.specs.Reasons.{ResultAs};
+
+use text::{Reason, Refusal, Value};
 
 // How many instructions a move may give, and how many records of them have to be lent.
 pub const MOST_INSTRUCTIONS: usize = 256;
@@ -36,7 +40,34 @@ pub struct Tally {
 
 // Accepted or refused, and the tally of the moves that have fired.
 #[derive(Clone, Copy)]
-pub struct TalliedResult {
-    pub answer: Result<(), Refusal>,
+pub struct TalliedResult<R = Reason> {
+    pub answer: Result<(), Refusal<R>>,
     pub tally: Tally,
+}
+
+// The same result, with the reason of its refusal converted.
+pub fn convert_result<R: From<Reason>>(done: TalliedResult) -> TalliedResult<R>
+    ensures { ResultAs R.from_gives done result }
+{
+    let answer = match done.answer {
+        Ok(()) => Ok(()),
+        Err(refusal) => Err(Refusal {
+            reason: R::from(refusal.reason),
+            p: refusal.p,
+            q: refusal.q,
+        }),
+    };
+    TalliedResult {
+        answer,
+        tally: done.tally,
+    }
+}
+
+// A result whose refusals have numbers of 16 bits for reasons, so that a run whose results are such can go on.
+impl From<TalliedResult> for TalliedResult<u16> {
+    ghost from_gives = { λ t r. ResultAs (λ e n. n ≡ number_of e) t r };
+
+    fn from(done: TalliedResult) -> TalliedResult<u16> {
+        convert_result(done)
+    }
 }

@@ -1,4 +1,5 @@
 -- Laws of the steps that give an instruction, take a pick or are refused.
+use Rattle.text.specs.declared.Reason.{Reason}
 use Rattle.text.specs.Refusals.{refusal_number}
 use Rattle.std.specs.Prelude.{if◌then◌else◌}
 use mathlib.Core.Path.{◌≡◌, refl}
@@ -21,16 +22,16 @@ use Rattle.engine_instruction.specs.Code.{decode_of, items}
 use Rattle.engine_emit.specs.declared.Progress.{Progress}
 use Rattle.engine_emit.specs.Emit.{walk_from, reached, refused_by, setting, releasing, importing, importing_found, next_pick, picking}
 
-pub reached_walking : (ys : List ℕ) (s : Progress) (l : List ℕ) → (refusal_number s.refused) ≡ 0 → reached ys s l ≡ walking (walk_from ys s l)
+pub reached_walking : (ys : List ℕ) (s : Progress Reason) (l : List ℕ) → (refusal_number s.refused) ≡ 0 → reached ys s l ≡ walking (walk_from ys s l)
 unfolding reached
 reached_walking ys s l e = rw (eq-eqb (refusal_number s.refused) 0 e)
 
-pub reached_refused : (ys : List ℕ) (s : Progress) (l : List ℕ) → (((refusal_number s.refused) ≡ 0) → ⊥) → reached ys s l ≡ refused_at (refusal_number s.refused) s.node
+pub reached_refused : (ys : List ℕ) (s : Progress Reason) (l : List ℕ) → (((refusal_number s.refused) ≡ 0) → ⊥) → reached ys s l ≡ refused_at (refusal_number s.refused) s.node
 unfolding reached
 reached_refused ys s l e = rw (ne_eqb (refusal_number s.refused) 0 e)
 
 -- one instruction more, or refusal 14
-module _ (ys : List ℕ) (s : Progress) (l : List ℕ) (i : Instruction) (n : ℕ) (long : length l ≡ most_instructions) where
+module _ {R : Type 0} (ys : List ℕ) (s : Progress R) (l : List ℕ) (i : Instruction) (n : ℕ) (long : length l ≡ most_instructions) where
   pub give_room : (v : ℕ) → s.len < 256 → decode_of v ≡ i
       → walking (record { made = items (set l s.len v) (s.len + 1); next = s.label; left = ys }) ≡ emit n i (walk_from ys s l)
   give_room v h e =
@@ -66,7 +67,7 @@ module _ (B : Program) (x r n : ℕ) where
 -- ---- an import's label
 
 -- with label x taken, the two updates of an import, unless there is a refusal already
-pub taking_from : (at x n : ℕ) (ys : List ℕ) (s : Progress) (l : List ℕ)
+pub taking_from : (at x n : ℕ) (ys : List ℕ) (s : Progress Reason) (l : List ℕ)
     → (reached ys (record { len = s.len; label = x + 1; refused = s.refused; node = s.node }) l then emit n (Update (reserve x) false_element) then emit n (Update at true_element))
     ≡ (reached ys s l then importing at x n)
 unfolding reached
@@ -112,7 +113,7 @@ module _ (E : ℕ) (ys : List ℕ) (i : ℕ) where
   next_none h = rw (drop_past ys i h)
 
 -- Kind 28, a choose, by the picks that are left
-module _ (s : Progress) (l : List ℕ) (ys : List ℕ) (i v n : ℕ) where
+module _ (s : Progress Reason) (l : List ℕ) (ys : List ℕ) (i v n : ℕ) where
   pub picking_none : length ys ≤ i → (reached (drop i ys) s l then refused_by pick_count n) ≡ (reached (drop i ys) s l then picking v n)
   unfolding reached
   picking_none h = rw (drop_past ys i h) (go (eqb (refusal_number s.refused) 0))
@@ -141,7 +142,7 @@ module _ (s : Progress) (l : List ℕ) (ys : List ℕ) (i v n : ℕ) where
       go false = refl
 
 -- at the end all picks are used, or one is left: refusal 19
-module _ (s : Progress) (l : List ℕ) (ys : List ℕ) (i q : ℕ) where
+module _ (s : Progress Reason) (l : List ℕ) (ys : List ℕ) (i q : ℕ) where
   pub taken_all : length ys ≤ i → reached [] s l ≡ (reached (drop i ys) s l then λ w. all_taken q w.left w)
   unfolding reached
   taken_all h = rw (drop_past ys i h) (go (eqb (refusal_number s.refused) 0))

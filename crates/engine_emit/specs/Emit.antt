@@ -1,7 +1,8 @@
 -- How far a walk is, as the code holds it: the list of instructions as numbers, and the picks left; and the steps that give an instruction, take a pick or
 -- refuse.
-use Rattle.text.specs.Refusals.{refusal_number}
-use Rattle.std.specs.Prelude.{◌&&◌, not, List, [], ◌∷◌, ℕ, drop, eqb, ltb, if◌then◌else◌}
+use Rattle.text.specs.declared.Reason.{Reason}
+use Rattle.text.specs.Refusals.{number_of, refusal_number}
+use Rattle.std.specs.Prelude.{None, Some, IfSome, ◌≡◌, ◌&&◌, not, List, [], ◌∷◌, ℕ, drop, eqb, ltb, if◌then◌else◌}
 use Rattle.text.specs.Refusals.{non_boolean, not_releasable, no_label_left, not_in_universe, pick_count}
 use Rattle.book.specs.Book.{true_element, false_element, boolean, relation, Program, function_at, reserve}
 use Rattle.engine.specs.declared.Instruction.TheVariants.{Update, Release}
@@ -17,12 +18,26 @@ abbrev pub picks_left : Picks → List ℕ
 picks_left p = drop p.used p.given.now
 
 -- the walk that a state s, its list l and the picks left ys stand for
-abbrev pub walk_from : List ℕ → Progress → List ℕ → Walk
+abbrev pub walk_from : {R : Type 0} → List ℕ → Progress R → List ℕ → Walk
 walk_from ys s l = record { made = items l s.len; next = s.label; left = ys }
 
 -- what a walk has come to, by its state s; a refusal's number is not 0
-unfoldable pub reached : List ℕ → Progress → List ℕ → Walked
+unfoldable pub reached : List ℕ → Progress Reason → List ℕ → Walked
 reached ys s l = if eqb (refusal_number s.refused) 0 then walking (walk_from ys s l) else refused_at (refusal_number s.refused) s.node
+
+-- ---- refusals with reasons of any type R, to which this code's reasons are converted
+
+module _ {R : Type 0} (gives : Reason → R → Type 0) where
+  -- the state r, its list m and the picks left zs stand for what a walk has come to; a refusal's reason is one of this code's, converted
+  abbrev pub StandsFor : List ℕ → Progress R → List ℕ → Walked → Type 0
+  StandsFor zs r m (walking w) = (r.refused ≡ None) × (walk_from zs r m ≡ w)
+  StandsFor zs r m (refused_at n q) = (e : Reason) × (x : R) × gives e x × (number_of e ≡ n) × (r.refused ≡ Some x) × (r.node ≡ q)
+
+  -- The state s with its list l and the picks left ys became r with m and zs: a walk that is refused stays so, for the same reason at the same node, and any
+  -- other has made the step.
+  pub record WalkStepped (step : Walk → Walked) (ys : List ℕ) (s : Progress R) (l zs : List ℕ) (r : Progress R) (m : List ℕ) : Type 0 where
+    pub stays : IfSome s.refused (λ x. (r.refused ≡ Some x) × (r.node ≡ s.node))
+    pub steps : s.refused ≡ None → StandsFor zs r m (step (walk_from ys s l))
 
 -- ---- steps
 

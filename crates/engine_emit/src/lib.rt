@@ -7,7 +7,7 @@ ghost use Rattle.book.specs.Book.{node_at};
 ghost use Rattle.engine.specs.Term.{term_at, function_of};
 ghost use Rattle.engine.specs.Rule.{◌then◌, most_instructions, emit, all_taken};
 ghost use Rattle.book.specs.Image.{low_program};
-ghost use Rattle.engine_emit.specs.Emit.{reached, picks_left, refused_by, setting, releasing, importing, importing_found, next_pick, picking};
+ghost use Rattle.engine_emit.specs.Emit.{WalkStepped, picks_left, refused_by, setting, releasing, importing, importing_found, next_pick, picking};
 
 use book::Image;
 use book_parts::NodeKind;
@@ -15,13 +15,13 @@ use engine::{Instruction, Pick, Work};
 use text::{Reason, Value};
 
 // How far a walk is: how many instructions it has given, the label from which the next import searches,
-// its refusal, if it has met one, and the refusal's node. Eight bytes go from node to node in a register; the picks that it has used are
-// counted beside it.
+// its refusal, if it has met one, and the refusal's node. A caller's reasons may be of a type of its own, to which this code's reasons can be
+// converted; with this code's, eight bytes go from node to node in a register. The picks that it has used are counted beside it.
 #[derive(Clone, Copy)]
-pub struct Progress {
+pub struct Progress<R = Reason> {
     pub len: u16,
     pub label: Value,
-    pub refused: Option<Reason>,
+    pub refused: Option<R>,
     pub node: u16,
 }
 
@@ -33,8 +33,8 @@ pub struct Picks<'a> {
 }
 
 // The state with the refusal at node n, unless it has one already.
-fn refuse_at(s: Progress, reason: Reason, n: u16) -> Progress
-    ensures { (ys l : List ℕ) → reached ys result l ≡ (reached ys s l then refused_by (number_of reason) n) }
+fn refuse_at<R: Copy + From<Reason>>(s: Progress<R>, reason: Reason, n: u16) -> Progress<R>
+    ensures { (ys l : List ℕ) → WalkStepped R.from_gives (refused_by (number_of reason) n) ys s l ys result l }
 {
     if s.refused.is_some() {
         return s;
@@ -42,15 +42,20 @@ fn refuse_at(s: Progress, reason: Reason, n: u16) -> Progress
     Progress {
         len: s.len,
         label: s.label,
-        refused: Some(reason),
+        refused: Some(R::from(reason)),
         node: n,
     }
 }
 
 // One more instruction, which node n gives; refusal 14 if it does not fit.
-fn emit(list: &mut [u64], s: Progress, i: Instruction, n: u16) -> Progress
+fn emit<R: Copy + From<Reason>>(
+    list: &mut [u64],
+    s: Progress<R>,
+    i: Instruction,
+    n: u16,
+) -> Progress<R>
     requires { length list.old ≡ most_instructions }
-    ensures { (ys : List ℕ) → reached ys result list.new ≡ (reached ys s list.old then emit n i) }
+    ensures { (ys : List ℕ) → WalkStepped R.from_gives (emit n i) ys s list.old ys result list.new }
 {
     if s.refused.is_some() {
         return s;
@@ -86,16 +91,16 @@ pub fn target_function(image: &Image, depth: usize, n: u16) -> u16
 }
 
 // Sets location `at` of function f to x; refusal 11 if f is a relation and x is no Boolean.
-pub fn emit_update(
+pub fn emit_update<R: Copy + From<Reason>>(
     image: &Image,
     list: &mut Work,
-    s: Progress,
+    s: Progress<R>,
     n: u16,
     f: u16,
     at: u32,
     x: Value,
-) -> Progress
-    ensures { (ys : List ℕ) → reached ys result list.new ≡ (reached ys s list.old then setting (low_program image.now) f at x n) }
+) -> Progress<R>
+    ensures { (ys : List ℕ) → WalkStepped R.from_gives (setting (low_program image.now) f at x n) ys s list.old ys result list.new }
 {
     if book_parts::is_relation(book_image::function_at(image, f as u32)) {
         if book_parts::is_boolean(x) {
@@ -125,9 +130,15 @@ pub fn emit_update(
 }
 
 // The two updates by which an import at node n takes label x into a universe that has the location `at` there.
-fn emit_import(list: &mut Work, s: Progress, n: u16, at: u32, x: Value) -> Progress
+fn emit_import<R: Copy + From<Reason>>(
+    list: &mut Work,
+    s: Progress<R>,
+    n: u16,
+    at: u32,
+    x: Value,
+) -> Progress<R>
     requires { x < 65535 }
-    ensures { (ys : List ℕ) → reached ys result list.new ≡ (reached ys s list.old then importing at x n) }
+    ensures { (ys : List ℕ) → WalkStepped R.from_gives (importing at x n) ys s list.old ys result list.new }
 {
     let r = Progress {
         len: s.len,
@@ -156,15 +167,15 @@ fn emit_import(list: &mut Work, s: Progress, n: u16, at: u32, x: Value) -> Progr
 }
 
 // An import at node n takes label x into a universe that has the location `at` there; refusal 13 if x is no element, since no label is left.
-pub fn import_label(
+pub fn import_label<R: Copy + From<Reason>>(
     image: &Image,
     list: &mut Work,
-    s: Progress,
+    s: Progress<R>,
     n: u16,
     at: u32,
     x: Value,
-) -> Progress
-    ensures { (ys : List ℕ) → reached ys result list.new ≡ (reached ys s list.old then importing_found (low_program image.now).E at x n) }
+) -> Progress<R>
+    ensures { (ys : List ℕ) → WalkStepped R.from_gives (importing_found (low_program image.now).E at x n) ys s list.old ys result list.new }
 {
     if x < book_image::elements(image) {
         emit_import(list, s, n, at, x)
@@ -174,15 +185,15 @@ pub fn import_label(
 }
 
 // Releases x, Reserve there being v; refusal 12 if x is no label or is on the roll.
-pub fn emit_release(
+pub fn emit_release<R: Copy + From<Reason>>(
     image: &Image,
     list: &mut Work,
-    s: Progress,
+    s: Progress<R>,
     n: u16,
     x: Value,
     v: Value,
-) -> Progress
-    ensures { (ys : List ℕ) → reached ys result list.new ≡ (reached ys s list.old then releasing (low_program image.now) x v n) }
+) -> Progress<R>
+    ensures { (ys : List ℕ) → WalkStepped R.from_gives (releasing (low_program image.now) x v n) ys s list.old ys result list.new }
 {
     if x < book_parts::permanent(image) {
         return refuse_at(s, Reason::NotReleasable, n);
@@ -212,8 +223,8 @@ impl Picks<'_> {
 
     // Takes the pick that is next, the universe having the value v there; refusal 19 if there is none, 18 if it is not in the universe.
     // The list that was given stays the same, and one pick more is used exactly where one is taken.
-    pub fn take(&mut self, s: Progress, n: u16, v: Value) -> Progress
-        ensures walked { (l : List ℕ) → reached (picks_left self.new) result l ≡ (reached (picks_left self.old) s l then picking v n) }
+    pub fn take<R: Copy + From<Reason>>(&mut self, s: Progress<R>, n: u16, v: Value) -> Progress<R>
+        ensures walked { (l : List ℕ) → WalkStepped R.from_gives (picking v n) (picks_left self.old) s l (picks_left self.new) result l }
         ensures given { self.new.given ≡ self.old.given }
         ensures used { self.new.used ≡ (if ltb self.old.used (length self.old.given.now) && eqb v 2 then suc self.old.used else self.old.used) }
     {
@@ -229,8 +240,8 @@ impl Picks<'_> {
     }
 
     // Refusal 19 at the root if picks are left at the walk's end.
-    pub fn all_used(&self, s: Progress, root: u16) -> Progress
-        ensures { (l : List ℕ) → reached [] result l ≡ (reached (picks_left self.now) s l then λ w. all_taken root w.left w) }
+    pub fn all_used<R: Copy + From<Reason>>(&self, s: Progress<R>, root: u16) -> Progress<R>
+        ensures { (l : List ℕ) → WalkStepped R.from_gives (λ w. all_taken root w.left w) (picks_left self.now) s l [] result l }
     {
         if self.used < self.given.len() {
             return refuse_at(s, Reason::PickCount, root);

@@ -9,6 +9,7 @@ use borrow.Author.Tests.{ltb-false}
 use lib.Dec.{ltb}
 use lib.ListN.{length, get_or}
 use Rattle.engine.specs.Labels.{TalliedAnswer}
+use Rattle.text.specs.declared.Reason.{Reason}
 use Rattle.text.specs.Words.{has, least}
 use Rattle.text.specs.Refusals.{clash}
 use Rattle.book.specs.Book.{Program}
@@ -114,7 +115,7 @@ module _ (B : Program) (i : Input) (bit at : ℕ) (c rs ws : List ℕ) (fit : Mo
       go (Some l) e = ends (walking w) rs' walks r c'' rs'' ws'' done (move_refused clash l) (rw e) refl (rw back)
 
 -- the effect of a move as the code has it: the walk, begun on t, left the tables c, rs and ws with its end s and the list l
-pub finished_effect : (B : Program) (i : Input) (bit at : ℕ) (t : Tables) (s : Progress) (l c rs ws : List ℕ) → AfterWalk B i bit t s l (tables c rs ws) → (r : TalliedAnswer) (u : Tables)
+pub finished_effect : (B : Program) (i : Input) (bit at : ℕ) (t : Tables) (s : Progress Reason) (l c rs ws : List ℕ) → AfterWalk B i bit t s l (tables c rs ws) → (r : TalliedAnswer) (u : Tables)
     → MoveFinished B bit at (walk.outcome s l) (tables c rs ws) r u → MoveEffect B i bit at t r u
 finished_effect B i bit at t s l c rs ws after r u done =
     subst (λ (x : Tables). MoveEffect B i bit at x r u) begun

@@ -6,3 +6,4 @@ pub mod Tallies
 pub mod Marks
 pub mod Effect
 pub mod Count
+pub mod Reasons

@@ -1,6 +1,7 @@
 -- What one move leaves of the contents and the marks: one that fires its updates and its bit, a refused one nothing; and its label tally (SPECIFICATION 4.9,
 -- 4.11, 5.6, 8.3).
 use Rattle.std.specs.Prelude.{◌≡◌, List, ℕ, ◌^◌, ◌<◌, length, get_or}
+use Rattle.text.specs.declared.Reason.{Reason}
 use Rattle.text.specs.Words.{Answer}
 use Rattle.text.specs.Words.{has}
 use Rattle.book.specs.Book.{Program}
@@ -52,7 +53,7 @@ pub record MoveEffect (B : Program) (x : Input) (bit i : ℕ) (t : Tables) (r : 
   pub tables : u ≡ tables_left bit t (move B t.contents x)
 
 -- the walk of the move with input x, made on the tables t, ended as s says, with its instructions in the list l, and left the tables u
-pub record AfterWalk (B : Program) (x : Input) (bit : ℕ) (t : Tables) (s : Progress) (l : List ℕ) (u : Tables) : Type 0 where
+pub record AfterWalk (B : Program) (x : Input) (bit : ℕ) (t : Tables) (s : Progress Reason) (l : List ℕ) (u : Tables) : Type 0 where
   pub fit : MoveFits B x bit t
   pub contents : u.contents ≡ t.contents
   pub readers : WalkMarked B t.contents bit x (outcome s l) t.readers u.readers
@@ -60,5 +61,5 @@ pub record AfterWalk (B : Program) (x : Input) (bit : ℕ) (t : Tables) (s : Pro
 
 -- The move with input x is begun in the contents c, marked as `bit`: its walk came to b, with its instructions in the list l, and the reader marks m
 -- became n.
-abbrev pub Begins : Program → List ℕ → ℕ → Input → Begun → List ℕ → List ℕ → List ℕ → Type 0
+abbrev pub Begins : Program → List ℕ → ℕ → Input → Begun Reason → List ℕ → List ℕ → List ℕ → Type 0
 Begins B c bit x b l m n = WalkMarked B c bit x (outcome b.walk l) m n × (b.count ≡ instructions_given b.walk) × (length l ≡ 256)

@@ -3,3 +3,4 @@ pub mod Steps
 pub mod Effect
 pub mod Finish
 pub mod Count
+pub mod Reasons

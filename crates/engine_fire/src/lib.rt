@@ -19,9 +19,9 @@ ghost use Rattle.engine_fire.specs.Outcome.{write_marked, read_marked, FiresTo, 
 ghost use Rattle.engine_fire.specs.Steps.{part_after, puts, put_marked, put_reads, issues_at, returns_at, put_tally, fire_tally};
 ghost use Rattle.engine.specs.Rule.{walking, most_instructions};
 ghost use Rattle.engine_walk.specs.WalkMarks.{bits_cleared};
-ghost use Rattle.engine_walk.specs.Walk.{outcome};
 ghost use Rattle.engine_fire.specs.Effect.{move_answer, Begins};
 ghost use Rattle.engine_fire.specs.Finish.{refused_answer, readers_kept, Finishes};
+ghost use Rattle.engine_fire.specs.Reasons.{refused_result, FinishesAs};
 ghost use Rattle.engine_fire.specs.Count.{instructions_given};
 ghost use Rattle.engine.specs.Tables.{tables};
 
@@ -29,7 +29,7 @@ use book::Image;
 use book_parts::Part;
 use engine::{Pick, TalliedResult, Tally, Work};
 use engine_emit::Progress;
-use text::{Reason, Value};
+use text::{Reason, Refusal, Value};
 
 // What becomes of a move whose walk met no refusal: it fires, with its label tally, or clashes at a location.
 #[derive(Clone, Copy)]
@@ -235,8 +235,8 @@ pub fn settle(
 
 // A move that is begun: how its walk ended, and how many instructions it gave.
 #[derive(Clone, Copy)]
-pub struct Begun {
-    pub walk: Progress,
+pub struct Begun<R = Reason> {
+    pub walk: Progress<R>,
     pub count: usize,
 }
 
@@ -269,11 +269,11 @@ pub fn begin_move(
 }
 
 // The answer to a move that is refused: it has issued and returned no label.
-fn refused_answer(reason: Reason, at: u32, q: u32) -> TalliedResult
-    ensures { tallied result ≡ refused_answer (number_of reason) at q }
+fn refused_result<R>(reason: R, at: u32, q: u32) -> TalliedResult<R>
+    ensures { result ≡ refused_result reason at q }
 {
     TalliedResult {
-        answer: text::refused(reason, at, q),
+        answer: Err(Refusal { reason, p: at, q }),
         tally: no_labels(),
     }
 }
@@ -284,7 +284,7 @@ fn refuse_move(readers: &mut [u64], bit: u64, reason: Reason, at: u32, q: u32) -
     ensures readers_after { readers.new ≡ bits_cleared bit readers.old }
 {
     engine_walk::clear_marks(readers, bit);
-    refused_answer(reason, at, q)
+    refused_result(reason, at, q)
 }
 
 // The answer to move `at`, which is settled; if it is refused, its reader marks are taken out.
@@ -320,21 +320,23 @@ fn settle_listed(
 }
 
 // Finishes move `at`, whose walk ended as s says: refused as the walk was, or settled by the first s.len instructions of the list.
-pub fn finish_move(
+// A caller's reasons may be of a type of its own: that of the walk's refusal is given back as it is.
+pub fn finish_move<R: Copy + From<Reason>>(
     image: &Image,
     contents: &mut [Value],
     readers: &mut [u64],
     writers: &mut [u64],
     bit: u64,
     list: &Work,
-    s: Progress,
+    s: Progress<R>,
     at: u32,
-) -> TalliedResult
-    ensures { Finishes image.now bit at (outcome s list.now) (tables contents.old readers.old writers.old) (tallied result) (tables contents.new readers.new writers.new) }
+) -> TalliedResult<R>
+    ensures { FinishesAs R.from_gives image.now bit at s list.now (tables contents.old readers.old writers.old) result (tables contents.new readers.new writers.new) }
 {
     if let Some(reason) = s.refused {
-        return refused_answer(reason, at, s.node as u32);
+        return refused_result(reason, at, s.node as u32);
     }
     let len = s.len as usize;
-    settle_listed(image, contents, readers, writers, bit, list, len, at)
+    let done = settle_listed(image, contents, readers, writers, bit, list, len, at);
+    engine::convert_result(done)
 }

@@ -9,7 +9,7 @@ ghost use Rattle.book.specs.Image.{word, low_program};
 ghost use Rattle.engine.specs.Move.{input};
 ghost use Rattle.engine.specs.Single.{pick_place, check_agent, check_picks, check_step_lengths, check_contents};
 ghost use Rattle.engine_step.specs.Call.{check_call};
-ghost use Rattle.engine_step.specs.Stages.{given, MoveWalked, CallBegun, AnyCallFinished};
+ghost use Rattle.engine_step.specs.Stages.{given, MoveWalked, CallBegun, CallFinishedAs};
 ghost use Rattle.engine_step.specs.Entry.{StepMade, StepMadeOwn};
 
 use book::Image;
@@ -134,15 +134,15 @@ pub fn begin_call(
     Ok(walk_call(image, contents, agent as u32, picks, work))
 }
 
-// Finishes the move, by the instructions that came back from the lent list; a call that was refused stays refused. A caller's refusals may be of a type of
-// its own, with reasons that this code does not have.
-pub fn finish_call<E: From<Refusal>>(
+// Finishes the move, by the instructions that came back from the lent list; a call that was refused stays refused. A caller's refusals, and the reasons that a
+// walk is refused for, may be of types of its own, with reasons that this code does not have.
+pub fn finish_call<R: Copy + From<Reason>, E: From<Refusal<R>>>(
     contents: &mut [Value],
     image: &Image,
     work: &Work,
-    call: Result<Begun, E>,
+    call: Result<Begun<R>, E>,
 ) -> Result<(), E>
-    ensures { AnyCallFinished E.from_gives image.now contents.old work.now call result contents.new }
+    ensures { CallFinishedAs R.from_gives E.from_gives image.now contents.old work.now call result contents.new }
 {
     let walk = call?.walk;
     let all = book_image::locations(image) as usize;

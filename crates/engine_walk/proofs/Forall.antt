@@ -1,4 +1,5 @@
 -- Laws of a forall: its body runs for each member in turn.
+use Rattle.text.specs.declared.Reason.{Reason}
 use Rattle.text.specs.Refusals.{refusal_number}
 use mathlib.Core.Path.{◌≡◌, refl}
 use mathlib.Core.List.{List, [], ◌∷◌}
@@ -48,7 +49,7 @@ module _ (B : Program) (c : List ℕ) (bit me : ℕ) (vs : List ℕ) (a u : ℕ)
   abbrev body : ℕ → Walk → Reader Walked
   body y = walk B me r (set vs a y)
 
-  pub runs_for_all : (ys : List ℕ) (s : Progress) (l : List ℕ) (z : Walked) (j m n : List ℕ) → (refusal_number s.refused) ≡ 0
+  pub runs_for_all : (ys : List ℕ) (s : Progress Reason) (l : List ℕ) (z : Walked) (j m n : List ℕ) → (refusal_number s.refused) ≡ 0
       → (Placed B → m ≡ marked bit (dynamic_among B (locations_read c (members B u 0 B.E))) j)
       → Runs B c bit (after (reached ys s l) (each body (members_from B c u 0))) z m n
       → Runs B c bit (walk B me (for_all a u r) vs (walk_from ys s l)) z j n

@@ -1,4 +1,5 @@
 -- Laws of a walk's steps: bindingss, and the rules one by one.
+use Rattle.text.specs.declared.Reason.{Reason}
 use Rattle.text.specs.Refusals.{refusal_number}
 use Rattle.std.specs.Prelude.{None, Some}
 use Rattle.std.specs.Prelude.{if◌then◌else◌}
@@ -49,7 +50,7 @@ module _ (B : Program) (c : List ℕ) (bit : ℕ) where
 
   -- ---- what follows a step of the walk
 
-  module _ (f : Walk → Reader Walked) (ys : List ℕ) (s : Progress) (l : List ℕ) (h : (refusal_number s.refused) ≡ 0) (z : Walked) (m n : List ℕ) where
+  module _ (f : Walk → Reader Walked) (ys : List ℕ) (s : Progress Reason) (l : List ℕ) (h : (refusal_number s.refused) ≡ 0) (z : Walked) (m n : List ℕ) where
     pub runs_from : Runs B c bit (after (reached ys s l) f) z m n → Runs B c bit (f (walk_from ys s l)) z m n
     runs_from k = rw (reached_walking ys s l h) at k
 
@@ -69,13 +70,13 @@ module _ (B : Program) (c : List ℕ) (bit : ℕ) where
       go (refused_at a q) = runs_done B c bit (refused_at a q) m
 
   -- a walk of the rule t is a walk of r, which t is known to be
-  pub runs_rule : (me : ℕ) (vs : List ℕ) (t r : Rule) (ys : List ℕ) (s : Progress) (l : List ℕ) (z : Walked) (m n : List ℕ) → (refusal_number s.refused) ≡ 0 → t ≡ r
+  pub runs_rule : (me : ℕ) (vs : List ℕ) (t r : Rule) (ys : List ℕ) (s : Progress Reason) (l : List ℕ) (z : Walked) (m n : List ℕ) → (refusal_number s.refused) ≡ 0 → t ≡ r
       → Runs B c bit (walk B me r vs (walk_from ys s l)) z m n → Runs B c bit (after (reached ys s l) (walk B me t vs)) z m n
   runs_rule me vs t r ys s l z m n h e k = rw e (runs_after (walk B me r vs) ys s l h z m n k)
 
   -- ---- rules: a block, a test, an import, none
 
-  module _ (me : ℕ) (vs : List ℕ) (ns : ℕ → Node) (d i : ℕ) (x : Node) (some : 2 ≤ d) (loaded : x ≡ ns i) (ys : List ℕ) (s : Progress) (l : List ℕ) (h : (refusal_number s.refused) ≡ 0) where
+  module _ (me : ℕ) (vs : List ℕ) (ns : ℕ → Node) (d i : ℕ) (x : Node) (some : 2 ≤ d) (loaded : x ≡ ns i) (ys : List ℕ) (s : Progress Reason) (l : List ℕ) (h : (refusal_number s.refused) ≡ 0) where
     abbrev go : ℕ → Walk → Reader Walked
     go p = walk B me (rule_from ns (d - 1) p) vs
 

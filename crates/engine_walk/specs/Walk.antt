@@ -1,4 +1,5 @@
 -- What a walk came to, the walk of the rule at a node, and what the functions of the walk promise, in one frame (`Frame`, the struct of engine_term).
+use Rattle.text.specs.declared.Reason.{Reason}
 use Rattle.std.specs.Prelude.{List, [], ℕ, set}
 use Rattle.book.specs.Book.{node_at}
 use Rattle.engine.specs.Reader.{Reader}
@@ -14,7 +15,7 @@ use Rattle.engine_emit.specs.declared.Progress.{Progress}
 use Rattle.engine_emit.specs.Emit.{picks_left, walk_from, reached}
 
 -- what a walk that is over came to, by its state s and its list l: no pick is left
-abbrev pub outcome : Progress → List ℕ → Walked
+abbrev pub outcome : Progress Reason → List ℕ → Walked
 outcome s l = reached [] s l
 
 -- ---- the walk of the rule at node n, built at most d nodes deep, in the book of the image m with the bindings s
@@ -52,15 +53,15 @@ choose_rule m d n x = choose n x.a x.b (rule_from (node_at (low_program m)) d x.
 -- how far a walk is: the picks left, its progress, the list with its instructions, and the reader marks
 pub record WalkState : Type 0 where
   pub picks : List ℕ
-  pub progress : Progress
+  pub progress : Progress Reason
   pub list : List ℕ
   pub readers : List ℕ
 
-abbrev pub state : Picks → Progress → List ℕ → List ℕ → WalkState
+abbrev pub state : Picks → Progress Reason → List ℕ → List ℕ → WalkState
 state picks s list readers = record { picks = picks_left picks; progress = s; list = list; readers = readers }
 
 -- a rule that takes no pick is walked with any picks left
-abbrev pub state_with : List ℕ → Progress → List ℕ → List ℕ → WalkState
+abbrev pub state_with : List ℕ → Progress Reason → List ℕ → List ℕ → WalkState
 state_with ys s list readers = record { picks = ys; progress = s; list = list; readers = readers }
 
 -- this computation leads from x to y

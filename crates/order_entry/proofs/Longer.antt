@@ -4,6 +4,7 @@ use mathlib.Core.List.{List}
 use Prim.Native.Nat.{ℕ, min}
 use native.Mathlib.Omega.{arith}
 use Rattle.engine_step.proofs.Longer.{enough}
+use Rattle.text.specs.declared.Reason.{Reason}
 use Rattle.text.specs.Words.{Checked, good, ◌>>◌, ◌>>=◌}
 use Rattle.book.specs.Book.{Program}
 use Rattle.book.specs.Check.{check_book}
@@ -18,7 +19,7 @@ use Rattle.order_run.specs.Stages.{CallAt}
 use Rattle.engine.specs.Tables.{Tables}
 
 -- a call that is so far with n records lent is so far with 256 of them
-pub call_shorter : (t : Tables) (n : ℕ) (whole : LogAnswer) (m o : List ℕ) (rest : List (List Instruction)) (u : RunState TalliedResult) (c rs ws : List ℕ) → CallAt t n whole m o rest u c rs ws → CallAt t (min n 256) whole m o rest u c rs ws
+pub call_shorter : (t : Tables) (n : ℕ) (whole : LogAnswer) (m o : List ℕ) (rest : List (List Instruction)) (u : RunState (TalliedResult Reason)) (c rs ws : List ℕ) → CallAt t n whole m o rest u c rs ws → CallAt t (min n 256) whole m o rest u c rs ws
 call_shorter t n whole m o rest (Over a) c rs ws h = h
 call_shorter t n whole m o rest (Next u) c rs ws h = record {
   g = h.g;

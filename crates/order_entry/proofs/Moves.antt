@@ -1,4 +1,5 @@
 -- The moves of a run made one after the other: how far the run is in the loop, and what is known at its end.
+use Rattle.text.specs.declared.Reason.{Reason}
 use Rattle.engine.specs.declared.TalliedResult.{TalliedResult}
 use Rattle.std.proofs.Common.{◌≡◌, ℕ, ◌+◌, ◌-◌, ◌≤◌, min, List, ◌∷◌, ◌++◌, length, take, drop, take-append-drop, sym, ap, subst, refl, ◌∙◌, arith}
 use Rattle.book.specs.Image.{word, low_program}
@@ -33,23 +34,23 @@ abbrev pub later_lists : List ℕ → Upcoming → Log → List ℕ → List (Li
 later_lists m t g c = lists_from (low_program m) g c (t.moves - (t.at + 1)) (t.at + 1)
 
 -- at t the run is over, with the answer a and what it left when it began to be so
-abbrev pub StillOver : TalliedResult → List ℕ → List ℕ → List ℕ → List Record → RunState TalliedResult → List ℕ → List ℕ → List ℕ → List Record → Type 0
+abbrev pub StillOver : TalliedResult Reason → List ℕ → List ℕ → List ℕ → List Record → RunState (TalliedResult Reason) → List ℕ → List ℕ → List ℕ → List Record → Type 0
 StillOver a C R D Y (Next t) cs rs ws zs = ⊥
 StillOver a C R D Y (Over b) cs rs ws zs = (answer_with (tallied b) cs rs ws ≡ answer_with (tallied a) C R D) × (zs ≡ Y)
 
 -- how far the run is at t, with these tables and records, if it was at t₀ at the start of the loop: the moves that are left write what is left to write
-pub record SoFar (m o : List ℕ) (t₀ : RunState TalliedResult) (C R D : List ℕ) (Y : List Record) (t : RunState TalliedResult) (cs rs ws : List ℕ) (zs : List Record) : Type 0 where
-  pub over : (a : TalliedResult) → t₀ ≡ Over a → StillOver a C R D Y t cs rs ws zs
+pub record SoFar (m o : List ℕ) (t₀ : RunState (TalliedResult Reason)) (C R D : List ℕ) (Y : List Record) (t : RunState (TalliedResult Reason)) (cs rs ws : List ℕ) (zs : List Record) : Type 0 where
+  pub over : (a : TalliedResult Reason) → t₀ ≡ Over a → StillOver a C R D Y t cs rs ws zs
   pub run : (g : Log) (c : List ℕ) (rest : List (List Instruction)) → most_instructions ≤ length Y → RunAt m o g c rest t₀ C R D
       → (left : List (List Instruction)) × RunAt m o g c left t cs rs ws × (all_records_written left zs ≡ all_records_written rest Y)
 
-module _ (m o : List ℕ) (t₀ : RunState TalliedResult) (C R D : List ℕ) (Y : List Record) where
+module _ (m o : List ℕ) (t₀ : RunState (TalliedResult Reason)) (C R D : List ℕ) (Y : List Record) where
   pub so_far : SoFar m o t₀ C R D Y t₀ C R D Y
-  so_far = record { over = λ a e. subst (λ (t : RunState TalliedResult). StillOver a C R D Y t C R D Y) (sym e) (refl, refl); run = λ g c rest room h. (rest, h, refl) }
+  so_far = record { over = λ a e. subst (λ (t : RunState (TalliedResult Reason)). StillOver a C R D Y t C R D Y) (sym e) (refl, refl); run = λ g c rest room h. (rest, h, refl) }
 
   -- one move more is begun, passed through the list and finished
   pub next_so_far : (t : Upcoming) (cs rs ws : List ℕ) (zs : List Record) → SoFar m o t₀ C R D Y (Next t) cs rs ws zs
-      → (t' : RunState TalliedResult) (u : Begun) (x rs₁ : List ℕ) (zs' : List Record) (x' cs' rs' ws' : List ℕ)
+      → (t' : RunState (TalliedResult Reason)) (u : Begun Reason) (x rs₁ : List ℕ) (zs' : List Record) (x' cs' rs' ws' : List ℕ)
       → ((g : Log) (c ws : List ℕ) → MoveNext m o g c t cs rs ws → MoveBegun m o g c t u x cs rs₁ ws)
       → PassedThrough u.count zs x zs' x'
       → ((g : Log) (c : List ℕ) → MoveBegun m o g c t u x' cs rs₁ ws → RunAt m o g c (later_lists m t g c) t' cs' rs' ws')
@@ -75,7 +76,7 @@ module _ (m o : List ℕ) (t₀ : RunState TalliedResult) (C R D : List ℕ) (Y 
   }
 
   -- what the loop leaves is what the contract says
-  pub ends_so_far : (a : TalliedResult) (cs rs ws : List ℕ) (zs : List Record) → SoFar m o t₀ C R D Y (Over a) cs rs ws zs
+  pub ends_so_far : (a : TalliedResult Reason) (cs rs ws : List ℕ) (zs : List Record) → SoFar m o t₀ C R D Y (Over a) cs rs ws zs
       → MovesMade m o t₀ C R D Y (tallied a) cs rs ws zs
   ends_so_far a cs rs ws zs so = record {
     over = so.over;
@@ -90,7 +91,7 @@ module _ (m o : List ℕ) (t₀ : RunState TalliedResult) (C R D : List ℕ) (Y 
 unchanged : (k : ℕ) (C d : List ℕ) → d ≡ take k C → d ++ drop k C ≡ C
 unchanged k C d e = ap (λ (y : List ℕ). y ++ drop k C) e ∙ take-append-drop k C
 
-module _ (m o : List ℕ) (t : RunState TalliedResult) (C R D : List ℕ) (Y : List Record) (k : ℕ) (r : TalliedResult) (cs rs ws : List ℕ) (zs : List Record) where
+module _ (m o : List ℕ) (t : RunState (TalliedResult Reason)) (C R D : List ℕ) (Y : List Record) (k : ℕ) (r : TalliedResult Reason) (cs rs ws : List ℕ) (zs : List Record) where
   -- the moves made on the first k records of each table, with the other records as they were, are the whole call's
   pub of_all_records : MovesMade m o t (take k C) (take k R) (take k D) Y (tallied r) cs rs ws zs → k ≡ min (word m 6) (min (length C) (min (length R) (length D)))
       → length cs ≡ length (take k C) → length rs ≡ length (take k R) → length ws ≡ length (take k D)
@@ -98,7 +99,7 @@ module _ (m o : List ℕ) (t : RunState TalliedResult) (C R D : List ℕ) (Y : L
       → (answer_with (tallied r) (cs ++ drop k C) (rs ++ drop k R) (ws ++ drop k D) ≡ whole) × (zs ≡ all_records_written rest Y)
   of_all_records said ek lc lr lw lent whole rest h = by_turn t said h
     where
-      by_turn : (s : RunState TalliedResult) → MovesMade m o s (take k C) (take k R) (take k D) Y (tallied r) cs rs ws zs → CallAt lent (length Y) whole m o rest s C R D
+      by_turn : (s : RunState (TalliedResult Reason)) → MovesMade m o s (take k C) (take k R) (take k D) Y (tallied r) cs rs ws zs → CallAt lent (length Y) whole m o rest s C R D
           → (answer_with (tallied r) (cs ++ drop k C) (rs ++ drop k R) (ws ++ drop k D) ≡ whole) × (zs ≡ all_records_written rest Y)
       by_turn (Next s) made on = ends_call lent (length Y) whole m o rest s C R D on k ek r cs rs ws lc lr lw (zs ≡ all_records_written rest Y) (λ g c few stage. made.run g c rest few stage)
       by_turn (Over a) made e =
@@ -114,13 +115,13 @@ module _ (m o : List ℕ) (t : RunState TalliedResult) (C R D : List ℕ) (Y : L
 
 -- ---- what is said of results of any type, said of this code's
 
-pub run_to_end : (m o : List ℕ) (s : RunState TalliedResult) (t : Tables) (ys : List Record) (r : TalliedResult) (u : Tables) (zs : List Record)
+pub run_to_end : (m o : List ℕ) (s : RunState (TalliedResult Reason)) (t : Tables) (ys : List Record) (r : TalliedResult Reason) (u : Tables) (zs : List Record)
     → AnyRunToEnd (λ x y. y ≡ x) m o s t ys r u zs → RunToEnd m o s t ys (tallied r) u zs
-run_to_end m o (Next k) t ys r u zs (x, e, h) = subst (λ (y : TalliedResult). RunToEnd m o (Next k) t ys (tallied y) u zs) (sym e) h
+run_to_end m o (Next k) t ys r u zs (x, e, h) = subst (λ (y : TalliedResult Reason). RunToEnd m o (Next k) t ys (tallied y) u zs) (sym e) h
 run_to_end m o (Over a) t ys r u zs (e, f, g) = λ lent whole rest h.
     rw (e, f, g) (h.1, sym (none_left ys) ∙ ap (λ (y : List (List Instruction)). all_records_written y ys) (sym h.0))
 
-pub run_to_end_own : (m o : List ℕ) (s : RunState TalliedResult) (t : Tables) (n : ℕ) (r : TalliedResult) (u : Tables)
+pub run_to_end_own : (m o : List ℕ) (s : RunState (TalliedResult Reason)) (t : Tables) (n : ℕ) (r : TalliedResult Reason) (u : Tables)
     → AnyRunToEndOwn (λ x y. y ≡ x) m o s t n r u → RunToEndOwn m o s t n (tallied r) u
-run_to_end_own m o (Next k) t n r u (x, e, h) = subst (λ (y : TalliedResult). RunToEndOwn m o (Next k) t n (tallied y) u) (sym e) h
+run_to_end_own m o (Next k) t n r u (x, e, h) = subst (λ (y : TalliedResult Reason). RunToEndOwn m o (Next k) t n (tallied y) u) (sym e) h
 run_to_end_own m o (Over a) t n r u (e, f) = λ lent whole rest h. rw (e, f) h.1

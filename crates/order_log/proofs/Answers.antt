@@ -9,6 +9,7 @@ use Prim.Native.Nat.{ℕ, ◌+◌, ◌*◌}
 use native.Mathlib.Omega.{arith}
 use lib.Dec.{leb}
 use lib.ListN.{length}
+use Rattle.text.specs.declared.Reason.{Reason}
 use Rattle.text.specs.declared.Line.{Line}
 use Rattle.text.specs.declared.Refusal.{Refusal}
 use Rattle.text.specs.Words.{Answer}
@@ -105,7 +106,7 @@ module _ (text : List ℕ) where
           let f : answer_of (check_log_header text) ≡ a = header_as p is ∙ sym e in
           sym (bind_stops (check_log_header text) _ (rw f n) ∙ f)
 
-      pub header_refused : a.number ≢ 0 → (t : List ℕ) (s : Result ℕ Refusal) → told s ≡ a → LogIsRead A E text t s
+      pub header_refused : a.number ≢ 0 → (t : List ℕ) (s : Result ℕ (Refusal Reason)) → told s ≡ a → LogIsRead A E text t s
       header_refused n t s w =
           let never : (g : Log) → read_log A E text ≡ good g → ⊥ = λ g q. n (ap (λ (x : Answer). x.number) (at_header n ∙ ap answer_of q)) in
           record { answer = w ∙ at_header n; moves = λ g q. absurd (never g q); order = λ g q. absurd (never g q) }
@@ -147,7 +148,7 @@ module _
         (good_same (log_of h text) g l.2, form, none_good log_line 0 0 found.fault l.0 (sym (w.fault form) ∙ l.1))
 
     pub lines_read : (a : Answer) → a ≡ answer_of (lines_checked (length text) (log_lines h) found.ill found.fault)
-        → (s : Result ℕ Refusal) → told s ≡ a → IfOk s (λ n. n ≡ h.a) → LogIsRead A E text t s
+        → (s : Result ℕ (Refusal Reason)) → told s ≡ a → IfOk s (λ n. n ≡ h.a) → LogIsRead A E text t s
     lines_read a e s k many = record {
       answer = k ∙ e ∙ lines_answer;
       moves = λ g q. IfOk-weaker s _ _ (λ n p. p ∙ sym (how_many h text) ∙ ap (λ (x : Log). length x.moves) (clean g q).0) many;

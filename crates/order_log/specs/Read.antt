@@ -1,6 +1,7 @@
 -- What reading a log's text leaves on the way, and what it gives a caller (SPECIFICATION 6.1 to 6.4).
 use Rattle.std.specs.Prelude.{Option, None, Some, Result, IfOk, ◌≡◌, List, [], ◌∷◌, ℕ, ◌+◌, ◌*◌, ◌<◌, leb, length, get_or, set}
 use Rattle.std.specs.Int.Bits.{bit_or}
+use Rattle.text.specs.declared.Reason.{Reason}
 use Rattle.text.specs.declared.Line.{Line}
 use Rattle.text.specs.declared.Refusal.{Refusal}
 use Rattle.text.specs.Words.{table, least_from, least, Checked, good, refused, ◌>>◌, none_at, must, answer_of, told}
@@ -67,7 +68,7 @@ lines_checked size n ill fault = do
 -- ---- the log
 
 -- a log is read: r has its answer and, of a log that passes, how many moves it has; then the table t has its order and picks
-pub record LogIsRead (A E : ℕ) (text t : List ℕ) (r : Result ℕ Refusal) : Type 0 where
+pub record LogIsRead (A E : ℕ) (text t : List ℕ) (r : Result ℕ (Refusal Reason)) : Type 0 where
   pub answer : told r ≡ answer_of (read_log A E text)
   pub moves : (g : Log) → read_log A E text ≡ good g → IfOk r (λ n. n ≡ length g.moves)
   pub order : (g : Log) → read_log A E text ≡ good g → OrderTable g t

@@ -1,4 +1,5 @@
 -- A call on tables of any length: the first records are those that its run is made on, and the others stay.
+use Rattle.text.specs.declared.Reason.{Reason}
 use Rattle.text.specs.Words.{told}
 use Rattle.engine.specs.Labels.{tallied}
 use Rattle.engine.specs.declared.TalliedResult.{TalliedResult}
@@ -81,7 +82,7 @@ module _
     }
 
     -- a stage on the first k records is one of the call
-    pub call_state_at : (rest : List (List Instruction)) (t : RunState TalliedResult) → RunAt m o g c rest t d rs ws → CallAt lent n whole m o rest t (d ++ drop k C) (rs ++ drop k R) (ws ++ drop k W)
+    pub call_state_at : (rest : List (List Instruction)) (t : RunState (TalliedResult Reason)) → RunAt m o g c rest t d rs ws → CallAt lent n whole m o rest t (d ++ drop k C) (rs ++ drop k R) (ws ++ drop k W)
     call_state_at rest (Over r) q =
         let f = run_from (low_program m) g c in
         let ec : d ++ drop k C ≡ over_first f.contents lent.contents = put_back d f.contents lent.contents (drop k C) k (ap (λ (v : LogAnswer). v.contents) q.1) (cut_long k C lent.contents d hc pc ld) pc in
@@ -108,7 +109,7 @@ module _
 -- the moves are made on the first k records: what they leave there, with the other records, is what the call leaves
 pub ends_call : (lent : Tables) (n : ℕ) (whole : LogAnswer) (m o : List ℕ) (rest : List (List Instruction)) (t : Upcoming) (C R W : List ℕ) → CallGoesOn lent n whole m o rest t C R W
     → (k : ℕ) → k ≡ min (word m 6) (min (length C) (min (length R) (length W)))
-    → (a : TalliedResult) (d rs ws : List ℕ) → length d ≡ length (take k C) → length rs ≡ length (take k R) → length ws ≡ length (take k W)
+    → (a : TalliedResult Reason) (d rs ws : List ℕ) → length d ≡ length (take k C) → length rs ≡ length (take k R) → length ws ≡ length (take k W)
     → (P : Type 0) → ((g : Log) (c : List ℕ) → most_instructions ≤ n → RunAt m o g c rest (Next t) (take k C) (take k R) (take k W) → (answer_with (tallied a) d rs ws ≡ run_from (low_program m) g c) × P)
     → (answer_with (tallied a) (d ++ drop k C) (rs ++ drop k R) (ws ++ drop k W) ≡ whole) × P
 ends_call lent n whole m o rest t C R W on k ek a d rs ws ld lr lw P does =

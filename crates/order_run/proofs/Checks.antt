@@ -2,6 +2,7 @@
 use Rattle.std.proofs.Common.{◌≡◌, ℕ, ◌≤◌, ◌≢◌, List, [], length, sym, refl, ap, ◌∙◌, subst, arith}
 use Rattle.std.specs.Prelude.{Result, Ok, IfOk}
 use Rattle.std.proofs.lemmas.Result.{IfOk-at_ok, IfOk-weaker}
+use Rattle.text.specs.declared.Reason.{Reason}
 use Rattle.text.specs.declared.Refusal.{Refusal}
 use Rattle.text.specs.Words.{Answer, told, Checked, good, refused, ◌>>=◌, ◌>>◌, answer_of}
 use Rattle.text.proofs.Words.{bind_good, then_good, good_same}
@@ -154,18 +155,18 @@ module _ (book log : List ℕ) (n : Lengths) where
   -- ---- what the code leaves
 
   -- what the checks leave of a refused call
-  opened_off : (r : Result CheckedCall Refusal) (m o : List ℕ) → image.ImageOf m (check_book book) → told r ≡ answer_of all → (answer_of all).number ≢ 0 → CallChecked book log n r m o
+  opened_off : (r : Result CheckedCall (Refusal Reason)) (m o : List ℕ) → image.ImageOf m (check_book book) → told r ≡ answer_of all → (answer_of all).number ≢ 0 → CallChecked book log n r m o
   opened_off r m o i e z = record { answer = e; held = λ b g f. absurd (z (good_zero (b, g) f)); image = i }
 
   module _ (m : List ℕ) (a : Answer) (ea : a ≡ answer_of (check_book book)) (opened : image.ImageOf m (check_book book)) where
-    pub off_book : (r : Result CheckedCall Refusal) (o : List ℕ) → told r ≡ a → a.number ≢ 0 → CallChecked book log n r m o
+    pub off_book : (r : Result CheckedCall (Refusal Reason)) (o : List ℕ) → told r ≡ a → a.number ≢ 0 → CallChecked book log n r m o
     off_book r o e z =
         let y : (answer_of (check_book book)).number ≢ 0 = λ q. z (ap (λ (x : Answer). x.number) ea ∙ q) in
         let s = book_stops y in
         opened_off r m o opened (e ∙ ea ∙ s) (λ q. y (ap (λ (x : Answer). x.number) s ∙ q))
 
     module _ (z : a.number ≡ 0) (agents elements : ℕ) (ek : agents ≡ length (low_program m).agents) (ee : elements ≡ (low_program m).E) (o : List ℕ)
-        (c : Result ℕ Refusal) (read : LogIsRead agents elements log o c)
+        (c : Result ℕ (Refusal Reason)) (read : LogIsRead agents elements log o c)
       where
         book_is : (B : Book) × (check_book book ≡ good B)
         book_is = book_good (ap (λ (x : Answer). x.number) (sym ea) ∙ z)
@@ -187,7 +188,7 @@ module _ (book log : List ℕ) (n : Lengths) where
         answers : told c ≡ answer_of (read_log (length B.program.agents) B.program.E log)
         answers = (reads B book_is.1).answer
 
-        pub off_log : (r : Result CheckedCall Refusal) → told r ≡ told c → (told c).number ≢ 0 → CallChecked book log n r m o
+        pub off_log : (r : Result CheckedCall (Refusal Reason)) → told r ≡ told c → (told c).number ≢ 0 → CallChecked book log n r m o
         off_log r e y =
             let w : (answer_of (read_log (length B.program.agents) B.program.E log)).number ≢ 0 = λ q. y (ap (λ (x : Answer). x.number) answers ∙ q) in
             let s = read_stops B book_is.1 w in
@@ -209,7 +210,7 @@ module _ (book log : List ℕ) (n : Lengths) where
           ten_told : ten ≡ answer_of (check_agents_in o (length g.moves))
           ten_told = et ∙ ap (λ (k : ℕ). answer_of (check_agents_in o k)) (counted B book_is.1 g log_is.1)
 
-          pub off_agents : (r : Result CheckedCall Refusal) → told r ≡ ten → ten.number ≢ 0 → CallChecked book log n r m o
+          pub off_agents : (r : Result CheckedCall (Refusal Reason)) → told r ≡ ten → ten.number ≢ 0 → CallChecked book log n r m o
           off_agents r e x =
               let w : (answer_of (check_agents_in o (length g.moves))).number ≢ 0 = λ q. x (ap (λ (a : Answer). a.number) ten_told ∙ q) in
               let s = ten_stops B book_is.1 g log_is.1 o ordered (few B book_is.1) w in
@@ -217,7 +218,7 @@ module _ (book log : List ℕ) (n : Lengths) where
 
           -- what the checks leave when all have answered; the last of them answered `short`
           pub opened_last : ten.number ≡ 0 → (locations : ℕ) → locations ≡ word m 6 → (short : Answer) → short ≡ answer_of (check_lengths locations n)
-              → (r : Result CheckedCall Refusal) → told r ≡ short → IfOk r (λ x. x ≡ record { moves = moves; locations = locations }) → CallChecked book log n r m o
+              → (r : Result CheckedCall (Refusal Reason)) → told r ≡ short → IfOk r (λ x. x ≡ record { moves = moves; locations = locations }) → CallChecked book log n r m o
           opened_last x locations el short lent r er fields =
               let says = ten_good B book_is.1 g log_is.1 o ordered (few B book_is.1) (ap (λ (a : Answer). a.number) (sym ten_told) ∙ x) in
               record {

@@ -5,3 +5,4 @@ pub mod Stages
 pub mod Calls
 pub mod Checks
 pub mod Opens
+pub mod Reasons

@@ -1,6 +1,7 @@
 -- A call up to its first move: refused by a check, or begun from its start.
 use Rattle.std.specs.Prelude.{Result, Ok, Err}
 use Rattle.std.proofs.lemmas.Result.{IfOk-at_ok}
+use Rattle.text.specs.declared.Reason.{Reason}
 use Rattle.text.specs.declared.Refusal.{Refusal}
 use Rattle.text.specs.Words.{told}
 use Rattle.text.proofs.Checks.{passing, refusing}
@@ -45,7 +46,7 @@ module _ (book : List ℕ) (b : Book) (g : Log) (r : CheckedCall) (m o : List �
     call = ap (λ (B : Program). left_past t (run_from B g (start b))) p.holds.image;
   }
 
-  pub starts : (k : ℕ) → k ≡ min (word m 6) (min (length t.contents) (min (length t.readers) (length t.writers))) → (u : RunState TalliedResult) (d rs ws : List ℕ)
+  pub starts : (k : ℕ) → k ≡ min (word m 6) (min (length t.contents) (min (length t.readers) (length t.writers))) → (u : RunState (TalliedResult Reason)) (d rs ws : List ℕ)
       → length d ≡ length (take k t.contents) → length rs ≡ length (take k t.readers) → length ws ≡ length (take k t.writers)
       → ((b : Book) (g : Log) → Startable book m o b g r.moves (take k t.contents) (take k t.readers) (take k t.writers)
       → RunAt m o g (start b) (lists_from (low_program m) g (start b) r.moves 0) u d rs ws)
@@ -70,17 +71,17 @@ module _ (book : List ℕ) (b : Book) (g : Log) (r : CheckedCall) (m o : List �
 
 -- ---- the checks and the start
 
-module _ (book log : List ℕ) (t : Tables) (n : ℕ) (m o : List ℕ) (r : Result CheckedCall Refusal) (opened : CallChecked book log (lengths t n) r m o) where
+module _ (book log : List ℕ) (t : Tables) (n : ℕ) (m o : List ℕ) (r : Result CheckedCall (Refusal Reason)) (opened : CallChecked book log (lengths t n) r m o) where
   -- a call that a check refuses
-  pub off : (refusal : Refusal) → r ≡ Err refusal → (u : RunState TalliedResult) → u ≡ Over (record { answer = Err refusal; tally = no_labels })
+  pub off : (refusal : Refusal Reason) → r ≡ Err refusal → (u : RunState (TalliedResult Reason)) → u ≡ Over (record { answer = Err refusal; tally = no_labels })
       → CallAt t n (log_call book log t n) m o (call_lists book log t n) u t.contents t.readers t.writers
   off refusal is u e =
       let s = call_off book log t n (told r) opened.answer (refusing is) in
-      let same : told {A = Unit {0}} (Err refusal) ≡ told r = sym (ap (λ (x : Result CheckedCall Refusal). told x) is) in
+      let same : told {A = Unit {0}} (Err refusal) ≡ told r = sym (ap (λ (x : Result CheckedCall (Refusal Reason)). told x) is) in
       rw e (s.0, ap (λ (a : Answer). answer_with (record { answer = a; tally = no_labels }) t.contents t.readers t.writers) same ∙ s.1)
 
   -- a call that passes its checks starts
-  pub opens : (v : CheckedCall) → r ≡ Ok v → (u : RunState TalliedResult) (d rs ws : List ℕ)
+  pub opens : (v : CheckedCall) → r ≡ Ok v → (u : RunState (TalliedResult Reason)) (d rs ws : List ℕ)
       → ((b : Book) (g : Log) (n : ℕ) → CallPassed book b g v m o t n → CallAt t n (left_past t (run_log b g)) m o (run_lists b g) u d rs ws)
       → CallAt t n (log_call book log t n) m o (call_lists book log t n) u d rs ws
   opens v ok u d rs ws does =

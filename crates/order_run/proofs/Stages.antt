@@ -1,5 +1,6 @@
 -- A log's run on tables of just the records needed: the next move, one that is begun, one that is finished, and the end.
 use Rattle.std.specs.Prelude.{Result}
+use Rattle.text.specs.declared.Reason.{Reason}
 use Rattle.text.specs.declared.Refusal.{Refusal}
 use Rattle.text.specs.Words.{told}
 use Rattle.std.proofs.Common.{◌≡◌, ℕ, zero, suc, ◌+◌, ◌-◌, ◌%◌, ◌^◌, ◌<◌, ◌≤◌, ◌≢◌, List, [], ◌∷◌, length, replicate, sym, refl, ap, ◌∙◌, subst, add-one, arith}
@@ -84,7 +85,7 @@ module _ (m o : List ℕ) (g : Log) (c : List ℕ) where
     pub turn_on : i < n → RunAt m o g c (lists_from A g c (n - i) i) (Next (record { at = i; moves = n; tally = k })) d rs ws
     turn_on below = (record { before = to; at = omega (arith, below, en); moves = en }, refl)
 
-    pub turn_over : n ≤ i → (a : Result (Unit {0}) Refusal) → told a ≡ touch_answer (least_pair (unordered_marked o rs ws (clipped rs ws (length rs))) n)
+    pub turn_over : n ≤ i → (a : Result (Unit {0}) (Refusal Reason)) → told a ≡ touch_answer (least_pair (unordered_marked o rs ws (clipped rs ws (length rs))) n)
         → RunAt m o g c (lists_from A g c (n - i) i) (Over (record { answer = a; tally = k })) d rs ws
     turn_over past a e =
         let s = to.going.state in
@@ -116,7 +117,7 @@ module _ (m o : List ℕ) (g : Log) (c : List ℕ) where
     fit = moves_fit A g c to.before.runs.lawful i k t.tally d rs ws to.before.going low agent_low
 
     -- the next move is begun
-    pub begins : (bit agent : ℕ) (ys : List ℕ) → bit ≡ 2 ^ i → agent ≡ k.agent → ys ≡ k.picks → (s : Begun) (x rs' : List ℕ)
+    pub begins : (bit agent : ℕ) (ys : List ℕ) → bit ≡ 2 ^ i → agent ≡ k.agent → ys ≡ k.picks → (s : Begun Reason) (x rs' : List ℕ)
         → WalkMarked A d bit (input agent ys) (outcome s.walk x) rs rs' → s.count ≡ instructions_given s.walk → length x ≡ 256 → MoveBegun m o g c t s x d rs' ws
     begins bit agent ys eb ek ep s x rs' gathered ec room = record {
       old = tables d rs ws;
@@ -128,7 +129,7 @@ module _ (m o : List ℕ) (g : Log) (c : List ℕ) where
 
   -- ---- a move that is begun
 
-  module _ (t : Upcoming) (s : Begun) (x d rs ws : List ℕ) (w : MoveBegun m o g c t s x d rs ws) where
+  module _ (t : Upcoming) (s : Begun Reason) (x d rs ws : List ℕ) (w : MoveBegun m o g c t s x d rs ws) where
     abbrev now : MoveNext m o g c t w.old.contents w.old.readers w.old.writers
     now = w.next
 
@@ -189,7 +190,7 @@ module _ (m o : List ℕ) (g : Log) (c : List ℕ) where
           going = moves_on A g c now.before.runs.lawful t.at (input_in o t.at) t.tally w.old.contents w.old.readers w.old.writers now.before.going here a d' rs' ws' effect z (low t w.old.contents w.old.readers w.old.writers now) k ki kr;
         }
 
-        pub finish_on : a.answer.number ≡ 0 → (r : RunState TalliedResult) (j : ℕ) → j ≡ t.at + 1
+        pub finish_on : a.answer.number ≡ 0 → (r : RunState (TalliedResult Reason)) (j : ℕ) → j ≡ t.at + 1
             → (k : Tally) → k.issued ≡ (t.tally.issued + a.tally.issued) % 2 ^ 64 → k.returned ≡ (t.tally.returned + a.tally.returned) % 2 ^ 64
             → (t.moves ≡ length g.moves → FiredSoFar m o g c j k d' rs' ws' → RunAt m o g c (lists_from A g c (t.moves - j) j) r d' rs' ws')
             → RunAt m o g c (lists_from A g c (t.moves - (t.at + 1)) (t.at + 1)) r d' rs' ws'
@@ -198,7 +199,7 @@ module _ (m o : List ℕ) (g : Log) (c : List ℕ) where
 
         -- the move was refused: the tally of those before it stands
         pub finish_off : a.answer.number ≢ 0
-            → (e : Result (Unit {0}) Refusal) → told e ≡ a.answer
+            → (e : Result (Unit {0}) (Refusal Reason)) → told e ≡ a.answer
             → RunAt m o g c (lists_from A g c (t.moves - (t.at + 1)) (t.at + 1)) (Over (record { answer = e; tally = t.tally })) d' rs' ws'
         finish_off z e says =
             let u = now.before.going.state in
@@ -223,6 +224,6 @@ starts_run book m o b g n d rs ws s d' rs' ws' ed er ew = record {
 }
 
 -- the lists of the moves from the first one on
-pub from_none : (m o : List ℕ) (b : Book) (g : Log) (n : ℕ) (t : RunState TalliedResult) (d rs ws : List ℕ) → RunAt m o g (start b) (lists_from (low_program m) g (start b) (n - 0) 0) t d rs ws
+pub from_none : (m o : List ℕ) (b : Book) (g : Log) (n : ℕ) (t : RunState (TalliedResult Reason)) (d rs ws : List ℕ) → RunAt m o g (start b) (lists_from (low_program m) g (start b) (n - 0) 0) t d rs ws
     → RunAt m o g (start b) (lists_from (low_program m) g (start b) n 0) t d rs ws
 from_none m o b g n t d rs ws s = subst (λ (j : ℕ). RunAt m o g (start b) (lists_from (low_program m) g (start b) j 0) t d rs ws) {x = n - 0} {y = n} (omega arith) s

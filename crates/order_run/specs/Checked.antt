@@ -1,5 +1,6 @@
 -- What the checks before the first move leave: the image of the book and the order table of the log.
 use Rattle.std.specs.Prelude.{Result, IfOk, ◌≡◌, ℕ, ◌≤◌, List, length}
+use Rattle.text.specs.declared.Reason.{Reason}
 use Rattle.text.specs.Words.{good, answer_of, told}
 use Rattle.text.specs.declared.Refusal.{Refusal}
 use Rattle.book.specs.Book.{Book, L, start}
@@ -27,7 +28,7 @@ pub record CallHolds (b : Book) (g : Log) (r : CheckedCall) (m o : List ℕ) : T
 
 -- the checks of a call are made: r has their answer; of a call that passes, m and o are its image and its order table; of a refused one they may hold
 -- anything
-pub record CallChecked (book log : List ℕ) (lent : Lengths) (r : Result CheckedCall Refusal) (m o : List ℕ) : Type 0 where
+pub record CallChecked (book log : List ℕ) (lent : Lengths) (r : Result CheckedCall (Refusal Reason)) (m o : List ℕ) : Type 0 where
   pub answer : told r ≡ answer_of (check_all book log lent)
   pub held : (b : Book) (g : Log) → check_all book log lent ≡ good (b, g) → IfOk r (λ x. CallHolds b g x m o)
   pub image : image.ImageOf m (check_book book)

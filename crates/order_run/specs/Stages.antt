@@ -1,4 +1,5 @@
 -- A log's run move by move: what holds before a move, when it is begun, and when the run is over.
+use Rattle.text.specs.declared.Reason.{Reason}
 use Rattle.std.specs.Prelude.{◌≡◌, ℕ, suc, ◌-◌, ◌^◌, ◌<◌, ◌≤◌, List, [], length, take, drop}
 use Rattle.book.specs.Book.{L}
 use Rattle.book.specs.Image.{word, low_program}
@@ -22,7 +23,7 @@ use Rattle.order_run.specs.Runs.{Runnable, AfterMoves, answer_with}
 use Rattle.engine.specs.Tables.{Tables, tables}
 
 -- a number that falls with each move, so that the run ends: a log has at most 64 moves
-abbrev pub moves_left : RunState TalliedResult → ℕ
+abbrev pub moves_left : {T : Type 0} → RunState T → ℕ
 moves_left (Next t) = suc (64 - t.at)
 moves_left (Over r) = 0
 
@@ -41,12 +42,12 @@ pub record MoveNext (m o : List ℕ) (g : Log) (c : List ℕ) (t : Upcoming) (d 
   pub moves : t.moves ≡ length g.moves
 
 -- how far a run is: a move is next, or the run is over; rest is the instructions that the moves from here on give
-abbrev pub RunAt : List ℕ → List ℕ → Log → List ℕ → List (List Instruction) → RunState TalliedResult → List ℕ → List ℕ → List ℕ → Type 0
+abbrev pub RunAt : List ℕ → List ℕ → Log → List ℕ → List (List Instruction) → RunState (TalliedResult Reason) → List ℕ → List ℕ → List ℕ → Type 0
 RunAt m o g c rest (Next t) d rs ws = MoveNext m o g c t d rs ws × (rest ≡ lists_from (low_program m) g c (t.moves - t.at) t.at)
 RunAt m o g c rest (Over r) d rs ws = (rest ≡ []) × (answer_with (tallied r) d rs ws ≡ run_from (low_program m) g c)
 
 -- move t.at is begun, on the tables `old`: its walk ended as s says, with its instructions in x, and left the tables d, rs and ws
-pub record MoveBegun (m o : List ℕ) (g : Log) (c : List ℕ) (t : Upcoming) (s : Begun) (x d rs ws : List ℕ) : Type 0 where
+pub record MoveBegun (m o : List ℕ) (g : Log) (c : List ℕ) (t : Upcoming) (s : Begun Reason) (x d rs ws : List ℕ) : Type 0 where
   pub old : Tables
   pub next : MoveNext m o g c t old.contents old.readers old.writers
   pub after : AfterWalk (low_program m) (input_in o t.at) (2 ^ t.at) old s.walk x (tables d rs ws)
@@ -74,6 +75,6 @@ pub record CallGoesOn (lent : Tables) (n : ℕ) (whole : LogAnswer) (m o : List 
 
 -- How far a call is: a move is next, or the run is over. n instruction records are lent, and `whole` is what the call is to answer; rest is the instructions
 -- that the moves from here on give
-abbrev pub CallAt : Tables → ℕ → LogAnswer → List ℕ → List ℕ → List (List Instruction) → RunState TalliedResult → List ℕ → List ℕ → List ℕ → Type 0
+abbrev pub CallAt : Tables → ℕ → LogAnswer → List ℕ → List ℕ → List (List Instruction) → RunState (TalliedResult Reason) → List ℕ → List ℕ → List ℕ → Type 0
 CallAt lent n whole m o rest (Next t) d rs ws = CallGoesOn lent n whole m o rest t d rs ws
 CallAt lent n whole m o rest (Over r) d rs ws = (rest ≡ []) × (answer_with (tallied r) d rs ws ≡ whole)

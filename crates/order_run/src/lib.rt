@@ -17,7 +17,7 @@ ghost use Rattle.engine_fire.specs.Count.{instructions_given};
 ghost use Rattle.order_run.specs.Stages.{moves_left};
 ghost use Rattle.order_run.specs.Checked.{CallChecked};
 ghost use Rattle.engine.specs.Tables.{tables};
-ghost use Rattle.order_run.specs.Promised.{NextMove, StartedOn, NextBegun, NextFinished, CallStarted, CallPrepared};
+ghost use Rattle.order_run.specs.Promised.{NextMove, StartedOn, NextBegun, StateAs, NextFinishedAs, CallStarted, CallPrepared};
 
 use book::Image;
 use engine::{TalliedResult, Tally, Work};
@@ -141,7 +141,7 @@ fn add_tallies(s: Tally, t: Tally) -> Tally
 }
 
 // A run that is over, with its answer and its tally.
-fn run_over(answer: Result<(), Refusal>, tally: Tally) -> RunState
+fn run_over<R>(answer: Result<(), Refusal<R>>, tally: Tally) -> RunState<TalliedResult<R>>
     ensures { result ≡ RunState.Over (record { answer = answer; tally = tally }) }
 {
     RunState::Over(TalliedResult { answer, tally })
@@ -252,8 +252,19 @@ pub fn begin_next(
     )
 }
 
-// Finishes the move that is begun, on tables of just the records needed; then the move after it is next, or the run is over.
-pub fn finish_next(
+// The same state of a run, with the reason of a refusal converted.
+fn convert_state<R: From<Reason>>(state: RunState) -> RunState<TalliedResult<R>>
+    ensures { StateAs R.from_gives state result }
+{
+    match state {
+        RunState::Next(next) => RunState::Next(next),
+        RunState::Over(done) => RunState::Over(engine::convert_result(done)),
+    }
+}
+
+// Finishes the move that is begun, on tables of just the records needed; then the move after it is next, or the run is over. A caller's reasons may be of a
+// type of its own: a walk that was refused ends the run for its own reason.
+pub fn finish_next<R: Copy + From<Reason>>(
     contents: &mut [Value],
     readers: &mut [u64],
     writers: &mut [u64],
@@ -261,20 +272,21 @@ pub fn finish_next(
     order: &OrderTable,
     list: &Work,
     next: Upcoming,
-    begun: Begun,
-) -> RunState
-    ensures { NextFinished image.now order.now list.now next begun (tables contents.old readers.old writers.old) (tables contents.new readers.new writers.new) result }
+    begun: Begun<R>,
+) -> RunState<TalliedResult<R>>
+    ensures { NextFinishedAs R.from_gives image.now order.now list.now next begun (tables contents.old readers.old writers.old) (tables contents.new readers.new writers.new) result }
 {
     let i = next.at;
     let bit = move_bit(i);
     let walk = begun.walk;
     let done = engine_fire::finish_move(image, contents, readers, writers, bit, list, walk, i);
-    if let Err(refusal) = done.answer {
-        return run_over(Err(refusal), next.tally);
+    if done.answer.is_err() {
+        return run_over(done.answer, next.tally);
     }
     let after = number_after(i);
     let tally = add_tallies(next.tally, done.tally);
-    next_move(readers, writers, order, next.moves, after, tally)
+    let state = next_move(readers, writers, order, next.moves, after, tally);
+    convert_state(state)
 }
 
 // ---- a call, on tables of any length

@@ -1,6 +1,7 @@
 -- What is printed is the text of the definition: the contents that a run leaves, the book in the image, and the checks of an input.
 use Rattle.std.specs.Prelude.{Result, Ok, Err}
 use Rattle.std.proofs.lemmas.Result.{IfOk-at_ok}
+use Rattle.text.specs.declared.Reason.{Reason}
 use Rattle.text.specs.declared.Refusal.{Refusal}
 use Rattle.text.specs.Words.{told, told_refused}
 use Rattle.text.proofs.Checks.{passing, reason_numbered}
@@ -138,7 +139,7 @@ module _ (book : List ℕ) (b : Book) (g : Log) (r : CheckedCall) (m o : List �
 
 -- ---- a book and a log
 
-module _ (book log : List ℕ) (m o : List ℕ) (r : Result CheckedCall Refusal) (opened : CallChecked book log own_tables r m o) where
+module _ (book log : List ℕ) (m o : List ℕ) (r : Result CheckedCall (Refusal Reason)) (opened : CallChecked book log own_tables r m o) where
   -- an input that passes its checks has no more locations than the call's own tables have records
   pub parts_few : (v : CheckedCall) → r ≡ Ok v → v.locations ≤ 2048
   parts_few v ok =
@@ -146,14 +147,14 @@ module _ (book log : List ℕ) (m o : List ℕ) (r : Result CheckedCall Refusal)
       let h = IfOk-at_ok _ ok (opened.held both.0.0 both.0.1 both.1) in
       omega (arith, h.locations.0, h.locations.1, (enough book log own_tables both.0.0 both.0.1 both.1).contents)
 
-module _ (book log : List ℕ) (m o : List ℕ) (r : Result CheckedCall Refusal) (opened : CallChecked book log own_tables r m o) (out : List ℕ) (k : PrintedRun) (after : List ℕ) where
+module _ (book log : List ℕ) (m o : List ℕ) (r : Result CheckedCall (Refusal Reason)) (opened : CallChecked book log own_tables r m o) (out : List ℕ) (k : PrintedRun) (after : List ℕ) where
   abbrev checks : Checked (Book × Log)
   checks = check_all book log own_tables
 
   -- what is printed of an input that is refused by its checks
-  pub parts_refused : (e : Refusal) → r ≡ Err e → Shown (written (first_line (told_refused e) 0)) no_labels out k after
+  pub parts_refused : (e : Refusal Reason) → r ≡ Err e → Shown (written (first_line (told_refused e) 0)) no_labels out k after
       → Shown (print_checked checks) (tally_checked checks) out k after
-  parts_refused e is s = go checks (sym (ap (λ (x : Result CheckedCall Refusal). told x) is) ∙ opened.answer)
+  parts_refused e is s = go checks (sym (ap (λ (x : Result CheckedCall (Refusal Reason)). told x) is) ∙ opened.answer)
     where
       go : (c : Checked (Book × Log)) → told_refused e ≡ answer_of c → Shown (print_checked c) (tally_checked c) out k after
       go (refused n p q) w = subst (λ (a : Answer). Shown (written (first_line a 0)) no_labels out k after) w s

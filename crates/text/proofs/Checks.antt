@@ -120,22 +120,22 @@ reason_numbered UnorderedTouch = (omega arith, omega arith, λ e. omega (arith, 
 reason_numbered NotInUniverse = (omega arith, omega arith, λ e. omega (arith, e))
 reason_numbered PickCount = (omega arith, omega arith, λ e. omega (arith, e))
 
-module _ {A : Type 0} {r : Result A Refusal} where
+module _ {A : Type 0} {r : Result A (Refusal Reason)} where
   -- a result that is accepted tells 0 0 0
   pub passing : {a : A} → r ≡ Ok a → (told r).number ≡ 0
-  passing e = ap (λ (x : Result A Refusal). (told x).number) e
+  passing e = ap (λ (x : Result A (Refusal Reason)). (told x).number) e
 
   -- a result that is refused tells no 0
-  pub refusing : {e : Refusal} → r ≡ Err e → (told r).number ≢ 0
-  refusing {e = e} h z = omega (arith, (reason_numbered e.reason).0, sym (ap (λ (x : Result A Refusal). (told x).number) h) ∙ z)
+  pub refusing : {e : Refusal Reason} → r ≡ Err e → (told r).number ≢ 0
+  refusing {e = e} h z = omega (arith, (reason_numbered e.reason).0, sym (ap (λ (x : Result A (Refusal Reason)). (told x).number) h) ∙ z)
 
   -- the refusal passed on, as a result of another type, tells the same
-  pub refused_alike : {B : Type 0} (s : Result B Refusal) {e : Refusal} → r ≡ Err e → IsErrAnd s (λ d. d ≡ e) → told s ≡ told r
+  pub refused_alike : {B : Type 0} (s : Result B (Refusal Reason)) {e : Refusal Reason} → r ≡ Err e → IsErrAnd s (λ d. d ≡ e) → told s ≡ told r
   refused_alike (Ok b) h g = absurd g
-  refused_alike (Err d) h g = ap (λ (x : Refusal). told {A = A} (Err x)) g ∙ sym (ap (λ (x : Result A Refusal). told x) h)
+  refused_alike (Err d) h g = ap (λ (x : Refusal Reason). told {A = A} (Err x)) g ∙ sym (ap (λ (x : Result A (Refusal Reason)). told x) h)
 
 -- a refusal passed on tells no 0
-pub refused_on : {B : Type 0} (s : Result B Refusal) (e : Refusal) → IsErrAnd s (λ d. d ≡ e) → (told s).number ≢ 0
+pub refused_on : {B : Type 0} (s : Result B (Refusal Reason)) (e : Refusal Reason) → IsErrAnd s (λ d. d ≡ e) → (told s).number ≢ 0
 refused_on (Ok b) e g = absurd g
 refused_on {B = B} (Err d) e g = refusing {A = B} {r = Err d} refl
 
@@ -156,18 +156,18 @@ module _ (o : Option Reason) {b : Bool} where
       go (Some r) e = absurd (true≢false e)
 
 -- whether a result is refused, by the number that it tells; b is the test
-module _ {A : Type 0} (r : Result A Refusal) {b : Bool} where
+module _ {A : Type 0} (r : Result A (Refusal Reason)) {b : Bool} where
   pub err_numbered : b ≡ is_err r → b ≡ true → (told r).number ≢ 0
   err_numbered e t = go r (sym e ∙ t)
     where
-      go : (r : Result A Refusal) → is_err r ≡ true → (told r).number ≢ 0
+      go : (r : Result A (Refusal Reason)) → is_err r ≡ true → (told r).number ≢ 0
       go (Ok a) h = absurd (false≢true h)
       go (Err d) h = refusing {A = A} {r = Err d} refl
 
   pub ok_numbered : b ≡ is_err r → b ≡ false → (told r).number ≡ 0
   ok_numbered e t = go r (sym e ∙ t)
     where
-      go : (r : Result A Refusal) → is_err r ≡ false → (told r).number ≡ 0
+      go : (r : Result A (Refusal Reason)) → is_err r ≡ false → (told r).number ≡ 0
       go (Ok a) h = refl
       go (Err d) h = absurd (true≢false h)
 

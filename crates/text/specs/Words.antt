@@ -1,6 +1,7 @@
 -- What every layer uses: lists made by place, the least place at fault, and what a check answers (SPECIFICATION 8.1).
 use Rattle.std.specs.Prelude.{Option, None, Some}
 use Rattle.std.specs.Prelude.{Bool, true, false, ◌||◌, ◌&&◌, List, [], ◌∷◌, ℕ, zero, suc, ◌+◌, eqb, leb, if◌then◌else◌, Result, Ok, Err}
+use Rattle.text.specs.declared.Reason.{Reason}
 use Rattle.text.specs.declared.Refusal.{Refusal}
 use Rattle.text.specs.Refusals.{number_of}
 
@@ -54,11 +55,11 @@ pub record Answer : Type 0 where
   pub q : ℕ
 
 -- the answer that a refusal of the code tells
-abbrev pub told_refused : Refusal → Answer
+abbrev pub told_refused : Refusal Reason → Answer
 told_refused r = record { number = number_of r.reason; p = r.p; q = r.q }
 
 -- the answer that the code's result tells
-abbrev pub told : {A : Type 0} → Result A Refusal → Answer
+abbrev pub told : {A : Type 0} → Result A (Refusal Reason) → Answer
 told (Ok a) = record { number = 0; p = 0; q = 0 }
 told (Err r) = told_refused r
 

@@ -39,10 +39,19 @@ impl Reason {
     }
 }
 
-// A refusal: why, and its place (p, q).
+// A caller may hold reasons as numbers of 16 bits, any of them.
+impl From<Reason> for u16 {
+    ghost from_gives = { λ r n. n ≡ number_of r };
+
+    fn from(reason: Reason) -> u16 {
+        reason as u16
+    }
+}
+
+// A refusal: why, and its place (p, q). A caller's reasons may be of a type of its own.
 #[derive(Clone, Copy, Debug, PartialEq, Eq)]
-pub struct Refusal {
-    pub reason: Reason,
+pub struct Refusal<R = Reason> {
+    pub reason: R,
     pub p: u32,
     pub q: u32,
 }

@@ -1,25 +1,21 @@
 -- `emit` meets its contract.
-use Rattle.std.specs.Prelude.{None}
-use Rattle.text.proofs.Checks.{some_numbered, unrefused}
 use native.Mathlib.Omega.{arith}
-use Prim.Native.Nat.{◌+◌}
-use mathlib.Core.Path.{refl, ◌∙◌}
-use lib.ListN.{set}
-use Rattle.engine_emit.proofs.Steps.{reached_walking, reached_refused, give_room, give_full}
+use mathlib.Core.Path.{refl}
+use Rattle.engine_emit.proofs.Steps.{give_room, give_full}
+use Rattle.engine_emit.proofs.Stepped.{stepped_over, stepped_to, stepped_as, none_is}
 use Rattle.engine_emit.proofs.emit.Goals as goal
 
 pub returns-then-is_some : goal.returns-then-is_some
-returns-then-is_some c = λ ys. rw (reached_refused ys c.args.s c.args.list.now (some_numbered _ c.is_some.ensures c.if-is_some.true))
+returns-then-is_some g c = λ ys. stepped_over c.is_some.ensures c.if-is_some.true refl refl
 
 pub returns-then-at-lt-MOST_INSTRUCTIONS : goal.returns-then-at-lt-MOST_INSTRUCTIONS
-returns-then-at-lt-MOST_INSTRUCTIONS c =
+returns-then-at-lt-MOST_INSTRUCTIONS g c =
     let a = c.args in
     λ ys.
     let k = give_room ys a.s a.list.now a.i a.n c.requires c.code.result (omega (arith, c.if-at-lt-MOST_INSTRUCTIONS.true)) c.code.ensures in
-    reached_walking ys (record { len = a.s.len + 1; label = a.s.label; refused = None; node = a.s.node }) (set a.list.now a.s.len c.code.result) refl
-    ∙ rw (reached_walking ys a.s a.list.now (unrefused _ c.is_some.ensures c.if-is_some.false)) k
+    stepped_to (none_is c.is_some.ensures c.if-is_some.false) refl k
 
 pub returns-else-at-lt-MOST_INSTRUCTIONS : goal.returns-else-at-lt-MOST_INSTRUCTIONS
-returns-else-at-lt-MOST_INSTRUCTIONS c =
+returns-else-at-lt-MOST_INSTRUCTIONS g c =
     let a = c.args in
-    λ ys. c.refuse_at.ensures ys a.list.now ∙ rw (reached_walking ys a.s a.list.now (unrefused _ c.is_some.ensures c.if-is_some.false)) (give_full ys a.s a.list.now a.i a.n c.requires (omega (arith, c.if-at-lt-MOST_INSTRUCTIONS.false)))
+    λ ys. stepped_as (give_full ys a.s a.list.now a.i a.n c.requires (omega (arith, c.if-at-lt-MOST_INSTRUCTIONS.false))) (c.refuse_at.ensures ys a.list.now)

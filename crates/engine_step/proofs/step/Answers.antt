@@ -6,7 +6,7 @@ use Rattle.engine.specs.Move.{input}
 use Rattle.engine_instruction.specs.Code.{items}
 use Rattle.engine_list.specs.Written.{records_written}
 use Rattle.engine_list.proofs.Laws.{all_through}
-use Rattle.engine_step.proofs.Stages.{call_made, call_few, call_through, call_concluded, call_finished}
+use Rattle.engine_step.proofs.Stages.{call_made, call_few, call_through, call_concluded, call_finished, any_call_own}
 use Rattle.engine_step.proofs.step.Goals as goal
 
 pub returns : goal.returns
@@ -27,7 +27,7 @@ returns c =
     let same : length us' ≡ length us = c.pass.auto.work in
     let through = all_through c.given.result us a.instructions.now us' passed.1 (omega (arith, few, c.given.ensures)) (omega (arith, few, c.given.ensures)) in
     let again = call_through text cs who n m us p begun us' (omega arith) (rw c.given.ensures at through) in
-    let f = call_concluded text cs who n m us' p again (told c.finish_call.result) c.finish_call.new.contents (call_finished _ _ _ p _ _ c.finish_call.ensures) in
+    let f = call_concluded text cs who n m us' p again (told c.finish_call.result) c.finish_call.new.contents (call_finished _ _ _ p _ _ (any_call_own _ _ _ _ p _ _ c.finish_call.ensures)) in
     record {
       answer = f.answer;
       contents = f.contents;

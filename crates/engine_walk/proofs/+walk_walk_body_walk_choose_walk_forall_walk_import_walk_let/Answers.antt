@@ -15,6 +15,7 @@ use Rattle.engine_term.specs.Marks.{Placed}
 use Rattle.engine_term.proofs.Marking.{runs_given, runs_bind, runs_as}
 use Rattle.engine_term.proofs.Leaves.{at_one, named_universe}
 use Rattle.engine_emit.specs.Emit.{picks_left, walk_from, reached, importing_found, next_pick, picked}
+use Rattle.engine_emit.proofs.Stepped.{stepped_reached}
 use Rattle.engine_emit.proofs.Steps.{reached_walking, reached_refused}
 use Rattle.engine_reads.specs.Marking.{found_below}
 use Rattle.engine_reads.proofs.Members.{universe_placed, members_next}
@@ -171,7 +172,7 @@ walk_choose-returns t c =
     let y = c.next-x in
     let v = c.read_universe-v in
     let is : y.result ≡ next_pick B.E ys = y.ensures in
-    let took : reached (picks_left p.new.self) p.result a.list.now ≡ picked v.result a.n w ys = p.ensures.walked a.list.now ∙ rw (reached_walking ys a.s a.list.now c.requires) in
+    let took : reached (picks_left p.new.self) p.result a.list.now ≡ picked v.result a.n w ys = stepped_reached (p.ensures.walked a.list.now) ∙ rw (reached_walking ys a.s a.list.now c.requires) in
     λ has. runs_choose B f.contents.now f.bit a.n x.b w body v.result _ _ _ _ ys (rw is at (v.ensures has)) (rw (took, is) at c.walk_body.ensures)
 
 pub walk_forall-loop-y-init : goal.walk_forall-loop-y-init
@@ -241,7 +242,7 @@ walk_import-returns t c =
     let taken = c.import_label-t in
     λ has.
     let enrolled : Placed B → reached ys taken.result taken.new.list ≡ importing_found B.E (location B x.b y 0) y a.n w = λ p.
-    taken.ensures ys ∙ rw (reached_walking ys a.s a.list.now c.requires, c.location-at.ensures _ (at_one B x.b y has) p) in
+    stepped_reached (taken.ensures ys) ∙ rw (reached_walking ys a.s a.list.now c.requires, c.location-at.ensures _ (at_one B x.b y has) p) in
     runs_bind B f.contents.now f.bit (lowest a.s.label (B.E - a.s.label)) (λ o. import_of B a.n x.b w body o) (found_below B.E y) _ _ _ _ c.lowest_label-x.ensures
     (runs_given B f.contents.now f.bit _ _ _ _ (λ p.
     runs_as B f.contents.now f.bit _ _ _ _ _ (import_as B a.n x.b y w body)

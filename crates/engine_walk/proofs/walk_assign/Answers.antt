@@ -10,6 +10,7 @@ use Rattle.engine_term.specs.Bindings.{value_at, target_at}
 use Rattle.book.specs.Image.{low_program}
 use Rattle.engine_term.proofs.Marking.{runs_bind, runs_value}
 use Rattle.engine_emit.specs.Emit.{walk_from}
+use Rattle.engine_emit.proofs.Stepped.{stepped_reached}
 use Rattle.engine_emit.proofs.Steps.{reached_walking}
 use Rattle.engine_walk.proofs.walk_assign.Goals as goal
 
@@ -26,4 +27,4 @@ returns c =
     let w = walk_from ys a.s a.list.now in
     runs_bind B f.contents.now f.bit (target_at m s a.depth a.node.a) (λ l. value_at m s a.depth a.node.b >>= λ v. done (refuse_if (not_boolean B t v) non_boolean a.n w then emit a.n (Update l v))) _ _ _ _ _ c.target_location-at.ensures
     (runs_bind B f.contents.now f.bit (value_at m s a.depth a.node.b) (λ v. done (refuse_if (not_boolean B t v) non_boolean a.n w then emit a.n (Update c.target_location-at.result v))) _ _ _ _ _ c.eval-x.ensures
-    (runs_value B f.contents.now f.bit _ _ _ (c.emit_update.ensures ys ∙ rw (reached_walking ys a.s a.list.now c.requires, c.target_function-f.ensures))))
+    (runs_value B f.contents.now f.bit _ _ _ (stepped_reached (c.emit_update.ensures ys) ∙ rw (reached_walking ys a.s a.list.now c.requires, c.target_function-f.ensures))))

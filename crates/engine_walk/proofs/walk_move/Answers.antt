@@ -10,6 +10,7 @@ use Rattle.book.specs.Image.{low_program}
 use Rattle.book.proofs.Held.{agent_held}
 use Rattle.engine.specs.Move.{input}
 use Rattle.engine_emit.specs.Emit.{walk_from, reached}
+use Rattle.engine_emit.proofs.Stepped.{stepped_reached}
 use Rattle.engine_emit.proofs.Steps.{reached_walking, reached_refused}
 use Rattle.engine_walk.specs.Walk.{walk_at}
 use Rattle.engine_walk.proofs.Steps.{runs_from}
@@ -28,7 +29,7 @@ returns c =
     let l = w.new.list in
     gathered B a.contents.now a.bit (input a.agent a.picks.now) _ _ _
     (runs_agent B a.contents.now a.bit _ _ _ a.agent c.permanent.result a.picks.now who (reached [] r l) is c.permanent.ensures
-    (runs_from B a.contents.now a.bit (walk_at m (0 ∷ 0 ∷ 0 ∷ 0 ∷ 0 ∷ 0 ∷ 0 ∷ 0 ∷ who.element ∷ []) 32 who.root) a.picks.now (record { len = 0; label = c.permanent.result; refused = None; node = 0 }) a.list.now refl _ _ _ w.ensures) (c.all_used-r.ensures l))
+    (runs_from B a.contents.now a.bit (walk_at m (0 ∷ 0 ∷ 0 ∷ 0 ∷ 0 ∷ 0 ∷ 0 ∷ 0 ∷ who.element ∷ []) 32 who.root) a.picks.now (record { len = 0; label = c.permanent.result; refused = None; node = 0 }) a.list.now refl _ _ _ w.ensures) (stepped_reached (c.all_used-r.ensures l)))
     (walk_from [] r l) (reached_walking [] r l (unrefused _ c.is_some.ensures c.if-is_some.false))
 
 pub returns-then-is_some : goal.returns-then-is_some
@@ -43,5 +44,5 @@ returns-then-is_some c =
     let l = w.new.list in
     walk_marked_back B a.contents.now a.bit (input a.agent a.picks.now) _ _ _
     (runs_agent B a.contents.now a.bit _ _ _ a.agent c.permanent.result a.picks.now who (reached [] r l) is c.permanent.ensures
-    (runs_from B a.contents.now a.bit (walk_at m (0 ∷ 0 ∷ 0 ∷ 0 ∷ 0 ∷ 0 ∷ 0 ∷ 0 ∷ who.element ∷ []) 32 who.root) a.picks.now (record { len = 0; label = c.permanent.result; refused = None; node = 0 }) a.list.now refl _ _ _ w.ensures) (c.all_used-r.ensures l))
+    (runs_from B a.contents.now a.bit (walk_at m (0 ∷ 0 ∷ 0 ∷ 0 ∷ 0 ∷ 0 ∷ 0 ∷ 0 ∷ who.element ∷ []) 32 who.root) a.picks.now (record { len = 0; label = c.permanent.result; refused = None; node = 0 }) a.list.now refl _ _ _ w.ensures) (stepped_reached (c.all_used-r.ensures l)))
     (refusal_number r.refused) r.node _ (reached_refused [] r l (some_numbered _ c.is_some.ensures c.if-is_some.true)) c.clear_marks.ensures

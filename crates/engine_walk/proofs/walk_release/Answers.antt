@@ -9,6 +9,7 @@ use Rattle.engine_term.specs.Bindings.{value_at}
 use Rattle.book.specs.Image.{low_program}
 use Rattle.engine_term.proofs.Marking.{runs_bind, runs_value}
 use Rattle.engine_emit.specs.Emit.{walk_from}
+use Rattle.engine_emit.proofs.Stepped.{stepped_reached}
 use Rattle.engine_emit.proofs.Steps.{reached_walking}
 use Rattle.engine_walk.proofs.walk_release.Goals as goal
 
@@ -24,4 +25,4 @@ returns c =
     let y = c.eval-x.result in
     runs_bind B f.contents.now f.bit (value_at m f.bindings a.depth a.node.a) (λ y. read (reserve y) >>= λ v. done (refuse_if (unreleasable B y v) not_releasable a.n w then emit a.n (Release y))) _ _ _ _ _ c.eval-x.ensures
     (runs_bind B f.contents.now f.bit (read (reserve y)) (λ v. done (refuse_if (unreleasable B y v) not_releasable a.n w then emit a.n (Release y))) _ _ _ _ _ c.read_reserve-v.ensures
-    (runs_value B f.contents.now f.bit _ _ _ (c.emit_release.ensures ys ∙ rw (reached_walking ys a.s a.list.now c.requires))))
+    (runs_value B f.contents.now f.bit _ _ _ (stepped_reached (c.emit_release.ensures ys) ∙ rw (reached_walking ys a.s a.list.now c.requires))))

@@ -3,6 +3,7 @@ use Rattle.std.proofs.Common.{ap, sym, ◌∙◌}
 use Rattle.std.proofs.lemmas.Result.{IfOk-from_err}
 use Rattle.std.specs.Prelude.{Result}
 use mathlib.Core.Bool.{Bool}
+use Rattle.text.specs.declared.Reason.{Reason}
 use Rattle.text.specs.declared.Refusal.{Refusal}
 use Rattle.text.specs.Words.{must, answer_of, told}
 use Rattle.text.proofs.Checks.{refused_alike}
@@ -25,6 +26,6 @@ pub returns : goal.returns
 unfolding header_checked
 returns c = record {
   answer = rw c.in-Some.is
-      (sym (ap (λ (x : Result (Unit {0}) Refusal). told x) c.in_ok-must.was) ∙ c.must.ensures ∙ ap (λ (b : Bool). answer_of (must b 9 0 0)) c.header_fits.ensures);
+      (sym (ap (λ (x : Result (Unit {0}) (Refusal Reason)). told x) c.in_ok-must.was) ∙ c.must.ensures ∙ ap (λ (b : Bool). answer_of (must b 9 0 0)) c.header_fits.ensures);
   header = c.in-Some.is;
 }

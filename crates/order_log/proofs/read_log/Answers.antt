@@ -1,6 +1,7 @@
 -- `read_log` meets its contract.
 use Rattle.std.proofs.lemmas.Result.{IfOk-from_err, IfOk-at_ok}
 use Rattle.std.specs.Prelude.{Result, Some}
+use Rattle.text.specs.declared.Reason.{Reason}
 use Rattle.text.specs.declared.Refusal.{Refusal}
 use Rattle.text.specs.Words.{told}
 use Rattle.text.proofs.Checks.{passing, refusing, refused_alike}
@@ -62,4 +63,4 @@ returns c =
     (header_ok a.log.now p.result p.ensures (told h.result) h.ensures.answer (passing c.in_ok-h.was) _ (head k)).0
     (past_header a.log.now p.result p.ensures (told h.result) h.ensures.answer a.agents a.elements (passing c.in_ok-h.was) _ (head k))
     lines.new.order lines.result lines.ensures (told c.check_lines-answer.result) c.check_lines-answer.ensures
-    _ (sym (ap (λ (x : Result (Unit {0}) Refusal). told x) c.in_ok-answer.was)) refl
+    _ (sym (ap (λ (x : Result (Unit {0}) (Refusal Reason)). told x) c.in_ok-answer.was)) refl
